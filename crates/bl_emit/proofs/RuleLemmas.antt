@@ -1,8 +1,7 @@
--- What stands at a position of a list of rules.
-use Rattle.std.proofs.Common.{◌≡◌, ℕ, Option, List, [], ◌∷◌, map, refl, ap, sym, ◌∙◌, slice_get}
+-- What stands at the first position of a list of rules.
+use Rattle.std.proofs.Common.{◌≡◌, Option, List, [], ◌∷◌, map, refl, ap, sym, ◌∙◌, slice_get}
 use Rattle.std.proofs.lemmas.Option.{slice_get-map}
-use Rattle.std.specs.Prelude.{option_map, option_to_list}
-use Rattle.bl_tree.specs.declared.c.CStmt.{CStmt}
+use Rattle.std.specs.Prelude.{option_map}
 use Rattle.bl_emit_pass.specs.Blocks.{Sizes}
 use Rattle.bl_pass_listed.specs.Told.{Rule, rule_in}
 use Rattle.bl_pass_listed.specs.declared.rule.Rule.{Rule as Kept}
@@ -18,10 +17,3 @@ module _ (rules : List Kept) (seen : Option Kept) where
   entry_is sizes is =
       ap (λ (rule : Option Kept). entry_where sizes (option_map rule_in rule)) is
       ∙ (ap (entry_where sizes) (sym (slice_get-map rule_in rules 0)) ∙ sym (entry_first sizes (map rule_in rules)))
-
-  pub block_is : (block : Rule → CStmt) (k : ℕ) → seen ≡ slice_get rules k →
-      option_to_list (option_map block (option_map rule_in seen)) ≡ option_to_list (slice_get (map block (map rule_in rules)) k)
-  block_is block k is =
-      ap (λ (rule : Option Kept). option_to_list (option_map block (option_map rule_in rule))) is
-      ∙ (ap (λ (rule : Option Rule). option_to_list (option_map block rule)) (sym (slice_get-map rule_in rules k))
-      ∙ ap option_to_list (sym (slice_get-map block (map rule_in rules) k)))

@@ -24,17 +24,17 @@ use Rattle.bl_emit_functions.specs.Functions.{members_of, memory_name, params_fr
 use Rattle.bl_pass_listed.specs.Told.{Rule}
 use Rattle.bl_emit_pass.specs.Blocks.{Sizes, View, counter_value, name_in}
 use Rattle.bl_emit_pass.specs.Names.{callee_name, counter_place, ended_name, flag_place, frame_name}
-use Rattle.bl_emit_pass.specs.Activities.{RunAt, copies_of, counter_member, given_local, over_param, picked, pointer_param, rested_code, rested_local}
-use Rattle.bl_emit_pass.specs.Activities.{result_params, scalar_local, struct_member}
-use Rattle.bl_emit_blocks.specs.Numbered.{numbered_block}
+use Rattle.bl_emit_pass.specs.Activities.{RunAt, blocks_code, copies_of, counter_member, given_local, over_param, pointer_param}
+use Rattle.bl_emit_pass.specs.Activities.{rested_code, rested_local, result_params, scalar_local, struct_member}
+use Rattle.bl_emit_blocks.specs.Numbered.{numbered_turn}
 use Rattle.bl_emit_tables.specs.Told.{flags_told, marks_told, read_told, runs_told}
 
--- what C is made of: a unit with the structs and units before it, its rules in source order, and the order of their blocks
+-- what C is made of: a unit with the structs and units before it, its rules in source order, and the blocks of their nodes
 pub record Told : Type 0 where
   pub structs : List StructDef
   pub earlier : List UnitDef
   pub unit : UnitDef
-  pub order : List ℕ
+  pub blocks : List (List ℕ)
   pub rules : List Rule
   -- how many values each counter has
   pub sizes : Sizes
@@ -148,14 +148,14 @@ entry_told sizes [] = []
 entry_told sizes (rule ∷ rest) = entry_at sizes rule.number ∷ []
 
 -- the body: copies of what these counters held and of these variables when the tick began, and the blocks in their order
-abbrev pub code_by : View → List Rule → List ℕ → List ℕ → List ℕ → List CStmt
-code_by view rules order counters copied =
+abbrev pub code_by : View → List Rule → List (List ℕ) → List ℕ → List ℕ → List CStmt
+code_by view rules blocks counters copied =
     map rested_code counters
-    ++ (entry_told view.sizes rules ++ (map (c_copied view.site) copied ++ picked (map (numbered_block view) rules) order))
+    ++ (entry_told view.sizes rules ++ (map (c_copied view.site) copied ++ blocks_code (map (numbered_turn view) rules) blocks))
 
 -- the body of the activity
 abbrev pub code_told : Told → List CStmt
-code_told a = code_by (view_told a) a.rules a.order (counters_told a.sizes a.rules) (copied_told a.unit)
+code_told a = code_by (view_told a) a.rules a.blocks (counters_told a.sizes a.rules) (copied_told a.unit)
 
 -- a C function of an activity
 abbrev pub function_by : List StructDef → UnitDef → Bool → List CLocal → List CStmt → CFunc
@@ -177,4 +177,4 @@ function_told a = function_by a.structs a.unit (remembers_told a) (locals_told a
 abbrev pub function_viewed : Told → View → List ℕ → List ℕ → List RunAt → Bool → CFunc
 function_viewed a view counters copied runs remembers =
     function_by a.structs a.unit remembers (locals_by a.earlier a.unit a.sizes a.rules counters copied runs)
-    (code_by view a.rules a.order counters copied)
+    (code_by view a.rules a.blocks counters copied)

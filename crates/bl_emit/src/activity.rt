@@ -34,8 +34,8 @@ pub struct Told<'a> {
     /// The units before it.
     pub earlier: &'a [Unit],
     pub unit: &'a Unit,
-    /// The order of its blocks.
-    pub order: &'a [u32],
+    /// The blocks of its nodes, by their positions in source order.
+    pub blocks: &'a [List<u32>],
     /// Its rules in source order.
     pub rules: &'a [Rule<'a>],
     /// How many values each counter has.
@@ -112,7 +112,7 @@ fn viewed(
         copied,
         runs,
     )?;
-    let body = code(alloc, view, told.rules, told.order, counters, copied)?;
+    let body = code(alloc, view, told.rules, told.blocks, counters, copied)?;
     made(alloc, told, remembers, locals, body)
 }
 

@@ -1,10 +1,11 @@
 //! The body of the function of an activity.
 
-ghost use Rattle.std.specs.Prelude.{◌≡◌, ◌++◌, IfOk, OnOk, map, option_map, option_to_list, slice_get};
+ghost use Rattle.std.specs.Prelude.{◌≡◌, ◌++◌, IfOk, OnOk, map, option_map};
 ghost use Rattle.bl_emit_acts.specs.Acts.{c_copied};
-ghost use Rattle.bl_emit_blocks.specs.Numbered.{numbered_block};
+ghost use Rattle.bl_emit_blocks.specs.Numbered.{numbered_turn};
 ghost use Rattle.bl_emit_blocks.specs.Views.{view_in};
-ghost use Rattle.bl_emit_pass.specs.Activities.{picked, rested_code};
+ghost use Rattle.bl_emit_pass.specs.Activities.{blocks_code, picked, rested_code};
+ghost use Rattle.bl_emit_pass.specs.Blocks.{merged_code};
 ghost use Rattle.bl_pass_listed.specs.Told.{rule_in};
 ghost use Rattle.bl_emit.specs.Activities.{code_by, entry_at, entry_told, entry_where};
 
@@ -12,7 +13,7 @@ use crate::names::counter_type;
 use crate::parts::equal;
 use bl_emit_acts::copied as copy_set;
 use bl_emit_acts::parts::{literal, member_at, numbered, read, set, whole};
-use bl_emit_blocks::{View, block};
+use bl_emit_blocks::{View, merged};
 use bl_pass_listed::Rule;
 use bl_tree::c::CStmt;
 use bl_tree::slices::element;
@@ -95,53 +96,36 @@ fn add_copies(
     Ok(())
 }
 
-/// Appends the block of a rule, where there is one.
-fn add_made(
-    alloc: Global,
-    view: &View,
-    rule: Option<&Rule>,
-    code: &mut List<CStmt>,
-) -> Result<(), NoMemory>
-    ensures { OnOk result (code.new ≡ code.old
-        ++ option_to_list (option_map (numbered_block (view_in view.entry.now)) (option_map rule_in (option_map (λ rule. rule.now) rule.entry)))) }
-{
-    match rule {
-        Some(rule) => {
-            code.push(block(alloc, view, rule)?)?;
-            Ok(())
-        }
-        None => Ok(()),
-    }
-}
-
-/// Appends the block of the rule at a position, where there is one.
-#[tactic(auto, using(crate::proofs::RuleLemmas::block_is))]
+/// Appends the `if` of a block, where that has a node.
 fn add_block(
     alloc: Global,
     view: &View,
     rules: &[Rule],
-    k: u32,
+    block: &[u32],
     code: &mut List<CStmt>,
 ) -> Result<(), NoMemory>
     ensures { OnOk result (code.new ≡ code.old
-        ++ option_to_list (slice_get (map (numbered_block (view_in view.entry.now)) (map rule_in rules.now)) k)) }
+        ++ merged_code (picked (map (numbered_turn (view_in view.entry.now)) (map rule_in rules.now)) block.now)) }
 {
-    add_made(alloc, view, element(rules, k as usize), code)
+    if let Some(made) = merged(alloc, view, rules, block)? {
+        code.push(made)?;
+    }
+    Ok(())
 }
 
-/// Appends the blocks in their order.
+/// Appends the `if`s of the blocks in their order.
 fn add_blocks(
     alloc: Global,
     view: &View,
     rules: &[Rule],
-    order: &[u32],
+    blocks: &[List<u32>],
     code: &mut List<CStmt>,
 ) -> Result<(), NoMemory>
     ensures { OnOk result (code.new ≡ code.old
-        ++ picked (map (numbered_block (view_in view.entry.now)) (map rule_in rules.now)) order.now) }
+        ++ blocks_code (map (numbered_turn (view_in view.entry.now)) (map rule_in rules.now)) blocks.now) }
 {
-    for k in order {
-        add_block(alloc, view, rules, *k, code)?;
+    for block in blocks {
+        add_block(alloc, view, rules, block, code)?;
     }
     Ok(())
 }
@@ -151,15 +135,15 @@ pub fn code(
     alloc: Global,
     view: &View,
     rules: &[Rule],
-    order: &[u32],
+    blocks: &[List<u32>],
     counters: &[u32],
     copied: &[u32],
 ) -> Result<List<CStmt>, NoMemory>
-    ensures { IfOk result (λ made. made ≡ code_by (view_in view.entry.now) (map rule_in rules.now) order.now counters.now copied.now) }
+    ensures { IfOk result (λ made. made ≡ code_by (view_in view.entry.now) (map rule_in rules.now) blocks.now counters.now copied.now) }
 {
     let mut made = all_rested(alloc, counters)?;
     add_entry(alloc, view.sizes, rules, &mut made)?;
     add_copies(alloc, view, copied, &mut made)?;
-    add_blocks(alloc, view, rules, order, &mut made)?;
+    add_blocks(alloc, view, rules, blocks, &mut made)?;
     Ok(made)
 }

@@ -68,7 +68,7 @@ fn machine_parts(
         structs,
         earlier,
         unit,
-        order: &order,
+        blocks: &one.blocks,
         rules: &rules,
         sizes: &sizes,
         remember,

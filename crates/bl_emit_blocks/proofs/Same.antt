@@ -1,8 +1,9 @@
--- Views that differ at most in the numbers of nodes give the same C of a block.
+-- Views that differ at most in the numbers of nodes give the same turns.
 use Rattle.std.proofs.Common.{◌≡◌, ◌∙◌, ℕ, Bool, true, false, List, [], ◌∷◌, ◌++◌, Option, Some, None}
 use Rattle.std.proofs.Common.{map, slice_get, refl, ap, if◌then◌else◌}
 use Rattle.bl_tree.specs.declared.c.CArg.TheVariants.{Address}
 use Rattle.bl_tree.specs.declared.c.CExpr.{CExpr}
+use Rattle.bl_tree.specs.declared.c.CStmt.{CStmt}
 use Rattle.bl_tree.specs.declared.tree.Path.{Path}
 use Rattle.bl_tree.specs.declared.tree.Stmt.{Stmt, out-Stmt}
 use Rattle.bl_tree.specs.declared.tree.StmtKind.{out-StmtKind}
@@ -19,12 +20,12 @@ use Rattle.bl_pass_listed.specs.declared.rule.Asked.TheVariants as asked
 use Rattle.bl_pass_listed.specs.declared.rule.Change.{Change}
 use Rattle.bl_pass_listed.specs.declared.rule.Change.TheVariants as change
 use Rattle.bl_pass_listed.specs.Told.{Acts, Enters, Nothing, Resumes, Rule, Task, Tests}
-use Rattle.bl_emit_pass.specs.Blocks.{Sizes, View, acted, all_tests, arg_where, at_slot, forgotten, has_result}
+use Rattle.bl_emit_pass.specs.Blocks.{Sizes, Turn, View, acted, all_tests, arg_where, at_slot, forgotten, has_result}
 use Rattle.bl_emit_pass.specs.Blocks.{layer_acted, name_in, rested_in, run_code, some_test, target_code}
 use Rattle.bl_emit_pass.specs.Names.{callee_frame, callee_memory, ended_place, frame_name, given_place}
 use Rattle.bl_emit_blocks.specs.Laws.{BlocksAlike}
-use Rattle.bl_emit_blocks.specs.Numbered.{numbered_aged, numbered_begun, numbered_block, numbered_change, numbered_changes}
-use Rattle.bl_emit_blocks.specs.Numbered.{numbered_guard, numbered_resumed, numbered_task, numbered_tested}
+use Rattle.bl_emit_blocks.specs.Numbered.{numbered_aged, numbered_begun, numbered_change, numbered_changes}
+use Rattle.bl_emit_blocks.specs.Numbered.{numbered_guard, numbered_resumed, numbered_task, numbered_tested, numbered_turn}
 
 module _ (site : Site) (copies : List Bool) (sizes : Sizes) (number other : Node → ℕ) (read seen held kept : ℕ → Bool)
     (reads : (k : ℕ) → read k ≡ seen k) (keeps : (k : ℕ) → held k ≡ kept k) where
@@ -142,18 +143,21 @@ module _ (site : Site) (copies : List Bool) (sizes : Sizes) (number other : Node
   task_same rule (Enters k a arguments) = begun_same k a arguments rule.so
   task_same rule (Resumes k a arguments) = resumed_same k a arguments rule.so
 
-  pub block_same : (rule : Rule) → numbered_block v rule ≡ numbered_block w rule
-  block_same rule =
-      ap (λ test. c_if test (numbered_task v rule rule.task) None) (guard_same rule.number rule.asked)
-      ∙ ap (λ code. c_if (numbered_guard w rule.number rule.asked) code None) (task_same rule rule.task)
+  abbrev turn : CExpr → List CStmt → Turn
+  turn test code = record { test = test; code = code }
+
+  pub turn_same : (rule : Rule) → numbered_turn v rule ≡ numbered_turn w rule
+  turn_same rule =
+      ap (λ (test : CExpr). turn test (numbered_task v rule rule.task)) (guard_same rule.number rule.asked)
+      ∙ ap (λ (code : List CStmt). turn (numbered_guard w rule.number rule.asked) code) (task_same rule rule.task)
 
 -- the same of any two such views
 pub blocks_alike : BlocksAlike
 blocks_alike v w alike rule =
-    block_same v.site v.copies v.sizes v.number w.number v.is_read w.is_read v.remembers w.remembers alike.is_read alike.remembers rule
-    ∙ (ap (λ (site : Site). numbered_block (viewed site v.copies v.sizes) rule) alike.site
-    ∙ (ap (λ (copies : List Bool). numbered_block (viewed w.site copies v.sizes) rule) alike.copies
-    ∙ ap (λ (sizes : Sizes). numbered_block (viewed w.site w.copies sizes) rule) alike.sizes)) where
+    turn_same v.site v.copies v.sizes v.number w.number v.is_read w.is_read v.remembers w.remembers alike.is_read alike.remembers rule
+    ∙ (ap (λ (site : Site). numbered_turn (viewed site v.copies v.sizes) rule) alike.site
+    ∙ (ap (λ (copies : List Bool). numbered_turn (viewed w.site copies v.sizes) rule) alike.copies
+    ∙ ap (λ (sizes : Sizes). numbered_turn (viewed w.site w.copies sizes) rule) alike.sizes)) where
       viewed : Site → List Bool → Sizes → View
       viewed site copies sizes =
           record { site = site; copies = copies; number = w.number; sizes = sizes; is_read = w.is_read; remembers = w.remembers }

@@ -1,4 +1,5 @@
 pub mod Laws
+pub mod Merging
 pub mod Numbered
 pub mod Pairs
 pub mod Views

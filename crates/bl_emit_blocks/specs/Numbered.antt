@@ -16,8 +16,8 @@ use Rattle.bl_pass_listed.specs.declared.rule.Change.{Change}
 use Rattle.bl_pass_listed.specs.declared.rule.Change.TheVariants as change
 use Rattle.bl_pass_listed.specs.declared.rule.Needed.{Needed}
 use Rattle.bl_pass_listed.specs.Told.{Acts, Enters, Nothing, Resumes, Rule, Task, Tests}
-use Rattle.bl_emit_pass.specs.Blocks.{View, acted, all_tests, at_slot, counter_value, forgotten, freed, name_in}
-use Rattle.bl_emit_pass.specs.Blocks.{rested_at, rested_in, run_code, some_test, target_code}
+use Rattle.bl_emit_pass.specs.Blocks.{Turn, View, acted, all_tests, at_slot, counter_value, forgotten, freed, name_in}
+use Rattle.bl_emit_pass.specs.Blocks.{rested_at, rested_in, run_code, some_test, target_code, turn_code}
 use Rattle.bl_emit_pass.specs.Names.{callee_frame, counter_place, ended_place, flag_place, frame_name, mark_place, over_place}
 
 -- ---- guards
@@ -89,6 +89,10 @@ numbered_task view rule (Tests e) = numbered_tested view (code_made view.site e)
 numbered_task view rule (Enters k a arguments) = numbered_begun view k a arguments rule.so
 numbered_task view rule (Resumes k a arguments) = numbered_resumed view k a arguments rule.so
 
--- the `if` of a block
+-- the turn of a rule: what is asked before its node, and what that does then
+abbrev pub numbered_turn : View → Rule → Turn
+numbered_turn view rule = record { test = numbered_guard view rule.number rule.asked; code = numbered_task view rule rule.task }
+
+-- its `if`
 abbrev pub numbered_block : View → Rule → CStmt
-numbered_block view rule = c_if (numbered_guard view rule.number rule.asked) (numbered_task view rule rule.task) None
+numbered_block view rule = turn_code (numbered_turn view rule)

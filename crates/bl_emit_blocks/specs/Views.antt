@@ -1,7 +1,8 @@
--- What blocks see of an activity, as the code has it.
+-- What blocks see of an activity, and turns, as the code has them.
 use Rattle.std.specs.Prelude.{false, slice_get, unwrap_or}
 use Rattle.bl_emit_acts.specs.Sites.{site_in}
-use Rattle.bl_emit_pass.specs.Blocks.{View}
+use Rattle.bl_emit_pass.specs.Blocks.{Turn, View}
+use Rattle.bl_emit_blocks.specs.declared.turn.Turn.{Turn as KeptTurn}
 use Rattle.bl_emit_blocks.specs.declared.view.View.{View as Kept}
 
 -- an activity as its blocks see it; the C of a block that has numbers doesn't ask which numbers nodes have
@@ -14,3 +15,7 @@ view_in view = record {
   is_read = λ k. unwrap_or (slice_get view.read.now k) false;
   remembers = λ k. unwrap_or (slice_get view.remembers.now k) false;
 }
+
+-- a turn
+abbrev pub turn_in : KeptTurn → Turn
+turn_in turn = record { test = turn.test; code = turn.code }

@@ -3,8 +3,8 @@
 ghost use Rattle.std.specs.Prelude.{◌≡◌, ◌∷◌, [], IfOk};
 ghost use Rattle.bl_emit_acts.specs.Acts.{c_set, code_made};
 ghost use Rattle.bl_emit_blocks.specs.Numbered as numbered;
-ghost use Rattle.bl_emit_blocks.specs.Views.{view_in};
-ghost use Rattle.bl_emit_pass.specs.Blocks.{acted};
+ghost use Rattle.bl_emit_blocks.specs.Views.{turn_in, view_in};
+ghost use Rattle.bl_emit_pass.specs.Blocks.{acted, turn_code};
 ghost use Rattle.bl_emit_pass.specs.Names.{result_place};
 ghost use Rattle.bl_pass_listed.specs.Told.{rule_in, task_in};
 
@@ -13,6 +13,7 @@ use crate::guards::guard;
 use crate::parts::{otherwise, value};
 use crate::places::returned;
 use crate::runs::{begun, resumed};
+use crate::turn::Turn;
 use crate::view::View;
 use bl_emit_acts::act;
 use bl_emit_acts::parts::{joined, set, single};
@@ -53,7 +54,7 @@ fn tested(alloc: Global, view: &View, e: &Expr, rule: &Rule) -> Result<List<CStm
     single(alloc, choice(alloc, test, so, other)?)
 }
 
-/// What a block does.
+/// What a node does in its turn.
 fn done(alloc: Global, view: &View, rule: &Rule) -> Result<List<CStmt>, NoMemory>
     ensures { IfOk result (λ code. code
         ≡ numbered.numbered_task (view_in view.entry.now) (rule_in rule.entry.now) (task_in rule.entry.now.task)) }
@@ -67,11 +68,25 @@ fn done(alloc: Global, view: &View, rule: &Rule) -> Result<List<CStmt>, NoMemory
     }
 }
 
-/// The `if` of a block of a pass, by the rule of its node. Fails only for want of memory.
-pub fn block(alloc: Global, view: &View, rule: &Rule) -> Result<CStmt, NoMemory>
-    ensures { IfOk result (λ made. made ≡ numbered.numbered_block (view_in view.entry.now) (rule_in rule.entry.now)) }
+/// The turn of a rule's node.
+pub fn turn(alloc: Global, view: &View, rule: &Rule) -> Result<Turn, NoMemory>
+    ensures { IfOk result (λ made. turn_in made ≡ numbered.numbered_turn (view_in view.entry.now) (rule_in rule.entry.now)) }
 {
     let test = guard(alloc, view, rule.number, &rule.asked)?;
     let code = done(alloc, view, rule)?;
-    choice(alloc, test, code, None)
+    Ok(Turn { test, code })
+}
+
+/// The `if` of a turn.
+pub fn turn_code(alloc: Global, turn: Turn) -> Result<CStmt, NoMemory>
+    ensures { IfOk result (λ made. made ≡ turn_code (turn_in turn)) }
+{
+    choice(alloc, turn.test, turn.code, None)
+}
+
+/// The `if` of a rule's node. Fails only for want of memory.
+pub fn block(alloc: Global, view: &View, rule: &Rule) -> Result<CStmt, NoMemory>
+    ensures { IfOk result (λ made. made ≡ numbered.numbered_block (view_in view.entry.now) (rule_in rule.entry.now)) }
+{
+    turn_code(alloc, turn(alloc, view, rule)?)
 }

@@ -1,8 +1,8 @@
-//! What the C of a block depends on.
+//! What turns depend on.
 
 ghost use Rattle.bl_emit_blocks.specs.Laws.{BlocksAlike};
 
-/// The C of a block by numbers asks nothing of the numbers that nodes have: does nothing; its contract is the law.
+/// The turn of a rule by numbers asks nothing of the numbers that nodes have: does nothing; its contract is the law.
 pub fn blocks_alike()
     ensures { BlocksAlike }
 {}

@@ -1,5 +1,5 @@
-//! The C of the blocks of a pass (docs/C_SUBSET.md, "What `blechc` writes"). `block` makes exactly the `if` that is
-//! defined for a rule by numbers (`specs/Numbered.antt`, `numbered_block`); want of memory aside.
+//! The C of the blocks of a pass (docs/C_SUBSET.md, "What `blechc` writes"). `merged` makes exactly the
+//! `if` that is defined for the nodes of a block, by the turns of their rules (`specs/Numbered.antt`, `numbered_turn`); want of memory aside.
 //! `blocks_alike` is the law that this asks of an activity nothing but what `Alike` names (`specs/Laws.antt`).
 #![tactic(auto)]
 
@@ -8,13 +8,15 @@ mod changes;
 mod counters;
 mod guards;
 mod laws;
+mod merging;
 mod pairs;
 mod parts;
 mod places;
 mod runs;
 mod tests;
+mod turn;
 mod view;
 
-pub use blocks::block;
 pub use laws::blocks_alike;
+pub use merging::merged;
 pub use view::View;

@@ -32,10 +32,10 @@ use Rattle.bl_pass.specs.Numbered.{slots_of}
 use Rattle.bl_pass_listed.specs.Callees.{callees_in}
 use Rattle.bl_pass_listed_laws.specs.Laws.{RulesAreListed}
 use Rattle.bl_pass_listed.specs.Told.{all_told, task_at, told, told_asked, told_change}
-use Rattle.bl_emit_pass.specs.Blocks.{View, acted, block_code, blocks_code, change_code, changes_code, guard_of, name_in, node_code, run_code}
-use Rattle.bl_emit_pass.specs.Blocks.{target_code}
+use Rattle.bl_emit_pass.specs.Blocks.{Turn, View, acted, change_code, changes_code, guard_of, name_in, node_code, run_code}
+use Rattle.bl_emit_pass.specs.Blocks.{target_code, turn_of, turns_of}
 use Rattle.bl_emit_pass.specs.Names.{callee_frame, ended_place, frame_name}
-use Rattle.bl_emit_blocks.specs.Numbered.{numbered_block, numbered_change, numbered_changes, numbered_guard, numbered_task}
+use Rattle.bl_emit_blocks.specs.Numbered.{numbered_change, numbered_changes, numbered_guard, numbered_task, numbered_turn}
 use Rattle.bl_emit_blocks_laws.specs.Laws.{BlocksAreNumbered, BodiesAreNumbered}
 
 module _ (view : View) where
@@ -96,25 +96,29 @@ module _ (view : View) where
   node_is unit rule (SurfaceJoinAt l at) = changes_are rule.so
   node_is unit rule (DepthJoinAt l at) = changes_are rule.so
 
-  block_is : (unit : ℕ) (rule : nodes.Rule) → block_code view unit rule ≡ numbered_block view (told view.number unit rule)
-  block_is unit rule =
-      ap (λ guard. c_if guard (node_code view unit rule rule.node) None) (guard_is rule.node rule.asked)
-      ∙ ap (λ body. c_if (numbered_guard view (view.number rule.node) (told_asked view.number rule.asked)) body None) (node_is unit rule rule.node)
+  abbrev turn : CExpr → List CStmt → Turn
+  turn test code = record { test = test; code = code }
 
-  blocks_are : (units : List ℕ) (rules : List nodes.Rule) →
-      blocks_code view units rules ≡ map (numbered_block view) (all_told view.number units rules)
-  blocks_are [] rules = refl
-  blocks_are (unit ∷ units) [] = refl
-  blocks_are (unit ∷ units) (rule ∷ rules) =
-      ap (λ x. x ∷ blocks_code view units rules) (block_is unit rule)
-      ∙ ap (λ xs. numbered_block view (told view.number unit rule) ∷ xs) (blocks_are units rules)
+  turn_is : (unit : ℕ) (rule : nodes.Rule) → turn_of view unit rule ≡ numbered_turn view (told view.number unit rule)
+  turn_is unit rule =
+      ap (λ (guard : CExpr). turn guard (node_code view unit rule rule.node)) (guard_is rule.node rule.asked)
+      ∙ ap (λ (body : List CStmt). turn (numbered_guard view (view.number rule.node) (told_asked view.number rule.asked)) body)
+      (node_is unit rule rule.node)
+
+  turns_are : (units : List ℕ) (rules : List nodes.Rule) →
+      turns_of view units rules ≡ map (numbered_turn view) (all_told view.number units rules)
+  turns_are [] rules = refl
+  turns_are (unit ∷ units) [] = refl
+  turns_are (unit ∷ units) (rule ∷ rules) =
+      ap (λ (x : Turn). x ∷ turns_of view units rules) (turn_is unit rule)
+      ∙ ap (λ (xs : List Turn). numbered_turn view (told view.number unit rule) ∷ xs) (turns_are units rules)
 
 pub blocks_are_numbered : BlocksAreNumbered
-blocks_are_numbered = record { one = block_is; all = blocks_are }
+blocks_are_numbered = record { one = turn_is; all = turns_are }
 
 pub bodies_are_numbered : BlocksAreNumbered → RulesAreListed → BodiesAreNumbered
 bodies_are_numbered blocks listed view body order list number =
     blocks.all view (callees_in (plain_body body)) (nodes.rules (slots_of (plain_body body) list) (plain_body body))
-    ∙ ap (λ (of : Node → ℕ). map (numbered_block view)
+    ∙ ap (λ (of : Node → ℕ). map (numbered_turn view)
     (all_told of (callees_in (plain_body body)) (nodes.rules (slots_of (plain_body body) list) (plain_body body)))) number
-    ∙ ap (map (numbered_block view)) (listed.told body order list)
+    ∙ ap (map (numbered_turn view)) (listed.told body order list)

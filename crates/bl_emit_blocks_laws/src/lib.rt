@@ -1,4 +1,4 @@
-//! The C of blocks by numbers is that of the nodes that have these numbers (`specs/Laws.antt`, `BlocksAreNumbered`); so the blocks of a
+//! The turns of rules by numbers are those of the nodes that have these numbers (`specs/Laws.antt`, `BlocksAreNumbered`); so the turns of a
 //! body are those of its list of rules (`BodiesAreNumbered`). There is no code here.
 #![tactic(auto)]
 
@@ -6,12 +6,12 @@ ghost use Rattle.bl_emit_blocks_laws.specs.Laws.{BlocksAreNumbered, BodiesAreNum
 
 use bl_pass_listed_laws::rules_are_listed;
 
-/// The C of a rule by numbers is that of the rule of a node which tells it.
+/// The turn of a rule by numbers is that of the rule of a node which tells it.
 pub fn blocks_are_numbered()
     ensures { BlocksAreNumbered }
 {}
 
-/// The blocks of a body are those of its list of rules.
+/// The turns of a body are those of its list of rules.
 pub fn bodies_are_numbered()
     ensures { BodiesAreNumbered }
 {

@@ -89,7 +89,7 @@ module _ (program : Program) (machine : List InMachine) (laws : Laws program) (k
 
   compiled : Compiled structs units entry machine activities
   compiled =
-      laws.compile machine activities known.keeps known.passes known.text known.agrees known.plain (laws.built structs units machine known.agrees)
+      laws.compile machine activities known.keeps known.passes known.text known.agrees known.shared (laws.built structs units machine known.agrees)
       known.countable
 
   none_overlap : NoneOverlaps units
@@ -97,7 +97,7 @@ module _ (program : Program) (machine : List InMachine) (laws : Laws program) (k
 
   module _ (unit : UnitDef) (there : slice_get units entry ≡ Some unit) where
     formed : WellFormed file
-    formed = laws.formed machine known.keeps known.passes known.limits known.agrees known.plain
+    formed = laws.formed machine known.keeps known.passes known.limits known.agrees known.shared
 
     shows : FileShows W activities unit file
     shows = laws.shows machine unit compiled there none_overlap (laws.come machine activities known.limits compiled) formed
@@ -122,11 +122,11 @@ module _ (program : Program) (machine : List InMachine) (laws : Laws program) (k
       unit = unit;
       is_entry = there;
       well_formed = formed;
-      small = laws.small machine known.keeps known.passes known.limits known.agrees known.plain unit there;
+      small = laws.small machine known.keeps known.passes known.limits known.agrees known.shared unit there;
       inputs = shows.inputs;
       outputs = shows.outputs;
       functions = laws.own machine unit known.keeps known.passes known.agrees there formed;
-      frames = laws.wide machine compiled known.plain;
+      frames = laws.wide machine compiled known.shared;
       trace = traced;
     }
 

@@ -8,17 +8,18 @@ use Rattle.bl_prevs.specs.Declared.{FromText}
 use Rattle.bl_machine.specs.declared.machine.Activity.{Activity as InMachine}
 use Rattle.bl_machine.specs.Machines.{AreActivitiesOf}
 use Rattle.bl_emit_laws_kept.specs.Laws.{written_file}
-use Rattle.bl_emit_pass_laws_compiled.specs.Laws.{AreCountable, IsPlain}
+use Rattle.bl_emit_pass.specs.Shared.{IsShared}
+use Rattle.bl_emit_pass_laws_compiled.specs.Laws.{AreCountable}
 use Rattle.bl_emit_file.specs.Shows.{ShowsProgram}
 
--- no rule fails for a program that is made of a text, its machine is plain, and 64 bits count the variables and statements of its units
+-- no rule fails for a program that is made of a text, its machine shares counters, and 64 bits count the variables and statements of its units
 pub record Known (program : Program) (machine : List InMachine) : Type 0 where
   pub keeps : Keeps program.structs program.units program.entry
   pub passes : Passes program.units
   pub limits : KeepsLimits program.structs program.units program.entry
   pub text : FromText program.units
   pub agrees : AreActivitiesOf program.units machine
-  pub plain : IsPlain program.units machine
+  pub shared : IsShared program.units machine
   pub countable : AreCountable program.units
 
 -- what is written of such a program shows what it means

@@ -15,6 +15,7 @@ ghost use Rattle.bl_emit_file.specs.Shows.{ShowsProgram};
 
 use crate::counts::counted;
 use crate::laws::programs_show;
+use bl_block::merge;
 use bl_cause::Accepted;
 use bl_ctext::CFile;
 use bl_emit::emit;
@@ -36,8 +37,9 @@ pub fn c_file(alloc: Global, accepted: &Accepted) -> Result<CFile, NoMemory>
     written_is_told();
     counted(alloc, program)?;
     let machine = Machine::of(alloc, accepted)?;
-    machine.is_machine();
-    let made = emit(alloc, &machine)?;
+    let merged = merge(alloc, &machine, accepted)?;
+    merged.is_machine();
+    let made = emit(alloc, &merged)?;
     Ok(CFile {
         structs: made.structs,
         funcs: made.funcs,

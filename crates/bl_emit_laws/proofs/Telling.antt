@@ -24,16 +24,16 @@ use Rattle.bl_pass_listed.specs.Callees.{callees_in, number_in}
 use Rattle.bl_pass_listed.specs.Told.{Rule, all_told, task_at, told_asked, told_change}
 use Rattle.bl_pass_listed_laws.specs.Laws.{RulesAreListed, entries, first_number}
 use Rattle.bl_emit_functions.specs.Functions.{params_from, struct_of}
-use Rattle.bl_emit_pass.specs.Activities.{Activity, RunAt, activity_function, entry_code, flag_local, is_flagged, is_read_by}
-use Rattle.bl_emit_pass.specs.Activities.{mark_local, mark_locals, memory_params, picked, reads_counter, remembered, rested_code}
+use Rattle.bl_emit_pass.specs.Activities.{Activity, RunAt, activity_function, blocks_code, entry_code, flag_local, is_flagged, is_read_by}
+use Rattle.bl_emit_pass.specs.Activities.{mark_local, mark_locals, memory_params, reads_counter, remembered, rested_code}
 use Rattle.bl_emit_pass.specs.Activities.{rested_local, run_at}
 use Rattle.bl_emit_pass.specs.Activities.{over_param, pointer_param, result_params, runs_at, runs_in_body, scalar_local, view_of}
-use Rattle.bl_emit_pass.specs.Blocks.{Sizes, View}
+use Rattle.bl_emit_pass.specs.Blocks.{Sizes, Turn, View}
 use Rattle.bl_emit_pass.specs.Names.{flag_name, frame_name}
 use Rattle.bl_emit_pass.specs.Programs.{Parts, activity_of, parts_of_activity}
 use Rattle.bl_emit_acts.specs.Acts.{c_copied}
 use Rattle.bl_emit_blocks.specs.Laws.{Alike, BlocksAlike}
-use Rattle.bl_emit_blocks.specs.Numbered.{numbered_block}
+use Rattle.bl_emit_blocks.specs.Numbered.{numbered_turn}
 use Rattle.bl_emit_blocks_laws.specs.Laws.{BodiesAreNumbered}
 use Rattle.bl_emit_tables.specs.Told.{asks_counter, asks_flag, flags_told, mark_told, marks_told, read_told, run_told}
 use Rattle.bl_emit_tables.specs.Told.{runs_told}
@@ -178,17 +178,17 @@ module _ (law : RulesAreListed) (bodies : BodiesAreNumbered) (alike : BlocksAlik
   views : Alike (view_told t) (view_of a)
   views = record { site = refl; copies = refl; sizes = refl; is_read = read_at; remembers = λ k. refl }
 
-  blocks_so : map (numbered_block (view_told t)) t.rules ≡ map (numbered_block (view_of a)) t.rules
-  blocks_so = ap (λ (block : Rule → CStmt). map block t.rules) (λ i rule. alike (view_told t) (view_of a) views rule i)
+  turns_so : map (numbered_turn (view_told t)) t.rules ≡ map (numbered_turn (view_of a)) t.rules
+  turns_so = ap (λ (turn : Rule → Turn). map turn t.rules) (λ i rule. alike (view_told t) (view_of a) views rule i)
 
   code_so : code_told t ≡ (activity_function a).body
   code_so =
       ap₂ (λ (counters : List ℕ) (start : List CStmt). map rested_code counters
       ++ (start
-      ++ (map (c_copied (view_of a).site) (copied_told unit) ++ picked (map (numbered_block (view_told t)) t.rules) t.order))) counters_so entry_so
-      ∙ ap (λ (blocks : List CStmt). map rested_code (filter (is_read_by rules) (up_to (length t.sizes)))
-      ++ (entry_code (view_of a) (plain_body unit.body) ++ (map (c_copied (view_of a).site) (copied_told unit) ++ picked blocks t.order)))
-      (blocks_so ∙ sym (bodies (view_of a) unit.body (joined one.blocks) one.slots refl))
+      ++ (map (c_copied (view_of a).site) (copied_told unit) ++ blocks_code (map (numbered_turn (view_told t)) t.rules) t.blocks))) counters_so entry_so
+      ∙ ap (λ (turns : List Turn). map rested_code (filter (is_read_by rules) (up_to (length t.sizes)))
+      ++ (entry_code (view_of a) (plain_body unit.body) ++ (map (c_copied (view_of a).site) (copied_told unit) ++ blocks_code turns t.blocks)))
+      (turns_so ∙ sym (bodies (view_of a) unit.body (joined one.blocks) one.slots refl))
 
   locals_so : locals_told t ≡ (activity_function a).locals
   locals_so =

@@ -1,5 +1,5 @@
 //! The C file of an accepted program is well formed. A law, as the contract of a function that does nothing: where no rule fails, no clause of a
-//! well-formed file fails in what is written of a program with a plain machine of it (`specs/Laws.antt`, `ProgramsFormed`).
+//! well-formed file fails in what is written of a program with a machine of it that shares counters (`specs/Laws.antt`, `ProgramsFormed`).
 #![tactic(auto)]
 
 ghost use Rattle.bl_emit_laws_accepted.specs.Laws.{ProgramsFormed};
@@ -9,7 +9,7 @@ use bl_emit_pass_laws_forms::all_form;
 use bl_emit_pass_laws_structs::files_declare;
 use bl_tree::Program;
 
-/// No clause fails in the C file that is written of an accepted program with a plain machine.
+/// No clause fails in the C file that is written of an accepted program with a machine that shares counters.
 pub fn programs_formed(program: &Program)
     ensures { ProgramsFormed program.now }
 {

@@ -23,7 +23,7 @@ use Rattle.bl_measures.specs.Runs.{runs_of}
 use Rattle.bl_measures.specs.Units.{cells_at}
 use Rattle.bl_machine.specs.declared.machine.Activity.{Activity as InMachine}
 use Rattle.bl_machine.specs.Layout.{width_in}
-use Rattle.bl_machine.specs.Machines.{IsActivityOf, IsPlainActivityOf}
+use Rattle.bl_machine.specs.Machines.{IsActivityOf}
 use Rattle.bl_nodes.specs.Plain.{plain_body}
 use Rattle.bl_pass.specs.Numbered.{sizes_of}
 use Rattle.bl_cmeaning.specs.Sizes.{Sizes, chain_cells, chains_after, size_of_member, size_of_struct, sizes_after}
@@ -35,6 +35,7 @@ use Rattle.bl_emit_functions_laws_file.proofs.Growing.{distinct_behind, names, o
 use Rattle.bl_emit_pass.specs.Activities.{Activity, frame_struct, remembered, remembered_struct, remembers_any}
 use Rattle.bl_emit_pass.specs.Names.{frame_name}
 use Rattle.bl_emit_pass.specs.Programs.{Parts, activity_of, needed_units, needs_of, parts_from, parts_of_function, parts_of_next, parts_then, where_needed}
+use Rattle.bl_emit_pass.specs.Shared.{IsSharedActivityOf}
 use Rattle.bl_emit_pass_laws_chains.specs.Laws.{ActivitiesCallFew}
 use Rattle.bl_emit_pass_laws_cells.specs.Laws.{ActivityCells}
 use Rattle.bl_emit_pass_laws_structs.proofs.Lists.{first_or, get_behind, none_has, take_front}
@@ -104,9 +105,9 @@ module _ (structs : List StructDef) (units : List UnitDef) (entry : ℕ) (keeps 
     (down : (k j : ℕ) (unit : UnitDef) → slice_get units k ≡ Some unit → list_any (nat_eq j) (needs_of unit) ≡ true →
     cells_at structs units j ≤ cells_at structs units k)
     (last : List CStruct) (last_named : (s : CStruct) → Contains last s → first_byte s.name ≡ 98)
-    (counters : (unit : UnitDef) (one : InMachine) → IsPlainActivityOf unit one → length (sizes_of one.slots) ≤ width_in (plain_body unit.body))
+    (counters : (unit : UnitDef) (one : InMachine) → IsSharedActivityOf unit one → length (sizes_of one.slots) ≤ width_in (plain_body unit.body))
     (callees : (k : ℕ) (unit : UnitDef) (one : InMachine) (remember : List Bool) → slice_get units k ≡ Some unit → is_activity unit.kind ≡ true →
-    slice_get (needed_units units entry) k ≡ Some true → IsActivityOf unit one → IsPlainActivityOf unit one → (u : ℕ) (callee : UnitDef) →
+    slice_get (needed_units units entry) k ≡ Some true → IsActivityOf unit one → IsSharedActivityOf unit one → (u : ℕ) (callee : UnitDef) →
     Contains (runs_of unit) u → slice_get units u ≡ Some callee →
     (u < k) × (is_activity callee.kind ≡ true) × (slice_get (needed_units units entry) u ≡ Some true))
   where
@@ -243,13 +244,13 @@ module _ (structs : List StructDef) (units : List UnitDef) (entry : ℕ) (keeps 
 
       abbrev Behind : Type 0
       Behind = (remember' : List Bool) (machine : List InMachine) (list' : List ℕ) (chains' : Table ℕ) (T' : Sizes) →
-          EachTwo IsActivityOf (activities rest) machine → EachTwo IsPlainActivityOf (activities rest) machine → Knows list' chains' (suc k) →
+          EachTwo IsActivityOf (activities rest) machine → EachTwo IsSharedActivityOf (activities rest) machine → Knows list' chains' (suc k) →
           Fresh T' (suc k) → Goal list' chains' T' (parts_from structs (earlier ++ unit ∷ []) remember' rest needed machine)
 
       step_by : (active test : Bool) (machine : List InMachine) → is_activity unit.kind ≡ active →
           slice_get (needed_units units entry) k ≡ Some test →
           EachTwo IsActivityOf (cond active (unit ∷ activities rest) (activities rest)) machine →
-          EachTwo IsPlainActivityOf (cond active (unit ∷ activities rest) (activities rest)) machine → Knows list chains k → Fresh T k → Behind →
+          EachTwo IsSharedActivityOf (cond active (unit ∷ activities rest) (activities rest)) machine → Knows list chains k → Fresh T k → Behind →
           Goal list chains T (All active test (take k units) machine)
       step_by true test [] act need own plain st fresh behind is = absurd own
       step_by true true (one ∷ machine) act need own plain st fresh behind is =
@@ -293,7 +294,7 @@ module _ (structs : List StructDef) (units : List UnitDef) (entry : ℕ) (keeps 
           (λ j other above. fresh j other (omega (arith, above))) is)
 
       step : (test : Bool) (machine : List InMachine) → slice_get (needed_units units entry) k ≡ Some test →
-          EachTwo IsActivityOf (activities (unit ∷ rest)) machine → EachTwo IsPlainActivityOf (activities (unit ∷ rest)) machine →
+          EachTwo IsActivityOf (activities (unit ∷ rest)) machine → EachTwo IsSharedActivityOf (activities (unit ∷ rest)) machine →
           Knows list chains k → Fresh T k → Behind → Goal list chains T (All (is_activity unit.kind) test earlier machine)
       step test machine need own plain st fresh behind =
           subst (λ earlier'. Goal list chains T (All (is_activity unit.kind) test earlier' machine)) front
@@ -308,7 +309,7 @@ module _ (structs : List StructDef) (units : List UnitDef) (entry : ℕ) (keeps 
 
     pub walk : (earlier : List UnitDef) (remember : List Bool) (rest : List UnitDef) (needed : List Bool) (machine : List InMachine)
         (list : List ℕ) (chains : Table ℕ) (T : Sizes) → earlier ++ rest ≡ units → Told (length earlier) needed rest →
-        EachTwo IsActivityOf (activities rest) machine → EachTwo IsPlainActivityOf (activities rest) machine →
+        EachTwo IsActivityOf (activities rest) machine → EachTwo IsSharedActivityOf (activities rest) machine →
         Knows list chains (length earlier) → Fresh T (length earlier) →
         Goal list chains T (parts_from structs earlier remember rest needed machine)
     walk earlier remember [] needed machine list chains T whole told own plain st fresh is = record {

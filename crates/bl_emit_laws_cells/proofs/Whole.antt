@@ -25,7 +25,7 @@ use Rattle.bl_nodes.specs.Nodes.{nodes_in}
 use Rattle.bl_nodes.specs.Plain.{Block, plain_body}
 use Rattle.bl_machine.specs.declared.machine.Activity.{Activity as InMachine}
 use Rattle.bl_machine.specs.Layout.{width_in}
-use Rattle.bl_machine.specs.Machines.{AreActivitiesOf, IsActivityOf, IsPlainActivityOf}
+use Rattle.bl_machine.specs.Machines.{AreActivitiesOf, IsActivityOf}
 use Rattle.bl_machine.specs.Uses.{Slots}
 use Rattle.bl_measures.specs.Calls.{calls_of}
 use Rattle.bl_measures.specs.Laws.{CellsAdd}
@@ -49,6 +49,7 @@ use Rattle.bl_emit_pass.specs.Activities.{Activity, RunAt, runs_in_body}
 use Rattle.bl_emit_pass.specs.Names.{frame_name}
 use Rattle.bl_emit_pass.specs.Programs.{Parts, activity_of, file_at, init_function, interface_structs}
 use Rattle.bl_emit_pass.specs.Programs.{needed_units, needs_of, port_struct, state_struct, tick_function}
+use Rattle.bl_emit_pass.specs.Shared.{IsSharedActivityOf}
 use Rattle.bl_emit_pass_laws_cells.specs.Laws.{ActivityCells, BodiesRun, ports_of}
 use Rattle.bl_emit_pass_laws_chains.specs.Laws.{ActivitiesCallFew}
 use Rattle.bl_emit_pass_laws_closed.specs.Laws.{NeededClosed}
@@ -132,7 +133,7 @@ module _ (program : Program)
     (spell : MachinesSpell program.structs program.units program.entry) (sound : PartsAreSound program.structs program.units program.entry)
     (cells : ActivityCells program.structs program.units program.entry) (machine : List InMachine) (unit : UnitDef)
     (keeps : Keeps program.structs program.units program.entry) (limits : KeepsLimits program.structs program.units program.entry)
-    (agrees : AreActivitiesOf program.units machine) (plain : EachTwo IsPlainActivityOf (activities program.units) machine)
+    (agrees : AreActivitiesOf program.units machine) (plain : EachTwo IsSharedActivityOf (activities program.units) machine)
     (there : slice_get program.units program.entry ≡ Some unit) where
   abbrev structs : List StructDef
   structs = program.structs
@@ -288,18 +289,18 @@ module _ (program : Program)
       cells_at structs units j ≤ cells_at structs units k
   cells_down k j u at among = less_calls structs units entry k j u keeps earlier add at among
 
-  few_counters : (u : UnitDef) (one : InMachine) → IsPlainActivityOf u one → length (sizes_of one.slots) ≤ width_in (plain_body u.body)
+  few_counters : (u : UnitDef) (one : InMachine) → IsSharedActivityOf u one → length (sizes_of one.slots) ≤ width_in (plain_body u.body)
   few_counters u one single = sizes_few (plain_body u.body) one.slots single.slots
 
   callees : (k : ℕ) (u : UnitDef) (one : InMachine) (remember : List Bool) → slice_get units k ≡ Some u → is_activity u.kind ≡ true →
-      slice_get (needed_units units entry) k ≡ Some true → IsActivityOf u one → IsPlainActivityOf u one → (c : ℕ) (callee : UnitDef) →
+      slice_get (needed_units units entry) k ≡ Some true → IsActivityOf u one → IsSharedActivityOf u one → (c : ℕ) (callee : UnitDef) →
       Contains (runs_of u) c → slice_get units c ≡ Some callee →
       (c < k) × (is_activity callee.kind ≡ true) × (slice_get (needed_units units entry) c ≡ Some true)
   callees k u one remember at active need own single c callee has found =
       let a : Activity = activity_of structs (take k units) remember u one in
       let same : map (λ (run : RunAt). run.unit) (runs_in_body a) ≡ runs_of u =
       bodies k u a keeps (record { there = at; is = refl; before = refl }) in
-      let modest : IsModest structs units k u one = record { there = at; of_unit = own; plain = single; cells = small k keeps limits need } in
+      let modest : IsModest structs units k u one = record { there = at; of_unit = own; shared = single; cells = small k keeps limits need } in
       let run = from_map (λ (run : RunAt). run.unit) (runs_in_body a) c (subst (λ us. Contains us c) (sym same) has) in
       let fits = runs_fit nodes structs units entry k a keeps closed (spell k u one remember keeps modest) run.0 run.1 in
       let is : fits.callee ≡ callee = same_Some fits.callee callee (sym fits.is_there ∙ ap (slice_get units) run.2 ∙ found) in (

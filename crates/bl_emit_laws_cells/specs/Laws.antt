@@ -7,22 +7,24 @@ use Rattle.bl_cause.specs.Activities.{EachTwo, activities}
 use Rattle.bl_effects.specs.Rules.{Passes}
 use Rattle.bl_limits.specs.Rules.{Passes as KeepsLimits}
 use Rattle.bl_machine.specs.declared.machine.Activity.{Activity as InMachine}
-use Rattle.bl_machine.specs.Machines.{AreActivitiesOf, IsPlainActivityOf}
+use Rattle.bl_machine.specs.Machines.{AreActivitiesOf}
 use Rattle.bl_measures.specs.Units.{cells_at}
 use Rattle.bl_cmeaning.specs.Parts.{Parts, parts_from as file_from}
 use Rattle.bl_cmeaning.specs.Sizes.{cells_needed}
 use Rattle.bl_emit_pass.specs.Programs.{written}
+use Rattle.bl_emit_pass.specs.Shared.{IsSharedActivityOf}
 
 -- what is written of a program with a machine
 abbrev pub file_of : Program → List InMachine → Parts
 file_of program machine = file_from (written program machine).structs (written program machine).funcs
 
--- the file that is written of a typed program with a plain machine needs no more cells than the entry has, where neither rule Frames nor Cells fails
+-- the file that is written of a typed program with a machine that shares counters needs no more cells than the entry has, where neither of the
+-- rules Frames and Cells fails
 abbrev pub FilesCount : Program → Type 0
 FilesCount program =
     (machine : List InMachine) (unit : UnitDef) → Keeps program.structs program.units program.entry →
     KeepsLimits program.structs program.units program.entry → AreActivitiesOf program.units machine →
-    EachTwo IsPlainActivityOf (activities program.units) machine → slice_get program.units program.entry ≡ Some unit →
+    EachTwo IsSharedActivityOf (activities program.units) machine → slice_get program.units program.entry ≡ Some unit →
     cells_needed (file_of program machine) ≤ cells_at program.structs program.units program.entry
 
 -- so it needs at most a million, where no rule fails
@@ -30,5 +32,5 @@ abbrev pub FilesSmall : Program → Type 0
 FilesSmall program =
     (machine : List InMachine) → Keeps program.structs program.units program.entry → Passes program.units →
     KeepsLimits program.structs program.units program.entry → AreActivitiesOf program.units machine →
-    EachTwo IsPlainActivityOf (activities program.units) machine → (unit : UnitDef) → slice_get program.units program.entry ≡ Some unit →
+    EachTwo IsSharedActivityOf (activities program.units) machine → (unit : UnitDef) → slice_get program.units program.entry ≡ Some unit →
     cells_needed (file_of program machine) ≤ 1_000_000

@@ -2,6 +2,7 @@
 use Rattle.std.proofs.Common.{◌≡◌, ℕ, zero, suc, Bool, true, false, List, [], ◌∷◌, ◌++◌, map, Option, Some, None, refl, sym, ap, subst, codes}
 use Rattle.std.specs.Prelude.{option_to_list, slice_get}
 use Rattle.bl_tree.specs.declared.c.CArg.TheVariants.{Address}
+use Rattle.bl_tree.specs.declared.c.CExpr.{CExpr}
 use Rattle.bl_tree.specs.declared.c.CPlace.{CPlace}
 use Rattle.bl_tree.specs.declared.c.CStmt.{CStmt}
 use Rattle.bl_tree.specs.declared.scalar.Op.TheVariants.{Eq}
@@ -40,7 +41,8 @@ use Rattle.bl_pass.specs.Rules.{Rule}
 use Rattle.bl_emit_pass.specs.Activities.{
   Activity,
   activity_function,
-  blocks_in_source,
+  blocks_code,
+  blocks_in_order,
   body_of,
   callees_in,
   copied_in,
@@ -49,20 +51,20 @@ use Rattle.bl_emit_pass.specs.Activities.{
   picked,
   rested_code,
   rules_at,
+  turns_in_source,
   view_of,
 }
 use Rattle.bl_emit_pass.specs.Blocks.{
+  Turn,
   View,
   acted,
   arg_where,
   begun_code,
-  block_code,
-  blocks_code,
   changes_code,
   counter_value,
-  guard_of,
   has_result,
   layer_acted,
+  merged_code,
   name_in,
   node_code,
   resumed_code,
@@ -70,6 +72,8 @@ use Rattle.bl_emit_pass.specs.Blocks.{
   run_code,
   target_code,
   tested,
+  turn_code,
+  turns_of,
 }
 use Rattle.bl_emit_pass.specs.Names.{
   callee_frame,
@@ -220,30 +224,55 @@ module _ (P : CPath → Type 0) (plain : (place : CPath) → names_counter place
   node_fine a rule (SurfaceJoinAt l at) = changes_fine P plain own view rule.so
   node_fine a rule (DepthJoinAt l at) = changes_fine P plain own view rule.so
 
-  block_fine : (a : ℕ) (rule : Rule) → StmtFine P plain (block_code view a rule)
-  block_fine a rule =
-      if-fine P plain (guard_of view rule.node rule.asked) (node_code view a rule rule.node) None (guard_fine P plain own view rule.node rule.asked)
-      (node_fine a rule rule.node) tt
+  -- what a turn asks and does
+  abbrev TurnFine : Turn → Type 0
+  TurnFine turn = ExprFine P plain turn.test × CodeFine P plain turn.code
 
-  -- each of some statements
-  abbrev EachFine : List CStmt → Type 0
+  -- each of some turns
+  abbrev EachFine : List Turn → Type 0
   EachFine [] = Unit {0}
-  EachFine (s ∷ rest) = StmtFine P plain s × EachFine rest
+  EachFine (turn ∷ rest) = TurnFine turn × EachFine rest
 
-  blocks_fine : (callees : List ℕ) (listed : List Rule) → EachFine (blocks_code view callees listed)
-  blocks_fine [] listed = tt
-  blocks_fine (a ∷ callees) [] = tt
-  blocks_fine (a ∷ callees) (rule ∷ listed) = (block_fine a rule, blocks_fine callees listed)
+  each_fine : (callees : List ℕ) (listed : List Rule) → EachFine (turns_of view callees listed)
+  each_fine [] listed = tt
+  each_fine (a ∷ callees) [] = tt
+  each_fine (a ∷ callees) (rule ∷ listed) =
+      ((guard_fine P plain own view rule.node rule.asked, node_fine a rule rule.node), each_fine callees listed)
 
-  one_of : (code : List CStmt) (k : ℕ) → EachFine code → CodeFine P plain (option_to_list (slice_get code k))
+  append_fine : (turns more : List Turn) → EachFine turns → EachFine more → EachFine (turns ++ more)
+  append_fine [] more all rest = rest
+  append_fine (turn ∷ turns) more all rest = (all.0, append_fine turns more all.1 rest)
+
+  one_of : (turns : List Turn) (k : ℕ) → EachFine turns → EachFine (option_to_list (slice_get turns k))
   one_of [] k all = tt
-  one_of (s ∷ rest) zero all = one_stmt P plain s all.0
-  one_of (s ∷ rest) (suc k) all = one_of rest k all.1
+  one_of (turn ∷ rest) zero all = (all.0, tt)
+  one_of (turn ∷ rest) (suc k) all = one_of rest k all.1
 
-  picked_fine : (code : List CStmt) (order : List ℕ) → EachFine code → CodeFine P plain (picked code order)
-  picked_fine code [] all = tt
-  picked_fine code (k ∷ order) all =
-      then_code P plain (option_to_list (slice_get code k)) (picked code order) (one_of code k all) (picked_fine code order all)
+  picked_fine : (turns : List Turn) (block : List ℕ) → EachFine turns → EachFine (picked turns block)
+  picked_fine turns [] all = tt
+  picked_fine turns (k ∷ block) all =
+      append_fine (option_to_list (slice_get turns k)) (picked turns block) (one_of turns k all) (picked_fine turns block all)
+
+  alone_fine : (test : CExpr) (code : List CStmt) → ExprFine P plain test → CodeFine P plain code → StmtFine P plain (c_if test code None)
+  alone_fine test code is block = if-fine P plain test code None is block tt
+
+  turns_fine : (turns : List Turn) → EachFine turns → CodeFine P plain (map turn_code turns)
+  turns_fine [] all = tt
+  turns_fine (turn ∷ rest) all =
+      first_stmt P plain (turn_code turn) (map turn_code rest) (alone_fine turn.test turn.code all.0.0 all.0.1) (turns_fine rest all.1)
+
+  merged_fine : (turns : List Turn) → EachFine turns → CodeFine P plain (merged_code turns)
+  merged_fine [] all = tt
+  merged_fine (first ∷ rest) all =
+      one_stmt P plain (c_if first.test (first.code ++ map turn_code rest) None)
+      (alone_fine first.test (first.code ++ map turn_code rest) all.0.0
+      (then_code P plain first.code (map turn_code rest) all.0.1 (turns_fine rest all.1)))
+
+  blocks_fine : (turns : List Turn) (blocks : List (List ℕ)) → EachFine turns → CodeFine P plain (blocks_code turns blocks)
+  blocks_fine turns [] all = tt
+  blocks_fine turns (block ∷ rest) all =
+      then_code P plain (merged_code (picked turns block)) (blocks_code turns rest) (merged_fine (picked turns block) (picked_fine turns block all))
+      (blocks_fine turns rest all)
 
   -- ---- what stands before the blocks
 
@@ -272,10 +301,10 @@ pub activity-fine : (P : CPath → Type 0) (plain : (place : CPath) → names_co
     ((k : ℕ) → P (own_counter (counter_name k))) → (a : Activity) → Fine P (places_named (activity_function a))
 activity-fine P plain own a =
     let view : View = view_of a in
-    let blocks : List CStmt = picked (blocks_in_source a) a.order in
+    let blocks : List CStmt = blocks_in_order a in
     let copies : List CStmt = map (c_copied view.site) (copied_in a) in
     then_code P plain (map rested_code (counters_read a)) (entry_code view (body_of a) ++ (copies ++ blocks))
     (resteds_fine P plain own view (counters_read a))
     (then_code P plain (entry_code view (body_of a)) (copies ++ blocks) (entry_fine P plain own view (body_of a))
     (then_code P plain copies blocks (copies_fine P plain own view (copied_in a))
-    (picked_fine P plain own view (blocks_in_source a) a.order (blocks_fine P plain own view (callees_in (body_of a)) (rules_at a)))))
+    (blocks_fine P plain own view (turns_in_source a) a.blocks (each_fine P plain own view (callees_in (body_of a)) (rules_at a)))))

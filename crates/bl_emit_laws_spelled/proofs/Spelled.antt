@@ -15,11 +15,12 @@ use Rattle.bl_effects.specs.Rules.{Passes}
 use Rattle.bl_limits.specs.Rules.{Passes as KeepsLimits}
 use Rattle.bl_machine.specs.declared.machine.Activity.{Activity as InMachine}
 use Rattle.bl_machine.specs.Blocks.{up_to}
-use Rattle.bl_machine.specs.Machines.{IsActivityOf, IsPlainActivityOf}
+use Rattle.bl_machine.specs.Machines.{IsActivityOf}
 use Rattle.bl_machine_laws_rests.specs.Laws.{ActivitiesCount}
 use Rattle.bl_emit_functions_laws_formed.specs.Laws.{IsNumbered}
 use Rattle.bl_emit_pass.specs.Activities.{Activity, counter_member, frame_member, frame_struct, runs_in_body}
 use Rattle.bl_emit_pass.specs.Programs.{activity_of, needed_units, parts_of_function, parts_of_next}
+use Rattle.bl_emit_pass.specs.Shared.{IsSharedActivityOf}
 use Rattle.bl_emit_pass_laws_machines.specs.Laws.{IsModest, MachinesSpell}
 use Rattle.bl_emit_pass_laws_needed.specs.Laws.{NeededNumbered, NeededSmall}
 use Rattle.bl_emit_pass_laws_spelled.specs.Laws.{CanSpell}
@@ -90,10 +91,10 @@ module _ (structs : List StructDef) (units : List UnitDef) (entry : ℕ) (keeps 
       before = ap (take (length earlier)) (sym whole) ∙ take_front earlier (unit ∷ rest)
 
       activity_writes : (one : InMachine) → is_activity unit.kind ≡ true → slice_get (needed_units units entry) k ≡ Some true →
-          IsActivityOf unit one → IsPlainActivityOf unit one → Writes structs units k (activity_of structs earlier remember unit one)
+          IsActivityOf unit one → IsSharedActivityOf unit one → Writes structs units k (activity_of structs earlier remember unit one)
       activity_writes one active needed own plain =
           let modest : IsModest structs units k unit one =
-          record { there = there; of_unit = own; plain = plain; cells = small k keeps limits needed } in
+          record { there = there; of_unit = own; shared = plain; cells = small k keeps limits needed } in
           record {
             can = subst (λ before. CanSpell structs units k (activity_of structs before remember unit one)) before
                 (spell k unit one remember keeps modest);
@@ -112,7 +113,7 @@ module _ (structs : List StructDef) (units : List UnitDef) (entry : ℕ) (keeps 
       -- those behind it are
       abbrev Behind : Type 0
       Behind = (remember : List Bool) (needed : List Bool) (machine : List InMachine) → Told (suc k) needed →
-          EachTwo IsActivityOf (activities rest) machine → EachTwo IsPlainActivityOf (activities rest) machine →
+          EachTwo IsActivityOf (activities rest) machine → EachTwo IsSharedActivityOf (activities rest) machine →
           AllWrite structs units (earlier ++ unit ∷ []) remember rest needed machine
 
       where_writes : (test : Bool) (A : Type 0) → (test ≡ true → A) → Where test A
@@ -125,7 +126,7 @@ module _ (structs : List StructDef) (units : List UnitDef) (entry : ℕ) (keeps 
 
       listed : (active test : Bool) (needed : List Bool) (machine : List InMachine) → is_activity unit.kind ≡ active → Told k (test ∷ needed) →
           EachTwo IsActivityOf (cond active (unit ∷ activities rest) (activities rest)) machine →
-          EachTwo IsPlainActivityOf (cond active (unit ∷ activities rest) (activities rest)) machine → Behind → Listed active test needed machine
+          EachTwo IsSharedActivityOf (cond active (unit ∷ activities rest) (activities rest)) machine → Behind → Listed active test needed machine
       listed true test needed [] is told own plain behind = absurd own
       listed true test needed (one ∷ machine) is told own plain behind = (
         where_writes test (Writes structs units k (activity_of structs earlier remember unit one))
@@ -144,7 +145,7 @@ module _ (structs : List StructDef) (units : List UnitDef) (entry : ℕ) (keeps 
 
     all_write : (earlier : List UnitDef) (remember : List Bool) (rest : List UnitDef) (needed : List Bool) (machine : List InMachine) →
         earlier ++ rest ≡ units → Told (length earlier) needed → EachTwo IsActivityOf (activities rest) machine →
-        EachTwo IsPlainActivityOf (activities rest) machine → AllWrite structs units earlier remember rest needed machine
+        EachTwo IsSharedActivityOf (activities rest) machine → AllWrite structs units earlier remember rest needed machine
     all_write earlier remember [] needed machine whole told own plain = tt
     all_write earlier remember (unit ∷ rest) [] machine whole told own plain = tt
     all_write earlier remember (unit ∷ rest) (test ∷ needed) machine whole told own plain =

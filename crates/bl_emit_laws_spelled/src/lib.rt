@@ -1,5 +1,5 @@
 //! The C file of an accepted program has a spelling. A law, as the contract of a function that does nothing: where no rule fails, what is written
-//! of a program with a plain machine of it can be spelled (`specs/Laws.antt`, `ProgramsSpelled`).
+//! of a program with a machine of it that shares counters can be spelled (`specs/Laws.antt`, `ProgramsSpelled`).
 #![tactic(auto)]
 
 ghost use Rattle.bl_emit_laws_spelled.specs.Laws.{ProgramsSpelled};
@@ -10,7 +10,7 @@ use bl_emit_pass_laws_texts::files_spelled;
 use bl_machine_laws_rests::activities_count;
 use bl_tree::Program;
 
-/// The C file that is written of an accepted program with a plain machine has a spelling.
+/// The C file that is written of an accepted program with a machine that shares counters has a spelling.
 pub fn programs_spelled(program: &Program)
     ensures { ProgramsSpelled program.now }
 {

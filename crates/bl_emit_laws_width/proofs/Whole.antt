@@ -15,10 +15,10 @@ use Rattle.bl_ctree.specs.Instances.{Setting, setting_of, unit_at}
 use Rattle.bl_ctree_laws_confluence.specs.Orderly.{AcceptedIsOrderly}
 use Rattle.bl_machine.specs.declared.machine.Activity.{Activity as InMachine}
 use Rattle.bl_machine.specs.Layout.{counters_in}
-use Rattle.bl_machine.specs.Machines.{IsPlainActivityOf}
 use Rattle.bl_machine_laws.specs.Width.{TakesItsWidth}
 use Rattle.bl_emit_pass.specs.Activities.{frame_struct}
 use Rattle.bl_emit_pass.specs.Names.{frame_name}
+use Rattle.bl_emit_pass.specs.Shared.{IsSharedActivityOf}
 use Rattle.bl_emit_pass_laws_called.proofs.Running.{unit_there}
 use Rattle.bl_emit_pass_laws_calls.specs.Built.{Activities, MadeOf, unit_number}
 use Rattle.bl_emit_pass_laws_calls.specs.Laws.{Compiled}
@@ -34,7 +34,7 @@ entry_there (Some unit) is = (unit, refl)
 module _ (program : Program) (orderly : AcceptedIsOrderly) (wide : (body : List Stmt) → TakesItsWidth body) (declares : FramesAreDeclared program)
     (machine : List InMachine) (i : ℕ) (unit : UnitDef)
     (compiled : Compiled program.structs program.units program.entry machine (activities_in program machine))
-    (plain : EachTwo IsPlainActivityOf (activities_among program.units) machine)
+    (plain : EachTwo IsSharedActivityOf (activities_among program.units) machine)
     (is : unit_at (setting_of program.structs program.units program.entry) i ≡ Some unit)
   where
     abbrev w : Setting
@@ -55,11 +55,11 @@ module _ (program : Program) (orderly : AcceptedIsOrderly) (wide : (body : List 
     made : MadeOf unit (activities k) (slice_get machine (graph_position program.units k))
     made = compiled.built.made k unit there active
 
-    own : IsPlainActivityOf unit made.one
+    own : IsSharedActivityOf unit made.one
     own =
         let among = filtered_at (λ (it : UnitDef). is_activity it.kind) program.units k unit there active in
-        let alone = each_at IsPlainActivityOf (activities_among program.units) machine (graph_position program.units k) unit plain among in
-        subst (IsPlainActivityOf unit) (some_is alone.0 made.one (sym alone.1 ∙ made.is)) alone.2
+        let alone = each_at IsSharedActivityOf (activities_among program.units) machine (graph_position program.units k) unit plain among in
+        subst (IsSharedActivityOf unit) (some_is alone.0 made.one (sym alone.1 ∙ made.is)) alone.2
 
     many : length (activities k).sizes ≡ width unit.body
     many =

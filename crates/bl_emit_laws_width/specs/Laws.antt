@@ -10,8 +10,8 @@ use Rattle.bl_effects.specs.Surface.{width}
 use Rattle.bl_ctree.specs.Instances.{setting_of, unit_at}
 use Rattle.bl_cmeaning.specs.Parts.{Parts}
 use Rattle.bl_machine.specs.declared.machine.Activity.{Activity as InMachine}
-use Rattle.bl_machine.specs.Machines.{IsPlainActivityOf}
 use Rattle.bl_emit_pass.specs.Names.{frame_name}
+use Rattle.bl_emit_pass.specs.Shared.{IsSharedActivityOf}
 use Rattle.bl_emit_pass_laws_calls.specs.Laws.{Compiled}
 use Rattle.bl_emit_laws_kept.specs.Laws.{activities_in, written_file}
 use Rattle.bl_emit_laws_counters.specs.Own.{is_counter_name}
@@ -32,9 +32,9 @@ abbrev pub EachFrameHasWidth : List StructDef → List UnitDef → ℕ → Parts
 EachFrameHasWidth structs units entry file =
     (i : ℕ) (unit : UnitDef) → unit_at (setting_of structs units entry) i ≡ Some unit → FrameHasWidth file unit
 
--- and so has the file that is written of a compiled program with a plain machine
+-- and so has the file that is written of a compiled program with a machine that shares counters
 abbrev pub FramesHaveWidth : Program → Type 0
 FramesHaveWidth program =
     (machine : List InMachine) → Compiled program.structs program.units program.entry machine (activities_in program machine) →
-    EachTwo IsPlainActivityOf (activities program.units) machine →
+    EachTwo IsSharedActivityOf (activities program.units) machine →
     EachFrameHasWidth program.structs program.units program.entry (written_file program machine)

@@ -30,7 +30,7 @@ use Rattle.bl_emit_functions.specs.Functions.{members_of, memory_name, params_fr
 use Rattle.bl_pass.specs.Rules.{Asked, Change, Rule}
 use Rattle.bl_pass.specs.Rules.{Ended, Flagged, Marks, Rested, RestedIn, rules}
 pub use Rattle.bl_pass_listed.specs.Callees.{callees_in, number_in}
-use Rattle.bl_emit_pass.specs.Blocks.{Sizes, View, blocks_code, counter_type, counter_value, name_in}
+use Rattle.bl_emit_pass.specs.Blocks.{Sizes, Turn, View, counter_type, counter_value, merged_code, name_in, turns_of}
 use Rattle.bl_emit_pass.specs.Names.{callee_name, counter_name, counter_place, ended_name, flag_name, flag_place, frame_name}
 use Rattle.bl_emit_pass.specs.Names.{given_name, mark_name, rested_name, rested_place}
 use Rattle.bl_prevs.specs.Prevs.{prevs_of}
@@ -44,12 +44,13 @@ pub record RunAt : Type 0 where
 
 -- ---- an activity
 
--- what C is made of: a unit with the structs and units before it, the order of its nodes, and the numbers of its resting places
+-- what C is made of: a unit with the structs and units before it, the order of its nodes and their blocks, and the numbers of its resting places
 pub record Activity : Type 0 where
   pub structs : List StructDef
   pub earlier : List UnitDef
   pub unit : UnitDef
   pub order : List ℕ
+  pub blocks : List (List ℕ)
   pub slots : Slots
   -- how many values each counter has
   pub sizes : Sizes
@@ -248,16 +249,24 @@ abbrev pub picked : {X : Type 0} → List X → List ℕ → List X
 picked all [] = []
 picked all (k ∷ rest) = option_to_list (slice_get all k) ++ picked all rest
 
--- the blocks in source order
-abbrev pub blocks_in_source : Activity → List CStmt
-blocks_in_source a = blocks_code (view_of a) (callees_in (body_of a)) (rules_at a)
+-- the turns of nodes in source order
+abbrev pub turns_in_source : Activity → List Turn
+turns_in_source a = turns_of (view_of a) (callees_in (body_of a)) (rules_at a)
+
+-- the `if`s of blocks, which have nodes by their positions
+abbrev pub blocks_code : List Turn → List (List ℕ) → List CStmt
+blocks_code turns [] = []
+blocks_code turns (block ∷ rest) = merged_code (picked turns block) ++ blocks_code turns rest
+
+-- those of the activity
+abbrev pub blocks_in_order : Activity → List CStmt
+blocks_in_order a = blocks_code (turns_in_source a) a.blocks
 
 -- the body: copies of what held when the tick began, and the blocks in their order
 abbrev pub activity_code : Activity → List CStmt
 activity_code a =
     map rested_code (counters_read a)
-    ++ (entry_code (view_of a) (body_of a)
-    ++ (map (c_copied (view_of a).site) (copied_in a) ++ picked (blocks_in_source a) a.order))
+    ++ (entry_code (view_of a) (body_of a) ++ (map (c_copied (view_of a).site) (copied_in a) ++ blocks_in_order a))
 
 -- the C function of an activity
 abbrev pub activity_function : Activity → CFunc

@@ -1,4 +1,4 @@
--- The C of the blocks of a pass: one `if` for each block, with what its nodes do and what changes then.
+-- The C of the blocks of a pass: one `if` for each block, with what its nodes do and what changes then, and in it one for each further node.
 use Rattle.std.specs.Prelude.{ℕ, zero, suc, pos, Bool, true, false, List, [], ◌∷◌, ◌++◌, map, Option, Some, None, if◌then◌else◌}
 use Rattle.std.specs.Prelude.{length, is_some, nat_le, slice_get, unwrap_or}
 use Rattle.bl_tree.specs.declared.text.Text.{Text}
@@ -223,7 +223,7 @@ resumed_code view k a arguments rule =
     run_code view k a arguments
     ++ c_if (c_read (ended_place k)) (target_code view k arguments.target ++ changes_code view rule.so) None ∷ []
 
--- what a block of one node does, by its rule; of a `run` the number tells the activity that it calls
+-- what a node does in its turn, by its rule; of a `run` the number tells the activity that it calls
 abbrev pub node_code : View → ℕ → Rule → Node → List CStmt
 node_code view a rule (ActAt l s) = acted view s ++ changes_code view rule.so
 node_code view a rule (TestAt l at e) = tested view (code_made view.site e) rule
@@ -232,12 +232,30 @@ node_code view a rule (EnterAt l at arguments) = begun_code view (view.number (E
 node_code view a rule (ResumeAt l at arguments) = resumed_code view (view.number (EnterAt l at arguments)) a arguments rule
 node_code view a rule n = changes_code view rule.so
 
--- the `if` of a block of one node
-abbrev pub block_code : View → ℕ → Rule → CStmt
-block_code view a rule = c_if (guard_of view rule.node rule.asked) (node_code view a rule rule.node) None
+-- the turn of a node in C: what is asked before it, and what it does then
+pub record Turn : Type 0 where
+  pub test : CExpr
+  pub code : List CStmt
 
--- the blocks of nodes that have these rules, each with the activity that it calls
-abbrev pub blocks_code : View → List ℕ → List Rule → List CStmt
-blocks_code view [] rules = []
-blocks_code view callees [] = []
-blocks_code view (a ∷ callees) (rule ∷ rules) = block_code view a rule ∷ blocks_code view callees rules
+-- the `if` of one turn
+abbrev pub turn_code : Turn → CStmt
+turn_code turn = c_if turn.test turn.code None
+
+-- the `if` of a block: the turn of its first node, and in it the `if`s of its other nodes
+abbrev pub merged_code : List Turn → List CStmt
+merged_code [] = []
+merged_code (first ∷ rest) = c_if first.test (first.code ++ map turn_code rest) None ∷ []
+
+-- the turn of a rule's node; of a `run` the number tells the activity that it calls
+abbrev pub turn_of : View → ℕ → Rule → Turn
+turn_of view a rule = record { test = guard_of view rule.node rule.asked; code = node_code view a rule rule.node }
+
+-- its `if`
+abbrev pub block_code : View → ℕ → Rule → CStmt
+block_code view a rule = turn_code (turn_of view a rule)
+
+-- the turns of nodes that have these rules, each with the activity that it calls
+abbrev pub turns_of : View → List ℕ → List Rule → List Turn
+turns_of view [] rules = []
+turns_of view callees [] = []
+turns_of view (a ∷ callees) (rule ∷ rules) = turn_of view a rule ∷ turns_of view callees rules

@@ -98,6 +98,7 @@ activity_of structs earlier remember unit one = record {
   earlier = earlier;
   unit = unit;
   order = joined one.blocks;
+  blocks = one.blocks;
   slots = slots_of (plain_body unit.body) one.slots;
   sizes = sizes_of one.slots;
   remember = remember;

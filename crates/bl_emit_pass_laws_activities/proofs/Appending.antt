@@ -1,13 +1,9 @@
 -- Blocks of C statements, one behind the other.
-use Rattle.std.proofs.Common.{◌≡◌, ℕ, List, [], ◌∷◌, ◌++◌, drop, refl, sym, ap, ◌∙◌}
+use Rattle.std.proofs.Common.{◌≡◌, ℕ, List, [], ◌∷◌, ◌++◌, refl, sym, ap, ◌∙◌}
 use Rattle.bl_tree.specs.declared.c.CStmt.{CStmt}
 use Rattle.bl_cmeaning.specs.Course.{End, Outcome, breaks, following_end, goes_on, returns, traps}
 use Rattle.bl_cmeaning.specs.Meaning.{Scope, block_c, runs_c}
 use Rattle.bl_cmeaning.specs.Memory.{Memory}
-
-pub drop_none : {A : Type 0} (xs : List A) → drop 0 xs ≡ xs
-drop_none [] = refl
-drop_none (x ∷ xs) = refl
 
 -- ---- outcomes
 

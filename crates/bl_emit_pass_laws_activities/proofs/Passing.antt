@@ -33,12 +33,11 @@ use Rattle.bl_emit_pass.specs.Activities.{
   Activity,
   activity_code,
   activity_function,
-  blocks_in_source,
+  blocks_in_order,
   body_of,
   copied_in,
   counters_read,
   entry_code,
-  picked,
   remembers_any,
   rested_code,
   view_of,
@@ -69,14 +68,13 @@ use Rattle.bl_emit_pass_laws_calls.specs.Laws.{
   PartComes,
   PassOutside,
   PassesCome,
-  blocks_on,
   memory_in,
   scope_in,
   start_code,
 }
 use Rattle.bl_emit_pass_laws_calls.specs.Standing.{FunctionStands, result_at_c}
 use Rattle.bl_emit_pass_laws_activities.specs.Laws.{CalleesRemember, CallsCome, PointersAreGiven, PointersLead, ViewsFit}
-use Rattle.bl_emit_pass_laws_activities.proofs.Appending.{append_end, append_memory, drop_none}
+use Rattle.bl_emit_pass_laws_activities.proofs.Appending.{append_end, append_memory}
 use Rattle.bl_emit_pass_laws_activities.proofs.Calling.{output_place, outputs_from, same_length}
 use Rattle.bl_emit_pass_laws_activities.proofs.Lists.{any_at, any_left, any_right, get_drop, get_take, or_left, or_right}
 use Rattle.bl_emit_pass_laws_activities.proofs.Nested.{left_held, unit_there}
@@ -137,31 +135,29 @@ module _ (structs : List StructDef) (units : List UnitDef) (entry : ℕ) (machin
     }
 
     -- the body is the start, and then all blocks
-    body_is : activity_code a ≡ start_code a ++ blocks_on a 0
+    body_is : activity_code a ≡ start_code a ++ blocks_in_order a
     body_is =
         let rested = map rested_code (counters_read a) in
         let entered = entry_code (view_of a) (body_of a) in
         let copied = map (c_copied (view_of a).site) (copied_in a) in
-        let blocks = picked (blocks_in_source a) a.order in
-        sym (append_assoc rested (entered ++ copied) (blocks_on a 0)
-        ∙ ap (λ (xs : List CStmt). rested ++ xs) (append_assoc entered copied (blocks_on a 0))
-        ∙ ap (λ (xs : List CStmt). rested ++ (entered ++ (copied ++ xs))) (drop_none blocks))
+        sym (append_assoc rested (entered ++ copied) (blocks_in_order a)
+        ∙ ap (λ (xs : List CStmt). rested ++ xs) (append_assoc entered copied (blocks_in_order a)))
 
     abbrev body : Outcome Memory
     body = block_c (activity_code a) scope first_memory
 
     abbrev rest : Outcome Memory
-    rest = block_c (blocks_on a 0) scope start.memory
+    rest = block_c (blocks_in_order a) scope start.memory
 
     body_end : body.end ≡ rest.end
     body_end =
         ap (λ (xs : List CStmt). (block_c xs scope first_memory).end) body_is
-        ∙ append_end (start_code a) (blocks_on a 0) scope first_memory started.ends
+        ∙ append_end (start_code a) (blocks_in_order a) scope first_memory started.ends
 
     body_memory : body.memory ≡ rest.memory
     body_memory =
         ap (λ (xs : List CStmt). (block_c xs scope first_memory).memory) body_is
-        ∙ append_memory (start_code a) (blocks_on a 0) scope first_memory started.ends
+        ∙ append_memory (start_code a) (blocks_in_order a) scope first_memory started.ends
 
     -- what the call reaches
     kept_after : (root : Root) (way : List Part) → is_older scope.depth root ≡ true → called.memory root way ≡ rest.memory root way
@@ -292,14 +288,14 @@ module _ (structs : List StructDef) (units : List UnitDef) (entry : ℕ) (machin
         Executes W (rank_by W activities) (slots_by W activities) (cleared W) i 0 frames store (view_at W store i).now r frames' left r' →
         CallLeaves W activities i unit depth given frames' left r' here called
     executed {frames'} {left} {r'} way =
-        let came = passes.executes i unit scope 0 frames store (view_at W store i).now r frames' left r' start.memory midway way in
+        let came = passes.executes i unit scope frames store (view_at W store i).now r frames' left r' start.memory midway starts way in
         left_by frames' left r' came.0 came.1 came.1.ends
 
     pub stopped : IsCut W (rank_by W activities) (slots_by W activities) (cleared W) i 0 frames store (view_at W store i).now r →
         called.result ≡ None
     stopped way =
         ap result_of_end
-        (body_end ∙ passes.cut i unit scope 0 frames store (view_at W store i).now r start.memory midway way)
+        (body_end ∙ passes.cut i unit scope frames store (view_at W store i).now r start.memory midway starts way)
 
 pub calls_come : ProgramsNest → CallsKeep → CallsCome
 calls_come nest keep structs units entry machine activities begin pointers views remember passes u depth known below compiled knows agree others =

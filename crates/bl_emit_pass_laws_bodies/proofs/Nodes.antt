@@ -42,22 +42,24 @@ use Rattle.bl_emit_acts_laws_formed.proofs.Judged.{read-is}
 use Rattle.bl_emit_acts_laws_formed.proofs.Parts.{c_scalar_type}
 use Rattle.bl_emit_acts_laws_formed.proofs.SiteActs.{code_typed}
 use Rattle.bl_emit_functions_laws_formed.proofs.Shapes.{OtherIn, if-is}
-use Rattle.bl_emit_pass.specs.Activities.{Activity, RunAt, copies_of, picked, rules_at, runs_in_body, view_of}
+use Rattle.bl_emit_pass.specs.Activities.{Activity, RunAt, blocks_code, copies_of, picked, rules_at, runs_in_body, view_of}
 use Rattle.bl_emit_pass.specs.Blocks.{
+  Turn,
   View,
   acted,
   begun_code,
-  block_code,
-  blocks_code,
   changes_code,
-  guard_of,
   layer_acted,
+  merged_code,
   name_in,
   node_code,
   resumed_code,
   run_code,
   target_code,
   tested,
+  turn_code,
+  turn_of,
+  turns_of,
 }
 use Rattle.bl_emit_pass.specs.Names.{callee_frame, ended_place, frame_name, result_place}
 use Rattle.bl_emit_pass_laws_own.proofs.Members.{further, here as first_here}
@@ -97,31 +99,53 @@ truth_there (Some ty) h = (ty, refl, by (scalar_in ty) h)
     by (Some (Nat w)) h = absurd (cc)
     by (Some (Bits w)) h = absurd (cc)
 
--- ---- lists of statements
+-- ---- turns
 
 module _ (here : Context) where
-  -- nothing fails in each
-  abbrev pub Each : List CStmt → Type 0
+  -- nothing fails in what a turn asks, nor in what it does
+  abbrev TurnIs : Turn → Type 0
+  TurnIs turn = ExprIs here bool_type turn.test × BlockIs here turn.code
+
+  -- so it is of each turn
+  abbrev pub Each : List Turn → Type 0
   Each [] = ⊤
-  Each (s ∷ rest) = StmtIs here s × Each rest
+  Each (turn ∷ rest) = TurnIs turn × Each rest
 
-  pub each-block : (block : List CStmt) → Each block → BlockIs here block
-  each-block [] all = block_nil here
-  each-block (s ∷ rest) all = block_cons here s rest all.0 (each-block rest all.1)
+  each-append : (turns more : List Turn) → Each turns → Each more → Each (turns ++ more)
+  each-append [] more all rest = rest
+  each-append (turn ∷ turns) more all rest = (all.0, each-append turns more all.1 rest)
 
-  each_at : (block : List CStmt) (j : ℕ) (s : CStmt) → Each block → slice_get block j ≡ Some s → StmtIs here s
-  each_at [] j s all there = absurd (cc)
-  each_at (x ∷ rest) zero s all there = subst (StmtIs here) (same_Some x s there) all.0
-  each_at (x ∷ rest) (suc j) s all there = each_at rest j s all.1 there
+  each_at : (turns : List Turn) (j : ℕ) → Each turns → Each (option_to_list (slice_get turns j))
+  each_at [] j all = tt
+  each_at (turn ∷ rest) zero all = (all.0, tt)
+  each_at (turn ∷ rest) (suc j) all = each_at rest j all.1
 
-  pub picked-block : (block : List CStmt) (order : List ℕ) → Each block → BlockIs here (picked block order)
-  picked-block block [] all = block_nil here
-  picked-block block (j ∷ order) all =
-      block_append here (option_to_list (slice_get block j)) (picked block order) (by (slice_get block j) refl) (picked-block block order all)
-    where
-      by : (o : Option CStmt) → slice_get block j ≡ o → BlockIs here (option_to_list o)
-      by None is = block_nil here
-      by (Some s) is = block_one here s (each_at block j s all is)
+  each-picked : (turns : List Turn) (block : List ℕ) → Each turns → Each (picked turns block)
+  each-picked turns [] all = tt
+  each-picked turns (j ∷ block) all =
+      each-append (option_to_list (slice_get turns j)) (picked turns block) (each_at turns j all) (each-picked turns block all)
+
+  if-alone : (test : CExpr) (code : List CStmt) → ExprIs here bool_type test → BlockIs here code → StmtIs here (c_if test code None)
+  if-alone test code is block = if-is here test code None is block (λ looped. refl)
+
+  turns-are : (turns : List Turn) → Each turns → BlockIs here (map turn_code turns)
+  turns-are [] all = block_nil here
+  turns-are (turn ∷ rest) all =
+      block_cons here (turn_code turn) (map turn_code rest) (if-alone turn.test turn.code all.0.0 all.0.1) (turns-are rest all.1)
+
+  merged-is : (turns : List Turn) → Each turns → BlockIs here (merged_code turns)
+  merged-is [] all = block_nil here
+  merged-is (first ∷ rest) all =
+      block_one here (c_if first.test (first.code ++ map turn_code rest) None)
+      (if-alone first.test (first.code ++ map turn_code rest) all.0.0
+      (block_append here first.code (map turn_code rest) all.0.1 (turns-are rest all.1)))
+
+  -- nothing fails in blocks of such turns
+  pub blocks-are : (turns : List Turn) (blocks : List (List ℕ)) → Each turns → BlockIs here (blocks_code turns blocks)
+  blocks-are turns [] all = block_nil here
+  blocks-are turns (block ∷ rest) all =
+      block_append here (merged_code (picked turns block)) (blocks_code turns rest) (merged-is (picked turns block) (each-picked turns block all))
+      (blocks-are turns rest all)
 
   other-is : (block : List CStmt) → BlockIs here block → (looped : Bool) → OtherIn here looped (else_code block)
   other-is [] is looped = refl
@@ -256,23 +280,21 @@ module _ (units : List UnitDef) (entry k : ℕ) (a : Activity) (table : Table (T
     node-is u (SurfaceJoinAt l at) fit named runs = so-is
     node-is u (DepthJoinAt l at) fit named runs = so-is
 
-    block-is : (u : ℕ) → node_fits view.site u rule.node ≡ true → HasRun view.number (runs_in_body a) u rule.node → StmtIs here (block_code
-        view u rule)
-    block-is u fit runs =
-        if-is here (guard_of view rule.node rule.asked) (node_code view u rule rule.node) None
-        (guard-is units entry k a table known h rule.node rule.asked (h.owns.asks rule has))
-        (node-is u rule.node fit (h.copies.named rule has) runs) (λ looped. refl)
+    turn-is : (u : ℕ) → node_fits view.site u rule.node ≡ true → HasRun view.number (runs_in_body a) u rule.node →
+        TurnIs here (turn_of view u rule)
+    turn-is u fit runs =
+        (guard-is units entry k a table known h rule.node rule.asked (h.owns.asks rule has), node-is u rule.node fit (h.copies.named rule has) runs)
 
-  -- nothing fails in each block
-  pub blocks-are : (callees : List ℕ) (rules : List Rule) → all_fit a.sizes view.site callees rules ≡ true →
+  -- nothing fails in each turn
+  pub turns-in-source-are : (callees : List ℕ) (rules : List Rule) → all_fit a.sizes view.site callees rules ≡ true →
       Pairs (RuleRuns view.number (runs_in_body a)) callees rules → ((rule : Rule) → Contains rules rule → Contains (rules_at a) rule) →
-      Each here (blocks_code view callees rules)
-  blocks-are [] rules all runs inside = tt
-  blocks-are (u ∷ callees) [] all runs inside = tt
-  blocks-are (u ∷ callees) (rule ∷ rules) all runs inside =
+      Each here (turns_of view callees rules)
+  turns-in-source-are [] rules all runs inside = tt
+  turns-in-source-are (u ∷ callees) [] all runs inside = tt
+  turns-in-source-are (u ∷ callees) (rule ∷ rules) all runs inside =
       let own = and_left (rule_fits a.sizes rule && node_fits view.site u rule.node) (all_fit a.sizes view.site callees rules) all in (
-        block-is rule (inside rule (first_here rule rules)) u (and_right (rule_fits a.sizes rule) (node_fits view.site u rule.node) own) runs.0,
-        blocks-are callees rules
+        turn-is rule (inside rule (first_here rule rules)) u (and_right (rule_fits a.sizes rule) (node_fits view.site u rule.node) own) runs.0,
+        turns-in-source-are callees rules
             (and_right (rule_fits a.sizes rule && node_fits view.site u rule.node) (all_fit a.sizes view.site callees rules) all) runs.1
             (λ other there. inside other (further rule rules other there)),
       )

@@ -36,7 +36,7 @@ use Rattle.bl_emit_acts_laws_formed.proofs.Typed.{variable_place}
 use Rattle.bl_emit_pass.specs.Activities.{
   Activity,
   activity_code,
-  blocks_in_source,
+  blocks_in_order,
   body_of,
   callees_in,
   copied_in,
@@ -44,10 +44,10 @@ use Rattle.bl_emit_pass.specs.Activities.{
   counters_read,
   entry_code,
   is_flagged,
-  picked,
   rested_code,
   rules_at,
   runs_in_body,
+  turns_in_source,
   view_of,
 }
 use Rattle.bl_emit_pass.specs.Blocks.{View, counter_type, counter_value}
@@ -57,7 +57,7 @@ use Rattle.bl_emit_pass_laws_formed.specs.Laws.{FrameDiffers, LocalsDiffer, Memo
 use Rattle.bl_emit_pass_laws_own.proofs.Members.{any_true, both_true, further, here as first_here}
 use Rattle.bl_emit_pass_laws_bodies.specs.Laws.{ActivityBodiesFormed}
 use Rattle.bl_emit_pass_laws_bodies.proofs.Guards.{begins-is, put-is}
-use Rattle.bl_emit_pass_laws_bodies.proofs.Nodes.{Each, blocks-are, picked-block}
+use Rattle.bl_emit_pass_laws_bodies.proofs.Nodes.{Each, blocks-are, turns-in-source-are}
 use Rattle.bl_emit_pass_laws_bodies.proofs.Running.{body-runs, entry-flagged}
 use Rattle.bl_emit_pass_laws_bodies.proofs.Variables.{Here, context, copied, counter-is, declared_here, earlier_here, flag-is, plain_here, rested-is}
 use Rattle.bl_emit_pass_laws_bodies.proofs.Variables.{typed_here}
@@ -144,22 +144,22 @@ module _ (units : List UnitDef) (entry k : ℕ) (a : Activity) (table : Table (T
       (flag-is units entry k a table known h (view.number (entry_of s)) flag)
       (begins-is units entry k a table known h (is_below 0 (length a.sizes) h.owns.some)))
 
-  blocks : Each here (blocks_in_source a)
-  blocks =
-      blocks-are units entry k a table known h acts (callees_in (body_of a)) (rules_at a) h.fitted
+  turns : Each here (turns_in_source a)
+  turns =
+      turns-in-source-are units entry k a table known h acts (callees_in (body_of a)) (rules_at a) h.fitted
       (body-runs view.number (runs_in_body a) a.slots (body_of a) (λ run there. there)) (λ rule there. there)
 
   -- nothing fails in the statements
   pub code-is : BlockIs here (activity_code a)
   code-is =
       let copies : List CStmt = map (c_copied view.site) (copied_in a) in
-      let last : List CStmt = picked (blocks_in_source a) a.order in
+      let last : List CStmt = blocks_in_order a in
       block_append here (map rested_code (counters_read a)) (entry_code view (body_of a) ++ (copies ++ last))
       (filtered here view.is_read rested_code (up_to (length a.sizes)) (λ c there on. rested-code-is c on))
       (block_append here (entry_code view (body_of a)) (copies ++ last) (entry-is (body_of a) refl)
       (block_append here copies last
       (filtered here mine (c_copied view.site) (up_to (length a.unit.vars)) (λ j there on. copied-code-is j (below (length a.unit.vars) j there) on))
-      (picked-block here (blocks_in_source a) a.order blocks)))
+      (blocks-are here (turns_in_source a) a.blocks turns)))
 
 module _ (units : List UnitDef) (entry k : ℕ) (a : Activity) (table : Table (Table CMember)) (known : Table Signature)
     (h : Here units entry k a table known) (acts : ActsFormed a.structs units entry) where

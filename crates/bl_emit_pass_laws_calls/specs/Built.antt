@@ -50,6 +50,7 @@ pub record MadeOf (unit : UnitDef) (a : Activity) (machine : Option InMachine) :
   pub one : InMachine
   pub is : machine ≡ Some one
   pub order : a.order ≡ joined one.blocks
+  pub blocks : a.blocks ≡ one.blocks
   pub slots : a.slots ≡ slots_of (plain_body unit.body) one.slots
   pub sizes : a.sizes ≡ sizes_of one.slots
 

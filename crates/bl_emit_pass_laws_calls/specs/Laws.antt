@@ -1,6 +1,6 @@
 -- What holds of the C functions of a program's activities.
-use Rattle.std.specs.Prelude.{◌≡◌, ℕ, zero, suc, ◌+◌, ◌<◌, ◌≤◌, ◌^◌, Bool, true, false, List, [], ◌∷◌, ◌++◌, drop, map, length}
-use Rattle.std.specs.Prelude.{is_some, Contains, Some, None}
+use Rattle.std.specs.Prelude.{◌≡◌, ℕ, zero, suc, ◌+◌, ◌<◌, ◌≤◌, ◌^◌, Bool, true, false, List, [], ◌∷◌, ◌++◌, map, length}
+use Rattle.std.specs.Prelude.{is_some, Contains, Some}
 use Rattle.std.specs.Prelude.{slice_get}
 use Rattle.bl_tree.specs.declared.c.CStmt.{CStmt}
 use Rattle.bl_tree.specs.declared.tree.StructDef.{StructDef}
@@ -32,18 +32,17 @@ use Rattle.bl_emit_functions_laws_units.specs.Laws.{AllAgree, AllNamesSuffice, K
 use Rattle.bl_emit_pass.specs.Activities.{
   Activity,
   activity_function,
-  blocks_in_source,
+  blocks_in_order,
   body_of,
   callees_in,
   copied_in,
   counters_read,
   entry_code,
-  picked,
   remembers_any,
   rested_code,
   view_of,
 }
-use Rattle.bl_emit_pass.specs.Blocks.{block_code}
+use Rattle.bl_emit_pass.specs.Blocks.{View, block_code, guard_of, turn_code}
 use Rattle.bl_emit_pass_laws.specs.Registers.{FewRegisters, frame_at, over_at}
 use Rattle.bl_machine.specs.declared.machine.Activity.{Activity as InMachine}
 use Rattle.bl_machine.specs.Machines.{AreActivitiesOf}
@@ -132,7 +131,11 @@ pub record CalledAt (body : Block) (n : Node) (u : ℕ) : Type 0 where
   pub node : slice_get (nodes_in body) position ≡ Some n
   pub unit : slice_get (callees_in body) position ≡ Some u
 
--- what a block does
+-- an `if` by the guard of a rule
+abbrev pub guarded : View → Rule → List CStmt → CStmt
+guarded view rule code = turn_code (record { test = guard_of view rule.node rule.asked; code = code })
+
+-- what the block of one node does
 abbrev pub block_done : Setting → Activities → ℕ → ℕ → Rule → Scope → Memory → Outcome Memory
 block_done w activities i u rule scope here = block_c (block_code (view_of (activity_at w activities i)) u rule ∷ []) scope here
 
@@ -165,34 +168,35 @@ pub record BlocksCome (structs : List StructDef) (units : List UnitDef) (entry :
       Sees w i rule.node store copies → Stops w (rank_by w activities) (slots_by w activities) (cleared w) i rule.node frames store →
       (block_done w activities i u rule scope here).end ≡ traps
 
--- the block of a node whose rule isn't due does nothing
-abbrev pub BlocksSkip : List StructDef → List UnitDef → ℕ → List InMachine → Activities → Type 0
-BlocksSkip structs units entry machine activities =
-    (i : ℕ) (unit : UnitDef) (scope : Scope) (frames : Frames) (store : Store) (copies : List Value) (r : Registers) (rule : Rule) (u : ℕ)
-    (here : Memory) → let w = setting_of structs units entry in
-    Midway structs units entry machine activities i unit scope frames store copies r here → HasRule (slots_by w activities) i unit rule →
-    is_due (rank_by w activities i) rule r ≡ false →
-    ((block_done w activities i u rule scope here).end ≡ goes_on) × ((block_done w activities i u rule scope here).memory ≡ here)
+-- an `if` by the guard of a rule does what stands in it where the rule is due, and else nothing
+pub record GuardsChoose (structs : List StructDef) (units : List UnitDef) (entry : ℕ) (machine : List InMachine) (activities : Activities) : Type 0 where
+  pub enters : (i : ℕ) (unit : UnitDef) (scope : Scope) (frames : Frames) (store : Store) (copies : List Value) (r : Registers) (rule : Rule)
+      (code : List CStmt) (here : Memory) → let w = setting_of structs units entry in
+      Midway structs units entry machine activities i unit scope frames store copies r here → HasRule (slots_by w activities) i unit rule →
+      is_due (rank_by w activities i) rule r ≡ true →
+      let o = block_c (guarded (view_of (activity_at w activities i)) rule code ∷ []) scope here in
+      (o.end ≡ (block_c code scope here).end) × (o.memory ≡ (block_c code scope here).memory)
+  pub skips : (i : ℕ) (unit : UnitDef) (scope : Scope) (frames : Frames) (store : Store) (copies : List Value) (r : Registers) (rule : Rule)
+      (code : List CStmt) (here : Memory) → let w = setting_of structs units entry in
+      Midway structs units entry machine activities i unit scope frames store copies r here → HasRule (slots_by w activities) i unit rule →
+      is_due (rank_by w activities i) rule r ≡ false →
+      let o = block_c (guarded (view_of (activity_at w activities i)) rule code ∷ []) scope here in (o.end ≡ goes_on) × (o.memory ≡ here)
 
 -- ---- the whole pass
 
--- the blocks of the function from the one with this number on
-abbrev pub blocks_on : Activity → ℕ → List CStmt
-blocks_on a k = drop k (picked (blocks_in_source a) a.order)
-
--- the blocks from a number on do what a pass by rules does from that number on, and trap where it is cut
+-- as a pass starts, the blocks of the function do what a pass by rules does, and trap where it is cut
 pub record PassesCome (structs : List StructDef) (units : List UnitDef) (entry : ℕ) (machine : List InMachine) (activities : Activities) : Type 0 where
-  pub executes : (i : ℕ) (unit : UnitDef) (scope : Scope) (k : ℕ) (frames : Frames) (store : Store) (copies : List Value) (r : Registers)
+  pub executes : (i : ℕ) (unit : UnitDef) (scope : Scope) (frames : Frames) (store : Store) (copies : List Value) (r : Registers)
       (frames' : Frames) (left : Store) (r' : Registers) (here : Memory) → let w = setting_of structs units entry in
-      Midway structs units entry machine activities i unit scope frames store copies r here →
-      Executes w (rank_by w activities) (slots_by w activities) (cleared w) i k frames store copies r frames' left r' →
+      Midway structs units entry machine activities i unit scope frames store copies r here → PassStarts w activities i unit frames r →
+      Executes w (rank_by w activities) (slots_by w activities) (cleared w) i 0 frames store copies r frames' left r' →
       (copies' : List Value)
-      × PartComes w activities i unit scope frames' left copies' r' here (block_c (blocks_on (activity_at w activities i) k) scope here)
-  pub cut : (i : ℕ) (unit : UnitDef) (scope : Scope) (k : ℕ) (frames : Frames) (store : Store) (copies : List Value) (r : Registers) (here : Memory) →
+      × PartComes w activities i unit scope frames' left copies' r' here (block_c (blocks_in_order (activity_at w activities i)) scope here)
+  pub cut : (i : ℕ) (unit : UnitDef) (scope : Scope) (frames : Frames) (store : Store) (copies : List Value) (r : Registers) (here : Memory) →
       let w = setting_of structs units entry in
-      Midway structs units entry machine activities i unit scope frames store copies r here →
-      IsCut w (rank_by w activities) (slots_by w activities) (cleared w) i k frames store copies r →
-      (block_c (blocks_on (activity_at w activities i) k) scope here).end ≡ traps
+      Midway structs units entry machine activities i unit scope frames store copies r here → PassStarts w activities i unit frames r →
+      IsCut w (rank_by w activities) (slots_by w activities) (cleared w) i 0 frames store copies r →
+      (block_c (blocks_in_order (activity_at w activities i)) scope here).end ≡ traps
 
 -- ---- the functions of all activities
 

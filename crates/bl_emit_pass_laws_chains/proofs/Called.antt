@@ -100,7 +100,8 @@ use Rattle.bl_pass_listed.specs.Callees.{callees_in}
 use Rattle.bl_emit_pass.specs.Activities.{
   Activity,
   activity_code,
-  blocks_in_source,
+  blocks_code,
+  blocks_in_order,
   body_of,
   copied_in,
   counters_read,
@@ -108,9 +109,11 @@ use Rattle.bl_emit_pass.specs.Activities.{
   picked,
   rested_code,
   rules_at,
+  turns_in_source,
   view_of,
 }
 use Rattle.bl_emit_pass.specs.Blocks.{
+  Turn,
   View,
   acted,
   aged_test,
@@ -118,8 +121,6 @@ use Rattle.bl_emit_pass.specs.Blocks.{
   arg_where,
   at_slot,
   begun_code,
-  block_code,
-  blocks_code,
   change_code,
   changes_code,
   counter_type,
@@ -134,6 +135,7 @@ use Rattle.bl_emit_pass.specs.Blocks.{
   in_tree,
   last_value,
   layer_acted,
+  merged_code,
   name_in,
   node_code,
   rested_at,
@@ -145,6 +147,9 @@ use Rattle.bl_emit_pass.specs.Blocks.{
   some_test,
   target_code,
   tested,
+  turn_code,
+  turn_of,
+  turns_of,
 }
 use Rattle.bl_emit_pass.specs.Names.{
   callee_frame,
@@ -574,31 +579,58 @@ module _ (weight : Text → ℕ) (prelude : (word : Text) (s : ScalarType) → w
     node_few a rule (SurfaceJoinAt l at) few = changes_few view rule.so
     node_few a rule (DepthJoinAt l at) few = changes_few view rule.so
 
-    block_few : (a : ℕ) (rule : Rule) → Under by n (node_calls a rule.node) → StmtFew (block_code view a rule)
-    block_few a rule few =
-        if_few (guard_of view rule.node rule.asked) (node_code view a rule rule.node) None (guard_few view rule.node rule.asked)
-        (node_few a rule rule.node few) (none-under weight n)
+    -- what a turn asks and does
+    abbrev TurnFew : Turn → Type 0
+    TurnFew turn = ExprFew turn.test × CodeFew turn.code
 
-    -- each of some statements
-    abbrev EachFew : List CStmt → Type 0
+    turn_few : (a : ℕ) (rule : Rule) → Under by n (node_calls a rule.node) → TurnFew (turn_of view a rule)
+    turn_few a rule few = (guard_few view rule.node rule.asked, node_few a rule rule.node few)
+
+    -- each of some turns
+    abbrev EachFew : List Turn → Type 0
     EachFew [] = Unit {0}
-    EachFew (s ∷ rest) = StmtFew s × EachFew rest
+    EachFew (turn ∷ rest) = TurnFew turn × EachFew rest
 
-    blocks_few : (cs : List ℕ) (listed : List Rule) → AllUnder by n cs (map (λ (rule : Rule). rule.node) listed) →
-        EachFew (blocks_code view cs listed)
-    blocks_few [] listed all = tt
-    blocks_few (c ∷ cs) [] all = tt
-    blocks_few (c ∷ cs) (rule ∷ listed) all = (block_few c rule all.0, blocks_few cs listed all.1)
+    each_few : (cs : List ℕ) (listed : List Rule) → AllUnder by n cs (map (λ (rule : Rule). rule.node) listed) →
+        EachFew (turns_of view cs listed)
+    each_few [] listed all = tt
+    each_few (c ∷ cs) [] all = tt
+    each_few (c ∷ cs) (rule ∷ listed) all = (turn_few c rule all.0, each_few cs listed all.1)
 
-    one_of : (code : List CStmt) (k : ℕ) → EachFew code → CodeFew (option_to_list (slice_get code k))
-    one_of [] k all = none_few weight prelude n
-    one_of (s ∷ rest) zero all = one_few weight prelude n s all.0
-    one_of (s ∷ rest) (suc k) all = one_of rest k all.1
+    append_few : (turns more : List Turn) → EachFew turns → EachFew more → EachFew (turns ++ more)
+    append_few [] more all rest = rest
+    append_few (turn ∷ turns) more all rest = (all.0, append_few turns more all.1 rest)
 
-    picked_few : (code : List CStmt) (order : List ℕ) → EachFew code → CodeFew (picked code order)
-    picked_few code [] all = none_few weight prelude n
-    picked_few code (k ∷ order) all =
-        then_few weight prelude n (option_to_list (slice_get code k)) (picked code order) (one_of code k all) (picked_few code order all)
+    one_of : (turns : List Turn) (k : ℕ) → EachFew turns → EachFew (option_to_list (slice_get turns k))
+    one_of [] k all = tt
+    one_of (turn ∷ rest) zero all = (all.0, tt)
+    one_of (turn ∷ rest) (suc k) all = one_of rest k all.1
+
+    picked_few : (turns : List Turn) (block : List ℕ) → EachFew turns → EachFew (picked turns block)
+    picked_few turns [] all = tt
+    picked_few turns (k ∷ block) all =
+        append_few (option_to_list (slice_get turns k)) (picked turns block) (one_of turns k all) (picked_few turns block all)
+
+    alone_few : (test : CExpr) (code : List CStmt) → ExprFew test → CodeFew code → StmtFew (c_if test code None)
+    alone_few test code is one = if_few test code None is one (none-under weight n)
+
+    turns_few : (turns : List Turn) → EachFew turns → CodeFew (map turn_code turns)
+    turns_few [] all = none_few weight prelude n
+    turns_few (turn ∷ rest) all =
+        first_few weight prelude n (turn_code turn) (map turn_code rest) (alone_few turn.test turn.code all.0.0 all.0.1) (turns_few rest all.1)
+
+    merged_few : (turns : List Turn) → EachFew turns → CodeFew (merged_code turns)
+    merged_few [] all = none_few weight prelude n
+    merged_few (first ∷ rest) all =
+        one_few weight prelude n (c_if first.test (first.code ++ map turn_code rest) None)
+        (alone_few first.test (first.code ++ map turn_code rest) all.0.0
+        (then_few weight prelude n first.code (map turn_code rest) all.0.1 (turns_few rest all.1)))
+
+    blocks_few : (turns : List Turn) (blocks : List (List ℕ)) → EachFew turns → CodeFew (blocks_code turns blocks)
+    blocks_few turns [] all = none_few weight prelude n
+    blocks_few turns (block ∷ rest) all =
+        then_few weight prelude n (merged_code (picked turns block)) (blocks_code turns rest)
+        (merged_few (picked turns block) (picked_few turns block all)) (blocks_few turns rest all)
 
     -- ---- what stands before the blocks
 
@@ -628,11 +660,11 @@ pub activity_few : (weight : Text → ℕ) (prelude : (word : Text) (s : ScalarT
     AllUnder by n (callees_in (body_of a)) (map (λ (rule : Rule). rule.node) (rules_at a)) → Few weight prelude n (activity_code a)
 activity_few weight prelude n a by callees all =
     then_few weight prelude n (map rested_code (counters_read a))
-    (entry_code (view_of a) (body_of a) ++ (map (c_copied (view_of a).site) (copied_in a) ++ picked (blocks_in_source a) a.order))
+    (entry_code (view_of a) (body_of a) ++ (map (c_copied (view_of a).site) (copied_in a) ++ blocks_in_order a))
     (resteds_few weight prelude n (view_of a) by callees (counters_read a))
-    (then_few weight prelude n (entry_code (view_of a) (body_of a)) (map (c_copied (view_of a).site) (copied_in a) ++ picked (blocks_in_source a) a.order)
+    (then_few weight prelude n (entry_code (view_of a) (body_of a)) (map (c_copied (view_of a).site) (copied_in a) ++ blocks_in_order a)
     (entry_few weight prelude n (view_of a) by callees (body_of a))
-    (then_few weight prelude n (map (c_copied (view_of a).site) (copied_in a)) (picked (blocks_in_source a) a.order)
+    (then_few weight prelude n (map (c_copied (view_of a).site) (copied_in a)) (blocks_in_order a)
     (copies_few weight prelude n (view_of a) by callees (copied_in a))
-    (picked_few weight prelude n (view_of a) by callees (blocks_in_source a) a.order
-    (blocks_few weight prelude n (view_of a) by callees (callees_in (body_of a)) (rules_at a) all))))
+    (blocks_few weight prelude n (view_of a) by callees (turns_in_source a) a.blocks
+    (each_few weight prelude n (view_of a) by callees (callees_in (body_of a)) (rules_at a) all))))

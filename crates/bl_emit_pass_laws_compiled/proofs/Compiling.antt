@@ -18,7 +18,7 @@ use Rattle.bl_nodes.specs.Plain.{plain_body}
 use Rattle.bl_machine.specs.declared.machine.Activity.{Activity as InMachine}
 use Rattle.bl_machine.specs.Blocks.{up_to}
 use Rattle.bl_machine.specs.Layout.{places_in}
-use Rattle.bl_machine.specs.Machines.{AreActivitiesOf, IsActivityOf, IsPlainActivityOf}
+use Rattle.bl_machine.specs.Machines.{AreActivitiesOf, IsActivityOf}
 use Rattle.bl_pass.specs.Numbered.{sizes_of}
 use Rattle.bl_emit_functions_laws_numbered.specs.Laws.{UnitsCounted}
 use Rattle.bl_emit_pass_laws.specs.Registers.{FewRegisters}
@@ -28,7 +28,8 @@ use Rattle.bl_emit_pass_laws_counts.specs.Laws.{NodesCounted}
 use Rattle.bl_emit_pass_laws_machines.proofs.Counters.{sizes_few}
 use Rattle.bl_emit_pass_laws_own.proofs.Members.{some_is, stands_at}
 use Rattle.bl_emit_pass_laws_own.specs.Laws.{RegistersAreFew}
-use Rattle.bl_emit_pass_laws_compiled.specs.Laws.{AreCountable, IsPlain, ProgramsCompile}
+use Rattle.bl_emit_pass.specs.Shared.{IsShared, IsSharedActivityOf}
+use Rattle.bl_emit_pass_laws_compiled.specs.Laws.{AreCountable, ProgramsCompile}
 
 up_length : (n : ℕ) → length (up_to n) ≡ n
 up_length zero = refl
@@ -45,7 +46,7 @@ counters_few counters places statements few less small = omega (arith, few, less
 
 module _ (structs : List StructDef) (units : List UnitDef) (entry : ℕ) (counted : UnitsCounted structs units entry)
     (nodes : NodesCounted structs units entry) (few : RegistersAreFew) (machine : List InMachine) (activities : Activities)
-    (keeps : Keeps structs units entry) (agrees : AreActivitiesOf units machine) (plain : IsPlain units machine)
+    (keeps : Keeps structs units entry) (agrees : AreActivitiesOf units machine) (plain : IsShared units machine)
     (built : AreBuilt structs units machine activities) (countable : AreCountable units)
   where
     ordered : (k : ℕ) (unit : UnitDef) → slice_get units k ≡ Some unit → is_activity unit.kind ≡ true → length (activities k).order ≤ 2 ^ 64
@@ -63,8 +64,8 @@ module _ (structs : List StructDef) (units : List UnitDef) (entry : ℕ) (counte
     sized k unit there active =
         let made = built.made k unit there active in
         let among = filtered_at (λ (it : UnitDef). is_activity it.kind) units k unit there active in
-        let alone = each_at IsPlainActivityOf (activities_among units) machine (graph_position units k) unit plain among in
-        let is_plain = subst (IsPlainActivityOf unit) (some_is alone.0 made.one (sym alone.1 ∙ made.is)) alone.2 in
+        let alone = each_at IsSharedActivityOf (activities_among units) machine (graph_position units k) unit plain among in
+        let is_plain = subst (IsSharedActivityOf unit) (some_is alone.0 made.one (sym alone.1 ∙ made.is)) alone.2 in
         subst (λ (sizes : List ℕ). length sizes ≤ 2 ^ 64) (sym made.sizes)
         (counters_few (length (sizes_of made.one.slots)) (places_in (plain_body unit.body)) (statements_of unit)
         (sizes_few (plain_body unit.body) made.one.slots is_plain.slots) (nodes k unit keeps there).places (countable k unit there).statements)

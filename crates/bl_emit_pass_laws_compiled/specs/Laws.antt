@@ -7,13 +7,13 @@ use Rattle.bl_effects.specs.Rules.{Passes}
 use Rattle.bl_limits.specs.Rules.{Passes as KeepsLimits}
 use Rattle.bl_measures.specs.Statements.{statements_of}
 use Rattle.bl_prevs.specs.Declared.{FromText}
-use Rattle.bl_cause.specs.Activities.{EachTwo, activities as activities_among}
 use Rattle.bl_ctree.specs.Instances.{setting_of}
 use Rattle.bl_machine.specs.declared.machine.Activity.{Activity as InMachine}
-use Rattle.bl_machine.specs.Machines.{AreActivitiesOf, IsPlainActivityOf}
+use Rattle.bl_machine.specs.Machines.{AreActivitiesOf}
 use Rattle.bl_emit_pass_laws_calls.specs.Built.{Activities, AreBuilt}
 use Rattle.bl_emit_pass_laws_calls.specs.Laws.{Compiled}
 use Rattle.bl_emit_pass_laws_points.specs.Laws.{RulesOwn}
+use Rattle.bl_emit_pass.specs.Shared.{IsShared}
 
 -- 64 bits count the variables of a unit, and what stands at its statements
 pub record IsCountable (unit : UnitDef) : Type 0 where
@@ -24,15 +24,11 @@ pub record IsCountable (unit : UnitDef) : Type 0 where
 abbrev pub AreCountable : List UnitDef → Type 0
 AreCountable units = (k : ℕ) (unit : UnitDef) → slice_get units k ≡ Some unit → IsCountable unit
 
--- each node is a block of its own in a machine
-abbrev pub IsPlain : List UnitDef → List InMachine → Type 0
-IsPlain units machine = EachTwo IsPlainActivityOf (activities_among units) machine
-
--- a program that is made of a text and passes the rules has, with a plain machine, all that the laws of passes ask
+-- a program that is made of a text and passes the rules has, with a machine that shares counters, all that the laws of passes ask
 abbrev pub ProgramsCompile : List StructDef → List UnitDef → ℕ → Type 0
 ProgramsCompile structs units entry =
     (machine : List InMachine) (activities : Activities) → Keeps structs units entry → Passes units → FromText units →
-    AreActivitiesOf units machine → IsPlain units machine → AreBuilt structs units machine activities → AreCountable units →
+    AreActivitiesOf units machine → IsShared units machine → AreBuilt structs units machine activities → AreCountable units →
     Compiled structs units entry machine activities
 
 -- all that the rules of its instances ask and change are registers of their functions, where neither rule Frames nor Cells fails

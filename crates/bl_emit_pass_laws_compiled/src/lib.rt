@@ -1,5 +1,5 @@
 //! What the laws of passes ask of a compiled program. There is no code here. Laws, as contracts of functions that do nothing
-//! (`specs/Laws.antt`): a typed program of a source text that passes the rules, with a plain machine of it, has all that they ask, where 64 bits
+//! (`specs/Laws.antt`): a typed program of a source text that passes the rules, with a machine of it that shares counters, has all that they ask, where 64 bits
 //! count the variables and the statements of each of its units (`ProgramsCompile`); and all that the rules of an instance's nodes ask and change are
 //! registers that its function has, where rule Cells doesn't fail (`RulesAreOwn`).
 #![tactic(auto)]
@@ -16,7 +16,7 @@ use bl_measures::laws::units_add_up;
 use bl_measures_laws::laws::units_use_earlier_ones;
 use bl_tree::Program;
 
-/// A program of a source text that passes the rules, with a plain machine, is compiled as the laws of passes ask.
+/// A program of a source text that passes the rules, with a machine that shares counters, is compiled as the laws of passes ask.
 pub fn programs_compile(program: &Program)
     ensures { ProgramsCompile program.now.structs program.now.units program.now.entry }
 {

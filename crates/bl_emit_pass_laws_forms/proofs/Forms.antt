@@ -23,7 +23,7 @@ use Rattle.bl_nodes.specs.Nodes.{nodes_in}
 use Rattle.bl_nodes.specs.Plain.{Block, plain_body}
 use Rattle.bl_machine.specs.declared.machine.Activity.{Activity as InMachine}
 use Rattle.bl_machine.specs.Layout.{places_in}
-use Rattle.bl_machine.specs.Machines.{IsActivityOf, IsPlainActivityOf}
+use Rattle.bl_machine.specs.Machines.{IsActivityOf}
 use Rattle.bl_machine.specs.Uses.{Slots}
 use Rattle.bl_machine_laws_rests.specs.Laws.{ActivitiesCount}
 use Rattle.bl_pass.specs.Rules.{Rule, rules}
@@ -32,6 +32,7 @@ use Rattle.bl_prevs_laws_scalar.specs.Laws.{PrevsAreScalar}
 use Rattle.bl_emit_functions_laws_formed.specs.Laws.{IsNumbered}
 use Rattle.bl_emit_pass.specs.Activities.{Activity}
 use Rattle.bl_emit_pass.specs.Programs.{activity_of, needed_units, parts_of_function, parts_of_next}
+use Rattle.bl_emit_pass.specs.Shared.{IsSharedActivityOf}
 use Rattle.bl_emit_pass_laws_bodies.specs.Laws.{OwnsRules}
 use Rattle.bl_emit_pass_laws_copied.specs.Laws.{NodesCopied, RunsCopied}
 use Rattle.bl_emit_pass_laws_counts.specs.Laws.{NodesCounted}
@@ -101,12 +102,12 @@ module _ (structs : List StructDef) (units : List UnitDef) (entry : ℕ) (laws :
     before = ap (take (length earlier)) (sym whole) ∙ take_front earlier (unit ∷ rest)
 
     module _ (one : InMachine) (active : is_activity unit.kind ≡ true) (needed : slice_get (needed_units units entry) k ≡ Some true)
-        (own : IsActivityOf unit one) (plain : IsPlainActivityOf unit one) where
+        (own : IsActivityOf unit one) (plain : IsSharedActivityOf unit one) where
       abbrev a : Activity
       a = activity_of structs (take k units) remember unit one
 
       modest : IsModest structs units k unit one
-      modest = record { there = there; of_unit = own; plain = plain; cells = laws.small k keeps limits needed }
+      modest = record { there = there; of_unit = own; shared = plain; cells = laws.small k keeps limits needed }
 
       few_places : places_in (plain_body unit.body) < 2 ^ 32
       few_places =
@@ -144,7 +145,7 @@ module _ (structs : List StructDef) (units : List UnitDef) (entry : ℕ) (laws :
     -- those behind it are
     abbrev Behind : Type 0
     Behind = (remember : List Bool) (needed : List Bool) (machine : List InMachine) → Told (suc k) needed →
-        EachTwo IsActivityOf (activities rest) machine → EachTwo IsPlainActivityOf (activities rest) machine →
+        EachTwo IsActivityOf (activities rest) machine → EachTwo IsSharedActivityOf (activities rest) machine →
         AllForm structs units (earlier ++ unit ∷ []) remember rest needed machine
 
     own_needed : (needed : List Bool) → Told k (true ∷ needed) → slice_get (needed_units units entry) k ≡ Some true
@@ -152,7 +153,7 @@ module _ (structs : List StructDef) (units : List UnitDef) (entry : ℕ) (laws :
 
     listed : (active test : Bool) (needed : List Bool) (machine : List InMachine) → is_activity unit.kind ≡ active → Told k (test ∷ needed) →
         EachTwo IsActivityOf (cond active (unit ∷ activities rest) (activities rest)) machine →
-        EachTwo IsPlainActivityOf (cond active (unit ∷ activities rest) (activities rest)) machine → Behind → Listed active test needed machine
+        EachTwo IsSharedActivityOf (cond active (unit ∷ activities rest) (activities rest)) machine → Behind → Listed active test needed machine
     listed true test needed [] is told own plain behind = absurd own
     listed true true needed (one ∷ machine) is told own plain behind = (
       activity_forms one is (own_needed needed told) own.0 plain.0,
@@ -170,7 +171,7 @@ module _ (structs : List StructDef) (units : List UnitDef) (entry : ℕ) (laws :
 
   all_forms : (earlier : List UnitDef) (remember : List Bool) (rest : List UnitDef) (needed : List Bool) (machine : List InMachine) →
       earlier ++ rest ≡ units → Told (length earlier) needed → EachTwo IsActivityOf (activities rest) machine →
-      EachTwo IsPlainActivityOf (activities rest) machine → AllForm structs units earlier remember rest needed machine
+      EachTwo IsSharedActivityOf (activities rest) machine → AllForm structs units earlier remember rest needed machine
   all_forms earlier remember [] needed machine whole told own plain = tt
   all_forms earlier remember (unit ∷ rest) [] machine whole told own plain = tt
   all_forms earlier remember (unit ∷ rest) (test ∷ needed) machine whole told own plain =

@@ -1,5 +1,5 @@
 //! What the C file of an accepted program asks of its units. A law, as the contract of a function that does nothing: where no rule fails, all is so
-//! that is asked of each unit that the entry needs, with a plain machine (`specs/Laws.antt`, `UnitsForm`).
+//! that is asked of each unit that the entry needs, with a machine that shares counters (`specs/Laws.antt`, `UnitsForm`).
 #![tactic(auto)]
 
 ghost use Rattle.bl_emit_pass_laws_forms.specs.Laws.{UnitsForm};

@@ -73,7 +73,7 @@ module _ (structs : List StructDef) (units : List UnitDef) (entry : ℕ) (uses :
     counters k unit one keeps modest =
         let few : IsFew unit = counted k unit keeps modest.there in
         counters_small (length (sizes_of one.slots)) (places_in (plain_body unit.body)) (statements_of unit) (cells_at structs units k)
-        (sizes_few (plain_body unit.body) one.slots modest.plain.slots) few.places (statements_less k unit keeps modest.there) modest.cells
+        (sizes_few (plain_body unit.body) one.slots modest.shared.slots) few.places (statements_less k unit keeps modest.there) modest.cells
 
     pub spell : RulesFit structs units entry → RulesStand structs units entry → MachinesSpell structs units entry
     spell fit stand k unit one remember keeps modest =

@@ -4,17 +4,18 @@ use Rattle.bl_tree.specs.declared.tree.StructDef.{StructDef}
 use Rattle.bl_tree.specs.declared.tree.Unit.{Unit as UnitDef}
 use Rattle.bl_tree.specs.Program.{Keeps}
 use Rattle.bl_machine.specs.declared.machine.Activity.{Activity as InMachine}
-use Rattle.bl_machine.specs.Machines.{IsActivityOf, IsPlainActivityOf}
+use Rattle.bl_machine.specs.Machines.{IsActivityOf}
 use Rattle.bl_measures.specs.Units.{cells_at}
 use Rattle.bl_emit_pass.specs.Programs.{activity_of}
+use Rattle.bl_emit_pass.specs.Shared.{IsSharedActivityOf}
 use Rattle.bl_emit_pass_laws_formed.specs.Laws.{NumbersDiffer}
 use Rattle.bl_emit_pass_laws_spelled.specs.Laws.{CanSpell}
 
--- an activity in a plain machine of a typed program's unit which has at most a million cells
+-- an activity in a machine that shares counters of a typed program's unit which has at most a million cells
 pub record IsModest (structs : List StructDef) (units : List UnitDef) (k : ℕ) (unit : UnitDef) (one : InMachine) : Type 0 where
   pub there : slice_get units k ≡ Some unit
   pub of_unit : IsActivityOf unit one
-  pub plain : IsPlainActivityOf unit one
+  pub shared : IsSharedActivityOf unit one
   pub cells : cells_at structs units k ≤ 1_000_000
 
 -- what its C is made of has a spelling

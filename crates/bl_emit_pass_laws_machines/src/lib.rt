@@ -1,5 +1,5 @@
 //! Laws of the C of a machine's activities. None of these functions does anything: the contract is the law. Where a typed
-//! program's unit has at most a million cells, what the C of its activity in a plain machine is made of has a spelling (`specs/Laws.antt`,
+//! program's unit has at most a million cells, what the C of its activity in a machine that shares counters is made of has a spelling (`specs/Laws.antt`,
 //! `MachinesSpell`), and the numbers in its names differ (`MachinesDiffer`).
 #![tactic(auto)]
 

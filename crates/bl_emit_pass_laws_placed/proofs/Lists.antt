@@ -16,13 +16,13 @@ use Rattle.bl_emit_pass.specs.Activities.{picked}
 pub some_is : {X : Type 0} (a b : X) → Some a ≡ Some b → a ≡ b
 some_is a b is = cc
 
-none_is : {X A : Type 0} (x : X) → None ≡ Some x → A
+pub none_is : {X A : Type 0} (x : X) → None ≡ Some x → A
 none_is x is = absurd (cc)
 
-here : {X : Type 0} (x : X) (xs : List X) → Contains (x ∷ xs) x
+pub here : {X : Type 0} (x : X) (xs : List X) → Contains (x ∷ xs) x
 here x xs = (zero, omega arith, refl)
 
-further : {X : Type 0} (y : X) (xs : List X) (x : X) → Contains xs x → Contains (y ∷ xs) x
+pub further : {X : Type 0} (y : X) (xs : List X) (x : X) → Contains xs x → Contains (y ∷ xs) x
 further y xs x h = let below = h.1 in (suc h.0, omega arith, h.2)
 
 pub contains_at : {X : Type 0} (xs : List X) (k : ℕ) (x : X) → slice_get xs k ≡ Some x → Contains xs x

@@ -14,9 +14,19 @@ use Rattle.bl_emit_functions.specs.Trees.{c_if}
 use Rattle.bl_emit_pass.specs.Activities.{view_of}
 use Rattle.bl_emit_pass.specs.Blocks.{guard_of, node_code}
 use Rattle.bl_emit_pass_laws.specs.Laws.{GuardsShow}
-use Rattle.bl_ctree.specs.Instances.{setting_of}
-use Rattle.bl_emit_pass_laws_calls.specs.Built.{activity_at, registered}
-use Rattle.bl_emit_pass_laws_points.specs.Laws.{BlocksChoose, SkipsCome}
+use Rattle.bl_ctree.specs.Instances.{Setting, setting_of}
+use Rattle.bl_ctree.specs.Store.{Store}
+use Rattle.bl_emit_pass_laws_calls.specs.Built.{Activities, activity_at, rank_by, registered, slots_by}
+use Rattle.bl_emit_pass_laws_calls.specs.Laws.{Midway, guarded}
+use Rattle.bl_pass.specs.Registers.{Registers, is_due}
+use Rattle.bl_pass.specs.Rules.{Rule}
+use Rattle.bl_pass_executes.specs.Executes.{HasRule}
+use Rattle.bl_pass_laws_frames.specs.Frames.{Frames}
+use Rattle.bl_tree.specs.declared.tree.StructDef.{StructDef}
+use Rattle.bl_tree.specs.declared.tree.Unit.{Unit as UnitDef}
+use Rattle.bl_tree.specs.declared.value.Value.{Value}
+use Rattle.bl_machine.specs.declared.machine.Activity.{Activity as InMachine}
+use Rattle.bl_emit_pass_laws_points.specs.Laws.{BlocksChoose, GuardsCome, RulesOwn}
 
 -- two outcomes that differ at most in their counts
 abbrev pub Alike : Outcome Memory → Outcome Memory → Type 0
@@ -120,23 +130,35 @@ if_block scope here Q test block other b shown chosen =
 
 -- ---- blocks
 
-pub skips_come : GuardsShow → SkipsCome
-skips_come show structs units entry machine activities own i unit scope frames store copies r rule u here midway there due =
-    let w = setting_of structs units entry in
-    let a = activity_at w activities i in
-    let asks = own.asks i unit rule midway.is_there there in
-    let shown = show (view_of a) (registered a) scope rule.node rule.asked r here midway.stands.registers asks in
-    if_block scope here (λ e m. (e ≡ goes_on) × (m ≡ here)) (guard_of (view_of a) rule.node rule.asked)
-    (node_code (view_of a) u rule rule.node) None
-    false (shown ∙ ap (λ b. Some (number_of b)) due) (refl, refl)
+-- an `if` by the guard of a rule, where it is known whether the rule is due
+module _ (show : GuardsShow) (structs : List StructDef) (units : List UnitDef) (entry : ℕ) (machine : List InMachine) (activities : Activities)
+    (own : RulesOwn (setting_of structs units entry) activities) where
+  abbrev w : Setting
+  w = setting_of structs units entry
+
+  chosen : (i : ℕ) (unit : UnitDef) (scope : Scope) (frames : Frames) (store : Store) (copies : List Value) (r : Registers) (rule : Rule)
+      (code : List CStmt) (here : Memory) → Midway structs units entry machine activities i unit scope frames store copies r here →
+      HasRule (slots_by w activities) i unit rule → (b : Bool) → is_due (rank_by w activities i) rule r ≡ b → (Q : End → Memory → Type 0) →
+      Chosen scope here Q code None (Some b) →
+      Q (block_c (guarded (view_of (activity_at w activities i)) rule code ∷ []) scope here).end
+      (block_c (guarded (view_of (activity_at w activities i)) rule code ∷ []) scope here).memory
+  chosen i unit scope frames store copies r rule code here midway there b due Q so =
+      let a = activity_at w activities i in
+      let asks = own.asks i unit rule midway.is_there there in
+      let shown = show (view_of a) (registered a) scope rule.node rule.asked r here midway.stands.registers asks in
+      if_block scope here Q (guard_of (view_of a) rule.node rule.asked) code None b (shown ∙ ap (λ b. Some (number_of b)) due) so
+
+pub guards_choose : GuardsShow → GuardsCome
+guards_choose show structs units entry machine activities own = record {
+  enters = λ i unit scope frames store copies r rule code here midway there due.
+      chosen show structs units entry machine activities own i unit scope frames store copies r rule code here midway there true due
+      (λ e m. (e ≡ (block_c code scope here).end) × (m ≡ (block_c code scope here).memory)) (refl, refl);
+  skips = λ i unit scope frames store copies r rule code here midway there due.
+      chosen show structs units entry machine activities own i unit scope frames store copies r rule code here midway there false due
+      (λ e m. (e ≡ goes_on) × (m ≡ here)) (refl, refl);
+}
 
 pub choose : GuardsShow → BlocksChoose
 choose show structs units entry machine activities own i unit scope frames store copies r rule u here midway there due =
-    let w = setting_of structs units entry in
-    let a = activity_at w activities i in
-    let asks = own.asks i unit rule midway.is_there there in
-    let shown = show (view_of a) (registered a) scope rule.node rule.asked r here midway.stands.registers asks in
-    let o = block_c (node_code (view_of a) u rule rule.node) scope here in
-    if_block scope here (λ e m. (e ≡ o.end) × (m ≡ o.memory)) (guard_of (view_of a) rule.node rule.asked)
-    (node_code (view_of a) u rule rule.node) None
-    true (shown ∙ ap (λ b. Some (number_of b)) due) (refl, refl)
+    (guards_choose show structs units entry machine activities own).enters i unit scope frames store copies r rule
+    (node_code (view_of (activity_at (setting_of structs units entry) activities i)) u rule rule.node) here midway there due

@@ -24,7 +24,7 @@ use Rattle.bl_pass_laws_frames.specs.Frames.{Frames}
 use Rattle.bl_emit_pass_laws_calls.specs.Built.{Activities, cleared, rank_by, slots_by, unit_number}
 use Rattle.bl_emit_pass_laws_calls.specs.Laws.{BlocksCome, CalledAt, Compiled, Midway, PartComes, block_done}
 use Rattle.bl_emit_pass_laws_points.specs.Acts.{ActNodesCome, IsActNode, ReturnNodesCome}
-use Rattle.bl_emit_pass_laws_points.specs.Laws.{IsSilent, SilentCome, SkipsCome, is_return_node}
+use Rattle.bl_emit_pass_laws_points.specs.Laws.{GuardsCome, IsSilent, SilentCome, is_return_node}
 use Rattle.bl_emit_pass_laws_points.specs.Nodes.{IsTest, TestsCome, fits_there}
 use Rattle.bl_emit_pass_laws_points.specs.Points.{BodiesEnd, PointsCome, PointsStand}
 
@@ -124,9 +124,9 @@ module _ (silent : SilentCome) (structs : List StructDef) (units : List UnitDef)
     stops_by stops (returns_there h) =
         (all_returns midway.compiled p).stops i unit scope frames store copies r rule u here midway there h called due sees stops
 
-pub points_come : SilentCome → SkipsCome → (structs : List StructDef) (units : List UnitDef) (entry : ℕ) → TestsCome structs units entry →
+pub points_come : SilentCome → GuardsCome → (structs : List StructDef) (units : List UnitDef) (entry : ℕ) → TestsCome structs units entry →
     ActNodesCome structs units entry → ReturnNodesCome structs units entry → BodiesEnd structs units entry → PointsCome structs units entry
-points_come silent skip structs units entry test act return_done end machine activities stands = (
+points_come silent choose structs units entry test act return_done end machine activities stands = (
   record {
     acts = λ i unit scope frames store copies r rule u answer frames' left here midway there point called due sees performs.
         acts_by silent structs units entry test act return_done end machine activities stands i unit scope frames store copies r rule u here
@@ -143,6 +143,12 @@ points_come silent skip structs units entry test act return_done end machine act
         here midway
         there called due sees point);
   },
-  λ i unit scope frames store copies r rule u here midway there due.
-      skip structs units entry machine activities (stands midway.compiled).own i unit scope frames store copies r rule u here midway there due,
+  record {
+    enters = λ i unit scope frames store copies r rule code here midway there due.
+        (choose structs units entry machine activities (stands midway.compiled).own).enters i unit scope frames store copies r rule code here midway
+        there due;
+    skips = λ i unit scope frames store copies r rule code here midway there due.
+        (choose structs units entry machine activities (stands midway.compiled).own).skips i unit scope frames store copies r rule code here midway
+        there due;
+  },
 )

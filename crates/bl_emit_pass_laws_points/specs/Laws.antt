@@ -38,7 +38,7 @@ use Rattle.bl_pass.specs.Rules.{Change, Finishes, Rule, rules}
 use Rattle.bl_pass_executes.specs.Executes.{HasRule}
 use Rattle.bl_pass_laws_frames.specs.Frames.{Frames}
 use Rattle.bl_emit_pass_laws_calls.specs.Built.{Activities, activity_at, rank_by, registered, site_at, slots_by}
-use Rattle.bl_emit_pass_laws_calls.specs.Laws.{BlocksCome, BlocksSkip, Compiled, Midway, PartComes, block_done}
+use Rattle.bl_emit_pass_laws_calls.specs.Laws.{BlocksCome, Compiled, GuardsChoose, Midway, PartComes, block_done}
 use Rattle.bl_emit_pass_laws_calls.specs.Memories.{Nests}
 use Rattle.bl_emit_pass_laws_calls.specs.Standing.{FunctionStands, PassStands, result_at_c}
 
@@ -104,12 +104,11 @@ ChangesStand =
 
 -- ---- blocks
 
--- a block whose rule isn't due does nothing
-abbrev pub SkipsCome : Type 0
-SkipsCome =
+-- an `if` by the guard of a rule does what stands in it where the rule is due, and else nothing
+abbrev pub GuardsCome : Type 0
+GuardsCome =
     (structs : List StructDef) (units : List UnitDef) (entry : ℕ) (machine : List InMachine) (activities : Activities) →
-    RulesOwn (setting_of structs units entry) activities →
-    BlocksSkip structs units entry machine activities
+    RulesOwn (setting_of structs units entry) activities → GuardsChoose structs units entry machine activities
 
 -- A block whose rule is due ends as the C of its node ends, and leaves what that leaves
 abbrev pub BlocksChoose : Type 0

@@ -7,7 +7,7 @@ use Rattle.bl_ctree.specs.Instances.{setting_of}
 use Rattle.bl_machine.specs.declared.machine.Activity.{Activity as InMachine}
 use Rattle.bl_pass_executes.specs.Executes.{IsPoint}
 use Rattle.bl_emit_pass_laws_calls.specs.Built.{Activities}
-use Rattle.bl_emit_pass_laws_calls.specs.Laws.{BlocksCome, BlocksSkip, Compiled}
+use Rattle.bl_emit_pass_laws_calls.specs.Laws.{BlocksCome, Compiled, GuardsChoose}
 use Rattle.bl_emit_pass_laws_points.specs.Acts.{ActsSeen, NodesApart}
 use Rattle.bl_emit_pass_laws_points.specs.Laws.{Remembering, ReturnsEnd, RulesOwn}
 use Rattle.bl_emit_pass_laws_points.specs.Nodes.{NodesStand, PrevsAgree, ViewsFit}
@@ -26,9 +26,9 @@ pub record PointsStand (structs : List StructDef) (units : List UnitDef) (entry 
   pub agree : PrevsAgree
   pub seen : ActsSeen (setting_of structs units entry) activities
 
--- then the blocks of all points do what a pass by rules does there, and a block whose rule isn't due does nothing
+-- then the blocks of all points do what a pass by rules does there, and an `if` by the guard of a rule does what stands in it where the rule is due
 abbrev pub PointsCome : List StructDef → List UnitDef → ℕ → Type 0
 PointsCome structs units entry =
     (machine : List InMachine) (activities : Activities) →
     (Compiled structs units entry machine activities → PointsStand structs units entry activities) →
-    BlocksCome structs units entry machine activities IsPoint × BlocksSkip structs units entry machine activities
+    BlocksCome structs units entry machine activities IsPoint × GuardsChoose structs units entry machine activities

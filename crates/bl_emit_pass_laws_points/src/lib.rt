@@ -1,14 +1,14 @@
 //! Laws of the C of an activity's pass where nothing is done but changes of registers. None of these functions does anything: the contract
 //! is the law (`specs/Laws.antt`). The C of changes leaves in the middle of a pass memory that stands for the changed registers and for all
-//! else as before (`ChangesStand`); a block whose rule isn't due does nothing (`SkipsCome`), and one
-//! whose rule is due does what the C of its node does (`BlocksChoose`); the blocks of nodes at which nothing is done
+//! else as before (`ChangesStand`); an `if` by the guard of a rule does what stands in it where the rule is due, and else nothing
+//! (`GuardsCome`), so a block whose rule is due does what the C of its node does (`BlocksChoose`); the blocks of nodes at which nothing is done
 //! but changes do what a pass by rules does (`SilentCome`). Premises are that all that rules ask and change are registers of their activity
 //! (`RulesOwn`), that nothing but a `return` ends a body with a result (`ReturnsEnd`), and that an activity remembers what those that it calls
 //! remember (`Remembering`).
 #![tactic(auto)]
 
 ghost use Rattle.bl_emit_pass_laws_points.specs.Acts.{ActNodesCome, ReturnNodesCome};
-ghost use Rattle.bl_emit_pass_laws_points.specs.Laws.{BlocksChoose, ChangesStand, SilentCome, SkipsCome};
+ghost use Rattle.bl_emit_pass_laws_points.specs.Laws.{BlocksChoose, ChangesStand, GuardsCome, SilentCome};
 ghost use Rattle.bl_emit_pass_laws_points.specs.Nodes.{TestsCome};
 ghost use Rattle.bl_emit_pass_laws_points.specs.Points.{BodiesEnd, PointsCome};
 
@@ -24,9 +24,9 @@ pub fn changes_stand()
     registers_apart();
 }
 
-/// A block whose rule isn't due does nothing.
-pub fn blocks_skip()
-    ensures { SkipsCome }
+/// An `if` by the guard of a rule does what stands in it where the rule is due, and else nothing.
+pub fn guards_choose()
+    ensures { GuardsCome }
 {
     guards_show();
 }
@@ -87,7 +87,7 @@ pub fn points_come(program: &Program)
     ensures { PointsCome program.now.structs program.now.units program.now.entry }
 {
     silent_come();
-    blocks_skip();
+    guards_choose();
     tests_come(program);
     act_nodes_come(program);
     return_nodes_come(program);

@@ -36,7 +36,8 @@ use Rattle.bl_pass.specs.Rules.{Ends, Finishes, Flags, Forgets, Frees, Holds, Ma
 use Rattle.bl_emit_pass.specs.Activities.{
   Activity,
   activity_code,
-  blocks_in_source,
+  blocks_code,
+  blocks_in_order,
   body_of,
   callees_in,
   copied_in,
@@ -45,10 +46,11 @@ use Rattle.bl_emit_pass.specs.Activities.{
   picked,
   rested_code,
   rules_at,
+  turns_in_source,
   view_of,
 }
-use Rattle.bl_emit_pass.specs.Blocks.{View, acted, blocks_code, change_code, changes_code, flagged_now, forgotten, guard_of, layer_acted, node_code}
-use Rattle.bl_emit_pass.specs.Blocks.{run_code, target_code, tested}
+use Rattle.bl_emit_pass.specs.Blocks.{Turn, View, acted, change_code, changes_code, flagged_now, forgotten, layer_acted, merged_code, node_code}
+use Rattle.bl_emit_pass.specs.Blocks.{run_code, target_code, tested, turn_code, turns_of}
 use Rattle.bl_emit_pass_laws_signed.specs.Laws.{NoneLoops}
 
 abbrev what : CStmtKind-F CStmtKind CStmt → CStmt
@@ -235,29 +237,49 @@ module _ (view : View) where
   node-quiet u rule (SurfaceJoinAt l at) = changes-quiet rule.so
   node-quiet u rule (DepthJoinAt l at) = changes-quiet rule.so
 
-  -- no loops in each
-  abbrev Each : List CStmt → Type 0
+  -- no loops in what each turn does
+  abbrev Each : List Turn → Type 0
   Each [] = ⊤
-  Each (s ∷ rest) = Still s × Each rest
+  Each (turn ∷ rest) = Quiet turn.code × Each rest
 
-  blocks-quiet : (callees : List ℕ) (rules : List Rule) → Each (blocks_code view callees rules)
-  blocks-quiet [] rules = tt
-  blocks-quiet (u ∷ callees) [] = tt
-  blocks-quiet (u ∷ callees) (rule ∷ rules) = (
-    if-still (guard_of view rule.node rule.asked) (node_code view u rule rule.node) None (node-quiet u rule rule.node) refl,
-    blocks-quiet callees rules,
-  )
+  turns-quiet : (callees : List ℕ) (rules : List Rule) → Each (turns_of view callees rules)
+  turns-quiet [] rules = tt
+  turns-quiet (u ∷ callees) [] = tt
+  turns-quiet (u ∷ callees) (rule ∷ rules) = (node-quiet u rule rule.node, turns-quiet callees rules)
 
-  at-quiet : (block : List CStmt) (j : ℕ) (o : Option CStmt) → Each block → slice_get block j ≡ o → Quiet (option_to_list o)
-  at-quiet block j None all is = nothing
-  at-quiet [] j (Some s) all is = absurd (cc)
-  at-quiet (x ∷ block) zero (Some s) all is = one-quiet s (subst Still (same_Some x s is) all.0)
-  at-quiet (x ∷ block) (suc j) (Some s) all is = at-quiet block j (Some s) all.1 is
+  at-quiet : (turns : List Turn) (j : ℕ) (o : Option Turn) → Each turns → slice_get turns j ≡ o → Each (option_to_list o)
+  at-quiet turns j None all is = tt
+  at-quiet [] j (Some turn) all is = absurd (cc)
+  at-quiet (x ∷ turns) zero (Some turn) all is = (subst (λ (turn : Turn). Quiet turn.code) (same_Some x turn is) all.0, tt)
+  at-quiet (x ∷ turns) (suc j) (Some turn) all is = at-quiet turns j (Some turn) all.1 is
 
-  picked-quiet : (block : List CStmt) (order : List ℕ) → Each block → Quiet (picked block order)
-  picked-quiet block [] all = nothing
-  picked-quiet block (j ∷ order) all =
-      append-quiet (option_to_list (slice_get block j)) (picked block order) (at-quiet block j (slice_get block j) all refl) (picked-quiet block order all)
+  append-each : (first second : List Turn) → Each first → Each second → Each (first ++ second)
+  append-each [] second one other = other
+  append-each (turn ∷ first) second one other = (one.0, append-each first second one.1 other)
+
+  picked-quiet : (turns : List Turn) (block : List ℕ) → Each turns → Each (picked turns block)
+  picked-quiet turns [] all = tt
+  picked-quiet turns (j ∷ block) all =
+      append-each (option_to_list (slice_get turns j)) (picked turns block) (at-quiet turns j (slice_get turns j) all refl)
+      (picked-quiet turns block all)
+
+  inside-quiet : (turns : List Turn) → Each turns → Quiet (map turn_code turns)
+  inside-quiet [] all = nothing
+  inside-quiet (turn ∷ turns) all =
+      cons-quiet (turn_code turn) (map turn_code turns) (if-still turn.test turn.code None all.0 refl) (inside-quiet turns all.1)
+
+  merged-quiet : (turns : List Turn) → Each turns → Quiet (merged_code turns)
+  merged-quiet [] all = nothing
+  merged-quiet (first ∷ rest) all =
+      one-quiet (c_if first.test (first.code ++ map turn_code rest) None)
+      (if-still first.test (first.code ++ map turn_code rest) None
+      (append-quiet first.code (map turn_code rest) all.0 (inside-quiet rest all.1)) refl)
+
+  blocks-quiet : (turns : List Turn) (blocks : List (List ℕ)) → Each turns → Quiet (blocks_code turns blocks)
+  blocks-quiet turns [] all = nothing
+  blocks-quiet turns (block ∷ blocks) all =
+      append-quiet (merged_code (picked turns block)) (blocks_code turns blocks) (merged-quiet (picked turns block) (picked-quiet turns block all))
+      (blocks-quiet turns blocks all)
 
   entry-quiet : (body : Block) → Quiet (entry_code view body)
   entry-quiet Done = nothing
@@ -266,12 +288,12 @@ module _ (view : View) where
 whole : (a : Activity) → Quiet (activity_code a)
 whole a =
     let copies : List CStmt = map (c_copied (view_of a).site) (copied_in a) in
-    let last : List CStmt = picked (blocks_in_source a) a.order in
+    let last : List CStmt = blocks_in_order a in
     append-quiet (map rested_code (counters_read a)) (entry_code (view_of a) (body_of a) ++ (copies ++ last))
     (mapped rested_code (counters_read a) (λ c. set-still _ _))
     (append-quiet (entry_code (view_of a) (body_of a)) (copies ++ last) (entry-quiet (view_of a) (body_of a))
     (append-quiet copies last (mapped (c_copied (view_of a).site) (copied_in a) (λ j. set-still _ _))
-    (picked-quiet (view_of a) (blocks_in_source a) a.order (blocks-quiet (view_of a) (callees_in (body_of a)) (rules_at a)))))
+    (blocks-quiet (view_of a) (turns_in_source a) a.blocks (turns-quiet (view_of a) (callees_in (body_of a)) (rules_at a)))))
 
 pub quiet : NoneLoops
 quiet a = (whole a).none

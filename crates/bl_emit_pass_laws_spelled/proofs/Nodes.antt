@@ -47,16 +47,16 @@ use Rattle.bl_emit_functions_laws_spelled.proofs.Acts.{arguments-fit, one-fits, 
 use Rattle.bl_emit_functions_laws_spelled.proofs.Shapes.{clear-fits, else-fits}
 use Rattle.bl_emit_functions_laws_spelled.proofs.Types.{all_append, source_name}
 use Rattle.bl_emit_pass.specs.Blocks.{
+  Turn,
   View,
   acted,
   arg_where,
   begun_code,
-  block_code,
-  blocks_code,
   changes_code,
   guard_of,
   has_result,
   layer_acted,
+  merged_code,
   name_in,
   node_code,
   resumed_code,
@@ -64,10 +64,17 @@ use Rattle.bl_emit_pass.specs.Blocks.{
   run_code,
   target_code,
   tested,
+  turn_code,
+  turn_of,
+  turns_of,
 }
 use Rattle.bl_emit_pass.specs.Names.{callee_frame, callee_memory, callee_name, ended_place, frame_name, given_place, result_place}
 use Rattle.bl_emit_pass_laws_spelled.specs.Laws.{all_fit, asked_fits, change_fits, node_fits, rule_fits, run_stands}
 use Rattle.bl_emit_pass_laws_spelled.proofs.Guards.{changes-fit, ended-fits, frame-letter, given-fits, guard-fits, result-fits, truth-fits}
+
+-- what a turn asks and does fits inside its `if`
+abbrev pub turn_fits : Turn → Bool
+turn_fits turn = expr_fits 404 turn.test && stmts_fit 404 turn.code
 
 shallow : (n : ℕ) → nat_le n 200 ≡ true → n ≤ 200
 shallow n h = grind (arith, nat_tests)
@@ -373,23 +380,47 @@ module _ (view : View) (few : length view.site.vars ≤ 2 ^ 64)
   node-is a rule (SurfaceJoinAt l at) h fit = only rule h
   node-is a rule (DepthJoinAt l at) h fit = only rule h
 
-  block-is : (a : ℕ) (rule : Rule) → rule_fits view.sizes rule ≡ true → node_fits view.site a rule.node ≡ true →
-      stmt_fits 405 (block_code view a rule) ≡ true
-  block-is a rule h fit =
-      if-fits 404 405 nowhere (guard_of view rule.node rule.asked) (node_code view a rule rule.node) (omega arith)
+  turn-is : (a : ℕ) (rule : Rule) → rule_fits view.sizes rule ≡ true → node_fits view.site a rule.node ≡ true →
+      turn_fits (turn_of view a rule) ≡ true
+  turn-is a rule h fit =
+      both (expr_fits 404 (guard_of view rule.node rule.asked)) (stmts_fit 404 (node_code view a rule rule.node))
       (expr_fits-more 68 404 (guard_of view rule.node rule.asked) (omega arith)
       (guard-fits view numbers rule.node rule.asked (and_left (asked_fits view.sizes rule.asked) _ h)))
       (node-is a rule rule.node h fit)
 
-  -- the blocks fit
-  pub blocks-fit : (callees : List ℕ) (rules : List Rule) → all_fit view.sizes view.site callees rules ≡ true →
-      stmts_fit 405 (blocks_code view callees rules) ≡ true
-  blocks-fit [] rules all = refl
-  blocks-fit (a ∷ callees) [] all = refl
-  blocks-fit (a ∷ callees) (rule ∷ rules) all =
+  -- the turns of all nodes fit
+  pub turns-fit : (callees : List ℕ) (rules : List Rule) → all_fit view.sizes view.site callees rules ≡ true →
+      list_all turn_fits (turns_of view callees rules) ≡ true
+  turns-fit [] rules all = refl
+  turns-fit (a ∷ callees) [] all = refl
+  turns-fit (a ∷ callees) (rule ∷ rules) all =
       let own = and_left (rule_fits view.sizes rule && node_fits view.site a rule.node) (all_fit view.sizes view.site callees rules) all in
-      both (stmt_fits 405 (block_code view a rule)) (stmts_fit 405 (blocks_code view callees rules))
-      (block-is a rule (and_left (rule_fits view.sizes rule) (node_fits view.site a rule.node) own)
+      both (turn_fits (turn_of view a rule)) (list_all turn_fits (turns_of view callees rules))
+      (turn-is a rule (and_left (rule_fits view.sizes rule) (node_fits view.site a rule.node) own)
       (and_right (rule_fits view.sizes rule) (node_fits view.site a rule.node) own))
-      (blocks-fit callees rules
+      (turns-fit callees rules
       (and_right (rule_fits view.sizes rule && node_fits view.site a rule.node) (all_fit view.sizes view.site callees rules) all))
+
+-- ---- blocks
+
+turns-fit-inside : (turns : List Turn) → list_all turn_fits turns ≡ true → stmts_fit 405 (map turn_code turns) ≡ true
+turns-fit-inside [] all = refl
+turns-fit-inside (turn ∷ turns) all =
+    let own = and_left (turn_fits turn) (list_all turn_fits turns) all in
+    both (stmt_fits 405 (turn_code turn)) (stmts_fit 405 (map turn_code turns))
+    (if-fits 404 405 nowhere turn.test turn.code (omega arith) (and_left (expr_fits 404 turn.test) (stmts_fit 404 turn.code) own)
+    (and_right (expr_fits 404 turn.test) (stmts_fit 404 turn.code) own))
+    (turns-fit-inside turns (and_right (turn_fits turn) (list_all turn_fits turns) all))
+
+-- a block whose turns fit does so, one level deeper than each of them
+pub merged-fits : (turns : List Turn) → list_all turn_fits turns ≡ true → stmts_fit 406 (merged_code turns) ≡ true
+merged-fits [] all = refl
+merged-fits (first ∷ rest) all =
+    let own = and_left (turn_fits first) (list_all turn_fits rest) all in
+    let code : List CStmt = first.code ++ map turn_code rest in
+    one-fits 406 (c_if first.test code None)
+    (if-fits 405 406 nowhere first.test code (omega arith)
+    (expr_fits-more 404 405 first.test (omega arith) (and_left (expr_fits 404 first.test) (stmts_fit 404 first.code) own))
+    (all_append (stmt_fits 405) first.code (map turn_code rest)
+    (stmts_fit-more 404 405 first.code (omega arith) (and_right (expr_fits 404 first.test) (stmts_fit 404 first.code) own))
+    (turns-fit-inside rest (and_right (turn_fits first) (list_all turn_fits rest) all))))

@@ -59,7 +59,8 @@ use Rattle.bl_emit_pass.specs.Activities.{
   activity_function,
   activity_locals,
   activity_params,
-  blocks_in_source,
+  blocks_code,
+  blocks_in_order,
   body_of,
   callees_in,
   copied_in,
@@ -91,15 +92,16 @@ use Rattle.bl_emit_pass.specs.Activities.{
   runs_in_body,
   scalar_local,
   struct_member,
+  turns_in_source,
   view_of,
 }
-use Rattle.bl_emit_pass.specs.Blocks.{counter_value, name_in}
+use Rattle.bl_emit_pass.specs.Blocks.{Turn, counter_value, merged_code, name_in}
 use Rattle.bl_emit_pass.specs.Names.{callee_name, counter_name, counter_place, ended_name, flag_name, flag_place, frame_name, given_name}
 use Rattle.bl_emit_pass.specs.Names.{mark_name, rested_name, rested_place}
 use Rattle.bl_emit_pass_laws_spelled.specs.Laws.{ActivitiesFit, FramesSpelled, RememberedSpelled, all_fit, node_fits, rule_fits}
 use Rattle.bl_emit_pass_laws_spelled.proofs.Guards.{counter-fits, end-letter, flag-fits, frame-letter, nothing-fits, rested-fits, result-letter}
 use Rattle.bl_emit_pass_laws_spelled.proofs.Guards.{type-spelled}
-use Rattle.bl_emit_pass_laws_spelled.proofs.Nodes.{blocks-fit, callee-named, frame-named, run-callee}
+use Rattle.bl_emit_pass_laws_spelled.proofs.Nodes.{callee-named, frame-named, merged-fits, run-callee, turn_fits, turns-fit}
 
 -- ---- lists
 
@@ -153,6 +155,12 @@ all_picked {A = A} p all (k ∷ ks) h =
     by : (o : Option A) → slice_get all k ≡ o → list_all p (option_to_list o) ≡ true
     by None is = refl
     by (Some x) is = both (p x) true (all_at p all k x h is) refl
+
+blocks-fit : (turns : List Turn) (blocks : List (List ℕ)) → list_all turn_fits turns ≡ true → stmts_fit 406 (blocks_code turns blocks) ≡ true
+blocks-fit turns [] all = refl
+blocks-fit turns (block ∷ blocks) all =
+    all_append (stmt_fits 406) (merged_code (picked turns block)) (blocks_code turns blocks)
+    (merged-fits (picked turns block) (all_picked turn_fits turns block all)) (blocks-fit turns blocks all)
 
 -- ---- an activity
 
@@ -408,51 +416,51 @@ module _ (units : List UnitDef) (entry k : ℕ) (a : Activity) (keeps : Keeps a.
     typed_here : (j : ℕ) (var : Var) → slice_get a.unit.vars j ≡ Some var → type_stands (length a.structs) var.ty ≡ true
     typed_here = typed a.structs units entry k a.unit keeps there few
 
-    rested_is : (j : ℕ) → j < length a.sizes → stmt_fits 405 (rested_code j) ≡ true
+    rested_is : (j : ℕ) → j < length a.sizes → stmt_fits 406 (rested_code j) ≡ true
     rested_is j less =
         let small : j < 2 ^ 64 = omega (arith, less, short) in
-        set-fits 405 nowhere (rested_place j) (c_read (counter_place j)) (rested-fits 405 j (omega arith) small)
-        (read-fits 405 nowhere (counter_place j) (counter-fits 405 j (omega arith) small))
+        set-fits 406 nowhere (rested_place j) (c_read (counter_place j)) (rested-fits 406 j (omega arith) small)
+        (read-fits 406 nowhere (counter_place j) (counter-fits 406 j (omega arith) small))
 
-    copied_is : (j : ℕ) → j < length a.unit.vars → stmt_fits 405 (c_copied site j) ≡ true
+    copied_is : (j : ℕ) → j < length a.unit.vars → stmt_fits 406 (c_copied site j) ≡ true
     copied_is j less =
         let small : j < 2 ^ 64 = omega (arith, less, few) in
-        set-fits 405 nowhere (c_place false (copy_name j) []) (c_read (place_in site j []))
-        (place-fits 405 false (copy_name j) [] (omega arith) (copy-name j small) refl)
-        (read-fits 405 nowhere (place_in site j []) (own-fits site few names named typed_here exprs paths 405 j (omega arith) small))
+        set-fits 406 nowhere (c_place false (copy_name j) []) (c_read (place_in site j []))
+        (place-fits 406 false (copy_name j) [] (omega arith) (copy-name j small) refl)
+        (read-fits 406 nowhere (place_in site j []) (own-fits site few names named typed_here exprs paths 406 j (omega arith) small))
 
-    entry_is : (body : Block) → stmts_fit 405 (entry_code (view_of a) body) ≡ true
+    entry_is : (body : Block) → stmts_fit 406 (entry_code (view_of a) body) ≡ true
     entry_is Done = refl
     entry_is (Then s rest) =
         let first : 0 < 2 ^ 64 = omega arith in
-        one-fits 405 (c_set (flag_place (number (entry_node s))) (c_two Eq (c_read (counter_place 0)) (counter_value a.sizes 0 0)))
-        (set-fits 405 nowhere (flag_place (number (entry_node s))) (c_two Eq (c_read (counter_place 0)) (counter_value a.sizes 0 0))
-        (flag-fits 405 (number (entry_node s)) (omega arith) (numbers (entry_node s)))
-        (two-fits 2 405 nowhere Eq (c_read (counter_place 0)) (counter_value a.sizes 0 0) (omega arith) refl
+        one-fits 406 (c_set (flag_place (number (entry_node s))) (c_two Eq (c_read (counter_place 0)) (counter_value a.sizes 0 0)))
+        (set-fits 406 nowhere (flag_place (number (entry_node s))) (c_two Eq (c_read (counter_place 0)) (counter_value a.sizes 0 0))
+        (flag-fits 406 (number (entry_node s)) (omega arith) (numbers (entry_node s)))
+        (two-fits 2 406 nowhere Eq (c_read (counter_place 0)) (counter_value a.sizes 0 0) (omega arith) refl
         (read-fits 2 nowhere (counter_place 0) (counter-fits 2 0 (omega arith) first)) (nothing-fits 2 a.sizes 0 (omega arith))))
 
-    code_is : stmts_fit 405 (activity_code a) ≡ true
+    code_is : stmts_fit 406 (activity_code a) ≡ true
     code_is =
-        let blocks : List CStmt = picked (blocks_in_source a) a.order in
+        let blocks : List CStmt = blocks_in_order a in
         let copies : List CStmt = map (c_copied site) (copied_in a) in
-        all_append (stmt_fits 405) (map rested_code (counters_read a)) (entry_code (view_of a) (body_of a) ++ (copies ++ blocks))
-        (all_mapped (stmt_fits 405) rested_code (counters_read a)
-        (all_filtered (λ j. stmt_fits 405 (rested_code j)) (view_of a).is_read (up_to (length a.sizes))
-        (all_below (λ j. stmt_fits 405 (rested_code j)) (length a.sizes) rested_is)))
-        (all_append (stmt_fits 405) (entry_code (view_of a) (body_of a)) (copies ++ blocks) (entry_is (body_of a))
-        (all_append (stmt_fits 405) copies blocks
-        (all_mapped (stmt_fits 405) (c_copied site) (copied_in a)
-        (all_filtered (λ j. stmt_fits 405 (c_copied site j)) _ (up_to (length a.unit.vars))
-        (all_below (λ j. stmt_fits 405 (c_copied site j)) (length a.unit.vars) copied_is)))
-        (all_picked (stmt_fits 405) (blocks_in_source a) a.order
-        (blocks-fit (view_of a) few numbers names named typed_here exprs paths acts (callees_in (body_of a)) (rules_at a) fitted))))
+        all_append (stmt_fits 406) (map rested_code (counters_read a)) (entry_code (view_of a) (body_of a) ++ (copies ++ blocks))
+        (all_mapped (stmt_fits 406) rested_code (counters_read a)
+        (all_filtered (λ j. stmt_fits 406 (rested_code j)) (view_of a).is_read (up_to (length a.sizes))
+        (all_below (λ j. stmt_fits 406 (rested_code j)) (length a.sizes) rested_is)))
+        (all_append (stmt_fits 406) (entry_code (view_of a) (body_of a)) (copies ++ blocks) (entry_is (body_of a))
+        (all_append (stmt_fits 406) copies blocks
+        (all_mapped (stmt_fits 406) (c_copied site) (copied_in a)
+        (all_filtered (λ j. stmt_fits 406 (c_copied site j)) _ (up_to (length a.unit.vars))
+        (all_below (λ j. stmt_fits 406 (c_copied site j)) (length a.unit.vars) copied_is)))
+        (blocks-fit (turns_in_source a) a.blocks
+        (turns-fit (view_of a) few numbers names named typed_here exprs paths acts (callees_in (body_of a)) (rules_at a) fitted))))
 
     pub activity-fits : func_fits 2000 (activity_function a) ≡ true
     activity-fits =
         func-fits 1999 2000 (activity_function a) (omega arith) (omega arith) refl
         (name-function (unit_name a.unit.name)
         (name-with_prefix (codes "a_") a.unit.name refl (source_name a.unit.name own_name))) params_are locals_are
-        (stmts_fit-more 405 1999 (activity_code a) (omega arith) code_is)
+        (stmts_fit-more 406 1999 (activity_code a) (omega arith) code_is)
 
 -- ---- the laws
 

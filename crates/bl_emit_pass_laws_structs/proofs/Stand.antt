@@ -12,7 +12,7 @@ use Rattle.bl_tree.specs.Types.{scalar_in}
 use Rattle.bl_tree.specs.Typing.{is_activity}
 use Rattle.bl_eval.proofs.PassLemmas.{all_at, and_left}
 use Rattle.bl_machine.specs.declared.machine.Activity.{Activity as InMachine}
-use Rattle.bl_machine.specs.Machines.{IsActivityOf, IsPlainActivityOf}
+use Rattle.bl_machine.specs.Machines.{IsActivityOf}
 use Rattle.bl_machine.specs.Uses.{Slots}
 use Rattle.bl_nodes.specs.Nodes.{nodes_in}
 use Rattle.bl_nodes.specs.Plain.{Block}
@@ -23,6 +23,7 @@ use Rattle.bl_emit_structs_laws_formed.specs.Laws.{OfVariable}
 use Rattle.bl_emit_functions_laws_formed.specs.Laws.{MemoriesHold}
 use Rattle.bl_emit_functions_laws_file.proofs.Growing.{distinct_behind, names}
 use Rattle.bl_emit_pass.specs.Programs.{activity_of, needed_units}
+use Rattle.bl_emit_pass.specs.Shared.{IsSharedActivityOf}
 use Rattle.bl_emit_pass_laws_closed.specs.Laws.{NeededClosed}
 use Rattle.bl_emit_pass_laws_formed.specs.Laws.{FrameDiffers, MemoryDiffers}
 use Rattle.bl_emit_pass_laws_machines.specs.Laws.{IsModest, MachinesDiffer, MachinesSpell}
@@ -61,11 +62,11 @@ pub sound : ((slots : Slots) (body : Block) → map (λ (rule : Rule). rule.node
     NeededNumbered structs units entry → NeededClosed structs units entry → PartsAreSound structs units entry
 sound nodes structs units entry declared hold frames memories spell differ small numbered closed machine keeps limits agrees plain =
     let modest : (k : ℕ) (unit : UnitDef) (one : InMachine) (remember : List Bool) → slice_get units k ≡ Some unit → is_activity unit.kind ≡ true →
-    slice_get (needed_units units entry) k ≡ Some true → IsActivityOf unit one → IsPlainActivityOf unit one →
+    slice_get (needed_units units entry) k ≡ Some true → IsActivityOf unit one → IsSharedActivityOf unit one →
     Modest units entry k (take k units) (activity_of structs (take k units) remember unit one) =
     λ k unit one remember there active need own single.
     let is : IsModest structs units k unit one =
-    record { there = there; of_unit = own; plain = single; cells = small k keeps limits need } in
+    record { there = there; of_unit = own; shared = single; cells = small k keeps limits need } in
     record {
       numbers = differ k unit one remember keeps is;
       runs = runs_fit nodes structs units entry k (activity_of structs (take k units) remember unit one) keeps closed (spell k unit one remember keeps is);

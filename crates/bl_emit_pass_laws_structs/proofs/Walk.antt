@@ -21,7 +21,7 @@ use Rattle.bl_eval.proofs.PassLemmas.{both}
 use Rattle.bl_cause.specs.Activities.{EachTwo, activities}
 use Rattle.bl_machine.specs.declared.machine.Activity.{Activity as InMachine}
 use Rattle.bl_machine.specs.Blocks.{up_to}
-use Rattle.bl_machine.specs.Machines.{IsActivityOf, IsPlainActivityOf}
+use Rattle.bl_machine.specs.Machines.{IsActivityOf}
 use Rattle.bl_measures.specs.Units.{chain_at}
 use Rattle.bl_emit_acts.specs.Trees.{nowhere}
 use Rattle.bl_emit_structs_laws.specs.Laws.{are_known, is_known, names_of}
@@ -44,6 +44,7 @@ use Rattle.bl_emit_pass.specs.Activities.{
 use Rattle.bl_emit_pass.specs.Blocks.{name_in}
 use Rattle.bl_emit_pass.specs.Names.{callee_name, frame_name}
 use Rattle.bl_emit_pass.specs.Programs.{Parts, activity_of, needed_units, parts_from, parts_of_function, parts_of_next, parts_then, where_needed}
+use Rattle.bl_emit_pass.specs.Shared.{IsSharedActivityOf}
 use Rattle.bl_emit_pass_laws_formed.specs.Laws.{FrameDiffers, MemoryDiffers, NumbersDiffer}
 use Rattle.bl_emit_pass_laws_structs.specs.Parts.{IsPart, OfNumber, OfPart}
 use Rattle.bl_emit_pass_laws_structs.proofs.Lists.{
@@ -84,7 +85,7 @@ module _ (structs : List StructDef) (units : List UnitDef) (entry : ℕ) (types 
     (few : (k : ℕ) (unit : UnitDef) → slice_get units k ≡ Some unit → slice_get (needed_units units entry) k ≡ Some true →
     length unit.vars ≤ 2 ^ 64)
     (modest : (k : ℕ) (unit : UnitDef) (one : InMachine) (remember : List Bool) → slice_get units k ≡ Some unit → is_activity unit.kind ≡ true →
-    slice_get (needed_units units entry) k ≡ Some true → IsActivityOf unit one → IsPlainActivityOf unit one →
+    slice_get (needed_units units entry) k ≡ Some true → IsActivityOf unit one → IsSharedActivityOf unit one →
     Modest units entry k (take k units) (activity_of structs (take k units) remember unit one))
   where
     abbrev Needed : ℕ → Type 0
@@ -406,13 +407,13 @@ module _ (structs : List StructDef) (units : List UnitDef) (entry : ℕ) (types 
 
       abbrev Behind : Type 0
       Behind = (names' : List Text) (remember' : List Bool) (machine : List InMachine) → EachTwo IsActivityOf (activities rest) machine →
-          EachTwo IsPlainActivityOf (activities rest) machine → Known names' (suc k) remember' →
+          EachTwo IsSharedActivityOf (activities rest) machine → Known names' (suc k) remember' →
           Walked names' remember' (parts_from structs (earlier ++ unit ∷ []) remember' rest needed machine)
 
       step_by : (active test : Bool) (machine : List InMachine) → is_activity unit.kind ≡ active →
           slice_get (needed_units units entry) k ≡ Some test →
           EachTwo IsActivityOf (cond active (unit ∷ activities rest) (activities rest)) machine →
-          EachTwo IsPlainActivityOf (cond active (unit ∷ activities rest) (activities rest)) machine → Known names k remember → Behind →
+          EachTwo IsSharedActivityOf (cond active (unit ∷ activities rest) (activities rest)) machine → Known names k remember → Behind →
           Walked names remember (All active test (take k units) machine)
       step_by true test [] is need own plain known behind = absurd own
       step_by true true (one ∷ machine) is need own plain known behind =
@@ -430,7 +431,7 @@ module _ (structs : List StructDef) (units : List UnitDef) (entry : ℕ) (types 
           then_walked names k remember (where_needed false (here false (take k units) machine)) _ first (behind _ _ machine own plain first.next)
 
       step : (test : Bool) (machine : List InMachine) → slice_get (needed_units units entry) k ≡ Some test →
-          EachTwo IsActivityOf (activities (unit ∷ rest)) machine → EachTwo IsPlainActivityOf (activities (unit ∷ rest)) machine →
+          EachTwo IsActivityOf (activities (unit ∷ rest)) machine → EachTwo IsSharedActivityOf (activities (unit ∷ rest)) machine →
           Known names k remember → Behind → Walked names remember (All (is_activity unit.kind) test earlier machine)
       step test machine need own plain known behind =
           subst (λ earlier'. Walked names remember (All (is_activity unit.kind) test earlier' machine)) before
@@ -451,7 +452,7 @@ module _ (structs : List StructDef) (units : List UnitDef) (entry : ℕ) (types 
 
     pub walk : (earlier : List UnitDef) (remember : List Bool) (rest : List UnitDef) (needed : List Bool) (machine : List InMachine)
         (names : List Text) → earlier ++ rest ≡ units → Told (length earlier) needed → EachTwo IsActivityOf (activities rest) machine →
-        EachTwo IsPlainActivityOf (activities rest) machine → Known names (length earlier) remember →
+        EachTwo IsSharedActivityOf (activities rest) machine → Known names (length earlier) remember →
         Walked names remember (parts_from structs earlier remember rest needed machine)
     walk earlier remember [] needed machine names whole told own plain known =
         ended names (length earlier) remember known

@@ -13,13 +13,14 @@ use Rattle.bl_cmeaning.specs.Faults.{struct_faults_after, struct_table}
 use Rattle.bl_cmeaning.specs.Tables.{no_entries}
 use Rattle.bl_limits.specs.Rules.{Passes}
 use Rattle.bl_machine.specs.declared.machine.Activity.{Activity as InMachine}
-use Rattle.bl_machine.specs.Machines.{AreActivitiesOf, IsPlainActivityOf}
+use Rattle.bl_machine.specs.Machines.{AreActivitiesOf}
 use Rattle.bl_emit_structs.specs.Structs.{each_once, structs_for}
 use Rattle.bl_emit_acts_laws_formed.specs.Declared.{AreDeclared}
 use Rattle.bl_emit_structs_laws.specs.Laws.{are_known, is_known, names_of}
 use Rattle.bl_emit_functions.specs.Functions.{memory_name}
 use Rattle.bl_emit_pass.specs.Names.{frame_name}
 use Rattle.bl_emit_pass.specs.Programs.{Parts, interface_structs, needed_units, parts_from, written}
+use Rattle.bl_emit_pass.specs.Shared.{IsSharedActivityOf}
 use Rattle.bl_emit_pass_laws_structs.specs.Parts.{IsPart}
 
 -- what is written of a program's units with a machine
@@ -44,11 +45,11 @@ pub record PartsStand (structs : List StructDef) (units : List UnitDef) (entry :
   pub memory : (unit : UnitDef) → slice_get units entry ≡ Some unit → slice_get parts.remember entry ≡ Some true →
       is_known (type_names structs units ++ names_of parts.structs) (OfStruct (memory_name unit.name)) ≡ true
 
--- so they are in a typed program with a plain machine, where rule Cells doesn't fail
+-- so they are in a typed program with a machine that shares counters, where rule Cells doesn't fail
 abbrev pub PartsAreSound : List StructDef → List UnitDef → ℕ → Type 0
 PartsAreSound structs units entry =
     (machine : List InMachine) → Keeps structs units entry → Passes structs units entry → AreActivitiesOf units machine →
-    EachTwo IsPlainActivityOf (activities units) machine → PartsStand structs units entry (parts_of structs units entry machine)
+    EachTwo IsSharedActivityOf (activities units) machine → PartsStand structs units entry (parts_of structs units entry machine)
 
 -- ---- the whole file
 
@@ -61,12 +62,12 @@ pub record FileStructs (structs : List StructDef) (units : List UnitDef) (file o
   pub parts : AreDeclared (struct_table file) of_units
   pub interface : AreDeclared (struct_table file) last
 
--- so it is of the file that is written of a typed program with a plain machine, where neither rule Frames nor Cells fails
+-- so it is of the file that is written of a typed program with a machine that shares counters, where neither rule Frames nor Cells fails
 abbrev pub FilesDeclare : Program → Type 0
 FilesDeclare program =
     (machine : List InMachine) (unit : UnitDef) → Keeps program.structs program.units program.entry →
     Passes program.structs program.units program.entry → AreActivitiesOf program.units machine →
-    EachTwo IsPlainActivityOf (activities program.units) machine → slice_get program.units program.entry ≡ Some unit →
+    EachTwo IsSharedActivityOf (activities program.units) machine → slice_get program.units program.entry ≡ Some unit →
     let parts = parts_of program.structs program.units program.entry machine in
     FileStructs program.structs program.units (written program machine).structs parts.structs
     (interface_structs program.structs unit (unwrap_or (slice_get parts.remember program.entry) false))

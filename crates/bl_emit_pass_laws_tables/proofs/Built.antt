@@ -71,6 +71,7 @@ module _ (structs : List StructDef) (units : List UnitDef) (machine : List InMac
             one = found.0;
             is = found.1;
             order = ap (λ o. joined (unwrap_or o no_part).blocks) found.1;
+            blocks = ap (λ o. (unwrap_or o no_part).blocks) found.1;
             slots = λ i. slots_of (plain_body (unwrap_or (there i) no_unit).body) (unwrap_or (found.1 i) no_part).slots;
             sizes = ap (λ o. sizes_of (unwrap_or o no_part).slots) found.1;
           }

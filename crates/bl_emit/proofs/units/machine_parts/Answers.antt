@@ -24,16 +24,16 @@ returns c =
     c.deref-4.ensures
     ∙ ap (λ (body : List Stmt). listed (layout_of (joined one.blocks) one.slots) (plain_body body)) c.deref-2.ensures)) in
     let sizes_are : c.deref-8.result.now ≡ sizes_of one.slots = c.deref-8.ensures ∙ (c.in_ok-sizes.ensures ∙ ap sizes_of c.deref-5.ensures) in
-    let told : List ℕ → List Rule → List ℕ → Told = λ order rules sizes. record {
+    let told : List (List ℕ) → List Rule → List ℕ → Told = λ blocks rules sizes. record {
       structs = c.args.structs.now;
       earlier = c.args.earlier.now;
       unit = c.args.unit.now;
-      order = order;
+      blocks = blocks;
       rules = rules;
       sizes = sizes;
       remember = c.args.remember.now;
     } in
     subst (λ (a : Told). IfOk c.activity_parts.result (λ made. parts_in made ≡ where_needed c.args.needed (parts_told a)))
-    (ap₂ (λ (order : List ℕ) (rules : List Rule). told order rules c.deref-8.result.now) (c.deref-6.ensures ∙ order_is) rules_are
-    ∙ ap (told (joined one.blocks) (listed (layout_of (joined one.blocks) one.slots) (plain_body c.args.unit.now.body))) sizes_are)
+    (ap₂ (λ (blocks : List (List ℕ)) (rules : List Rule). told blocks rules c.deref-8.result.now) c.deref-6.ensures rules_are
+    ∙ ap (told one.blocks (listed (layout_of (joined one.blocks) one.slots) (plain_body c.args.unit.now.body))) sizes_are)
     c.activity_parts.ensures
