@@ -9,7 +9,7 @@ use Rattle.bl_tree.specs.Reduce.{joined}
 use Rattle.bl_nodes.specs.Nodes.{Node}
 use Rattle.bl_cause.specs.Activities.{activities}
 use Rattle.bl_machine.specs.declared.machine.Activity.{Activity}
-use Rattle.bl_machine_laws_trace.specs.Positions.{GoBy}
+use Rattle.bl_machine_laws.specs.Traces.Positions.{GoBy}
 use Rattle.bl_block.specs.Merged.{AreMergedFrom, EachThree, IsMergedFrom}
 use Rattle.bl_block_laws.specs.Laws.{MergedShowTheSame, ShowsTrace, setting}
 

@@ -5,8 +5,8 @@ use Rattle.bl_tree.specs.declared.row.Trace.{Trace}
 use Rattle.bl_nodes.specs.Nodes.{Node}
 use Rattle.bl_ctree.specs.Instances.{Setting, setting_of}
 use Rattle.bl_machine.specs.declared.machine.Activity.{Activity}
-use Rattle.bl_machine_laws_trace.specs.Positions.{GoBy}
-use Rattle.bl_machine_laws_trace.specs.Runs.{Runs}
+use Rattle.bl_machine_laws.specs.Traces.Positions.{GoBy}
+use Rattle.bl_machine_laws.specs.Traces.Runs.{Runs}
 use Rattle.bl_block.specs.Merged.{AreMergedFrom}
 
 -- the instances of the program, and its units

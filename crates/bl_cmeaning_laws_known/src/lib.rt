@@ -1,10 +1,6 @@
-//! A C function depends on what is known of the functions alone that its body calls (`specs/Laws.antt`, `CallsDecide`). There is no code
-//! here.
+//! Which functions decide over a C function. None of these functions does anything: the contract is the law. It depends on what is known
+//! of the functions alone that its body calls (`known`), and so does what fails in a block (`called`).
 #![tactic(auto)]
 
-ghost use Rattle.bl_cmeaning_laws_known.specs.Laws.{CallsDecide};
-
-/// Where two tables know the same of all functions that the body of a C function calls, it does the same over both.
-pub fn calls_decide()
-    ensures { CallsDecide }
-{}
+pub mod called;
+pub mod known;

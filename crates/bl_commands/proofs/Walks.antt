@@ -49,7 +49,7 @@ use Rattle.bl_ctree.specs.Control.{Idle}
 use Rattle.bl_ctree.specs.Instances.{setting_of}
 use Rattle.bl_ctree.specs.Means.{Means, Shown, entry_items, shown}
 use Rattle.bl_ctree.specs.Store.{first_store}
-use Rattle.bl_ctree_laws_traces.specs.OneTrace.{HasOneTrace}
+use Rattle.bl_ctree_laws_traces.specs.Traces.OneTrace.{HasOneTrace}
 use Rattle.bl_io.specs.Count.{Rose}
 use Rattle.bl_io.specs.Held.{Appends, AppendsPart}
 use Rattle.bl_io.specs.Left.{IsKept}

@@ -22,7 +22,7 @@ use crate::status::Status;
 use bl_io::{Files, IoFault, Sink, write_all};
 use bl_rows::{input_columns, output_columns, text};
 use bl_rules::Accepted;
-use bl_rules_laws::{accepted_texts_have_few_instances, accepted_texts_have_one_trace};
+use bl_rules_laws::traces::{accepted_texts_have_few_instances, accepted_texts_have_one_trace};
 use bl_stream::laws::{rows_of_bytes_fit, rows_of_lines_fit};
 use bl_stream::{Finish, Gathering, finish_over, gather};
 use bl_tree::{Column, List, NoMemory, Program};

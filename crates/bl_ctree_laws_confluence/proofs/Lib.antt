@@ -1,7 +1,4 @@
-pub mod Accepted
-pub mod Activities
-pub mod Aliases
-pub mod Homes
-pub mod Nesting
-pub mod Origins
-pub mod Plans
+pub mod OnApart
+pub mod OnDeeds
+pub mod OnIndependent
+pub mod OnStores

@@ -1,5 +1,4 @@
+pub mod Apart
 pub mod Deeds
-pub mod Homes
-pub mod Nesting
-pub mod Orderly
-pub mod Origins
+pub mod Independent
+pub mod Stores

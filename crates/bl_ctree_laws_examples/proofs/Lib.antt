@@ -1,5 +1,2 @@
-pub mod Commuting
-pub mod Expanding
-pub mod Plainly
-pub mod Sets
-pub mod Waiting
+pub mod OnTraces
+pub mod OnTrees

@@ -1,5 +1,2 @@
-pub mod Calls
-pub mod Made
-pub mod Reset
-pub mod TwoWay
-pub mod TwoWayTrees
+pub mod Traces
+pub mod Trees

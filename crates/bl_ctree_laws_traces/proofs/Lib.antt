@@ -1,3 +1,4 @@
-pub mod Accepted
-pub mod Allowed
-pub mod Extending
+pub mod OnBounded
+pub mod OnProgress
+pub mod OnReady
+pub mod OnTraces

@@ -1,2 +1,4 @@
-pub mod Maximal
-pub mod OneTrace
+pub mod Bounded
+pub mod Progress
+pub mod Ready
+pub mod Traces

@@ -1,3 +1,2 @@
-pub mod Declared
 pub mod Formed
-pub mod Laws
+pub mod Spelled

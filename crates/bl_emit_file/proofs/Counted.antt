@@ -7,7 +7,7 @@ use Rattle.bl_tree.specs.declared.tree.Unit.{Unit as UnitDef}
 use Rattle.bl_eval.proofs.PassLemmas.{and_left, and_right}
 use Rattle.bl_measures.specs.Saturated.{saturated}
 use Rattle.bl_measures.specs.Statements.{statements_of}
-use Rattle.bl_emit_pass_laws_compiled.specs.Laws.{AreCountable, IsCountable}
+use Rattle.bl_emit_pass_laws_runs.specs.Compiled.{AreCountable, IsCountable}
 use Rattle.bl_emit_file.specs.inner.Counts.{has_few, is_few}
 
 less_of : (a b : ℕ) → nat_le a b ≡ true → a ≤ b

@@ -14,8 +14,8 @@ use Rattle.bl_machine.specs.declared.machine.Activity.{Activity}
 use Rattle.bl_machine.specs.Machines.{AreActivitiesOf, IsPlainActivityOf}
 use Rattle.bl_ctext.specs.Spellable.{is_spellable}
 use Rattle.bl_emit_pass.specs.Programs.{Written, written}
-use Rattle.bl_emit_pass_laws_compiled.specs.Laws.{AreCountable}
-use Rattle.bl_emit_laws_spelled.specs.Laws.{ProgramsSpelled}
+use Rattle.bl_emit_pass_laws_runs.specs.Compiled.{AreCountable}
+use Rattle.bl_emit_laws.specs.Spelled.{ProgramsSpelled}
 use Rattle.bl_emit_file.specs.Laws.{Known}
 
 each_shared : (units : List UnitDef) (from to : List Activity) → EachTwo IsPlainActivityOf units from → EachThree IsMergedFrom units from to →

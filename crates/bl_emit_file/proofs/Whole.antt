@@ -15,21 +15,21 @@ use Rattle.bl_cmeaning.specs.Parts.{Parts, parts_from}
 use Rattle.bl_cmeaning.specs.Trace.{c_trace}
 use Rattle.bl_machine.specs.declared.machine.Activity.{Activity as InMachine}
 use Rattle.bl_pass_laws_runs.specs.Runs.{RunByRules}
-use Rattle.bl_emit_functions_laws_units.specs.Laws.{NoneOverlaps}
+use Rattle.bl_emit_functions_laws.specs.Units.{NoneOverlaps}
 use Rattle.bl_emit_pass.specs.Programs.{Written, written}
-use Rattle.bl_emit_pass_laws_calls.specs.Built.{Activities, cleared, rank_by, slots_by}
-use Rattle.bl_emit_pass_laws_calls.specs.Laws.{Compiled}
-use Rattle.bl_emit_pass_laws_come.specs.Laws.{AllCome}
-use Rattle.bl_emit_pass_laws_compiled.specs.Laws.{ProgramsCompile}
-use Rattle.bl_emit_pass_laws_entry.specs.Laws.{EntryRuns}
-use Rattle.bl_emit_pass_laws_files.specs.Laws.{FileShows, RowsSuffice}
-use Rattle.bl_emit_pass_laws_tables.specs.Laws.{ActivitiesBuilt}
-use Rattle.bl_emit_laws_accepted.specs.Laws.{ProgramsFormed}
-use Rattle.bl_emit_laws_cells.specs.Laws.{FilesSmall}
-use Rattle.bl_emit_laws_counters.specs.Laws.{FilesOwn}
-use Rattle.bl_emit_laws_kept.specs.Laws.{activities_in, written_file}
-use Rattle.bl_emit_laws_shows.specs.Laws.{WrittenShows}
-use Rattle.bl_emit_laws_width.specs.Laws.{FramesHaveWidth}
+use Rattle.bl_emit_pass_laws.specs.Calls.Built.{Activities, cleared, rank_by, slots_by}
+use Rattle.bl_emit_pass_laws.specs.Calls.Laws.{Compiled}
+use Rattle.bl_emit_pass_laws_runs.specs.Come.{AllCome}
+use Rattle.bl_emit_pass_laws_runs.specs.Compiled.{ProgramsCompile}
+use Rattle.bl_emit_pass_laws_files.specs.Entry.{EntryRuns}
+use Rattle.bl_emit_pass_laws_files.specs.Files.{FileShows, RowsSuffice}
+use Rattle.bl_emit_pass_laws.specs.Tables.Laws.{ActivitiesBuilt}
+use Rattle.bl_emit_laws.specs.Accepted.{ProgramsFormed}
+use Rattle.bl_emit_laws.specs.Cells.{FilesSmall}
+use Rattle.bl_emit_laws.specs.Counters.Laws.{FilesOwn}
+use Rattle.bl_emit_laws.specs.Kept.{activities_in, written_file}
+use Rattle.bl_emit_laws.specs.Shows.{WrittenShows}
+use Rattle.bl_emit_laws.specs.Width.{FramesHaveWidth}
 use Rattle.bl_emit_file.specs.Laws.{Known, ProgramsShow}
 use Rattle.bl_emit_file.specs.Shows.{ShowsProgram}
 

@@ -7,9 +7,9 @@ use Rattle.bl_limits.specs.Rules.{Passes as KeepsLimits}
 use Rattle.bl_prevs.specs.Declared.{FromText}
 use Rattle.bl_machine.specs.declared.machine.Activity.{Activity as InMachine}
 use Rattle.bl_machine.specs.Machines.{AreActivitiesOf}
-use Rattle.bl_emit_laws_kept.specs.Laws.{written_file}
+use Rattle.bl_emit_laws.specs.Kept.{written_file}
 use Rattle.bl_emit_pass.specs.Shared.{IsShared}
-use Rattle.bl_emit_pass_laws_compiled.specs.Laws.{AreCountable}
+use Rattle.bl_emit_pass_laws_runs.specs.Compiled.{AreCountable}
 use Rattle.bl_emit_file.specs.Shows.{ShowsProgram}
 
 -- no rule fails for a program that is made of a text, its machine shares counters, and 64 bits count the variables and statements of its units

@@ -9,8 +9,8 @@ use Rattle.bl_cmeaning.specs.Faults.{WellFormed}
 use Rattle.bl_cmeaning.specs.Parts.{Parts}
 use Rattle.bl_cmeaning.specs.Sizes.{cells_needed}
 use Rattle.bl_cmeaning.specs.Trace.{c_trace}
-use Rattle.bl_emit_laws_counters.specs.Own.{FunctionsOwn}
-use Rattle.bl_emit_laws_width.specs.Laws.{EachFrameHasWidth}
+use Rattle.bl_emit_laws.specs.Counters.Own.{FunctionsOwn}
+use Rattle.bl_emit_laws.specs.Width.{EachFrameHasWidth}
 
 -- the C file of the program with these structs, these units and this entry
 pub record ShowsProgram (structs : List StructDef) (units : List UnitDef) (entry : ℕ) (file : Parts) : Type 0 where

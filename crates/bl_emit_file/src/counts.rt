@@ -2,7 +2,7 @@
 
 ghost use Rattle.std.specs.Prelude.{◌≡◌, IfOk};
 ghost use Rattle.std.specs.List.{list_all};
-ghost use Rattle.bl_emit_pass_laws_compiled.specs.Laws.{AreCountable};
+ghost use Rattle.bl_emit_pass_laws_runs.specs.Compiled.{AreCountable};
 ghost use Rattle.bl_emit_file.specs.inner.Counts.{has_few, is_few};
 
 use bl_measures::Measures;

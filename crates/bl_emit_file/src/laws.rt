@@ -2,16 +2,16 @@
 
 ghost use Rattle.bl_emit_file.specs.Laws.{ProgramsShow};
 
-use bl_emit_laws_accepted::programs_formed;
-use bl_emit_laws_cells::files_small;
-use bl_emit_laws_counters::files_own;
-use bl_emit_laws_shows::written_shows;
-use bl_emit_laws_width::frames_have_width;
-use bl_emit_pass_laws_come::all_come;
-use bl_emit_pass_laws_compiled::programs_compile;
-use bl_emit_pass_laws_entry::entry_runs;
-use bl_emit_pass_laws_files::rows_suffice;
-use bl_emit_pass_laws_tables::activities_built;
+use bl_emit_laws::accepted::programs_formed;
+use bl_emit_laws::cells::files_small;
+use bl_emit_laws::counters::files_own;
+use bl_emit_laws::shows::written_shows;
+use bl_emit_laws::width::frames_have_width;
+use bl_emit_pass_laws::tables::activities_built;
+use bl_emit_pass_laws_files::entry::entry_runs;
+use bl_emit_pass_laws_files::files::rows_suffice;
+use bl_emit_pass_laws_runs::come::all_come;
+use bl_emit_pass_laws_runs::compiled::programs_compile;
 use bl_tree::Program;
 
 /// What is written of a program for which no rule fails shows what the program means.

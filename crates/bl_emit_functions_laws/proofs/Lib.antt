@@ -1,6 +1,4 @@
-mod Bodies
-pub mod Courses
-mod Flags
-mod Memories
-mod NoPrev
-mod Whole
+pub mod OnBodies
+pub mod OnCalls
+pub mod OnResults
+pub mod OnUnits

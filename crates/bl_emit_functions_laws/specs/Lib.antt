@@ -1,1 +1,4 @@
-pub mod Laws
+pub mod Bodies
+pub mod Calls
+pub mod Results
+pub mod Units

@@ -1,10 +1,5 @@
-pub mod Counters
-pub mod Function
-pub mod Head
-pub mod Lookups
-pub mod Memories
-pub mod Shapes
-pub mod Statements
-pub mod Turns
-pub mod Variables
-pub mod Whole
+pub mod OnCells
+pub mod OnFiles
+pub mod OnFormed
+pub mod OnNumbered
+pub mod OnSpelled

@@ -1,1 +1,5 @@
-pub mod Laws
+pub mod Cells
+pub mod Files
+pub mod Formed
+pub mod Numbered
+pub mod Spelled

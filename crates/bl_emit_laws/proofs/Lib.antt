@@ -1,2 +1,11 @@
-mod Telling
-mod Units
+pub mod OnAccepted
+pub mod OnCells
+pub mod OnCounters
+pub mod OnFormed
+pub mod OnForms
+pub mod OnKept
+pub mod OnLinked
+pub mod OnShows
+pub mod OnSpelled
+pub mod OnTold
+pub mod OnWidth

@@ -1,1 +1,11 @@
-pub mod Laws
+pub mod Accepted
+pub mod Cells
+pub mod Counters
+pub mod Formed
+pub mod Forms
+pub mod Kept
+pub mod Linked
+pub mod Shows
+pub mod Spelled
+pub mod Told
+pub mod Width

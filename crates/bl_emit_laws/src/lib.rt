@@ -1,25 +1,16 @@
-//! The C that is made of a program by the lists of its rules is that of the rules of its nodes (`specs/Laws.antt`, `WrittenIsTold`). There
-//! is no code here.
+//! Laws of the C file that is written of a program. None of these functions does anything: the contract is the law. It is that of the
+//! rules of its nodes (`told`), has a spelling (`spelled`), few cells (`cells`), is well formed (`formed`, `accepted`), keeps what it declares
+//! (`kept`), shows what the program shows (`shows`), and has one function an activity (`counters`) with as many counters as its width (`width`).
 #![tactic(auto)]
 
-ghost use Rattle.bl_emit_laws.specs.Laws.{ActivitiesAreTold, WrittenIsTold};
-
-use bl_emit_blocks::blocks_alike;
-use bl_emit_blocks_laws::bodies_are_numbered;
-use bl_pass_listed_laws::rules_are_listed;
-
-/// The structs and the function of an activity of a machine are those that its list of rules tells.
-pub fn activities_are_told()
-    ensures { ActivitiesAreTold }
-{
-    rules_are_listed();
-    bodies_are_numbered();
-    blocks_alike();
-}
-
-/// What is written of a program is what the lists of rules tell.
-pub fn written_is_told()
-    ensures { WrittenIsTold }
-{
-    activities_are_told();
-}
+pub mod accepted;
+pub mod cells;
+pub mod counters;
+pub mod formed;
+pub mod forms;
+pub mod kept;
+pub mod linked;
+pub mod shows;
+pub mod spelled;
+pub mod told;
+pub mod width;

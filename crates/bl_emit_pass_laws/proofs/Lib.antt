@@ -1,9 +1,9 @@
-mod Apart
-mod Cells
-mod Changes
-mod Evaluated
-mod Guards
-mod Intervals
-mod Numbers
-mod Setting
-mod Statements
+pub mod OnActivities
+pub mod OnCleared
+pub mod OnFits
+pub mod OnOwn
+pub mod OnPasses
+pub mod OnPlaced
+pub mod OnRegisters
+pub mod OnRemember
+pub mod OnTables

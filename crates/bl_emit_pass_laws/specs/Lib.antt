@@ -1,2 +1,10 @@
-pub mod Laws
+pub mod Activities
+pub mod Calls
+pub mod Cleared
+pub mod Fits
+pub mod Own
+pub mod Passes
+pub mod Placed
 pub mod Registers
+pub mod Remember
+pub mod Tables

@@ -1,7 +1,5 @@
-pub mod Lists
-pub mod Running
-pub mod Variables
-pub mod Guards
-pub mod Calls
-pub mod Nodes
-mod Whole
+pub mod OnBodies
+pub mod OnCells
+pub mod OnLists
+pub mod OnSigned
+pub mod OnStructs

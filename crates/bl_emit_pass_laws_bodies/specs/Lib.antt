@@ -1,1 +1,5 @@
-pub mod Laws
+pub mod Bodies
+pub mod Cells
+pub mod Lists
+pub mod Signed
+pub mod Structs

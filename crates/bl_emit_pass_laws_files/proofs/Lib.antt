@@ -1,12 +1,5 @@
-pub mod Bodies
-pub mod Columns
-pub mod Given
-pub mod Inputs
-pub mod Kept
-pub mod Lists
-pub mod Rows
-pub mod Standing
-pub mod Starting
-pub mod Ticking
-pub mod Views
-pub mod Zeros
+pub mod OnBegins
+pub mod OnCounters
+pub mod OnEntry
+pub mod OnFiles
+pub mod OnStates

@@ -1,1 +1,5 @@
-pub mod Laws
+pub mod Begins
+pub mod Counters
+pub mod Entry
+pub mod Files
+pub mod States

@@ -1,3 +1,12 @@
-pub mod Locals
-pub mod Names
-pub mod Numbers
+pub mod OnChains
+pub mod OnClosed
+pub mod OnCosts
+pub mod OnCounts
+pub mod OnMachines
+pub mod OnNames
+pub mod OnNeeded
+pub mod OnNodes
+pub mod OnNumbers
+pub mod OnRests
+pub mod OnSpelled
+pub mod OnTexts

@@ -1,1 +1,12 @@
-pub mod Laws
+pub mod Chains
+pub mod Closed
+pub mod Costs
+pub mod Counts
+pub mod Machines
+pub mod Names
+pub mod Needed
+pub mod Nodes
+pub mod Numbers
+pub mod Rests
+pub mod Spelled
+pub mod Texts

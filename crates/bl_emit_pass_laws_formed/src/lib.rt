@@ -1,22 +1,16 @@
-//! Laws of the C of activities as a text: how names in it differ. None of these functions does anything: the contract is the law. Where
-//! 64 bits hold the numbers of nodes, counters and variables, and no two flags, marks or `run`s have one number (`specs/Laws.antt`,
-//! `NumbersDiffer`), no two parameters and locals of the C function of an activity have one name (`LocalsDiffer`), and no two members of
-//! its structs (`FrameDiffers`, `MemoryDiffers`).
+//! Laws of the C of activities as a text: names, numbers, spelling, and how much there is of it. None of these functions does anything:
+//! the contract is the law. `bl_emit_pass_laws_bodies` has that bodies are well formed.
 #![tactic(auto)]
 
-ghost use Rattle.bl_emit_pass_laws_formed.specs.Laws.{FrameDiffers, LocalsDiffer, MemoryDiffers};
-
-/// No two parameters and locals of the C function of an activity have one name.
-pub fn locals_differ()
-    ensures { LocalsDiffer }
-{}
-
-/// No two members of the struct of where an activity rests have one name.
-pub fn frame_differs()
-    ensures { FrameDiffers }
-{}
-
-/// No two members of the struct of what an activity remembers have one name.
-pub fn memory_differs()
-    ensures { MemoryDiffers }
-{}
+pub mod chains;
+pub mod closed;
+pub mod costs;
+pub mod counts;
+pub mod machines;
+pub mod names;
+pub mod needed;
+pub mod nodes;
+pub mod numbers;
+pub mod rests;
+pub mod spelled;
+pub mod texts;

@@ -1,4 +1,7 @@
-pub mod Acts
-pub mod Laws
-pub mod Nodes
+pub mod Calling
+pub mod Copied
+pub mod Fitting
 pub mod Points
+pub mod Prevs
+pub mod Seen
+pub mod Views

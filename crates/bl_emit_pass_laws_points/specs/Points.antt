@@ -1,34 +1,4 @@
--- All nodes but those of a `run`.
-use Rattle.std.specs.Prelude.{ℕ, List}
-use Rattle.bl_tree.specs.declared.tree.StructDef.{StructDef}
-use Rattle.bl_tree.specs.declared.tree.Unit.{Unit as UnitDef}
-use Rattle.bl_tree.specs.Program.{Keeps}
-use Rattle.bl_ctree.specs.Instances.{setting_of}
-use Rattle.bl_machine.specs.declared.machine.Activity.{Activity as InMachine}
-use Rattle.bl_pass_executes.specs.Executes.{IsPoint}
-use Rattle.bl_emit_pass_laws_calls.specs.Built.{Activities}
-use Rattle.bl_emit_pass_laws_calls.specs.Laws.{BlocksCome, Compiled, GuardsChoose}
-use Rattle.bl_emit_pass_laws_points.specs.Acts.{ActsSeen, NodesApart}
-use Rattle.bl_emit_pass_laws_points.specs.Laws.{Remembering, ReturnsEnd, RulesOwn}
-use Rattle.bl_emit_pass_laws_points.specs.Nodes.{NodesStand, PrevsAgree, ViewsFit}
-
--- in each activity of a typed program that has a result nothing but a `return` ends the body
-abbrev pub BodiesEnd : List StructDef → List UnitDef → ℕ → Type 0
-BodiesEnd structs units entry = (activities : Activities) → Keeps structs units entry → ReturnsEnd units activities
-
--- what is asked of a program, beside what its C is made of
-pub record PointsStand (structs : List StructDef) (units : List UnitDef) (entry : ℕ) (activities : Activities) : Type 0 where
-  pub own : RulesOwn (setting_of structs units entry) activities
-  pub remembering : Remembering (setting_of structs units entry) activities
-  pub nodes : NodesStand structs units
-  pub apart : NodesApart units
-  pub views : ViewsFit structs units entry
-  pub agree : PrevsAgree
-  pub seen : ActsSeen (setting_of structs units entry) activities
-
--- then the blocks of all points do what a pass by rules does there, and an `if` by the guard of a rule does what stands in it where the rule is due
-abbrev pub PointsCome : List StructDef → List UnitDef → ℕ → Type 0
-PointsCome structs units entry =
-    (machine : List InMachine) (activities : Activities) →
-    (Compiled structs units entry machine activities → PointsStand structs units entry activities) →
-    BlocksCome structs units entry machine activities IsPoint × GuardsChoose structs units entry machine activities
+pub mod Acts
+pub mod Laws
+pub mod Nodes
+pub mod Points

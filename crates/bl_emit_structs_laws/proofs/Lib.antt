@@ -1,5 +1,2 @@
-mod Known
-mod Members
-mod Named
-mod Needed
-mod Once
+pub mod OnFormed
+pub mod OnNames

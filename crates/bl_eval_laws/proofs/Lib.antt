@@ -7,3 +7,4 @@ pub mod Results
 pub mod Units
 pub mod Back
 pub mod Whole
+pub mod OnLocal

@@ -4,4 +4,5 @@
 //! its array, or a turn too many of a function's loop.
 #![tactic(auto)]
 
+pub mod local;
 pub mod traps;

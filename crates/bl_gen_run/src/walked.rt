@@ -14,7 +14,7 @@ use crate::text::{Run, text_of};
 use crate::unrun::Unrun;
 use bl_gen::{GenFault, input_rows, program};
 use bl_rules::{Accepted, accept};
-use bl_rules_laws::{accepted_texts_have_few_instances, accepted_texts_have_one_trace};
+use bl_rules_laws::traces::{accepted_texts_have_few_instances, accepted_texts_have_one_trace};
 use bl_tree::{List, NoMemory, Refusal, Trace};
 use std::alloc::Global;
 

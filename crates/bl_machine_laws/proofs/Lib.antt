@@ -1,3 +1,5 @@
-pub mod Sleeping
-pub mod Walking
-pub mod Width
+pub mod OnNumbers
+pub mod OnPasses
+pub mod OnRests
+pub mod OnTraces
+pub mod OnWaiting

@@ -1,6 +1,5 @@
 pub mod Numbers
-pub mod Sleeping
-pub mod Steps
-pub mod Turns
+pub mod Passes
+pub mod Rests
+pub mod Traces
 pub mod Waiting
-pub mod Width

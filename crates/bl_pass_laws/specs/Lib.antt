@@ -1,5 +1,7 @@
-pub mod Dozes
-pub mod Keeps
-pub mod Laws
+pub mod Flags
+pub mod Keys
 pub mod Rooted
-pub mod Sits
+pub mod Same
+pub mod Slots
+pub mod Spots
+pub mod Turns

@@ -2,8 +2,8 @@
 use Rattle.std.proofs.Common.{true, false, List, [], ◌∷◌, refl}
 use Rattle.bl_nodes.specs.Nodes.{Node}
 use Rattle.bl_ctree_laws.specs.Trees.{Idle, Tree, woken}
-use Rattle.bl_ctree_laws_examples.specs.TwoWay.{plain_statements}
-use Rattle.bl_machine_laws.specs.Turns.{
+use Rattle.bl_ctree_laws_examples.specs.Trees.TwoWay.{plain_statements}
+use Rattle.bl_machine_laws.specs.Numbers.Turns.{
   Answered,
   Passes,
   aborts as abort_acts,

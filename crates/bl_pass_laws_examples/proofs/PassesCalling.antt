@@ -6,9 +6,9 @@ use Rattle.bl_tree.specs.declared.tree.Stmt.{fold-roll-Stmt}
 use Rattle.bl_tree.specs.declared.tree.StmtKind.{fold-roll-StmtKind}
 use Rattle.bl_nodes.specs.Plain.{Act, Await, Block, block_at, label_at, plain, plain_body}
 use Rattle.bl_ctree_laws.specs.Trees.{Idle, Nil, Tree, do_block, woken}
-use Rattle.bl_ctree_laws_examples.specs.Calls.{first_called, second_called}
-use Rattle.bl_ctree_laws_examples.specs.Made.{always, at, number, pause, set, two, value}
-use Rattle.bl_machine_laws.specs.Turns.{
+use Rattle.bl_ctree_laws_examples.specs.Trees.Calls.{first_called, second_called}
+use Rattle.bl_ctree_laws_examples.specs.Trees.Made.{always, at, number, pause, set, two, value}
+use Rattle.bl_machine_laws.specs.Numbers.Turns.{
   Answered,
   Passes,
   acts,

@@ -5,8 +5,8 @@ use Rattle.std.proofs.lemmas.Bool.Decides.{leb_tells}
 use Rattle.bl_nodes.specs.Nodes.{Node}
 use Rattle.bl_ctree.specs.Instances.{Setting}
 use Rattle.bl_ctree_laws.specs.Trees.{Tree, is_settled}
-use Rattle.bl_machine_laws.specs.Turns as turns
-use Rattle.bl_machine_laws.specs.Turns.{Answered, Passes, Turns}
+use Rattle.bl_machine_laws.specs.Numbers.Turns as turns
+use Rattle.bl_machine_laws.specs.Numbers.Turns.{Answered, Passes, Turns}
 
 at_most : (j k : ℕ) → nat_le j k ≡ true → j ≤ k
 at_most j k is = told (leb_tells j k)

@@ -9,8 +9,8 @@ use Rattle.bl_nodes.specs.Plain.{Act, Await, Block, Done, Label, Plain, Repeat, 
 use Rattle.bl_ctree.specs.Control.{Body}
 use Rattle.bl_ctree_laws.specs.Steps.{pause, watch}
 use Rattle.bl_ctree_laws.specs.Trees.{Guard, Seq, Tree, Wait}
-use Rattle.bl_machine_laws.specs.Turns.{Answered}
-use Rattle.bl_ctree_laws_examples.specs.Made.{always, at, flag, number, set, two, value}
+use Rattle.bl_machine_laws.specs.Numbers.Turns.{Answered}
+use Rattle.bl_ctree_laws_examples.specs.Trees.Made.{always, at, flag, number, set, two, value}
 use Rattle.bl_pass_laws_examples.specs.Worked.{act, asked, never, still}
 
 -- `o = 1`

@@ -7,8 +7,8 @@ use Rattle.bl_nodes.specs.Nodes.{ActAt, HeadAt, Node, PauseAt, TestAt}
 use Rattle.bl_nodes.specs.Plain.{Act, Await, Block, Done, Label, Plain, Repeat, Then, label_at}
 use Rattle.bl_ctree_laws.specs.Steps.{pause}
 use Rattle.bl_ctree_laws.specs.Trees.{Seq, Tree, Wait}
-use Rattle.bl_machine_laws.specs.Turns.{Answered}
-use Rattle.bl_ctree_laws_examples.specs.Made.{always, at, flag_path, stmt}
+use Rattle.bl_machine_laws.specs.Numbers.Turns.{Answered}
+use Rattle.bl_ctree_laws_examples.specs.Trees.Made.{always, at, flag_path, stmt}
 use Rattle.bl_pass_laws_examples.specs.Worked.{act, asked, never, still}
 
 -- `on = true`, or `on = false`

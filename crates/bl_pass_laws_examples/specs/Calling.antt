@@ -12,9 +12,9 @@ use Rattle.bl_ctree.specs.Instances.{Setting}
 use Rattle.bl_ctree_laws.specs.Pending.{deed}
 use Rattle.bl_ctree_laws.specs.Steps.{call, fork, pause}
 use Rattle.bl_ctree_laws.specs.Trees.{Par, Run, Seq, Tree, Wait, beside, no_tree}
-use Rattle.bl_machine_laws.specs.Turns.{Answered, did}
-use Rattle.bl_ctree_laws_examples.specs.Calls.{instances, units}
-use Rattle.bl_ctree_laws_examples.specs.Made.{always, at, number, set, stmt, two, value, variable}
+use Rattle.bl_machine_laws.specs.Numbers.Turns.{Answered, did}
+use Rattle.bl_ctree_laws_examples.specs.Trees.Calls.{instances, units}
+use Rattle.bl_ctree_laws_examples.specs.Trees.Made.{always, at, number, set, stmt, two, value, variable}
 use Rattle.bl_pass_laws_examples.specs.Worked.{act, asked, still}
 
 -- the program

@@ -12,8 +12,8 @@ use Rattle.bl_nodes.specs.Nodes.{ActAt, DepthJoinAt, ForkAt, HeadAt, Node, Pause
 use Rattle.bl_nodes.specs.Plain.{Act, Await, Block, Bodies, Body as BodyOf, Cobegin, Done, Label, Last, Plain, Position, Repeat, Then, label_at}
 use Rattle.bl_ctree_laws.specs.Steps.{fork, pause}
 use Rattle.bl_ctree_laws.specs.Trees.{Par, Seq, Tree, Wait, beside, no_tree}
-use Rattle.bl_machine_laws.specs.Turns.{Answered}
-use Rattle.bl_ctree_laws_examples.specs.Made.{always, at, expr, int32, number, stmt, two, value, variable}
+use Rattle.bl_machine_laws.specs.Numbers.Turns.{Answered}
+use Rattle.bl_ctree_laws_examples.specs.Trees.Made.{always, at, expr, int32, number, stmt, two, value, variable}
 use Rattle.bl_pass_laws_examples.specs.Worked.{act, asked, still}
 
 -- a field of s as a place

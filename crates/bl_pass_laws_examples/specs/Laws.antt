@@ -1,7 +1,7 @@
 -- What is told of the worked examples.
 use Rattle.std.specs.Prelude.{false, true, [], ◌∷◌}
 use Rattle.bl_ctree_laws.specs.Trees.{Idle}
-use Rattle.bl_ctree_laws_examples.specs.TwoWay as two_way
+use Rattle.bl_ctree_laws_examples.specs.Trees.TwoWay as two_way
 use Rattle.bl_pass_laws_examples.specs.Aborting as aborting
 use Rattle.bl_pass_laws_examples.specs.Blinking as blinking
 use Rattle.bl_pass_laws_examples.specs.Calling as calling

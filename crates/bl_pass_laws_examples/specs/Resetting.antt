@@ -8,9 +8,9 @@ use Rattle.bl_tree.specs.declared.tree.Stmt.{Stmt}
 use Rattle.bl_ctree.specs.Control.{Body}
 use Rattle.bl_ctree_laws.specs.Steps.{fork, pause, watch}
 use Rattle.bl_ctree_laws.specs.Trees.{Guard, Par, Seq, Tree, Wait, beside, no_tree}
-use Rattle.bl_machine_laws.specs.Turns.{Answered}
-use Rattle.bl_ctree_laws_examples.specs.Made.{always, at, flag, number, set}
-use Rattle.bl_ctree_laws_examples.specs.Reset.{b, begins_a, branches, c, guard_label, guarded_body, raises_a, raises_b, rest_a, rest_b}
+use Rattle.bl_machine_laws.specs.Numbers.Turns.{Answered}
+use Rattle.bl_ctree_laws_examples.specs.Trees.Made.{always, at, flag, number, set}
+use Rattle.bl_ctree_laws_examples.specs.Trees.Reset.{b, begins_a, branches, c, guard_label, guarded_body, raises_a, raises_b, rest_a, rest_b}
 use Rattle.bl_pass_laws_examples.specs.Worked.{act, asked, still}
 
 -- the body

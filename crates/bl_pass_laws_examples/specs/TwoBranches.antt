@@ -5,10 +5,10 @@ use Rattle.bl_nodes.specs.Nodes.{ActAt, DepthJoinAt, ForkAt, HeadAt, Node, Pause
 use Rattle.bl_nodes.specs.Plain.{label_at}
 use Rattle.bl_ctree_laws.specs.Steps.{fork}
 use Rattle.bl_ctree_laws.specs.Trees.{Par, Tree, beside, no_tree}
-use Rattle.bl_machine_laws.specs.Turns.{Answered}
-use Rattle.bl_ctree_laws_examples.specs.Made.{always, at}
-use Rattle.bl_ctree_laws_examples.specs.TwoWay.{branches, declares, inside, left, right, sets_o, sets_x, sets_y, x, y}
-use Rattle.bl_ctree_laws_examples.specs.TwoWayTrees.{both, left_paused, right_paused}
+use Rattle.bl_machine_laws.specs.Numbers.Turns.{Answered}
+use Rattle.bl_ctree_laws_examples.specs.Trees.Made.{always, at}
+use Rattle.bl_ctree_laws_examples.specs.Trees.TwoWay.{branches, declares, inside, left, right, sets_o, sets_x, sets_y, x, y}
+use Rattle.bl_ctree_laws_examples.specs.Trees.TwoWayTrees.{both, left_paused, right_paused}
 use Rattle.bl_pass_laws_examples.specs.Worked.{act, asked, still}
 
 -- after the first tick

@@ -7,8 +7,8 @@ use Rattle.bl_nodes.specs.Nodes.{ActAt, DepthJoinAt, ForkAt, HeadAt, Node, Pause
 use Rattle.bl_nodes.specs.Plain.{Act, Await, Block, Bodies, Body as BodyOf, Cobegin, Done, Label, Last, Plain, Repeat, Then, label_at}
 use Rattle.bl_ctree_laws.specs.Steps.{fork, pause}
 use Rattle.bl_ctree_laws.specs.Trees.{Par, Seq, Tree, Wait, beside, no_tree}
-use Rattle.bl_machine_laws.specs.Turns.{Answered}
-use Rattle.bl_ctree_laws_examples.specs.Made.{always, at, flag, number, set, two, value}
+use Rattle.bl_machine_laws.specs.Numbers.Turns.{Answered}
+use Rattle.bl_ctree_laws_examples.specs.Trees.Made.{always, at, flag, number, set, two, value}
 use Rattle.bl_pass_laws_examples.specs.Worked.{act, asked, still}
 
 -- `a = a + 1`

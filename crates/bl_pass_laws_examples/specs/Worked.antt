@@ -15,10 +15,10 @@ use Rattle.bl_machine.specs.declared.slots.Slot.{Slot}
 use Rattle.bl_machine.specs.Blocks.{up_to}
 use Rattle.bl_machine.specs.Layout.{counters_in, width_in}
 use Rattle.bl_machine.specs.Slots.{numbered}
-use Rattle.bl_machine_laws.specs.Numbers.{Over, numbers_of}
-use Rattle.bl_machine_laws.specs.Turns.{Answered, Passes, did}
+use Rattle.bl_machine_laws.specs.Numbers.Numbers.{Over, numbers_of}
+use Rattle.bl_machine_laws.specs.Numbers.Turns.{Answered, Passes, did}
 use Rattle.bl_pass.specs.Numbered.{position_where, same_node, slots_of}
-use Rattle.bl_ctree_laws_examples.specs.Made.{at, expr}
+use Rattle.bl_ctree_laws_examples.specs.Trees.Made.{at, expr}
 
 -- `false`
 abbrev pub never : Expr

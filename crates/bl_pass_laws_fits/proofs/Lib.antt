@@ -1,4 +1,3 @@
-pub mod Changing
-pub mod Doing
-pub mod NodesFit
-pub mod Passing
+pub mod OnFits
+pub mod OnSeen
+pub mod OnStarts

@@ -1,1 +1,3 @@
-pub mod Laws
+pub mod Fits
+pub mod Seen
+pub mod Starts

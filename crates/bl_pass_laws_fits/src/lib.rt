@@ -1,19 +1,6 @@
-//! Passes by rules over typed stores. There is no code here. A law, as the contract of a function that does nothing: in a typed
-//! program what is done at a node leaves a store in which all values are of their variables' types, where they were before, and
-//! so do passes (`specs/Laws.antt`).
+//! Passes by rules over typed stores, and what instances see of them. None of these functions does anything: the contract is the law.
 #![tactic(auto)]
 
-ghost use Rattle.bl_pass_laws_fits.specs.Laws.{PassesKeepTypes};
-
-use bl_ctree_laws_confluence::instances_have_callers;
-use bl_ctree_laws_fits_views::views_are_typed;
-use bl_pass_laws_numbers::trees_stay_placed;
-
-/// Turns and passes leave typed stores typed.
-pub fn turns_fit()
-    ensures { PassesKeepTypes }
-{
-    instances_have_callers();
-    views_are_typed();
-    trees_stay_placed();
-}
+pub mod fits;
+pub mod seen;
+pub mod starts;

@@ -14,14 +14,14 @@ use Rattle.bl_ctree.specs.Store.{Store, first_store, outputs_row, view_at, woken
 use Rattle.bl_machine.specs.declared.machine.Activity.{Activity}
 use Rattle.bl_machine.specs.Machines.{AreActivitiesOf}
 use Rattle.bl_machine.specs.Uses.{Slots}
-use Rattle.bl_machine_laws_trace.specs.Positions.{GoBy}
-use Rattle.bl_machine_laws_trace.specs.Runs.{OneRun, no_row, row_before}
+use Rattle.bl_machine_laws.specs.Traces.Positions.{GoBy}
+use Rattle.bl_machine_laws.specs.Traces.Runs.{OneRun, no_row, row_before}
 use Rattle.bl_pass.specs.Registers.{Registers, with_at}
-use Rattle.bl_pass_laws_frames.specs.Frames.{Frames}
-use Rattle.bl_pass_laws_fresh.specs.Asks.{InputsFit}
-use Rattle.bl_pass_executes.specs.Executes.{ClearsInside, Executes, IsCut, begun_registers, resumed_registers}
-use Rattle.bl_pass_laws_performs.specs.Laws.{AllGiven}
-use Rattle.bl_pass_laws_machine.specs.Machines.{slots_at}
+use Rattle.bl_pass_laws_runs.specs.Frames.{Frames}
+use Rattle.bl_pass_laws_runs.specs.Fresh.Asks.{InputsFit}
+use Rattle.bl_pass_laws_runs.specs.Executes.{ClearsInside, Executes, IsCut, begun_registers, resumed_registers}
+use Rattle.bl_pass_laws_runs.specs.Performs.{AllGiven}
+use Rattle.bl_pass_laws_runs.specs.Machines.{slots_at}
 
 -- ---- runs
 

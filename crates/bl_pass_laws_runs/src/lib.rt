@@ -1,30 +1,14 @@
-//! The trace of an accepted program as passes by rules show it. There is no code here. The law, as the contract of a function that
-//! does nothing (`specs/Runs.antt`): over all rows that fit there is a run each tick of which is one pass by rules over the entry,
-//! from frames and a store alone, and it shows the only trace that the meaning of the program allows (`RunsGoByRules`). So it is of
-//! the machine of each accepted program, where nodes and resting places have the numbers that the machine lists.
+//! What one call of an activity's function has to do: a pass of an instance by rules over a store, with the copies that `prev` asks, over
+//! frames of what the instance calls (`specs/Executes.antt`). None of these functions does anything: the contract is the law. Such passes do
+//! what turns lead to (`passes`, `performs`), ticks are made of them (`ticks`), and over all rows there is such a run with the only trace that
+//! the meaning allows (`runs`).
 #![tactic(auto)]
 
-ghost use Rattle.bl_pass_laws_runs.specs.Runs.{RunsGoByRules};
-
-use bl_ctree_laws::bridge::statements_are_plain;
-use bl_ctree_laws_progress::{bodies_begin_live, programs_are_callable, waking_keeps_live};
-use bl_machine_laws_pass::instances_have_passes;
-use bl_machine_laws_trace::runs_of_passes_are_meant;
-use bl_pass_laws_fresh::stores_are_fresh;
-use bl_pass_laws_machine::machines_are_given;
-use bl_pass_laws_ticks::ticks_execute;
-
-/// Passes by rules show the only trace that the meaning allows.
-pub fn runs_go_by_rules()
-    ensures { RunsGoByRules }
-{
-    statements_are_plain();
-    bodies_begin_live();
-    programs_are_callable();
-    waking_keeps_live();
-    instances_have_passes();
-    runs_of_passes_are_meant();
-    stores_are_fresh();
-    machines_are_given();
-    ticks_execute();
-}
+pub mod frames;
+pub mod fresh;
+pub mod kept;
+pub mod machines;
+pub mod passes;
+pub mod performs;
+pub mod runs;
+pub mod ticks;

@@ -1,1 +1,3 @@
-pub mod Whole
+pub mod OnJoins
+pub mod OnTurns
+pub mod OnWaiting

@@ -1,1 +1,3 @@
-pub mod Laws
+pub mod Joins
+pub mod Turns
+pub mod Waiting

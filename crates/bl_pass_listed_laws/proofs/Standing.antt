@@ -11,8 +11,8 @@ use Rattle.bl_cause.proofs.ListLemmas.{contains_head, contains_tail}
 use Rattle.bl_machine.specs.declared.slots.Slot.{Slot}
 use Rattle.bl_pass.specs.Laid.{EndOf, RestOf, Spot, slot_at, spots_in}
 use Rattle.bl_pass.specs.Numbered.{no_slot, position_where, same_label, same_node, same_spot, slots_of, sort}
-use Rattle.bl_pass_laws_keys.specs.Keys.{NodesHaveKeys}
-use Rattle.bl_pass_laws_spots.specs.Laws.{Differ, Has, SpotsDiffer}
+use Rattle.bl_pass_laws.specs.Keys.{NodesHaveKeys}
+use Rattle.bl_pass_laws.specs.Spots.{Differ, Has, SpotsDiffer}
 use Rattle.bl_pass_listed.specs.Callees.{number_in}
 use Rattle.bl_pass_listed.specs.Listed.{layout_of}
 use Rattle.bl_pass_listed_laws.proofs.Agreeing.{Agrees, each_agrees}

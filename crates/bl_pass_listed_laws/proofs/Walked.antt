@@ -46,8 +46,8 @@ use Rattle.bl_pass.specs.Laid.{slot_at, spots_in, spots_in_each, spots_of}
 use Rattle.bl_pass.specs.Numbered.{slots_of}
 use Rattle.bl_pass.specs.Rules as nodes
 use Rattle.bl_pass.specs.Rules.{Finishes, Flags, Frees, Holds}
-use Rattle.bl_pass_laws_keys.specs.Keys.{NodesHaveKeys}
-use Rattle.bl_pass_laws_spots.specs.Laws.{SpotsDiffer}
+use Rattle.bl_pass_laws.specs.Keys.{NodesHaveKeys}
+use Rattle.bl_pass_laws.specs.Spots.{SpotsDiffer}
 use Rattle.bl_pass_listed.specs.declared.rule.Asked.TheVariants as asked
 use Rattle.bl_pass_listed.specs.declared.rule.Change.{Change}
 use Rattle.bl_pass_listed.specs.declared.rule.Change.TheVariants as change

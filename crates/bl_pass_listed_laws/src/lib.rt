@@ -4,8 +4,8 @@
 
 ghost use Rattle.bl_pass_listed_laws.specs.Laws.{RulesAreListed};
 
-use bl_pass_laws_keys::nodes_have_keys;
-use bl_pass_laws_spots::spots_differ;
+use bl_pass_laws::keys::nodes_have_keys;
+use bl_pass_laws::spots::spots_differ;
 
 /// The list of rules by numbers is what the rules of the nodes tell.
 pub fn rules_are_listed()

@@ -1,4 +1,4 @@
-mod Alone
-mod Expressions
-mod Statements
-mod Program
+pub mod OnDeclared
+pub mod OnNames
+pub mod OnScalar
+pub mod OnTypes

@@ -1,2 +1,2 @@
-pub mod Instances
-pub mod OneTrace
+pub mod OnDeclared
+pub mod OnTraces

@@ -3,7 +3,7 @@
 use crate::drive::{ORDERS, Order, Seen, Stand, run};
 use crate::effects::{Told, is_told};
 use bl_rules::accept;
-use bl_rules_laws::accepted_texts_have_few_instances;
+use bl_rules_laws::traces::accepted_texts_have_few_instances;
 use bl_tree::NoMemory;
 use std::alloc::Global;
 

@@ -3,7 +3,7 @@ use Rattle.std.proofs.Common.{◌≡◌, ℕ, List, subst, sym}
 use Rattle.bl_cause.specs.Accepted.{AcceptedProgram, IsAccepted}
 use Rattle.bl_cmeaning.specs.Parts.{parts_of}
 use Rattle.bl_ctext.specs.declared.file.CFile.{CFile}
-use Rattle.bl_ctree_laws_traces.specs.OneTrace.{HasOneTrace as MeansOneTrace}
+use Rattle.bl_ctree_laws_traces.specs.Traces.OneTrace.{HasOneTrace as MeansOneTrace}
 use Rattle.bl_emit_file.specs.Shows.{ShowsProgram}
 use Rattle.bl_prevs.specs.Declared.{FromText}
 use Rattle.bl_rules.specs.Accepted.{HasProgram}

@@ -7,8 +7,8 @@ use Rattle.bl_commands.specs.Refusals.{IsNotAccepted}
 use Rattle.bl_commands.specs.Results.{Writes}
 use Rattle.bl_commands.specs.declared.status.Status.{Status}
 use Rattle.bl_commands.specs.Sources.{IsTextOfProgram, IsTreeOf}
-use Rattle.bl_emit_laws_counters.specs.Own.{FunctionsOwn}
-use Rattle.bl_emit_laws_width.specs.Laws.{EachFrameHasWidth}
+use Rattle.bl_emit_laws.specs.Counters.Own.{FunctionsOwn}
+use Rattle.bl_emit_laws.specs.Width.{EachFrameHasWidth}
 use Rattle.bl_io.specs.Left.{IsKept}
 use Rattle.bl_program.specs.Programs.{typed_of}
 use Rattle.bl_raw.specs.declared.raw.Raw.{Raw}

@@ -5,8 +5,8 @@ ghost use Rattle.bl_top.specs.inner.Programs.{IsFileOf, IsOfText};
 
 use bl_ctext::CFile;
 use bl_rules::Accepted;
-use bl_rules_laws::accepted_texts_have_one_trace;
-use bl_rules_laws_declared::accepted_texts_declare;
+use bl_rules_laws::declared::accepted_texts_declare;
+use bl_rules_laws::traces::accepted_texts_have_one_trace;
 use bl_tree::NoMemory;
 use std::alloc::Global;
 

@@ -4,8 +4,8 @@ use Rattle.bl_limits.specs.Rules.{Passes as KeepsLimits}
 use Rattle.bl_emit_pass.specs.Programs.{written}
 use Rattle.bl_emit.specs.Kept.{written_in}
 use Rattle.bl_emit.specs.Programs.{written_told}
-use Rattle.bl_emit_laws_spelled.specs.Laws.{ProgramsSpelled}
-use Rattle.bl_emit_pass_laws_compiled.specs.Laws.{AreCountable}
+use Rattle.bl_emit_laws.specs.Spelled.{ProgramsSpelled}
+use Rattle.bl_emit_pass_laws_runs.specs.Compiled.{AreCountable}
 use Rattle.bl_emit_file.specs.Laws.{Known, ProgramsShow}
 use Rattle.bl_emit_file.proofs.Merged.{known_merged, made_spelled}
 use Rattle.bl_emit_file.proofs.Whole.{file_shows}

@@ -5,8 +5,8 @@ use Rattle.bl_cmeaning.specs.Parts.{parts_of}
 use Rattle.bl_cmeaning_laws_places.specs.Behaviour.{behaviour_of}
 use Rattle.bl_commands.specs.Traces.{OneTrace}
 use Rattle.bl_ctext.specs.declared.file.CFile.{CFile}
-use Rattle.bl_emit_laws_counters.specs.Own.{FunctionsOwn}
-use Rattle.bl_emit_laws_width.specs.Laws.{EachFrameHasWidth}
+use Rattle.bl_emit_laws.specs.Counters.Own.{FunctionsOwn}
+use Rattle.bl_emit_laws.specs.Width.{EachFrameHasWidth}
 use Rattle.bl_rules.specs.Accepted.{HasProgram}
 use Rattle.bl_tree.specs.declared.program.Program.{Program}
 use Rattle.bl_tree.specs.declared.tree.StructDef.{StructDef}

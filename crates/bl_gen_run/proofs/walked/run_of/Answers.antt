@@ -1,7 +1,7 @@
 -- The program has one trace, and this is it.
 use Rattle.std.proofs.Common.{◌≡◌, ◌≤◌, ◌∙◌, ℕ, List, refl, subst, sym, arith}
 use Rattle.bl_ctree.specs.Means.{Means, shown}
-use Rattle.bl_ctree_laws_traces.specs.OneTrace.{HasOneTrace}
+use Rattle.bl_ctree_laws_traces.specs.Traces.OneTrace.{HasOneTrace}
 use Rattle.bl_gen.specs.Outputs.{input_rows}
 use Rattle.bl_gen.specs.Text.{most_stages, program_text}
 use Rattle.bl_gen_run.specs.Runs.{HasTrace, IsRun, run_text}

@@ -1,5 +1,0 @@
-use Rattle.bl_ctree_laws_apart.proofs.Parted.{accepted_keeps_apart_so}
-use Rattle.bl_ctree_laws_apart.proofs.accepted_programs_keep_apart.Goals as goal
-
-pub returns : goal.returns
-returns c = accepted_keeps_apart_so

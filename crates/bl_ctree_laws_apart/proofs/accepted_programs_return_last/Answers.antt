@@ -1,5 +1,0 @@
-use Rattle.bl_ctree_laws_apart.proofs.Returns.{accepted_returns_last_so}
-use Rattle.bl_ctree_laws_apart.proofs.accepted_programs_return_last.Goals as goal
-
-pub returns : goal.returns
-returns c = accepted_returns_last_so

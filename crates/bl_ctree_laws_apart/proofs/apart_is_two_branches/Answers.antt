@@ -1,5 +1,0 @@
-use Rattle.bl_ctree_laws_apart.proofs.Parted.{apart_is_two_branches_so}
-use Rattle.bl_ctree_laws_apart.proofs.apart_is_two_branches.Goals as goal
-
-pub returns : goal.returns
-returns c = apart_is_two_branches_so

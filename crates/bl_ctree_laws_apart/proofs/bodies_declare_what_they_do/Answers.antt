@@ -1,5 +1,0 @@
-use Rattle.bl_ctree_laws_apart.proofs.Declared.{bodies_declare_so}
-use Rattle.bl_ctree_laws_apart.proofs.bodies_declare_what_they_do.Goals as goal
-
-pub returns : goal.returns
-returns c = bodies_declare_so

@@ -1,5 +1,0 @@
-use Rattle.bl_ctree_laws_apart.proofs.Returns.{no_branch_returns_so}
-use Rattle.bl_ctree_laws_apart.proofs.branches_do_not_return.Goals as goal
-
-pub returns : goal.returns
-returns c = no_branch_returns_so

@@ -1,5 +1,0 @@
-use Rattle.bl_ctree_laws_apart.proofs.Forks.{branches_keep_apart_so}
-use Rattle.bl_ctree_laws_apart.proofs.branches_keep_apart.Goals as goal
-
-pub returns : goal.returns
-returns c = branches_keep_apart_so

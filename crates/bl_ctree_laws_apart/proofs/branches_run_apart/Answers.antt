@@ -1,5 +1,0 @@
-use Rattle.bl_ctree_laws_apart.proofs.Running.{branches_run_apart_so}
-use Rattle.bl_ctree_laws_apart.proofs.branches_run_apart.Goals as goal
-
-pub returns : goal.returns
-returns c = branches_run_apart_so

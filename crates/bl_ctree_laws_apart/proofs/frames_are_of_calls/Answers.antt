@@ -1,5 +1,0 @@
-use Rattle.bl_ctree_laws_apart.proofs.Frames.{frames_are_of_calls_so}
-use Rattle.bl_ctree_laws_apart.proofs.frames_are_of_calls.Goals as goal
-
-pub returns : goal.returns
-returns c = frames_are_of_calls_so

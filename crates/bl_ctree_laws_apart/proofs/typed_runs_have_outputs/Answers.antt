@@ -1,5 +1,0 @@
-use Rattle.bl_ctree_laws_apart.proofs.Outputs.{typed_runs_have_outputs_so}
-use Rattle.bl_ctree_laws_apart.proofs.typed_runs_have_outputs.Goals as goal
-
-pub returns : goal.returns
-returns c = typed_runs_have_outputs_so

@@ -1,5 +1,0 @@
-use Rattle.bl_ctree_laws_apart.proofs.Seen.{writes_are_seen_so}
-use Rattle.bl_ctree_laws_apart.proofs.writes_are_seen.Goals as goal
-
-pub returns : goal.returns
-returns c = writes_are_seen_so

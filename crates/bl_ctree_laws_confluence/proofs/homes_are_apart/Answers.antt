@@ -1,5 +1,0 @@
-use Rattle.bl_ctree_laws_confluence.proofs.Homes.{homes_are_apart_so}
-use Rattle.bl_ctree_laws_confluence.proofs.homes_are_apart.Goals as goal
-
-pub returns : goal.returns
-returns c = homes_are_apart_so

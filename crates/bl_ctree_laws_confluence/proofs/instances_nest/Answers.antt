@@ -1,5 +1,0 @@
-use Rattle.bl_ctree_laws_confluence.proofs.Nesting.{programs_nest}
-use Rattle.bl_ctree_laws_confluence.proofs.instances_nest.Goals as goal
-
-pub returns : goal.returns
-returns c = programs_nest

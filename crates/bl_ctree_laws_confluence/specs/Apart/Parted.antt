@@ -1,0 +1,79 @@
+-- Deeds that are done in either order are those of two branches of one `cobegin`.
+use Rattle.std.specs.Prelude.{◌≡◌, ◌⊎◌, ℕ, Bool, false, List, Some}
+use Rattle.bl_tree.specs.declared.tree.StructDef.{StructDef}
+use Rattle.bl_tree.specs.declared.tree.Unit.{Unit as UnitDef}
+use Rattle.bl_tree.specs.Program.{Keeps}
+use Rattle.bl_effects.specs.Rules.{Passes}
+use Rattle.bl_nodes.specs.Plain.{Block, Bodies, Body as BodyOf, plain_body}
+use Rattle.bl_nodes.specs.Steps.{StepLabel}
+use Rattle.bl_ctree.specs.Instances.{Setting, setting_of, unit_at}
+use Rattle.bl_ctree_laws.specs.Commutes.{Apart}
+use Rattle.bl_ctree_laws.specs.Left.{Left, LeftEach}
+use Rattle.bl_ctree_laws.specs.Pending.{Deed, any_meets, meets}
+use Rattle.bl_ctree_laws.specs.Steps.{Moves, OneMoves, Unmet}
+use Rattle.bl_ctree_laws.specs.Trees.{Tree, Trees}
+use Rattle.bl_ctree_laws_confluence.specs.Apart.Forks.{EachForkIn, KeepApart}
+use Rattle.bl_ctree_laws_confluence.specs.Apart.Outputs.{BranchesHaveOutputs}
+use Rattle.bl_ctree_laws_confluence.specs.Apart.Returns.{NoneReturns}
+use Rattle.bl_ctree_laws_confluence.specs.Apart.Running.{RunApart}
+use Rattle.bl_ctree_laws_confluence.specs.Apart.Writing.{WriteApart}
+
+-- branches, which stand in the instance, that keep apart
+pub record StandApart (w : Setting) (i : ℕ) (bodies : Bodies) : Type 0 where
+  -- none names what another declares
+  pub names : KeepApart bodies
+  -- none returns
+  pub returns : NoneReturns bodies
+  -- no two run at one place
+  pub runs : RunApart bodies
+  -- and none writes over what another writes
+  pub writes : WriteApart bodies
+  -- their `run` statements have the outputs that the instances which they begin were begun with
+  pub outputs : BranchesHaveOutputs w i bodies
+
+-- a step of what is left of a branch, which stands in the instance
+pub record Steps (w : Setting) (stood : Bool) (i : ℕ) (body : Block) (c : Tree) (a : Deed) : Type 0 where
+  pub left : Left w stood i body c
+  pub answer : Bool
+  pub label : StepLabel
+  pub after : Tree
+  pub moves : Moves Unmet w i c answer a label after
+
+-- a step of what is left of one of the branches
+pub record OneSteps (w : Setting) (stood : Bool) (i : ℕ) (bodies : Bodies) (branches : Trees) (a : Deed) : Type 0 where
+  pub left : LeftEach w stood i bodies branches
+  pub answer : Bool
+  pub label : StepLabel
+  pub after : Trees
+  pub moves : OneMoves Unmet w i branches answer a label after
+
+-- the deeds are of a branch and of a later one, in branches that keep apart, and neither reads what the other's branch may still write
+pub record TwoBranches (w : Setting) (a b : Deed) : Type 0 where
+  pub stood : Bool
+  pub instance : ℕ
+  pub weak : Bool
+  pub body : Block
+  pub rest : Bodies
+  pub apart : StandApart w instance (BodyOf weak body rest)
+  pub tree : Tree
+  pub others : Trees
+  pub first : Steps w stood instance body tree a
+  pub second : OneSteps w stood instance rest others b
+  pub first_unmet : any_meets w instance others a ≡ false
+  pub second_unmet : meets w instance tree b ≡ false
+
+-- in each unit that has an instance branches keep apart
+abbrev pub AllKeepApart : Setting → Type 0
+AllKeepApart w = (i : ℕ) (unit : UnitDef) → unit_at w i ≡ Some unit → EachForkIn (StandApart w i) (plain_body unit.body)
+
+-- then steps of different branches are of two branches of one `cobegin`, the one first or the other
+abbrev pub ApartIsTwoBranches : Type 0
+ApartIsTwoBranches =
+    (w : Setting) (stood : Bool) (i : ℕ) (body : Block) (c : Tree) (a b : Deed) → AllKeepApart w → EachForkIn (StandApart w i) body →
+    Left w stood i body c → Apart w i c a b → TwoBranches w a b ⊎ TwoBranches w b a
+
+-- and in an accepted program all branches keep apart
+abbrev pub AcceptedKeepsApart : Type 0
+AcceptedKeepsApart =
+    (structs : List StructDef) (units : List UnitDef) (entry : ℕ) → Keeps structs units entry → Passes units →
+    AllKeepApart (setting_of structs units entry)

@@ -1,0 +1,5 @@
+pub mod Commuting
+pub mod Expanding
+pub mod Plainly
+pub mod Sets
+pub mod Waiting

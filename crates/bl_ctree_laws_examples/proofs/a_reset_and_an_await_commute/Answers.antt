@@ -1,5 +1,0 @@
-use Rattle.bl_ctree_laws_examples.proofs.Commuting.{swapped}
-use Rattle.bl_ctree_laws_examples.proofs.a_reset_and_an_await_commute.Goals as goal
-
-pub returns : goal.returns
-returns c = swapped

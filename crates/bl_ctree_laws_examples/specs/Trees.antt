@@ -1,0 +1,5 @@
+pub mod Calls
+pub mod Made
+pub mod Reset
+pub mod TwoWay
+pub mod TwoWayTrees

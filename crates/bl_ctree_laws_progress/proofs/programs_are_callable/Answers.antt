@@ -1,5 +1,0 @@
-use Rattle.bl_ctree_laws_progress.proofs.Accepted.{programs_are_callable}
-use Rattle.bl_ctree_laws_progress.proofs.programs_are_callable.Goals as goal
-
-pub returns : goal.returns
-returns c = programs_are_callable

@@ -1,5 +1,0 @@
-use Rattle.bl_ctree_laws_ready.proofs.Numbering.{orders_give_ranks}
-use Rattle.bl_ctree_laws_ready.proofs.orders_give_ranks.Goals as goal
-
-pub returns : goal.returns
-returns c = orders_give_ranks c.graphs_stay_within.ensures

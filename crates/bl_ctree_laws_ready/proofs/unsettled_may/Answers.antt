@@ -1,5 +1,0 @@
-use Rattle.bl_ctree_laws_ready.proofs.Never.{unsettled_may}
-use Rattle.bl_ctree_laws_ready.proofs.unsettled_may.Goals as goal
-
-pub returns : goal.returns
-returns c = unsettled_may c.lowest_may_act.ensures c.unsettled_could.ensures

@@ -1,5 +1,0 @@
-use Rattle.bl_ctree_laws_stores.proofs.Changes.{frames_keep_others}
-use Rattle.bl_ctree_laws_stores.proofs.frames_keep_others.Goals as goal
-
-pub returns : goal.returns
-returns c = frames_keep_others

@@ -1,0 +1,234 @@
+-- The instance that a `run` of a body begins is of the unit that it names, and units run earlier ones.
+use Rattle.std.proofs.Common.{
+  ◌≡◌,
+  ℕ,
+  zero,
+  suc,
+  ◌<◌,
+  Bool,
+  true,
+  false,
+  ◌&&◌,
+  inl,
+  inr,
+  cond,
+  not,
+  List,
+  [],
+  ◌∷◌,
+  ◌++◌,
+  append_assoc,
+  append-nil,
+  map,
+  take,
+  length,
+  get_or,
+  Option,
+  Some,
+  None,
+  refl,
+  sym,
+  ap,
+  ◌∙◌,
+  subst,
+  arith,
+  eqb-true,
+}
+use Rattle.std.specs.List.{list_all}
+use Rattle.std.specs.Prelude.{All, AllPairs, Contains, filter, nat_eq, option_and_then, slice_get}
+use Rattle.std.proofs.lemmas.List.Elements.{All-head, All-tail}
+use Rattle.std.proofs.lemmas.List.Quantifiers.{position-Some}
+use Rattle.bl_tree.specs.declared.place.Place.{Place}
+use Rattle.bl_tree.specs.declared.tree.StructDef.{StructDef}
+use Rattle.bl_tree.specs.declared.tree.Unit.{Unit as UnitDef}
+use Rattle.bl_tree.specs.Apart.{is_apart}
+use Rattle.bl_tree.specs.Depths.{is_shallow}
+use Rattle.bl_tree.specs.Program.{names_of, parameters_of, roles_stand, unit_stands, units_stand_after}
+use Rattle.bl_tree.specs.Reduce.{all_of, joined}
+use Rattle.bl_tree.specs.Returns.{unit_returns}
+use Rattle.bl_tree.specs.Rules.{same_place}
+use Rattle.bl_tree.specs.Types.{type_stands}
+use Rattle.bl_tree.specs.Typing.{fits, site_of}
+use Rattle.bl_tree.specs.Words.{are_distinct, is_name}
+use Rattle.bl_effects.proofs.EntryLemmas.{same_place_is, same_place_refl}
+use Rattle.bl_nodes.specs.Plain.{plain_body}
+use Rattle.bl_ctree.specs.declared.instance.Instance.{Instance}
+use Rattle.bl_ctree.specs.declared.instance.Origin.{Origin}
+use Rattle.bl_ctree.specs.declared.instance.Run.{Run}
+use Rattle.bl_ctree.specs.Instances.{Setting, begins_at, one_a_place, runs_in, runs_of, setting_of, unit_at, unit_of}
+use Rattle.bl_ctree_laws.specs.Trees.{Call}
+use Rattle.bl_ctree_laws_confluence.specs.Deeds.Origins.{Called, CalledBy, InstancesHaveCallers}
+use Rattle.bl_ctree_laws_confluence.proofs.OnDeeds.Activities.{AllOf, and_left, and_right}
+use Rattle.bl_ctree_laws_traces.proofs.OnProgress.Earlier.{RunsUnit, body_runs}
+use Rattle.bl_ctree_laws_traces.specs.Bounded.Bounds.{RunsStandApart}
+use Rattle.bl_ctree_laws_traces.proofs.OnBounded.Calls.{CalleesAreNamed, calls_in, run_of}
+use Rattle.bl_ctree_laws_traces.proofs.OnBounded.Lists.{Among, among_got, among_map}
+use Rattle.bl_ctree_laws_traces.proofs.OnBounded.Listed.{CallsEarlier}
+
+-- ---- typed bodies, unit by unit
+
+each_true : {A : Type 0} (test : A → Bool) (xs : List A) → list_all test xs ≡ true → all_of (map test xs) ≡ true
+each_true test [] e = refl
+each_true test (x ∷ xs) e = both (test x) (all_of (map test xs)) (and_left (test x) (list_all test xs) e)
+    (each_true test xs (and_right (test x) (list_all test xs) e))
+  where
+    both : (a b : Bool) → a ≡ true → b ≡ true → (a && b) ≡ true
+    both true b one other = other
+    both false b one other = one
+
+body_typed : (structs : List StructDef) (earlier : List UnitDef) (unit : UnitDef) → unit_stands structs earlier unit ≡ true →
+    all_of (map (fits (site_of structs earlier unit)) unit.body) ≡ true
+body_typed structs earlier unit stands =
+    let named : Bool = list_all is_name (names_of unit.vars) && are_distinct (names_of (parameters_of unit)) in
+    let types : Bool = list_all (λ var. type_stands (length structs) var.ty) unit.vars in
+    let fit : Bool = list_all (fits (site_of structs earlier unit)) unit.body in
+    let flat : Bool = is_shallow 200 unit.body in
+    let apart : Bool = list_all is_apart unit.body in
+    each_true (fits (site_of structs earlier unit)) unit.body
+    (and_left fit (unit_returns unit && (flat && apart))
+    (and_right types (fit && (unit_returns unit && (flat && apart)))
+    (and_right (roles_stand unit && named) (types && (fit && (unit_returns unit && (flat && apart)))) stands)))
+
+pub typed_at : (structs : List StructDef) (earlier units : List UnitDef) (k : ℕ) (unit : UnitDef) → units_stand_after structs earlier units ≡ true →
+    slice_get units k ≡ Some unit → all_of (map (fits (site_of structs (earlier ++ take k units) unit)) unit.body) ≡ true
+typed_at structs earlier [] k unit stand there = absurd cc
+typed_at structs earlier (first ∷ units) zero unit stand there =
+    let same : first ≡ unit = cc in
+    subst (λ earlier. all_of (map (fits (site_of structs earlier unit)) unit.body) ≡ true) (sym (append-nil earlier))
+    (subst (λ unit. all_of (map (fits (site_of structs earlier unit)) unit.body) ≡ true) same
+    (body_typed structs earlier first (and_left (unit_stands structs earlier first) (units_stand_after structs (earlier ++ first ∷ []) units) stand)))
+typed_at structs earlier (first ∷ units) (suc k) unit stand there =
+    subst (λ earlier. all_of (map (fits (site_of structs earlier unit)) unit.body) ≡ true) (append_assoc earlier (first ∷ []) (take k units))
+    (typed_at structs (earlier ++ first ∷ []) units k unit
+    (and_right (unit_stands structs earlier first) (units_stand_after structs (earlier ++ first ∷ []) units) stand) there)
+
+-- what is found among the first is before them
+pub taken_before : (units : List UnitDef) (n k : ℕ) (unit : UnitDef) → slice_get (take n units) k ≡ Some unit → k < n
+taken_before [] zero k unit e = absurd cc
+taken_before [] (suc n) k unit e = absurd cc
+taken_before (u ∷ units) zero k unit e = absurd cc
+taken_before (u ∷ units) (suc n) zero unit e = omega arith
+taken_before (u ∷ units) (suc n) (suc k) unit e = let more = taken_before units n k unit e in omega arith
+
+-- ---- places
+
+abbrev pub Apart : Run → Run → Type 0
+Apart one other = same_place one.place other.place ≡ false
+
+first_apart : (run : Run) (rest : List Run) (x : Run) →
+    ((k : ℕ) (d : Run) → k < length rest → same_place run.place (get_or rest k d).place ≡ false) →
+    Among x rest → same_place run.place x.place ≡ false
+first_apart run [] x each at = elim at [ ]
+first_apart run (y ∷ rest) x each (inl is) = ap (λ r. same_place run.place r.place) is ∙ each zero y (omega arith)
+first_apart run (y ∷ rest) x each (inr at) = first_apart run rest x (λ k d within. each (suc k) d (omega arith)) at
+
+clash : (one other : Place) → same_place one other ≡ false → one ≡ other → ⊥
+clash one other apart is =
+    let itself : same_place one one ≡ false = ap (same_place one) is ∙ apart in
+    cc (itself, same_place_refl one)
+
+-- of `run` statements at places of their own one stands at a place
+pub same_run : (runs : List Run) (one other : Run) → AllPairs Apart runs → Among one runs → Among other runs → one.place ≡ other.place →
+    one ≡ other
+same_run [] one other apart at there same = elim at [ ]
+same_run (run ∷ rest) one other apart (inl is) (inl is') same = is ∙ sym is'
+same_run (run ∷ rest) one other apart (inl is) (inr there) same =
+    absurd (clash run.place other.place
+    (first_apart run rest other (λ k d within. apart zero (suc k) d (omega arith) (omega arith)) there) (sym (ap (λ r. r.place) is) ∙ same))
+same_run (run ∷ rest) one other apart (inr at) (inl is) same =
+    absurd (clash run.place one.place
+    (first_apart run rest one (λ k d within. apart zero (suc k) d (omega arith) (omega arith)) at) (sym (ap (λ r. r.place) is) ∙ sym same))
+same_run (run ∷ rest) one other apart (inr at) (inr there) same =
+    same_run rest one other (λ i j d less within. apart (suc i) (suc j) d (omega arith) (omega arith)) at there same
+
+filter_all : {A : Type 0} (p : A → Bool) (xs : List A) → All (λ x. p x ≡ true) xs → filter p xs ≡ xs
+filter_all p [] all = refl
+filter_all p (x ∷ xs) all =
+    ap (λ b. cond b (x ∷ filter p xs) (filter p xs)) (All-head (λ x. p x ≡ true) x xs all)
+    ∙ ap (λ rest. x ∷ rest) (filter_all p xs (All-tail (λ x. p x ≡ true) x xs all))
+
+-- at places of their own each counts
+pub each_once : (runs : List Run) → AllPairs Apart runs → one_a_place runs ≡ runs
+each_once [] apart = refl
+each_once (run ∷ rest) apart =
+    ap (λ found. run ∷ filter (λ (other : Run). not (same_place run.place other.place)) found)
+    (each_once rest (λ i j d less within. apart (suc i) (suc j) d (omega arith) (omega arith)))
+    ∙ ap (λ found. run ∷ found)
+    (filter_all (λ (other : Run). not (same_place run.place other.place)) rest (λ k d within. ap not (apart zero (suc k) d (omega arith) (omega arith))))
+
+-- ---- instances
+
+got_or : {A : Type 0} (xs : List A) (k : ℕ) (d : A) → k < length xs → slice_get xs k ≡ Some (get_or xs k d)
+got_or [] k d within = absurd (omega arith)
+got_or (x ∷ xs) zero d within = refl
+got_or (x ∷ xs) (suc k) d within = got_or xs k d (omega arith)
+
+some_same : {A : Type 0} (a b : A) → Some a ≡ Some b → a ≡ b
+some_same a b e = cc
+
+all_among : {A : Type 0} (P : A → Type 0) (xs : List A) (x : A) → AllOf P xs → Among x xs → P x
+all_among P [] x all at = elim at [ ]
+all_among P (y ∷ xs) x all (inl is) = subst P (sym is) all.0
+all_among P (y ∷ xs) x all (inr at) = all_among P xs x all.1 at
+
+-- the calls of the plain body of each unit are its `run` statements
+abbrev pub CallsAreRuns : List UnitDef → Type 0
+CallsAreRuns units =
+    (k : ℕ) (unit : UnitDef) → slice_get units k ≡ Some unit → map run_of (calls_in (plain_body unit.body)) ≡ joined (map runs_in unit.body)
+
+pub calls_earlier : (structs : List StructDef) (units : List UnitDef) → units_stand_after structs [] units ≡ true → CallsAreRuns units →
+    CallsEarlier units
+calls_earlier structs units stand are k unit s there at =
+    let run = all_among (RunsUnit (take k units)) (joined (map runs_in unit.body)) (run_of s)
+    (body_runs (site_of structs (take k units) unit) unit.body (typed_at structs [] units k unit stand there))
+    (subst (Among (run_of s)) (are k unit there) (among_map run_of s (calls_in (plain_body unit.body)) at)) in
+    taken_before units k s.unit run.callee run.there
+
+module _ (callers : InstancesHaveCallers) (structs : List StructDef) (units : List UnitDef) (entry : ℕ) (apart : RunsStandApart units)
+    (are : CallsAreRuns units) where
+  abbrev W : Setting
+  W = setting_of structs units entry
+
+  -- the unit of an instance is one of the program's
+  record UnitAt (i : ℕ) (unit : UnitDef) : Type 0 where
+    number : ℕ
+    there : slice_get units number ≡ Some unit
+
+  unit_found : (i : ℕ) (unit : UnitDef) → unit_at W i ≡ Some unit → UnitAt i unit
+  unit_found i unit e = by_instance (slice_get W.instances i) e
+    where
+      by_instance : (found : Option Instance) → option_and_then (unit_of W) found ≡ Some unit → UnitAt i unit
+      by_instance None e = absurd cc
+      by_instance (Some instance) e = record { number = instance.unit; there = e }
+
+  by_call : (i : ℕ) (caller : UnitDef) (s : Call) (callee : ℕ) (instance : Instance) (origin : Origin) → unit_at W i ≡ Some caller →
+      Among s (calls_in (plain_body caller.body)) → slice_get W.instances callee ≡ Some instance → origin.caller ≡ i → origin.place ≡ s.place →
+      CalledBy units W.instances callee instance origin → slice_get units s.unit ≡ unit_at W callee
+  by_call i caller s callee instance origin found at there by is called =
+      let calling : unit_at W origin.caller ≡ Some called.unit = ap (option_and_then (unit_of W)) called.there ∙ called.body in
+      let same : called.unit ≡ caller = some_same called.unit caller (sym calling ∙ ap (unit_at W) by ∙ found) in
+      let one = unit_found i caller found in
+      let runs : List Run = joined (map runs_in caller.body) in
+      let run_there : Among called.run runs =
+      subst (Among called.run) (each_once runs (apart one.number caller one.there))
+      (among_got called.run (runs_of caller) (subst (λ u. Contains (runs_of u) called.run) same called.runs)) in
+      let call_there : Among (run_of s) runs =
+      subst (Among (run_of s)) (are one.number caller one.there) (among_map run_of s (calls_in (plain_body caller.body)) at) in
+      let equal : run_of s ≡ called.run =
+      same_run runs (run_of s) called.run (apart one.number caller one.there) call_there run_there (sym is ∙ called.place) in
+      ap (slice_get units) (ap (λ r. r.unit) equal ∙ sym called.names) ∙ sym (ap (option_and_then (unit_of W)) there)
+
+  pub callees_are_named : CalleesAreNamed W
+  callees_are_named i caller s callee found at begins =
+      let d : Instance = record { unit = 0; depth = 0; origin = None } in
+      let position = position-Some (λ instance. begins_at i s.place instance.origin) W.instances callee d begins in
+      by_origin (get_or W.instances callee d) (got_or W.instances callee d position.0) (get_or W.instances callee d).origin refl position.1
+    where
+      by_origin : (instance : Instance) → slice_get W.instances callee ≡ Some instance → (o : Option Origin) → instance.origin ≡ o →
+          begins_at i s.place o ≡ true → slice_get units s.unit ≡ unit_at W callee
+      by_origin instance there None is e = absurd cc
+      by_origin instance there (Some origin) is e =
+          by_call i caller s callee instance origin found at there
+          (eqb-true origin.caller i (and_left (nat_eq origin.caller i) (same_place origin.place s.place) e))
+          (same_place_is origin.place s.place (and_right (nat_eq origin.caller i) (same_place origin.place s.place) e))
+          (subst (Called units entry W.instances callee instance) is (callers units entry callee instance there))

@@ -1,0 +1,134 @@
+-- Members of lists, and sums of what is said of them.
+use Rattle.std.proofs.Common.{
+  ◌≡◌,
+  ℕ,
+  suc,
+  ◌+◌,
+  ◌<◌,
+  ◌≤◌,
+  List,
+  [],
+  ◌∷◌,
+  ◌++◌,
+  map,
+  length,
+  ◌⊎◌,
+  inl,
+  inr,
+  refl,
+  sym,
+  ap,
+  ◌∙◌,
+  subst,
+  arith,
+}
+use Rattle.std.specs.Prelude.{Contains, ⊤}
+use Rattle.std.proofs.lemmas.List.{length-append}
+use Rattle.std.proofs.lemmas.List.Elements.{Contains-append_cases, Contains-push_cases}
+use Rattle.bl_tree.specs.Reduce.{joined, total}
+use Rattle.bl_nodes.specs.Steps.{StepLabel}
+use Rattle.bl_ctree_laws_traces.specs.Bounded.Differ.{Differ, Unlisted}
+
+-- ---- members
+
+abbrev pub Among : {A : Type 0} → A → List A → Type 0
+Among x [] = ⊥
+Among x (y ∷ ys) = (x ≡ y) ⊎ Among x ys
+
+-- P of each element
+abbrev pub EachOf : {A : Type 0} → (A → Type 0) → List A → Type 0
+EachOf P [] = ⊤
+EachOf P (x ∷ xs) = P x × EachOf P xs
+
+pub among_left : {A : Type 0} (x : A) (xs ys : List A) → Among x xs → Among x (xs ++ ys)
+among_left x [] ys at = elim at [ ]
+among_left x (y ∷ xs) ys (inl is) = inl is
+among_left x (y ∷ xs) ys (inr at) = inr (among_left x xs ys at)
+
+pub among_right : {A : Type 0} (x : A) (xs ys : List A) → Among x ys → Among x (xs ++ ys)
+among_right x [] ys at = at
+among_right x (y ∷ xs) ys at = inr (among_right x xs ys at)
+
+pub among_either : {A : Type 0} (x : A) (xs ys : List A) → Among x (xs ++ ys) → Among x xs ⊎ Among x ys
+among_either x [] ys at = inr at
+among_either x (y ∷ xs) ys (inl is) = inl (inl is)
+among_either x (y ∷ xs) ys (inr at) = elim (among_either x xs ys at) [
+  | inl here ↦ inl (inr here)
+  | inr there ↦ inr there
+]
+
+pub among_map : {A B : Type 0} (f : A → B) (x : A) (xs : List A) → Among x xs → Among (f x) (map f xs)
+among_map f x [] at = elim at [ ]
+among_map f x (y ∷ xs) (inl is) = inl (ap f is)
+among_map f x (y ∷ xs) (inr at) = inr (among_map f x xs at)
+
+pub among_joined : {A B : Type 0} (f : A → List B) (x : A) (y : B) (xs : List A) → Among x xs → Among y (f x) → Among y (joined (map f xs))
+among_joined f x y [] at inside = elim at [ ]
+among_joined f x y (z ∷ xs) (inl is) inside = among_left y (f z) (joined (map f xs)) (subst (λ z. Among y (f z)) is inside)
+among_joined f x y (z ∷ xs) (inr at) inside = among_right y (f z) (joined (map f xs)) (among_joined f x y xs at inside)
+
+none_in_nothing : {A : Type 0} (x : A) → Contains [] x → ⊥
+none_in_nothing x h = let lt : h.0 < 0 = h.1 in omega arith
+
+pub among_got : {A : Type 0} (x : A) (xs : List A) → Contains xs x → Among x xs
+among_got x [] h = absurd (none_in_nothing x h)
+among_got x (y ∷ xs) h = elim (Contains-append_cases (y ∷ []) xs x h) [
+  | inl here ↦ elim (Contains-push_cases [] y x here) [
+    | inl none ↦ absurd (none_in_nothing x none)
+    | inr is ↦ inl (sym is)
+  ]
+  | inr later ↦ inr (among_got x xs later)
+]
+
+-- ---- a list without doubles is no longer than one that has all of it
+
+abbrev without : {A : Type 0} (x : A) (ys : List A) → Among x ys → List A
+without x [] at = elim at [ ]
+without x (y ∷ ys) (inl is) = ys
+without x (y ∷ ys) (inr at) = y ∷ without x ys at
+
+without_long : {A : Type 0} (x : A) (ys : List A) (at : Among x ys) → length ys ≡ suc (length (without x ys at))
+without_long x [] at = elim at [ ]
+without_long x (y ∷ ys) (inl is) = refl
+without_long x (y ∷ ys) (inr at) = ap suc (without_long x ys at)
+
+still_among : {A : Type 0} (x z : A) (ys : List A) (at : Among x ys) → Among z ys → (z ≡ x → ⊥) → Among z (without x ys at)
+still_among x z [] at other differ = elim at [ ]
+still_among x z (y ∷ ys) (inl is) (inl same) differ = absurd (differ (same ∙ sym is))
+still_among x z (y ∷ ys) (inl is) (inr there) differ = there
+still_among x z (y ∷ ys) (inr at) (inl same) differ = inl same
+still_among x z (y ∷ ys) (inr at) (inr there) differ = inr (still_among x z ys at there differ)
+
+all_still : (n : StepLabel) (ys : List StepLabel) (at : Among n ys) (labels : List StepLabel) → Unlisted n labels →
+    EachOf (λ m. Among m ys) labels → EachOf (λ m. Among m (without n ys at)) labels
+all_still n ys at [] differ among = tt
+all_still n ys at (m ∷ rest) differ among = (still_among n m ys at among.0 differ.0, all_still n ys at rest differ.1 among.1)
+
+pub pigeons : (labels ys : List StepLabel) → Differ labels → EachOf (λ n. Among n ys) labels → length labels ≤ length ys
+pigeons [] ys differ among = omega arith
+pigeons (n ∷ rest) ys differ among =
+    let long = without_long n ys among.0 in
+    let less = pigeons rest (without n ys among.0) differ.1 (all_still n ys among.0 rest differ.0 among.1) in
+    omega arith
+
+-- ---- sums
+
+pub total_append : {A : Type 0} (f : A → ℕ) (xs ys : List A) → total (map f (xs ++ ys)) ≡ total (map f xs) + total (map f ys)
+total_append f [] ys = omega arith
+total_append f (x ∷ xs) ys = let more = total_append f xs ys in omega arith
+
+pub total_both : {A : Type 0} (f g h : A → ℕ) → ((x : A) → h x ≡ f x + g x) → (xs : List A) →
+    total (map h xs) ≡ total (map f xs) + total (map g xs)
+total_both f g h is [] = refl
+total_both f g h is (x ∷ xs) = let one = is x in let more = total_both f g h is xs in omega arith
+
+pub total_of : {A B : Type 0} (f : B → ℕ) (g : A → B) (xs : List A) → total (map f (map g xs)) ≡ total (map (λ x. f (g x)) xs)
+total_of f g [] = refl
+total_of f g (x ∷ xs) = let more = total_of f g xs in omega arith
+
+pub joined_long : {A B : Type 0} (f : A → List B) (xs : List A) → length (joined (map f xs)) ≡ total (map (λ x. length (f x)) xs)
+joined_long f [] = refl
+joined_long f (x ∷ xs) =
+    let both = length-append (f x) (joined (map f xs)) in
+    let more = joined_long f xs in
+    omega arith

@@ -1,6 +1,0 @@
-use Rattle.bl_ctree_laws_traces.proofs.Extending.{bounded_go_on}
-use Rattle.bl_ctree_laws_traces.proofs.bounded_lists_go_on.Goals as goal
-
-pub returns : goal.returns
-returns c =
-    bounded_go_on c.points_are_steps.ensures.still c.points_are_steps.ensures.sound c.lists_of_steps.ensures.acting c.lists_of_steps.ensures.follow

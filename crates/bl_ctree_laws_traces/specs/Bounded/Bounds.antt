@@ -1,0 +1,40 @@
+-- No tick has more steps than the number that its program's statements and instances come to.
+use Rattle.std.specs.Prelude.{◌≡◌, ℕ, false, List, map, Some, AllPairs, slice_get}
+use Rattle.bl_tree.specs.declared.tree.StructDef.{StructDef}
+use Rattle.bl_tree.specs.declared.tree.Unit.{Unit as UnitDef}
+use Rattle.bl_tree.specs.Program.{Keeps}
+use Rattle.bl_tree.specs.Reduce.{joined}
+use Rattle.bl_tree.specs.Rules.{same_place}
+use Rattle.bl_raw.specs.declared.item.RawItem.{RawItem}
+use Rattle.bl_raw.specs.Keeps.{RawKeeps}
+use Rattle.bl_scopes.specs.Rules.{Passes as NamesPass}
+use Rattle.bl_names.specs.Named.{named_program}
+use Rattle.bl_types.specs.Programs.{typed_program}
+use Rattle.bl_types.specs.Rules.{Passes as TypesPass}
+use Rattle.bl_effects.specs.Rules.{Passes}
+use Rattle.bl_ctree.specs.declared.instance.Run.{Run}
+use Rattle.bl_ctree.specs.Instances.{runs_in, setting_of}
+use Rattle.bl_ctree.specs.Measure.{steps}
+use Rattle.bl_ctree.specs.Reaches.{Bounded}
+use Rattle.bl_ctree_laws_traces.specs.Bounded.Differ.{AllNumbered}
+
+-- the `run` statements of each unit stand at places of their own, as those of a source do
+abbrev pub RunsStandApart : List UnitDef → Type 0
+RunsStandApart units =
+    (k : ℕ) (unit : UnitDef) → slice_get units k ≡ Some unit →
+    AllPairs (λ (one : Run) (other : Run). same_place one.place other.place ≡ false) (joined (map runs_in unit.body))
+
+-- in a typed program that passes the rules, whose `run` statements stand at places of their own, and whose activities' nodes have numbers that
+-- rise along control edges, every list of steps in one tick is bounded
+abbrev pub AcceptedIsBounded : Type 0
+AcceptedIsBounded =
+    (structs : List StructDef) (units : List UnitDef) (entry : ℕ) → Keeps structs units entry → Passes units → RunsStandApart units →
+    AllNumbered (setting_of structs units entry) → Bounded (steps structs units entry) structs units entry
+
+-- and in each program that a raw tree has in which no rule fails, where `run` statements do stand at places of their own
+abbrev pub TypedIsBounded : Type 0
+TypedIsBounded =
+    (items : List RawItem) (bytes : ℕ) → RawKeeps items → NamesPass items → TypesPass (named_program items bytes) →
+    let typed = typed_program (named_program items bytes) in
+    Passes typed.units → AllNumbered (setting_of typed.structs typed.units typed.entry) →
+    Bounded (steps typed.structs typed.units typed.entry) typed.structs typed.units typed.entry

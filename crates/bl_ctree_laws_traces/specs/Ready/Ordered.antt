@@ -1,0 +1,47 @@
+-- An order of the tick graph of each activity numbers the nodes of each instance.
+use Rattle.std.specs.Prelude.{◌≡◌, ℕ, true, List, Contains, Some}
+use Rattle.bl_tree.specs.declared.graph.Edge.{Edge as GraphEdge}
+use Rattle.bl_tree.specs.declared.graph.Node.{Node as GraphNode}
+use Rattle.bl_tree.specs.declared.tree.StructDef.{StructDef}
+use Rattle.bl_tree.specs.declared.tree.Unit.{Unit as UnitDef}
+use Rattle.bl_tree.specs.Program.{Keeps}
+use Rattle.bl_tree.specs.Typing.{is_activity}
+use Rattle.bl_effects.specs.Rules.{Passes}
+use Rattle.bl_nodes.specs.Nodes.{Node}
+use Rattle.bl_nodes.specs.Plain.{Block, plain_body}
+use Rattle.bl_graph.specs.Graph.{IsTickGraph}
+use Rattle.bl_cause.specs.Ranks.{Ranks}
+use Rattle.bl_ctree.specs.Instances.{Setting, unit_at}
+use Rattle.bl_ctree.specs.Reaches.{NeverStuck}
+use Rattle.bl_ctree_laws_traces.specs.Ready.Ranks.{Rising}
+
+-- the tick graph of a body, and numbers for its nodes that rise along every edge
+pub record HasOrder (body : Block) : Type 0 where
+  pub nodes : List GraphNode
+  pub edges : List GraphEdge
+  pub is_graph : IsTickGraph body nodes edges
+  pub ranks : List ℕ
+  pub rises : Ranks edges ranks
+
+-- the body of each unit that has an instance has them
+abbrev pub AllOrdered : Setting → Type 0
+AllOrdered w = (i : ℕ) (unit : UnitDef) → unit_at w i ≡ Some unit → HasOrder (plain_body unit.body)
+
+-- and the body of each activity of a program does
+abbrev pub ActivitiesAreOrdered : List UnitDef → Type 0
+ActivitiesAreOrdered units = (unit : UnitDef) → Contains units unit → is_activity unit.kind ≡ true → HasOrder (plain_body unit.body)
+
+-- numbers for the nodes of each instance that rise
+pub record HasRanks (w : Setting) : Type 0 where
+  pub rank : ℕ → Node → ℕ
+  pub rising : Rising w rank
+
+-- orders of tick graphs give such numbers
+abbrev pub OrdersGiveRanks : Type 0
+OrdersGiveRanks = (w : Setting) → AllOrdered w → HasRanks w
+
+-- so a program that passes the rules and whose activities' tick graphs have orders is never stuck
+abbrev pub OrderedNeverStuck : Type 0
+OrderedNeverStuck =
+    (structs : List StructDef) (units : List UnitDef) (entry : ℕ) → Keeps structs units entry → Passes units → ActivitiesAreOrdered units →
+    NeverStuck structs units entry

@@ -1,0 +1,130 @@
+//! Trees stand in tick graphs: the first part of progress. A place in the graph of a unit's body says which nodes may act
+//! there now and in later ticks, and which lead out (`specs/Progress/Places.antt`); a tree is live at a place where all that is left
+//! in it fits there (`specs/Progress/Live.antt`, `Live`). There is no code here.
+//!
+//! Laws (`specs/Progress/Laws.antt`): bodies begin live, and steps and waking keep that; what could act in a live tree is of the part
+//! of the graph that acts in this tick; a tree in which something is left to do has something that could act; where it may
+//! end, or write something, edges lead from what could act in it to what leads out, or to a node that writes it. So what
+//! could act may, or it waits for a writer in another branch to which something else that could act leads
+//! (`specs/Progress/Blocked.antt`). All trees that runs reach are live (`specs/Progress/Reached.antt`), in accepted programs without premises
+//! (`specs/Progress/Accepted.antt`). What a deed reads is what its node reads, so in one instance such a writer has a static path that
+//! overlaps one that the waiting node reads (`specs/Progress/Reading.antt`).
+
+ghost use Rattle.bl_ctree_laws_traces.specs.Progress.Accepted.{AcceptedTreesAreLive, ProgramsAreCallable};
+ghost use Rattle.bl_ctree_laws_traces.specs.Progress.Blocked.{ActsOrWaits};
+ghost use Rattle.bl_ctree_laws_traces.specs.Progress.Laws.{BodiesBeginLive, EndsAreReached, NodesAreInPart, StepsKeepLive};
+ghost use Rattle.bl_ctree_laws_traces.specs.Progress.Laws.{UnsettledCould, WakingKeepsLive, WritersAreAhead};
+ghost use Rattle.bl_ctree_laws_traces.specs.Progress.Reached.{ReachedCould, ReachedInsideIsLive, ReachedIsLive};
+ghost use Rattle.bl_ctree_laws_traces.specs.Progress.Reading.{DeedsReadAtNodes, DeedsStandAtNodes, WritersTouch};
+
+use bl_ctree::laws::trees_stay_proper;
+use bl_ctree_laws::bridge::{
+    answers_are_plain, statements_are_plain, steps_are_plain, surfaces_write_soon, waking_is_plain,
+};
+use bl_ctree_laws::shrinking::{acting_is_open, steps_shrink};
+use bl_ctree_laws_confluence::deeds::{accepted_programs_are_orderly, homes_are_apart};
+use bl_graph::{instants_pass, writers_are_reached};
+
+/// What could act in a tree is a node of the part of its body's graph that acts in this tick.
+pub fn nodes_are_in_part()
+    ensures { NodesAreInPart }
+{}
+
+/// A tree in which something is left to do has something that could act.
+pub fn unsettled_could()
+    ensures { UnsettledCould }
+{}
+
+/// Where a tree may end in this tick edges lead from what could act in it to what leads out of its body.
+pub fn ends_are_reached()
+    ensures { EndsAreReached }
+{
+    instants_pass();
+}
+
+/// Where a tree may write something in this tick edges lead from what could act in it to a node that writes it.
+pub fn writers_are_ahead()
+    ensures { WritersAreAhead }
+{
+    instants_pass();
+    writers_are_reached();
+    surfaces_write_soon();
+}
+
+/// A unit's body begins at its place in its graph.
+pub fn bodies_begin_live()
+    ensures { BodiesBeginLive }
+{}
+
+/// Each step that could be taken keeps a tree at its place.
+pub fn steps_keep_live()
+    ensures { StepsKeepLive }
+{
+    instants_pass();
+    steps_shrink();
+}
+
+/// Waking keeps a settled tree at its place, in the next tick.
+pub fn waking_keeps_live()
+    ensures { WakingKeepsLive }
+{
+    instants_pass();
+}
+
+/// What could act in a tree may act, or something else that could leads to a writer in another branch for which it waits.
+pub fn acts_or_waits()
+    ensures { ActsOrWaits }
+{
+    instants_pass();
+    writers_are_reached();
+    surfaces_write_soon();
+}
+
+/// The trees that runs reach stand at their places in the graph of the entry's body, and something could act in each of them
+/// in which something is left to do.
+pub fn reached_trees_are_live()
+    ensures trees { ReachedIsLive }
+    ensures inside { ReachedInsideIsLive }
+    ensures could { ReachedCould }
+{
+    trees_stay_proper();
+    statements_are_plain();
+    answers_are_plain();
+    waking_is_plain();
+    steps_are_plain();
+    instants_pass();
+    acting_is_open();
+    steps_shrink();
+}
+
+/// What the deed of a step reads is what the node that acts reads.
+pub fn deeds_read_at_nodes()
+    ensures { DeedsReadAtNodes }
+{}
+
+/// A deed whose step is not inside a call is done in the instance of the tree.
+pub fn deeds_stand_at_nodes()
+    ensures { DeedsStandAtNodes }
+{}
+
+/// A node that writes something over a home that a deed of the same instance reads writes a static path that overlaps one that
+/// the deed's node reads.
+pub fn writers_touch()
+    ensures { WritersTouch }
+{
+    homes_are_apart();
+}
+
+/// Each `run` in an instance of a typed program begins an instance of a unit.
+pub fn programs_are_callable()
+    ensures { ProgramsAreCallable }
+{}
+
+/// The trees that runs of an accepted program reach stand at their places, whatever their inputs.
+pub fn accepted_trees_are_live()
+    ensures { AcceptedTreesAreLive }
+{
+    accepted_programs_are_orderly();
+    programs_are_callable();
+    reached_trees_are_live();
+}

@@ -1,0 +1,6 @@
+pub mod Bodies
+pub mod Courses
+pub mod Flags
+pub mod Memories
+pub mod NoPrev
+pub mod Whole

@@ -1,0 +1,10 @@
+pub mod Apart
+pub mod Ends
+pub mod Frame
+pub mod Handing
+pub mod Kept
+pub mod Lists
+pub mod Params
+pub mod Procedure
+pub mod Standing
+pub mod Zeros

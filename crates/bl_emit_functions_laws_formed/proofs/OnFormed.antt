@@ -1,0 +1,10 @@
+pub mod Counters
+pub mod Function
+pub mod Head
+pub mod Lookups
+pub mod Memories
+pub mod Shapes
+pub mod Statements
+pub mod Turns
+pub mod Variables
+pub mod Whole

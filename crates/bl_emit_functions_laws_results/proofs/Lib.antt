@@ -1,3 +1,0 @@
-mod Copying
-mod Inputs
-mod Result

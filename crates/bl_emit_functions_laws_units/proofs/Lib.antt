@@ -1,3 +1,0 @@
-mod Agreeing
-mod Growing
-mod Made

@@ -1,0 +1,24 @@
+-- The law of a whole program.
+use Rattle.std.proofs.Common.{◌≡◌, true, Option, Some, None}
+use Rattle.std.proofs.Common.{refl}
+use Rattle.std.specs.Prelude.{slice_get}
+use Rattle.bl_tree.specs.declared.program.Program.{Program}
+use Rattle.bl_tree.specs.declared.tree.Unit.{Unit as UnitDef}
+use Rattle.bl_tree.specs.Program.{is_entry}
+use Rattle.bl_emit_laws.specs.Formed.{FilesFormed}
+use Rattle.bl_emit_laws.specs.Forms.{UnitsForm}
+use Rattle.bl_emit_pass_laws_bodies.specs.Structs.Laws.{FilesDeclare}
+use Rattle.bl_emit_laws.specs.Accepted.{ProgramsFormed}
+
+-- the entry is there
+entry_there : (o : Option UnitDef) → is_entry o ≡ true → (unit : UnitDef) × (o ≡ Some unit)
+entry_there None is = absurd (cc)
+entry_there (Some unit) is = (unit, refl)
+
+pub formed : (program : Program) → UnitsForm program.structs program.units program.entry → FilesDeclare program → FilesFormed program →
+    ProgramsFormed program
+formed program forms declares files machine keeps passes limits agrees plain =
+    let entry = entry_there (slice_get program.units program.entry) keeps.entry_stands in
+    let structs = declares machine entry.0 keeps limits agrees plain entry.1 in
+    files machine entry.0 keeps limits entry.1 (forms machine keeps passes limits agrees plain)
+    (record { formed = structs.sound; types = structs.types; parts = structs.parts; interface = structs.interface })

@@ -1,0 +1,10 @@
+pub mod Counters
+pub mod Interface
+pub mod Names
+pub mod Needing
+pub mod Numbers
+pub mod Reaching
+pub mod Sizing
+pub mod Tables
+pub mod Walk
+pub mod Whole

@@ -1,0 +1,10 @@
+pub mod Activities
+pub mod Expressions
+pub mod Fine
+pub mod Functions
+pub mod Guards
+pub mod Lists
+pub mod Once
+pub mod Shapes
+pub mod Statements
+pub mod Whole

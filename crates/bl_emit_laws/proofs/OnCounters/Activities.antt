@@ -1,0 +1,310 @@
+-- The C function of an activity names its own counters alone.
+use Rattle.std.proofs.Common.{◌≡◌, ℕ, zero, suc, Bool, true, false, List, [], ◌∷◌, ◌++◌, map, Option, Some, None, refl, sym, ap, subst, codes}
+use Rattle.std.specs.Prelude.{option_to_list, slice_get}
+use Rattle.bl_tree.specs.declared.c.CArg.TheVariants.{Address}
+use Rattle.bl_tree.specs.declared.c.CExpr.{CExpr}
+use Rattle.bl_tree.specs.declared.c.CPlace.{CPlace}
+use Rattle.bl_tree.specs.declared.c.CStmt.{CStmt}
+use Rattle.bl_tree.specs.declared.scalar.Op.TheVariants.{Eq}
+use Rattle.bl_tree.specs.declared.tree.Arm.{Arm}
+use Rattle.bl_tree.specs.declared.tree.Branch.{Branch}
+use Rattle.bl_tree.specs.declared.tree.Expr.{Expr}
+use Rattle.bl_tree.specs.declared.tree.Path.{Path}
+use Rattle.bl_tree.specs.declared.tree.Stmt.{Stmt, out-Stmt}
+use Rattle.bl_tree.specs.declared.tree.StmtKind.{StmtKind, out-StmtKind}
+use Rattle.bl_tree.specs.declared.tree.StmtKind.TheOpen.{StmtKind-F}
+use Rattle.bl_nodes.specs.Nodes.{
+  ActAt,
+  Arguments,
+  CheckAt,
+  DepthEndAt,
+  DepthJoinAt,
+  EnterAt,
+  ForkAt,
+  HeadAt,
+  Node,
+  PauseAt,
+  ResumeAt,
+  StartAt,
+  SurfaceEndAt,
+  SurfaceJoinAt,
+  TestAt,
+  entry,
+}
+use Rattle.bl_nodes.specs.Plain.{Block, Done, Then}
+use Rattle.bl_emit_acts.specs.Acts.{c_calling, c_clear, c_copied, c_set, call_args, code_made, layer_code, name_of_callee}
+use Rattle.bl_emit_acts.specs.Expressions.{stands}
+use Rattle.bl_emit_acts.specs.Trees.{c_call, c_read, c_two}
+use Rattle.bl_emit_functions.specs.Statements.{else_code}
+use Rattle.bl_emit_functions.specs.Trees.{c_if, c_truth}
+use Rattle.bl_pass.specs.Rules.{Rule}
+use Rattle.bl_emit_pass.specs.Activities.{
+  Activity,
+  activity_function,
+  blocks_code,
+  blocks_in_order,
+  body_of,
+  callees_in,
+  copied_in,
+  counters_read,
+  entry_code,
+  picked,
+  rested_code,
+  rules_at,
+  turns_in_source,
+  view_of,
+}
+use Rattle.bl_emit_pass.specs.Blocks.{
+  Turn,
+  View,
+  acted,
+  arg_where,
+  begun_code,
+  changes_code,
+  counter_value,
+  has_result,
+  layer_acted,
+  merged_code,
+  name_in,
+  node_code,
+  resumed_code,
+  run_args,
+  run_code,
+  target_code,
+  tested,
+  turn_code,
+  turns_of,
+}
+use Rattle.bl_emit_pass.specs.Names.{
+  callee_frame,
+  callee_memory,
+  callee_name,
+  counter_name,
+  counter_place,
+  ended_name,
+  ended_place,
+  flag_name,
+  flag_place,
+  frame_name,
+  given_name,
+  given_place,
+  rested_name,
+  rested_place,
+  result_place,
+}
+use Rattle.bl_emit_laws.specs.Counters.Own.{names_counter}
+use Rattle.bl_emit_laws.specs.Counters.Places.{CPath, places_in_arg, places_named}
+use Rattle.bl_emit_laws.proofs.OnCounters.Expressions.{ArgsFine, ExprFine, PlaceFine, address-fine, expr_fine, first-arg, path_fine, root-fine, two-fine}
+use Rattle.bl_emit_laws.proofs.OnCounters.Fine.{Fine, both-fine}
+use Rattle.bl_emit_laws.proofs.OnCounters.Functions.{under-fine}
+use Rattle.bl_emit_laws.proofs.OnCounters.Guards.{changes_fine, counter_read, guard_fine, local_fine, local_read, own_counter, value_fine}
+use Rattle.bl_emit_laws.proofs.OnCounters.Statements.{
+  CodeFine,
+  StmtFine,
+  assigned_fine,
+  call_args_fine,
+  call_fine,
+  calling-fine,
+  clear-fine,
+  copy-fine,
+  declared_fine,
+  else-fine,
+  first_stmt,
+  if-fine,
+  one_stmt,
+  set-fine,
+  then_code,
+  truth-fine,
+}
+
+module _ (P : CPath → Type 0) (plain : (place : CPath) → names_counter place ≡ false → P place) (own : (k : ℕ) → P (own_counter (counter_name k)))
+    (view : View) where
+  code_fine : (e : Expr) → ExprFine P plain (code_made view.site e)
+  code_fine e = expr_fine P plain view.site e
+
+  -- ---- acts
+
+  acted_by : (s : Stmt) (layer : StmtKind-F StmtKind Arm Branch Stmt) → out-StmtKind (out-Stmt s).what ≡ layer → CodeFine P plain (layer_acted view s layer)
+  acted_by s (StmtKind-F.Return (Some e)) is =
+      one_stmt P plain (c_set result_place (code_made view.site e))
+      (set-fine P plain result_place (code_made view.site e) (root-fine P plain true (codes "r")) (code_fine e))
+  acted_by s (StmtKind-F.Return None) is = tt
+  acted_by s (StmtKind-F.Declare k initial) is =
+      subst (CodeFine P plain) (sym (ap (layer_code view.site view.copies) is)) (declared_fine P plain view.site view.copies k initial)
+  acted_by s (StmtKind-F.Assign path e) is =
+      subst (CodeFine P plain) (sym (ap (layer_code view.site view.copies) is)) (assigned_fine P plain view.site path e)
+  acted_by s (StmtKind-F.Call f inputs outputs) is =
+      subst (CodeFine P plain) (sym (ap (layer_code view.site view.copies) is)) (call_fine P plain view.site f inputs outputs)
+  acted_by s (StmtKind-F.Await e) is = subst (CodeFine P plain) (sym (ap (layer_code view.site view.copies) is)) tt
+  acted_by s (StmtKind-F.Run target a inputs outputs) is = subst (CodeFine P plain) (sym (ap (layer_code view.site view.copies) is)) tt
+  acted_by s (StmtKind-F.If arms other) is = subst (CodeFine P plain) (sym (ap (layer_code view.site view.copies) is)) tt
+  acted_by s (StmtKind-F.Cobegin branches) is = subst (CodeFine P plain) (sym (ap (layer_code view.site view.copies) is)) tt
+  acted_by s (StmtKind-F.When guard e body) is = subst (CodeFine P plain) (sym (ap (layer_code view.site view.copies) is)) tt
+  acted_by s (StmtKind-F.Repeat body) is = subst (CodeFine P plain) (sym (ap (layer_code view.site view.copies) is)) tt
+  acted_by s (StmtKind-F.Until body e) is = subst (CodeFine P plain) (sym (ap (layer_code view.site view.copies) is)) tt
+  acted_by s (StmtKind-F.While e body) is = subst (CodeFine P plain) (sym (ap (layer_code view.site view.copies) is)) tt
+
+  acted_fine : (s : Stmt) → CodeFine P plain (acted view s)
+  acted_fine s = acted_by s (out-StmtKind (out-Stmt s).what) refl
+
+  tested_fine : (e : Expr) (rule : Rule) → CodeFine P plain (tested view (code_made view.site e) rule)
+  tested_fine e rule =
+      one_stmt P plain (c_if (code_made view.site e) (changes_code view rule.so) (else_code (changes_code view rule.otherwise)))
+      (if-fine P plain (code_made view.site e) (changes_code view rule.so) (else_code (changes_code view rule.otherwise)) (code_fine e)
+      (changes_fine P plain own view rule.so) (else-fine P plain (changes_code view rule.otherwise) (changes_fine P plain own view rule.otherwise)))
+
+  -- ---- runs
+
+  where_fine : (test : Bool) (place : CPlace) → PlaceFine P plain place → ArgsFine P plain (arg_where test (Address place))
+  where_fine true place one = first-arg P plain (Address place) [] (address-fine P plain place one) tt
+  where_fine false place one = tt
+
+  frame_fine : (k : ℕ) → PlaceFine P plain (callee_frame k)
+  frame_fine k = under-fine P plain (codes "f") (callee_name k) refl
+
+  runs_fine : (k a : ℕ) (arguments : Arguments) → ArgsFine P plain (run_args view k a arguments)
+  runs_fine k a arguments =
+      let result = has_result (slice_get view.site.earlier a) in
+      let given = call_args view.site arguments.inputs arguments.outputs in
+      let last = arg_where result (Address (given_place k)) ++ arg_where true (Address (ended_place k)) in
+      first-arg P plain (Address (callee_frame k)) (arg_where (view.remembers a) (Address (callee_memory k)) ++ (given ++ last))
+      (address-fine P plain (callee_frame k) (frame_fine k))
+      (both-fine P places_in_arg (arg_where (view.remembers a) (Address (callee_memory k))) (given ++ last)
+      (where_fine (view.remembers a) (callee_memory k) (under-fine P plain (codes "m") (callee_name k) refl))
+      (both-fine P places_in_arg given last (call_args_fine P plain view.site arguments.inputs arguments.outputs)
+      (both-fine P places_in_arg (arg_where result (Address (given_place k))) (arg_where true (Address (ended_place k)))
+      (where_fine result (given_place k) (local_fine P plain own (given_name k)))
+      (where_fine true (ended_place k) (local_fine P plain own (ended_name k))))))
+
+  run_fine : (k a : ℕ) (arguments : Arguments) → CodeFine P plain (run_code view k a arguments)
+  run_fine k a arguments =
+      let call : CStmt = c_calling (c_call (name_of_callee (slice_get view.site.earlier a)) (run_args view k a arguments)) in
+      first_stmt P plain (c_set (ended_place k) (c_truth false)) (call ∷ [])
+      (set-fine P plain (ended_place k) (c_truth false) (local_fine P plain own (ended_name k)) (truth-fine P plain false))
+      (one_stmt P plain call
+      (calling-fine P plain (name_of_callee (slice_get view.site.earlier a)) (run_args view k a arguments) (runs_fine k a arguments)))
+
+  target_fine : (k : ℕ) (target : Option Path) → CodeFine P plain (target_code view k target)
+  target_fine k (Some path) =
+      one_stmt P plain (c_set (stands view.site path).place (c_read (given_place k)))
+      (set-fine P plain (stands view.site path).place (c_read (given_place k)) (path_fine P plain view.site path)
+      (local_read P plain own (given_name k)))
+  target_fine k None = tt
+
+  begun_fine : (k a : ℕ) (arguments : Arguments) (rule : Rule) → CodeFine P plain (begun_code view k a arguments rule)
+  begun_fine k a arguments rule =
+      let name = frame_name (name_in (slice_get view.site.earlier a)) in
+      first_stmt P plain (c_clear (callee_frame k) name) (run_code view k a arguments ++ changes_code view rule.so)
+      (clear-fine P plain (callee_frame k) name (frame_fine k))
+      (then_code P plain (run_code view k a arguments) (changes_code view rule.so) (run_fine k a arguments) (changes_fine P plain own view rule.so))
+
+  resumed_fine : (k a : ℕ) (arguments : Arguments) (rule : Rule) → CodeFine P plain (resumed_code view k a arguments rule)
+  resumed_fine k a arguments rule =
+      let block : List CStmt = target_code view k arguments.target ++ changes_code view rule.so in
+      then_code P plain (run_code view k a arguments) (c_if (c_read (ended_place k)) block None ∷ []) (run_fine k a arguments)
+      (one_stmt P plain (c_if (c_read (ended_place k)) block None)
+      (if-fine P plain (c_read (ended_place k)) block None (local_read P plain own (ended_name k))
+      (then_code P plain (target_code view k arguments.target) (changes_code view rule.so) (target_fine k arguments.target)
+      (changes_fine P plain own view rule.so)) tt))
+
+  -- ---- blocks
+
+  node_fine : (a : ℕ) (rule : Rule) (m : Node) → CodeFine P plain (node_code view a rule m)
+  node_fine a rule (ActAt l s) = then_code P plain (acted view s) (changes_code view rule.so) (acted_fine s) (changes_fine P plain own view rule.so)
+  node_fine a rule (TestAt l at e) = tested_fine e rule
+  node_fine a rule (CheckAt l at e) = tested_fine e rule
+  node_fine a rule (EnterAt l at arguments) = begun_fine (view.number (EnterAt l at arguments)) a arguments rule
+  node_fine a rule (ResumeAt l at arguments) = resumed_fine (view.number (EnterAt l at arguments)) a arguments rule
+  node_fine a rule (PauseAt l at) = changes_fine P plain own view rule.so
+  node_fine a rule (HeadAt l at) = changes_fine P plain own view rule.so
+  node_fine a rule (StartAt l at) = changes_fine P plain own view rule.so
+  node_fine a rule (SurfaceEndAt l at) = changes_fine P plain own view rule.so
+  node_fine a rule (DepthEndAt l at) = changes_fine P plain own view rule.so
+  node_fine a rule (ForkAt l at) = changes_fine P plain own view rule.so
+  node_fine a rule (SurfaceJoinAt l at) = changes_fine P plain own view rule.so
+  node_fine a rule (DepthJoinAt l at) = changes_fine P plain own view rule.so
+
+  -- what a turn asks and does
+  abbrev TurnFine : Turn → Type 0
+  TurnFine turn = ExprFine P plain turn.test × CodeFine P plain turn.code
+
+  -- each of some turns
+  abbrev EachFine : List Turn → Type 0
+  EachFine [] = Unit {0}
+  EachFine (turn ∷ rest) = TurnFine turn × EachFine rest
+
+  each_fine : (callees : List ℕ) (listed : List Rule) → EachFine (turns_of view callees listed)
+  each_fine [] listed = tt
+  each_fine (a ∷ callees) [] = tt
+  each_fine (a ∷ callees) (rule ∷ listed) =
+      ((guard_fine P plain own view rule.node rule.asked, node_fine a rule rule.node), each_fine callees listed)
+
+  append_fine : (turns more : List Turn) → EachFine turns → EachFine more → EachFine (turns ++ more)
+  append_fine [] more all rest = rest
+  append_fine (turn ∷ turns) more all rest = (all.0, append_fine turns more all.1 rest)
+
+  one_of : (turns : List Turn) (k : ℕ) → EachFine turns → EachFine (option_to_list (slice_get turns k))
+  one_of [] k all = tt
+  one_of (turn ∷ rest) zero all = (all.0, tt)
+  one_of (turn ∷ rest) (suc k) all = one_of rest k all.1
+
+  picked_fine : (turns : List Turn) (block : List ℕ) → EachFine turns → EachFine (picked turns block)
+  picked_fine turns [] all = tt
+  picked_fine turns (k ∷ block) all =
+      append_fine (option_to_list (slice_get turns k)) (picked turns block) (one_of turns k all) (picked_fine turns block all)
+
+  alone_fine : (test : CExpr) (code : List CStmt) → ExprFine P plain test → CodeFine P plain code → StmtFine P plain (c_if test code None)
+  alone_fine test code is block = if-fine P plain test code None is block tt
+
+  turns_fine : (turns : List Turn) → EachFine turns → CodeFine P plain (map turn_code turns)
+  turns_fine [] all = tt
+  turns_fine (turn ∷ rest) all =
+      first_stmt P plain (turn_code turn) (map turn_code rest) (alone_fine turn.test turn.code all.0.0 all.0.1) (turns_fine rest all.1)
+
+  merged_fine : (turns : List Turn) → EachFine turns → CodeFine P plain (merged_code turns)
+  merged_fine [] all = tt
+  merged_fine (first ∷ rest) all =
+      one_stmt P plain (c_if first.test (first.code ++ map turn_code rest) None)
+      (alone_fine first.test (first.code ++ map turn_code rest) all.0.0
+      (then_code P plain first.code (map turn_code rest) all.0.1 (turns_fine rest all.1)))
+
+  blocks_fine : (turns : List Turn) (blocks : List (List ℕ)) → EachFine turns → CodeFine P plain (blocks_code turns blocks)
+  blocks_fine turns [] all = tt
+  blocks_fine turns (block ∷ rest) all =
+      then_code P plain (merged_code (picked turns block)) (blocks_code turns rest) (merged_fine (picked turns block) (picked_fine turns block all))
+      (blocks_fine turns rest all)
+
+  -- ---- what stands before the blocks
+
+  resteds_fine : (counters : List ℕ) → CodeFine P plain (map rested_code counters)
+  resteds_fine [] = tt
+  resteds_fine (k ∷ rest) =
+      first_stmt P plain (rested_code k) (map rested_code rest)
+      (set-fine P plain (rested_place k) (c_read (counter_place k)) (local_fine P plain own (rested_name k)) (counter_read P plain own k))
+      (resteds_fine rest)
+
+  entry_fine : (body : Block) → CodeFine P plain (entry_code view body)
+  entry_fine Done = tt
+  entry_fine (Then s rest) =
+      one_stmt P plain (c_set (flag_place (view.number (entry s))) (c_two Eq (c_read (counter_place 0)) (counter_value view.sizes 0 0)))
+      (set-fine P plain (flag_place (view.number (entry s))) (c_two Eq (c_read (counter_place 0)) (counter_value view.sizes 0 0))
+      (local_fine P plain own (flag_name (view.number (entry s))))
+      (two-fine P plain Eq (c_read (counter_place 0)) (counter_value view.sizes 0 0) (counter_read P plain own 0) (value_fine P plain own view 0 0)))
+
+  copies_fine : (ks : List ℕ) → CodeFine P plain (map (c_copied view.site) ks)
+  copies_fine [] = tt
+  copies_fine (k ∷ rest) =
+      first_stmt P plain (c_copied view.site k) (map (c_copied view.site) rest) (copy-fine P plain view.site k) (copies_fine rest)
+
+-- the C function of an activity names counters of its own alone
+pub activity-fine : (P : CPath → Type 0) (plain : (place : CPath) → names_counter place ≡ false → P place) →
+    ((k : ℕ) → P (own_counter (counter_name k))) → (a : Activity) → Fine P (places_named (activity_function a))
+activity-fine P plain own a =
+    let view : View = view_of a in
+    let blocks : List CStmt = blocks_in_order a in
+    let copies : List CStmt = map (c_copied view.site) (copied_in a) in
+    then_code P plain (map rested_code (counters_read a)) (entry_code view (body_of a) ++ (copies ++ blocks))
+    (resteds_fine P plain own view (counters_read a))
+    (then_code P plain (entry_code view (body_of a)) (copies ++ blocks) (entry_fine P plain own view (body_of a))
+    (then_code P plain copies blocks (copies_fine P plain own view (copied_in a))
+    (blocks_fine P plain own view (turns_in_source a) a.blocks (each_fine P plain own view (callees_in (body_of a)) (rules_at a)))))

@@ -1,0 +1,334 @@
+-- Nothing fails in the two functions of the interface.
+use Rattle.std.proofs.Common.{◌≡◌, ℕ, ◌≤◌, pos, Bool, true, false, ◌&&◌, List, [], ◌∷◌, ◌++◌, map, Option}
+use Rattle.std.proofs.Common.{Some, None, refl, sym, ap, ◌∙◌, subst, append_assoc, arith, codes, take-add}
+use Rattle.std.proofs.lemmas.Bool.Decides.{nat_tests}
+use Rattle.std.proofs.lemmas.List.{map-append}
+use Rattle.std.specs.Prelude.{is_none, is_some, nat_le, option_and_then, if◌then◌else◌}
+use Rattle.std.specs.List.{list_all}
+use Rattle.bl_tree.specs.declared.text.Text.{Text}
+use Rattle.bl_tree.specs.declared.c.CArg.{CArg}
+use Rattle.bl_tree.specs.declared.c.CArg.TheVariants.{Address}
+use Rattle.bl_tree.specs.declared.c.CExpr.{CExpr}
+use Rattle.bl_tree.specs.declared.c.CFunc.{CFunc}
+use Rattle.bl_tree.specs.declared.c.CMember.{CMember}
+use Rattle.bl_tree.specs.declared.c.CPlace.{CPlace}
+use Rattle.bl_tree.specs.declared.c.CStmt.{CStmt, fold-roll-CStmt, roll-CStmt}
+use Rattle.bl_tree.specs.declared.c.CStmtKind.{CStmtKind, CStmtKind-F, fold-roll-CStmtKind, roll-CStmtKind}
+use Rattle.bl_tree.specs.declared.c.CStmtKind.TheVariants as statement
+use Rattle.bl_tree.specs.declared.c.CType.TheVariants.{Struct as OfStruct}
+use Rattle.bl_tree.specs.declared.scalar.Scalar.TheVariants.{Nat}
+use Rattle.bl_tree.specs.declared.scalar.Width.TheVariants.{W32}
+use Rattle.bl_tree.specs.declared.tree.StructDef.{StructDef}
+use Rattle.bl_tree.specs.declared.tree.Unit.{Unit as UnitDef}
+use Rattle.bl_tree.specs.declared.tree.Var.{Var}
+use Rattle.bl_tree.specs.Program.{is_input, is_output, names_of, parameters_of}
+use Rattle.bl_tree.specs.Reduce.{joined}
+use Rattle.bl_tree.specs.Types.{scalar_in}
+use Rattle.bl_tree.specs.Typing.{inputs_of, outputs_of}
+use Rattle.bl_tree.specs.Words.{are_distinct}
+use Rattle.bl_cmeaning.specs.Calls.{calls_in_arg, calls_in_block, calls_in_place, calls_in_stmt, most}
+use Rattle.bl_cmeaning.specs.Faults.{Context, Signature, Variable, bool_type, context_in, declared_before, depth_of_function, distinct_names}
+use Rattle.bl_cmeaning.specs.Faults.{faults_in_function, member_of, member_table, names_table, repeated, returns_result, short_chain, signature_as}
+use Rattle.bl_cmeaning.specs.Faults.{signature_of, surely_returns, variable_names}
+use Rattle.bl_cmeaning.specs.Loops.{turns_in, turns_in_block}
+use Rattle.bl_cmeaning.specs.Tables.{Table, entry_or}
+use Rattle.bl_emit_acts.specs.Acts.{c_calling, c_clear}
+use Rattle.bl_emit_acts.specs.Trees.{c_call, c_literal, c_place, c_read, c_step, nowhere}
+use Rattle.bl_emit_acts.specs.Types.{unit_name}
+use Rattle.bl_emit_functions.specs.Functions.{memory_name}
+use Rattle.bl_emit_functions.specs.Trees.{c_if, c_return}
+use Rattle.bl_emit_acts_laws_formed.specs.Formed.Declared.{IsDeclared, parameter_for, plain_member, variable_of}
+use Rattle.bl_emit_acts_laws_formed.specs.Formed.Formed.{BlockIs, PlaceIs, StmtIs}
+use Rattle.bl_emit_acts_laws_formed.proofs.OnFormed.Acts.{block_cons, block_one, calling-is, clear-is}
+use Rattle.bl_emit_acts_laws_formed.proofs.OnFormed.Judged.{kept, literal-is, read-is}
+use Rattle.bl_emit_acts_laws_formed.proofs.OnFormed.Prelude.{unit_named}
+use Rattle.bl_emit_acts_laws_formed.proofs.OnFormed.Typed.{variable_place}
+use Rattle.bl_emit_functions_laws_formed.proofs.OnFiles.Shapes.{address-calls, call-calls, calling-calls, clear-calls, if-calls, literal-calls, place-calls}
+use Rattle.bl_emit_functions_laws_formed.proofs.OnFiles.Shapes.{read-calls, return-calls, step-calls, value-calls}
+use Rattle.bl_emit_functions_laws_formed.proofs.OnFormed.Shapes.{if-is, return-is}
+use Rattle.bl_emit_functions_laws_formed.proofs.OnFormed.Turns.{one-turns, return-turns}
+use Rattle.bl_emit_pass.specs.Names.{frame_name}
+use Rattle.bl_emit_pass.specs.Programs.{c_returned, init_function, input_arg, output_arg, port_struct, state_struct, tick_args, tick_function}
+use Rattle.bl_emit_pass_laws_bodies.proofs.OnSigned.Turns.{call-turns, clear-turns, if-turns}
+use Rattle.bl_emit_pass_laws_bodies.proofs.OnBodies.Calls.{Suit, suit-address, suit-append}
+use Rattle.bl_emit_pass_laws_bodies.proofs.OnBodies.Variables.{member_place}
+use Rattle.bl_emit_pass_laws_bodies.specs.Bodies.{memory_given, result_given, signature_of_activity}
+use Rattle.bl_emit_laws.proofs.OnFormed.Ports.{inputs-suit, outputs-suit, port-place}
+
+-- what the functions of the interface need, of an entry
+pub record Entry (structs : List StructDef) (unit : UnitDef) (remembers : Bool) (table : Table (Table CMember)) (functions : Table Signature)
+    (depths : Table ℕ) : Type 0 where
+  pub result : unit.result ≡ None
+  pub scalars : list_all (λ (var : Var). is_some (scalar_in var.ty)) (inputs_of unit) ≡ true
+  pub inputs : list_all (λ (var : Var). is_input var.role) (inputs_of unit) ≡ true
+  pub outputs : list_all (λ (var : Var). is_output var.role) (outputs_of unit) ≡ true
+  pub inputs_differ : are_distinct (names_of (inputs_of unit)) ≡ true
+  pub outputs_differ : are_distinct (names_of (outputs_of unit)) ≡ true
+  pub state : IsDeclared table (state_struct unit.name remembers)
+  pub ins : IsDeclared table (port_struct structs (codes "bl_in") (codes "i_") (inputs_of unit))
+  pub outs : IsDeclared table (port_struct structs (codes "bl_out") (codes "o_") (outputs_of unit))
+  pub frame : is_some (table (frame_name unit.name)) ≡ true
+  pub known : functions (unit_name unit.name) ≡ Some (signature_of_activity structs unit remembers)
+  pub depth : entry_or 0 depths (unit_name unit.name) ≤ 100
+
+at_most : (n : ℕ) → n ≤ 300 → nat_le n 300 ≡ true
+at_most n le = grind (arith, nat_tests)
+
+absent : {A : Type 0} (o : Option A) → o ≡ None → is_none o ≡ true
+absent None is = refl
+absent (Some x) is = absurd (cc)
+
+return-returns : (value : Option CExpr) → surely_returns (c_return value) ≡ true
+return-returns value =
+    subst (λ (k : CStmtKind). surely_returns (roll-CStmt (record { place = nowhere; what = k })) ≡ true) (statement.rolls-Return value) (form value)
+  where
+    form : (value : Option CExpr) → surely_returns (roll-CStmt (record { place = nowhere; what = roll-CStmtKind (CStmtKind-F.Return value) })) ≡ true
+    form value = rw (fold-roll-CStmt, fold-roll-CStmtKind) refl
+
+-- ---- what is called
+
+-- a place behind a pointer, or a variable, calls nothing
+step_calls_none : (through : Bool) (root name : Text) → calls_in_place (c_place through root (c_step name ∷ [])) ≡ []
+step_calls_none through root name = place-calls through root (c_step name ∷ []) ∙ (λ i. step-calls name i ++ [])
+
+root_calls_none : (through : Bool) (root : Text) → calls_in_place (c_place through root []) ≡ []
+root_calls_none through root = place-calls through root []
+
+-- arguments call nothing
+abbrev Silent : List CArg → Type 0
+Silent args = joined (map calls_in_arg args) ≡ []
+
+silent-cons : (a : CArg) (args : List CArg) → calls_in_arg a ≡ [] → Silent args → Silent (a ∷ args)
+silent-cons a args one rest = (λ i. one i ++ rest i)
+
+silent-append : (first second : List CArg) → Silent first → Silent second → Silent (first ++ second)
+silent-append [] second one other = other
+silent-append (a ∷ first) second one other =
+    let parts = none_front (calls_in_arg a) (joined (map calls_in_arg first)) one in
+    (λ i. parts.0 i ++ silent-append first second parts.1 other i)
+  where
+    none_front : {A : Type 0} (xs ys : List A) → xs ++ ys ≡ [] → (xs ≡ []) × (ys ≡ [])
+    none_front [] ys is = (refl, is)
+    none_front (x ∷ xs) ys is = absurd (cc)
+
+inputs_silent : (vars : List Var) → Silent (map input_arg vars)
+inputs_silent [] = refl
+inputs_silent (var ∷ vars) =
+    silent-cons (input_arg var) (map input_arg vars)
+    (value-calls (c_read (c_place true (codes "i") (c_step (codes "i_" ++ var.name) ∷ [])))
+    ∙ read-calls (c_place true (codes "i") (c_step (codes "i_" ++ var.name) ∷ []))
+    ∙ step_calls_none true (codes "i") (codes "i_" ++ var.name)) (inputs_silent vars)
+
+outputs_silent : (vars : List Var) → Silent (map output_arg vars)
+outputs_silent [] = refl
+outputs_silent (var ∷ vars) =
+    silent-cons (output_arg var) (map output_arg vars)
+    (address-calls (c_place true (codes "o") (c_step (codes "o_" ++ var.name) ∷ [])) ∙ step_calls_none true (codes "o") (codes "o_" ++ var.name))
+    (outputs_silent vars)
+
+abbrev memory_args : Bool → List CArg
+memory_args b = if b then Address (c_place true (codes "s") (c_step (codes "m") ∷ [])) ∷ [] else []
+
+memory_silent : (b : Bool) → Silent (memory_args b)
+memory_silent true =
+    silent-cons (Address (c_place true (codes "s") (c_step (codes "m") ∷ []))) []
+    (address-calls (c_place true (codes "s") (c_step (codes "m") ∷ [])) ∙ step_calls_none true (codes "s") (codes "m")) refl
+memory_silent false = refl
+
+tick_silent : (unit : UnitDef) (remembers : Bool) → Silent (tick_args unit remembers)
+tick_silent unit remembers =
+    silent-cons (Address (c_place true (codes "s") (c_step (codes "f") ∷ []))) _
+    (address-calls (c_place true (codes "s") (c_step (codes "f") ∷ [])) ∙ step_calls_none true (codes "s") (codes "f"))
+    (silent-append (memory_args remembers) _ (memory_silent remembers)
+    (silent-append (map input_arg (inputs_of unit)) _ (inputs_silent (inputs_of unit))
+    (silent-append (map output_arg (outputs_of unit)) _ (outputs_silent (outputs_of unit))
+    (silent-cons (Address (c_place false (codes "e") [])) []
+    (address-calls (c_place false (codes "e") []) ∙ root_calls_none false (codes "e")) refl))))
+
+returned_silent : (n : ℕ) → calls_in_stmt (c_returned n) ≡ []
+returned_silent n = return-calls (Some (c_literal (Nat W32) (pos n))) ∙ literal-calls (Nat W32) (pos n)
+
+module _ (structs : List StructDef) (unit : UnitDef) (remembers : Bool) (table : Table (Table CMember)) (functions : Table Signature)
+    (depths : Table ℕ) (e : Entry structs unit remembers table functions depths) where
+  -- ---- bl_init
+
+  abbrev init : CFunc
+  init = init_function unit.name
+
+  abbrev in_init : Context
+  in_init = context_in table functions init
+
+  -- the struct of what a program keeps has where the entry rests
+  frame_member : (context : Context) → context.structs ≡ table →
+      member_of context (OfStruct (codes "bl_state")) (codes "f") ≡ Some (plain_member (codes "f") (OfStruct (frame_name unit.name)))
+  frame_member context is =
+      ap (λ (structs : Table (Table CMember)). option_and_then (λ (members : Table CMember). members (codes "f")) (structs (codes "bl_state"))) is
+      ∙ ap (option_and_then (λ (members : Table CMember). members (codes "f"))) e.state
+
+  init_body : BlockIs in_init init.body
+  init_body =
+      block_one in_init (c_clear (c_place true (codes "s") (c_step (codes "f") ∷ [])) (frame_name unit.name))
+      (clear-is in_init true (c_place true (codes "s") (c_step (codes "f") ∷ [])) (frame_name unit.name)
+      (member_place in_init (codes "s") (codes "bl_state") (codes "f") (OfStruct (frame_name unit.name)) refl (frame_member in_init refl)) e.frame refl)
+
+  init_calls : calls_in_block init.body ≡ []
+  init_calls =
+      (λ i. clear-calls (c_place true (codes "s") (c_step (codes "f") ∷ [])) (frame_name unit.name) i ++ [])
+      ∙ (λ i. step_calls_none true (codes "s") (codes "f") i ++ [])
+
+  init_depth : depth_of_function depths init ≤ 300
+  init_depth = let none : most depths (calls_in_block init.body) ≡ 0 = ap (most depths) init_calls in omega (arith, none)
+
+  init_turns : turns_in_block init.body ≡ []
+  init_turns = one-turns (c_clear (c_place true (codes "s") (c_step (codes "f") ∷ [])) (frame_name unit.name)) [] (clear-turns _ _)
+
+  pub init-fine : functions (codes "bl_init") ≡ None → faults_in_function table functions depths true init ≡ []
+  init-fine new =
+      let one = kept (is_none (functions (codes "bl_init"))) distinct_names nowhere (absent (functions (codes "bl_init")) new) in
+      let three = kept ((is_some (table (codes "bl_state")) && true) && true) declared_before nowhere (declared (table (codes "bl_state")) (ap
+      is_some e.state)) in
+      let six = kept (nat_le (depth_of_function depths init) 300) short_chain nowhere (at_most (depth_of_function depths init) init_depth) in
+      let body = init_body false in
+      (λ i. (one i ++ ([] ++ (three i ++ ([] ++ ([] ++ (six i ++ []))))))
+      ++ (repeated (names_table (variable_names init)) (init_turns i) ++ body i))
+    where
+      declared : {A : Type 0} (o : Option A) → is_some o ≡ true → ((is_some o && true) && true) ≡ true
+      declared (Some x) is = refl
+      declared None is = absurd (cc)
+
+  -- ---- bl_tick
+
+  abbrev tick : CFunc
+  tick = tick_function unit remembers
+
+  abbrev in_tick : Context
+  in_tick = context_in table functions tick
+
+  abbrev params_for : List Var → List Variable
+  params_for vars = map (parameter_for structs) vars
+
+  memory_found : (b : Bool) → remembers ≡ b → Suit in_tick (memory_given unit b) (memory_args b)
+  memory_found false is = (refl, refl)
+  memory_found true is =
+      suit-address in_tick true (OfStruct (memory_name unit.name)) (c_place true (codes "s") (c_step (codes "m") ∷ []))
+      (member_place in_tick (codes "s") (codes "bl_state") (codes "m") (OfStruct (memory_name unit.name)) refl
+      (ap (option_and_then (λ (members : Table CMember). members (codes "m")))
+      (subst (λ b. table (codes "bl_state") ≡ Some (member_table (state_struct unit.name b))) is e.state)))
+
+  parameters_are : params_for (parameters_of unit) ≡ params_for (inputs_of unit) ++ params_for (outputs_of unit)
+  parameters_are =
+      ap (map (parameter_for structs)) (take-add unit.inputs unit.outputs unit.vars)
+      ∙ map-append (parameter_for structs) (inputs_of unit) (outputs_of unit)
+
+  ports_suit : Suit in_tick (params_for (inputs_of unit)) (map input_arg (inputs_of unit))
+  ports_suit =
+      inputs-suit in_tick structs (inputs_of unit) e.inputs e.scalars
+      (port-place structs (codes "i_") (λ x. refl) (λ x y. refl) in_tick (codes "i") (codes "bl_in") (inputs_of unit) e.inputs_differ e.ins refl)
+
+  outs_suit : Suit in_tick (params_for (outputs_of unit)) (map output_arg (outputs_of unit))
+  outs_suit =
+      outputs-suit in_tick structs (outputs_of unit) e.outputs
+      (port-place structs (codes "o_") (λ x. refl) (λ x y. refl) in_tick (codes "o") (codes "bl_out") (outputs_of unit) e.outputs_differ e.outs refl)
+
+  abbrev ended : CPlace
+  ended = c_place false (codes "e") []
+
+  ended_is : PlaceIs in_tick false bool_type ended
+  ended_is = variable_place in_tick (codes "e") bool_type refl
+
+  abbrev outs_args : List CArg
+  outs_args = map output_arg (outputs_of unit) ++ Address ended ∷ []
+
+  abbrev over : Variable
+  over = variable_of true bool_type
+
+  params_are : params_for (parameters_of unit) ++ (result_given unit.result ++ over ∷ [])
+      ≡ params_for (inputs_of unit) ++ (params_for (outputs_of unit) ++ over ∷ [])
+  params_are =
+      (λ i. parameters_are i ++ (result_given (e.result i) ++ over ∷ []))
+      ∙ append_assoc (params_for (inputs_of unit)) (params_for (outputs_of unit)) (over ∷ [])
+
+  args_suit : Suit in_tick (signature_of_activity structs unit remembers).params (tick_args unit remembers)
+  args_suit =
+      suit-append in_tick (variable_of true (OfStruct (frame_name unit.name)) ∷ [])
+      (memory_given unit remembers ++ (params_for (parameters_of unit) ++ (result_given unit.result ++ over ∷ [])))
+      (Address (c_place true (codes "s") (c_step (codes "f") ∷ [])) ∷ []) (memory_args remembers ++ (map input_arg (inputs_of unit) ++ outs_args))
+      (suit-address in_tick true (OfStruct (frame_name unit.name)) (c_place true (codes "s") (c_step (codes "f") ∷ []))
+      (member_place in_tick (codes "s") (codes "bl_state") (codes "f") (OfStruct (frame_name unit.name)) refl (frame_member in_tick refl)))
+      (suit-append in_tick (memory_given unit remembers) (params_for (parameters_of unit) ++ (result_given unit.result ++ over ∷ []))
+      (memory_args remembers) (map input_arg (inputs_of unit) ++ outs_args) (memory_found remembers refl)
+      (subst (λ ps. Suit in_tick ps (map input_arg (inputs_of unit) ++ outs_args)) (sym params_are)
+      (suit-append in_tick (params_for (inputs_of unit)) (params_for (outputs_of unit) ++ over ∷ [])
+      (map input_arg (inputs_of unit)) outs_args ports_suit
+      (suit-append in_tick (params_for (outputs_of unit)) (over ∷ []) (map output_arg (outputs_of unit)) (Address ended ∷ [])
+      outs_suit (suit-address in_tick false bool_type ended ended_is)))))
+
+  abbrev call : CStmt
+  call = c_calling (c_call (unit_name unit.name) (tick_args unit remembers))
+
+  abbrev choice : CStmt
+  choice = c_if (c_read ended) (c_returned 1 ∷ []) None
+
+  signed : signature_of in_tick (unit_name unit.name) ≡ Some (signature_of_activity structs unit remembers)
+  signed = ap (λ o. signature_as o (functions (unit_name unit.name))) (unit_named unit.name) ∙ e.known
+
+  call_is : StmtIs in_tick call
+  call_is =
+      calling-is in_tick (unit_name unit.name) (tick_args unit remembers) (signature_of_activity structs unit remembers) signed args_suit.0 args_suit.1
+      refl
+
+  returned_is : (n : ℕ) → StmtIs in_tick (c_returned n)
+  returned_is n = return-is in_tick (c_literal (Nat W32) (pos n)) (Nat W32) refl (literal-is in_tick (Nat W32) (pos n))
+
+  tick_body : BlockIs in_tick tick.body
+  tick_body =
+      block_cons in_tick call (choice ∷ c_returned 0 ∷ []) call_is
+      (block_cons in_tick choice (c_returned 0 ∷ [])
+      (if-is in_tick (c_read ended) (c_returned 1 ∷ []) None (read-is in_tick false bool_type ended ended_is)
+      (block_one in_tick (c_returned 1) (returned_is 1)) (λ looped. refl))
+      (block_one in_tick (c_returned 0) (returned_is 0)))
+
+  call_calls : calls_in_stmt call ≡ unit_name unit.name ∷ []
+  call_calls =
+      calling-calls (c_call (unit_name unit.name) (tick_args unit remembers)) ∙ call-calls (unit_name unit.name) (tick_args unit remembers)
+      ∙ ap (λ rest. unit_name unit.name ∷ rest) (tick_silent unit remembers)
+
+  choice_calls : calls_in_stmt choice ≡ []
+  choice_calls =
+      if-calls (c_read ended) (c_returned 1 ∷ []) None
+      ∙ (λ i. ((read-calls ended ∙ root_calls_none false (codes "e")) i ++ (returned_silent 1 i ++ [])) ++ [])
+
+  tick_calls : calls_in_block tick.body ≡ unit_name unit.name ∷ []
+  tick_calls = (λ i. call_calls i ++ (choice_calls i ++ (returned_silent 0 i ++ [])))
+
+  tick_depth : depth_of_function depths tick ≤ 300
+  tick_depth =
+      let is : most depths (calls_in_block tick.body) ≡ most depths (unit_name unit.name ∷ []) = ap (most depths) tick_calls in
+      let low = e.depth in omega (arith, is, low)
+
+  returned_turns : (n : ℕ) → turns_in (c_returned n) ≡ []
+  returned_turns n = return-turns (Some (c_literal (Nat W32) (pos n)))
+
+  tick_turns : turns_in_block tick.body ≡ []
+  tick_turns =
+      (λ i. call-turns (c_call (unit_name unit.name) (tick_args unit remembers)) i
+      ++ (if-turns (c_read ended) (c_returned 1 ∷ []) None (one-turns (c_returned 1) [] (returned_turns 1)) refl i ++ (returned_turns 0 i ++ [])))
+
+  pub tick-fine : functions (codes "bl_tick") ≡ None → faults_in_function table functions depths true tick ≡ []
+  tick-fine new =
+      let one = kept (is_none (functions (codes "bl_tick"))) distinct_names nowhere (absent (functions (codes "bl_tick")) new) in
+      let three = kept ((is_some (table (codes "bl_state")) && (is_some (table (codes "bl_in")) && (is_some (table (codes "bl_out")) && true))) && true)
+      declared_before nowhere
+      (all_there (table (codes "bl_state")) (table (codes "bl_in")) (table (codes "bl_out")) (ap is_some e.state) (ap is_some e.ins) (ap is_some e.outs)) in
+      let six = kept (nat_le (depth_of_function depths tick) 300) short_chain nowhere (at_most (depth_of_function depths tick) tick_depth) in
+      let seven = kept (surely_returns (c_returned 0)) returns_result nowhere (return-returns (Some (c_literal (Nat W32) (pos 0)))) in
+      let body = tick_body false in
+      (λ i. (one i ++ ([] ++ (three i ++ ([] ++ ([] ++ (six i ++ seven i))))))
+      ++ (repeated (names_table (variable_names tick)) (tick_turns i) ++ body i))
+    where
+      all_there : {A : Type 0} (x y z : Option A) → is_some x ≡ true → is_some y ≡ true → is_some z ≡ true →
+          ((is_some x && (is_some y && (is_some z && true))) && true) ≡ true
+      all_there (Some x) (Some y) (Some z) one two three = refl
+      all_there None y z one two three = absurd (cc)
+      all_there (Some x) None z one two three = absurd (cc)
+      all_there (Some x) (Some y) None one two three = absurd (cc)

@@ -1,0 +1,197 @@
+-- The inputs and outputs of the entry in the structs of the interface.
+use Rattle.std.proofs.Common.{◌≡◌, Bool, true, false, not, ◌||◌, List, [], ◌∷◌, ◌++◌, map, Option, Some, None}
+use Rattle.std.proofs.Common.{refl, sym, ap, ◌∙◌, subst, codes, take-add}
+use Rattle.std.proofs.lemmas.List.{map-append}
+use Rattle.std.proofs.lemmas.List.Folds.{list_all-append}
+use Rattle.std.specs.Prelude.{Contains, bytes_eq, is_none, is_some, option_and_then}
+use Rattle.std.specs.List.{list_all}
+use Rattle.bl_tree.specs.declared.text.Text.{Text}
+use Rattle.bl_tree.specs.declared.c.CArg.TheVariants.{Value}
+use Rattle.bl_tree.specs.declared.c.CExpr.{CExpr}
+use Rattle.bl_tree.specs.declared.c.CMember.{CMember}
+use Rattle.bl_tree.specs.declared.c.CType.{CType}
+use Rattle.bl_tree.specs.declared.c.CType.TheVariants.{Scalar as OfScalar, Struct as OfStruct}
+use Rattle.bl_tree.specs.declared.scalar.Scalar.{Scalar as ScalarType}
+use Rattle.bl_tree.specs.declared.scalar.Scalar.TheVariants.{Nat}
+use Rattle.bl_tree.specs.declared.scalar.Width.TheVariants.{W8}
+use Rattle.bl_tree.specs.declared.tree.Role.{Role}
+use Rattle.bl_tree.specs.declared.tree.Role.TheVariants.{Input, Output, Variable as OfVariable, Fixed}
+use Rattle.bl_tree.specs.declared.tree.StructDef.{StructDef}
+use Rattle.bl_tree.specs.declared.tree.Unit.{Unit as UnitDef}
+use Rattle.bl_tree.specs.declared.tree.Var.{Var}
+use Rattle.bl_tree.specs.Program.{is_input, is_output, names_of, parameters_of}
+use Rattle.bl_tree.specs.Types.{scalar_in}
+use Rattle.bl_tree.specs.Typing.{inputs_of, outputs_of}
+use Rattle.bl_tree.specs.Words.{are_distinct, is_among}
+use Rattle.bl_eval.proofs.PassLemmas.{and_left, and_right, both}
+use Rattle.bl_cmeaning.specs.Faults.{Context, fits_arg, judged_arg, member_table}
+use Rattle.bl_cmeaning.specs.Tables.{Table, found}
+use Rattle.bl_emit_acts.specs.Trees.{c_place, c_read, c_step, nowhere}
+use Rattle.bl_emit_acts.specs.Types.{c_type}
+use Rattle.bl_emit_acts_laws_formed.specs.Formed.Declared.{parameter_for, variable_of}
+use Rattle.bl_emit_acts_laws_formed.specs.Formed.Formed.{ExprIs, PlaceIs, sound}
+use Rattle.bl_emit_acts_laws_formed.proofs.OnFormed.Judged.{of_value, read-is, value_arg-is}
+use Rattle.bl_emit_acts_laws_formed.proofs.OnFormed.Prelude.{type_same}
+use Rattle.bl_emit_pass.specs.Programs.{input_arg, output_arg, port_member, port_struct}
+use Rattle.bl_emit_pass_laws.proofs.OnOwn.Members.{contains_mapped, further, here as first_here}
+use Rattle.bl_emit_pass_laws_bodies.proofs.OnBodies.Calls.{Suit, suit-address, suit-append}
+use Rattle.bl_emit_pass_laws_bodies.proofs.OnBodies.Lists.{found-one, names_of_entries}
+use Rattle.bl_emit_pass_laws_bodies.proofs.OnBodies.Variables.{member_place}
+
+-- ---- lists
+
+none_left : (a b c : Bool) → (b ≡ false → c ≡ false) → (a || b) ≡ false → (a || c) ≡ false
+none_left false b c more none = more none
+none_left true b c more none = absurd (cc)
+
+not_false : (b : Bool) → not b ≡ true → b ≡ false
+not_false false h = refl
+not_false true h = absurd (let no : false ≡ true = h in cc)
+
+front_none : (x : Text) (xs ys : List Text) → is_among x (xs ++ ys) ≡ false → is_among x xs ≡ false
+front_none x [] ys none = refl
+front_none x (y ∷ xs) ys none = none_left (bytes_eq x y) (is_among x (xs ++ ys)) (is_among x xs) (front_none x xs ys) none
+
+pub front_differs : (xs ys : List Text) → are_distinct (xs ++ ys) ≡ true → are_distinct xs ≡ true
+front_differs [] ys differ = refl
+front_differs (x ∷ xs) ys differ =
+    both (not (is_among x xs)) (are_distinct xs)
+    (ap not (front_none x xs ys (not_false (is_among x (xs ++ ys)) (and_left (not (is_among x (xs ++ ys))) (are_distinct (xs ++ ys)) differ))))
+    (front_differs xs ys (and_right (not (is_among x (xs ++ ys))) (are_distinct (xs ++ ys)) differ))
+
+pub back_differs : (xs ys : List Text) → are_distinct (xs ++ ys) ≡ true → are_distinct ys ≡ true
+back_differs [] ys differ = differ
+back_differs (x ∷ xs) ys differ = back_differs xs ys (and_right (not (is_among x (xs ++ ys))) (are_distinct (xs ++ ys)) differ)
+
+-- ---- a struct of ports
+
+module _ (structs : List StructDef) (prefix : Text) (padded : (x : Text) → bytes_eq (codes "pad") (prefix ++ x) ≡ false)
+    (kept : (x y : Text) → bytes_eq (prefix ++ x) (prefix ++ y) ≡ bytes_eq x y) where
+  -- their names
+  abbrev port_names : List Var → List Text
+  port_names vars = map (λ (var : Var). prefix ++ var.name) vars
+
+  no_pad : (vars : List Var) → is_among (codes "pad") (port_names vars) ≡ false
+  no_pad [] = refl
+  no_pad (var ∷ vars) = (λ i. padded var.name i || no_pad vars i)
+
+  among_same : (x : Text) (vars : List Var) → is_among (prefix ++ x) (port_names vars) ≡ is_among x (names_of vars)
+  among_same x [] = refl
+  among_same x (var ∷ vars) = (λ i. kept x var.name i || among_same x vars i)
+
+  ports_differ : (vars : List Var) → are_distinct (names_of vars) ≡ true → are_distinct (port_names vars) ≡ true
+  ports_differ [] differ = refl
+  ports_differ (var ∷ vars) differ =
+      both (not (is_among (prefix ++ var.name) (port_names vars))) (are_distinct (port_names vars))
+      (ap not (among_same var.name vars) ∙ and_left (not (is_among var.name (names_of vars))) (are_distinct (names_of vars)) differ)
+      (ports_differ vars (and_right (not (is_among var.name (names_of vars))) (are_distinct (names_of vars)) differ))
+
+  abbrev pad : CMember
+  pad = record { ty = OfScalar (Nat W8); name = codes "pad"; length = None }
+
+  abbrev entry_of : CMember → Text × CMember
+  entry_of m = (m.name, m)
+
+  entries_named : (vars : List Var) → names_of_entries (map entry_of (map (port_member structs prefix) vars)) ≡ port_names vars
+  entries_named [] = refl
+  entries_named (var ∷ vars) = ap (λ rest. (prefix ++ var.name) ∷ rest) (entries_named vars)
+
+  port_found : (vars : List Var) (var : Var) → are_distinct (names_of vars) ≡ true → Contains vars var →
+      found (prefix ++ var.name) (map entry_of (pad ∷ map (port_member structs prefix) vars)) ≡ Some (port_member structs prefix var)
+  port_found vars var differ has =
+      found-one (map entry_of (pad ∷ map (port_member structs prefix) vars)) (entry_of (port_member structs prefix var))
+      (ap (λ names. are_distinct (codes "pad" ∷ names)) (entries_named vars)
+      ∙ both (not (is_among (codes "pad") (port_names vars))) (are_distinct (port_names vars)) (ap not (no_pad vars)) (ports_differ vars differ))
+      (contains_mapped entry_of (pad ∷ map (port_member structs prefix) vars) (port_member structs prefix var)
+      (further pad (map (port_member structs prefix) vars) (port_member structs prefix var)
+      (contains_mapped (port_member structs prefix) vars var has)))
+
+  module _ (context : Context) (root name : Text) (vars : List Var) (differ : are_distinct (names_of vars) ≡ true)
+      (declared : context.structs name ≡ Some (member_table (port_struct structs name prefix vars)))
+      (variable : context.variables root ≡ Some (variable_of true (OfStruct name))) where
+    -- a port is a member of what the pointer leads to
+    pub port-place : (var : Var) → Contains vars var → PlaceIs context true (c_type structs var.ty)
+        (c_place true root (c_step (prefix ++ var.name) ∷ []))
+    port-place var has =
+        member_place context root name (prefix ++ var.name) (c_type structs var.ty) variable
+        (ap (option_and_then (λ (members : Table CMember). members (prefix ++ var.name))) declared ∙ port_found vars var differ has)
+
+-- ---- arguments
+
+module _ (context : Context) where
+  suit-value : (ty : CType) (e : CExpr) → ExprIs context ty e → Suit context (variable_of false ty ∷ []) (Value e ∷ [])
+  suit-value ty e is =
+      let judged : judged_arg (Value e) context nowhere ≡ of_value (sound ty) = value_arg-is context ty e nowhere is in (
+        both (fits_arg false (variable_of false ty) (judged_arg (Value e) context nowhere)) true
+            (subst (λ j. fits_arg false (variable_of false ty) j ≡ true) (sym judged) (type_same ty)) refl,
+        (λ i. (judged i).faults ++ []),
+      )
+
+  input_by_value : (role : Role) (s : Option ScalarType) → is_input role ≡ true → is_some s ≡ true → (is_output role || is_none s) ≡ false
+  input_by_value Input (Some s) input some = refl
+  input_by_value Input None input some = absurd (cc)
+  input_by_value Output s input some = absurd (cc)
+  input_by_value OfVariable s input some = absurd (cc)
+  input_by_value Fixed s input some = absurd (cc)
+
+  output_by_pointer : (role : Role) (rest : Bool) → is_output role ≡ true → (is_output role || rest) ≡ true
+  output_by_pointer Output rest output = refl
+  output_by_pointer Input rest output = absurd (cc)
+  output_by_pointer OfVariable rest output = absurd (cc)
+  output_by_pointer Fixed rest output = absurd (cc)
+
+  module _ (structs : List StructDef) where
+    pub inputs-suit : (vars : List Var) → list_all (λ (var : Var). is_input var.role) vars ≡ true →
+        list_all (λ (var : Var). is_some (scalar_in var.ty)) vars ≡ true →
+        ((var : Var) → Contains vars var → PlaceIs context true (c_type structs var.ty)
+        (c_place true (codes "i") (c_step (codes "i_" ++ var.name) ∷ []))) →
+        Suit context (map (parameter_for structs) vars) (map input_arg vars)
+    inputs-suit [] roles scalars places = (refl, refl)
+    inputs-suit (var ∷ vars) roles scalars places =
+        let value : (is_output var.role || is_none (scalar_in var.ty)) ≡ false =
+        input_by_value var.role (scalar_in var.ty) (and_left (is_input var.role) (list_all (λ (var : Var). is_input var.role) vars) roles)
+        (and_left (is_some (scalar_in var.ty)) (list_all (λ (var : Var). is_some (scalar_in var.ty)) vars) scalars) in
+        suit-append context (parameter_for structs var ∷ []) (map (parameter_for structs) vars) (input_arg var ∷ []) (map input_arg vars)
+        (subst (λ b. Suit context (variable_of b (c_type structs var.ty) ∷ []) (input_arg var ∷ [])) (sym value)
+        (suit-value (c_type structs var.ty) (c_read (c_place true (codes "i") (c_step (codes "i_" ++ var.name) ∷ [])))
+        (read-is context true (c_type structs var.ty) (c_place true (codes "i") (c_step (codes "i_" ++ var.name) ∷ []))
+        (places var (first_here var vars)))))
+        (inputs-suit vars (and_right (is_input var.role) (list_all (λ (var : Var). is_input var.role) vars) roles)
+        (and_right (is_some (scalar_in var.ty)) (list_all (λ (var : Var). is_some (scalar_in var.ty)) vars) scalars)
+        (λ other there. places other (further var vars other there)))
+
+    pub outputs-suit : (vars : List Var) → list_all (λ (var : Var). is_output var.role) vars ≡ true →
+        ((var : Var) → Contains vars var → PlaceIs context true (c_type structs var.ty)
+        (c_place true (codes "o") (c_step (codes "o_" ++ var.name) ∷ []))) →
+        Suit context (map (parameter_for structs) vars) (map output_arg vars)
+    outputs-suit [] roles places = (refl, refl)
+    outputs-suit (var ∷ vars) roles places =
+        let pointer : (is_output var.role || is_none (scalar_in var.ty)) ≡ true =
+        output_by_pointer var.role (is_none (scalar_in var.ty))
+        (and_left (is_output var.role) (list_all (λ (var : Var). is_output var.role) vars) roles) in
+        suit-append context (parameter_for structs var ∷ []) (map (parameter_for structs) vars) (output_arg var ∷ []) (map output_arg vars)
+        (subst (λ b. Suit context (variable_of b (c_type structs var.ty) ∷ []) (output_arg var ∷ [])) (sym pointer)
+        (suit-address context true (c_type structs var.ty) (c_place true (codes "o") (c_step (codes "o_" ++ var.name) ∷ []))
+        (places var (first_here var vars))))
+        (outputs-suit vars (and_right (is_output var.role) (list_all (λ (var : Var). is_output var.role) vars) roles)
+        (λ other there. places other (further var vars other there)))
+
+-- ---- what the entry has
+
+module _ (unit : UnitDef) where
+  parts_are : parameters_of unit ≡ inputs_of unit ++ outputs_of unit
+  parts_are = take-add unit.inputs unit.outputs unit.vars
+
+  names_split : names_of (parameters_of unit) ≡ names_of (inputs_of unit) ++ names_of (outputs_of unit)
+  names_split = ap names_of parts_are ∙ map-append (λ (var : Var). var.name) (inputs_of unit) (outputs_of unit)
+
+  pub inputs_differ : are_distinct (names_of (parameters_of unit)) ≡ true → are_distinct (names_of (inputs_of unit)) ≡ true
+  inputs_differ differ = front_differs (names_of (inputs_of unit)) (names_of (outputs_of unit)) (ap are_distinct (sym names_split) ∙ differ)
+
+  pub outputs_differ : are_distinct (names_of (parameters_of unit)) ≡ true → are_distinct (names_of (outputs_of unit)) ≡ true
+  outputs_differ differ = back_differs (names_of (inputs_of unit)) (names_of (outputs_of unit)) (ap are_distinct (sym names_split) ∙ differ)
+
+  pub inputs_all : (test : Var → Bool) → list_all test (parameters_of unit) ≡ true → list_all test (inputs_of unit) ≡ true
+  inputs_all test all =
+      and_left (list_all test (inputs_of unit)) (list_all test (outputs_of unit))
+      (sym (list_all-append test (inputs_of unit) (outputs_of unit)) ∙ ap (list_all test) (sym parts_are) ∙ all)

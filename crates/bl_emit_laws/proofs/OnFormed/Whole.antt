@@ -1,0 +1,229 @@
+-- Nothing fails in the whole file.
+use Rattle.std.proofs.Common.{◌≡◌, ℕ, ◌+◌, ◌-◌, ◌<◌, ◌≤◌, inr, ⊎_elim, Bool, true, false, ◌&&◌, List, [], ◌∷◌, ◌++◌}
+use Rattle.std.proofs.Common.{drop, length, Option, Some, None, refl, sym, ap, ◌∙◌, subst, arith, codes}
+use Rattle.std.proofs.lemmas.Bool.{cases_lt}
+use Rattle.std.proofs.lemmas.Option.{slice_get_within}
+use Rattle.std.specs.Option.{option_or}
+use Rattle.std.specs.Prelude.{is_none, is_some, slice_get, unwrap_or, if◌then◌else◌}
+use Rattle.std.specs.List.{list_all}
+use Rattle.bl_tree.specs.declared.c.CFunc.{CFunc}
+use Rattle.bl_tree.specs.declared.c.CMember.{CMember}
+use Rattle.bl_tree.specs.declared.c.CStruct.{CStruct}
+use Rattle.bl_tree.specs.declared.place.Place.{Place}
+use Rattle.bl_tree.specs.declared.program.Program.{Program}
+use Rattle.bl_tree.specs.declared.rule.Rule.TheVariants as rule
+use Rattle.bl_tree.specs.declared.tree.Unit.{Unit as UnitDef}
+use Rattle.bl_tree.specs.declared.tree.Var.{Var}
+use Rattle.bl_tree.specs.Program.{Keeps, is_entry, names_of, parameters_of}
+use Rattle.bl_tree.specs.Types.{scalar_in}
+use Rattle.bl_tree.specs.Typing.{inputs_of, is_activity, outputs_of}
+use Rattle.bl_tree.specs.Words.{are_distinct, is_name}
+use Rattle.bl_eval.proofs.PassLemmas.{and_left, and_right}
+use Rattle.bl_limits.specs.Rules.{Passes}
+use Rattle.bl_measures.specs.Units.{chain_at}
+use Rattle.bl_cmeaning.specs.Faults.{
+  Fault,
+  Signature,
+  WellFormed,
+  depth_of_function,
+  faults_in,
+  function_faults_after,
+  interface_faults,
+  last_place,
+  last_two,
+  faults_of_two,
+  signature_in,
+  struct_faults_after,
+  struct_table,
+  unless,
+}
+use Rattle.bl_cmeaning.specs.Faults as faults
+use Rattle.bl_cmeaning.specs.Parts.{parts_from as file_from}
+use Rattle.bl_cmeaning.specs.Tables.{Table, no_entries, with_entry}
+use Rattle.bl_machine.specs.declared.machine.Activity.{Activity as InMachine}
+use Rattle.bl_emit_acts.specs.Types.{unit_name}
+use Rattle.bl_emit_acts_laws_formed.proofs.OnFormed.Judged.{kept}
+use Rattle.bl_emit_acts_laws_formed.proofs.OnFormed.Units.{inputs_stand, outputs_stand, unit_at}
+use Rattle.bl_emit_pass.specs.Programs.{Parts, file_at, init_function, needed_units, port_struct, state_struct, tick_function, written}
+use Rattle.bl_emit_pass_laws_formed.specs.Closed.{NeededClosed}
+use Rattle.bl_emit_pass_laws_bodies.specs.Lists.{FunctionsEnd, PartsFormed, signature_by}
+use Rattle.bl_emit_pass_laws.proofs.OnOwn.Members.{further, here}
+use Rattle.bl_emit_laws.proofs.OnFormed.Interface.{Entry, init-fine, tick-fine}
+use Rattle.bl_emit_laws.proofs.OnFormed.Ports.{inputs_all, inputs_differ, outputs_differ}
+use Rattle.bl_emit_laws.specs.Formed.{FilesFormed, StructsSound, parts_of, table_of}
+
+-- ---- the last two functions
+
+two_length : {A : Type 0} (xs : List A) (x y : A) → length (xs ++ x ∷ y ∷ []) ≡ length xs + 2
+two_length [] x y = refl
+two_length (z ∷ xs) x y = let rest = two_length xs x y in omega (arith, rest)
+
+drop_front : {A : Type 0} (xs ys : List A) → drop (length xs) (xs ++ ys) ≡ ys
+drop_front [] ys = refl
+drop_front (x ∷ xs) ys = drop_front xs ys
+
+two_last : (funcs : List CFunc) (f g : CFunc) → last_two (funcs ++ f ∷ g ∷ []) ≡ f ∷ g ∷ []
+two_last funcs f g =
+    let long = two_length funcs f g in
+    let same : length (funcs ++ f ∷ g ∷ []) - 2 ≡ length funcs = omega (arith, long) in
+    ap (λ n. drop n (funcs ++ f ∷ g ∷ [])) same ∙ drop_front funcs (f ∷ g ∷ [])
+
+stays : {A : Type 0} (o : Option A) (b : Bool) (new s : A) → o ≡ Some s → option_or o (if b then Some new else None) ≡ Some s
+stays None b new s is = absurd (cc)
+stays (Some t) b new s is = is
+
+none_more : {A : Type 0} (o : Option A) → option_or o None ≡ o
+none_more None = refl
+none_more (Some x) = refl
+
+none_still : {A : Type 0} (o : Option A) → o ≡ None → option_or o None ≡ None
+none_still None is = refl
+none_still (Some x) is = absurd (cc)
+
+all_three : (a b c : Bool) → a ≡ true → b ≡ true → c ≡ true → (a && (b && c)) ≡ true
+all_three true true c one two three = three
+all_three true false c one two three = absurd (cc)
+all_three false b c one two three = absurd (cc)
+
+last_of_two : (a b : Bool) → (a && b) ≡ true → b ≡ true
+last_of_two true b h = h
+last_of_two false b h = absurd (cc)
+
+no_result : {A : Type 0} (o : Option A) → is_none o ≡ true → o ≡ None
+no_result None is = refl
+no_result (Some x) is = absurd (cc)
+
+module _ (program : Program) (machine : List InMachine) (unit : UnitDef) (keeps : Keeps program.structs program.units program.entry)
+    (passes : Passes program.structs program.units program.entry) (there : slice_get program.units program.entry ≡ Some unit)
+    (closed : NeededClosed program.structs program.units program.entry) (sound : StructsSound program machine unit)
+    (end : FunctionsEnd program.structs program.units program.entry (table_of program machine) (parts_of program machine)
+    (init_function unit.name ∷ tick_function unit (unwrap_or (slice_get (parts_of program machine).remember program.entry) false) ∷ [])) where
+  abbrev parts : Parts
+  parts = parts_of program machine
+
+  abbrev table : Table (Table CMember)
+  table = table_of program machine
+
+  abbrev remembers : Bool
+  remembers = unwrap_or (slice_get parts.remember program.entry) false
+
+  abbrev init : CFunc
+  init = init_function unit.name
+
+  abbrev tick : CFunc
+  tick = tick_function unit remembers
+
+  -- ---- the entry
+
+  is_it : is_entry (Some unit) ≡ true
+  is_it = ap is_entry (sym there) ∙ keeps.entry_stands
+
+  active : is_activity unit.kind ≡ true
+  active = and_left (is_activity unit.kind) _ is_it
+
+  need : slice_get (needed_units program.units program.entry) program.entry ≡ Some true
+  need = closed.entry_is keeps
+
+  within : program.entry < length program.units
+  within = slice_get_within program.units program.entry unit there
+
+  names_differ : are_distinct (names_of (parameters_of unit)) ≡ true
+  names_differ =
+      last_of_two (list_all is_name (names_of unit.vars)) (are_distinct (names_of (parameters_of unit)))
+      (and_right _ _ (and_left _ _ (unit_at program.structs program.units program.entry keeps program.entry unit there)))
+
+  chain_low : chain_at program.units program.entry ≤ 100
+  chain_low =
+      ⊎_elim
+      (λ (long : 100 < chain_at program.units program.entry). absurd (passes rule.Frames unit.place []
+      (inr (record { position = program.entry; unit = unit; heads = there; long = long; at_name = refl }), refl)))
+      (λ few. few) (cases_lt 100 (chain_at program.units program.entry))
+
+  -- the structs of the interface
+  abbrev state : CStruct
+  state = state_struct unit.name remembers
+
+  abbrev ins : CStruct
+  ins = port_struct program.structs (codes "bl_in") (codes "i_") (inputs_of unit)
+
+  abbrev outs : CStruct
+  outs = port_struct program.structs (codes "bl_out") (codes "o_") (outputs_of unit)
+
+  before : Entry program.structs unit remembers table end.functions end.depths
+  before = record {
+    result = no_result unit.result (and_left (is_none unit.result) _ (and_right (is_activity unit.kind) _ is_it));
+    scalars = inputs_all unit (λ (var : Var). is_some (scalar_in var.ty)) (and_right (is_none unit.result) _ (and_right (is_activity unit.kind) _ is_it));
+    inputs = inputs_stand program.structs program.units program.entry keeps program.entry unit there;
+    outputs = outputs_stand program.structs program.units program.entry keeps program.entry unit there;
+    inputs_differ = inputs_differ unit names_differ;
+    outputs_differ = outputs_differ unit names_differ;
+    state = sound.interface state (here state (ins ∷ outs ∷ []));
+    ins = sound.interface ins (further state (ins ∷ outs ∷ []) ins (here ins (outs ∷ [])));
+    outs = sound.interface outs (further state (ins ∷ outs ∷ []) outs (further ins (outs ∷ []) outs (here outs [])));
+    frame = end.frames program.entry unit there need active;
+    known = end.known.known program.entry unit there within need
+        ∙ ap (λ b. Some (signature_by b program.structs unit remembers)) active;
+    depth = let low = end.chains.of_units program.entry unit there in let few = chain_low in omega (arith, low, few);
+  }
+
+  -- what is known once bl_init is
+  abbrev functions_then : Table Signature
+  functions_then = with_entry end.functions (codes "bl_init") (signature_in init)
+
+  abbrev depths_then : Table ℕ
+  depths_then = with_entry end.depths (codes "bl_init") (depth_of_function end.depths init)
+
+  behind : Entry program.structs unit remembers table functions_then depths_then
+  behind = record {
+    result = before.result;
+    scalars = before.scalars;
+    inputs = before.inputs;
+    outputs = before.outputs;
+    inputs_differ = before.inputs_differ;
+    outputs_differ = before.outputs_differ;
+    state = before.state;
+    ins = before.ins;
+    outs = before.outs;
+    frame = before.frame;
+    known = ap (λ o. option_or o None) before.known;
+    depth = subst (λ o. unwrap_or o 0 ≤ 100) (sym (none_more (end.depths (unit_name unit.name)))) before.depth;
+  }
+
+  functions_fine : function_faults_after table end.functions end.depths (init ∷ tick ∷ []) ≡ []
+  functions_fine =
+      let one = init-fine program.structs unit remembers table end.functions end.depths before (end.known.prelude (codes "init")) in
+      let two = tick-fine program.structs unit remembers table functions_then depths_then behind
+      (none_still (end.functions (codes "bl_tick")) (end.known.prelude (codes "tick"))) in
+      (λ i. one i ++ (two i ++ []))
+
+  funcs_fine : function_faults_after table no_entries no_entries (parts.funcs ++ (init ∷ tick ∷ [])) ≡ []
+  funcs_fine = end.same ∙ functions_fine
+
+  two_fine : interface_faults (parts.funcs ++ (init ∷ tick ∷ [])) ≡ []
+  two_fine = ap faults_of_two (two_last parts.funcs init tick)
+
+  three_fine : (at : Place) → unless (is_some (table (codes "bl_state")) && (is_some (table (codes "bl_in")) && is_some (table (codes "bl_out"))))
+      faults.interface_structs at ≡ []
+  three_fine at =
+      kept (is_some (table (codes "bl_state")) && (is_some (table (codes "bl_in")) && is_some (table (codes "bl_out")))) faults.interface_structs at
+      (all_three (is_some (table (codes "bl_state"))) (is_some (table (codes "bl_in"))) (is_some (table (codes "bl_out"))) (ap is_some before.state)
+      (ap is_some before.ins) (ap is_some before.outs))
+
+  pub fine : faults_in (file_from (written program machine).structs (parts.funcs ++ (init ∷ tick ∷ []))) ≡ []
+  unfolding faults_in
+  fine =
+      (λ i. sound.formed i ++ (funcs_fine i ++ (three_fine (last_place (parts.funcs ++ (init ∷ tick ∷ []))) i ++ two_fine i)))
+
+  funcs_are : (written program machine).funcs ≡ parts.funcs ++ (init ∷ tick ∷ [])
+  funcs_are = ap (λ o. (file_at program parts o).funcs) there
+
+  pub formed : WellFormed (file_from (written program machine).structs (written program machine).funcs)
+  formed = subst (λ funcs. WellFormed (file_from (written program machine).structs funcs)) (sym funcs_are) (record { none = fine })
+
+pub files : (program : Program) → NeededClosed program.structs program.units program.entry → PartsFormed program.structs program.units program.entry →
+    FilesFormed program
+files program closed parts_formed machine unit keeps passes there forms sound =
+    formed program machine unit keeps passes there closed sound
+    (parts_formed machine (table_of program machine)
+    (init_function unit.name ∷ tick_function unit (unwrap_or (slice_get (parts_of program machine).remember program.entry) false) ∷ [])
+    keeps passes forms sound.types sound.parts (omega arith))

@@ -1,0 +1,190 @@
+-- All is so that is asked of needed units.
+use Rattle.std.proofs.Common.{◌≡◌, ℕ, suc, ◌+◌, ◌^◌, ◌<◌, ◌≤◌, arith, Bool, true, false, List, [], ◌∷◌, ◌++◌}
+use Rattle.std.proofs.Common.{map, take, drop, length, Some, cond, refl, sym, ap, ◌∙◌, subst, append_assoc}
+use Rattle.std.proofs.lemmas.List.{length-append}
+use Rattle.std.specs.Prelude.{slice_get, if◌then◌else◌}
+use Rattle.bl_tree.specs.declared.tree.StructDef.{StructDef}
+use Rattle.bl_tree.specs.declared.tree.Unit.{Unit as UnitDef}
+use Rattle.bl_tree.specs.declared.tree.UnitKind.{UnitKind}
+use Rattle.bl_tree.specs.declared.tree.UnitKind.TheVariants.{Function, Activity as ActivityKind}
+use Rattle.bl_tree.specs.Program.{Keeps}
+use Rattle.bl_tree.specs.Reduce.{greatest, total}
+use Rattle.bl_tree.specs.Typing.{is_activity}
+use Rattle.bl_cause.specs.Activities.{EachTwo, activities}
+use Rattle.bl_effects.specs.Rules.{Passes}
+use Rattle.bl_limits.specs.Rules.{Passes as KeepsLimits}
+use Rattle.bl_measures.specs.Calls.{calls_of}
+use Rattle.bl_measures.specs.Laws.{CellsAdd}
+use Rattle.bl_measures.specs.Runs.{runs_of}
+use Rattle.bl_measures.specs.Statements.{statements_of}
+use Rattle.bl_measures.specs.Units.{cells_at, cells_with, variables_of}
+use Rattle.bl_measures_laws.specs.Laws.{UnitsUseEarlierOnes}
+use Rattle.bl_nodes.specs.Nodes.{nodes_in}
+use Rattle.bl_nodes.specs.Plain.{Block, plain_body}
+use Rattle.bl_machine.specs.declared.machine.Activity.{Activity as InMachine}
+use Rattle.bl_machine.specs.Layout.{places_in}
+use Rattle.bl_machine.specs.Machines.{IsActivityOf}
+use Rattle.bl_machine.specs.Uses.{Slots}
+use Rattle.bl_machine_laws.specs.Rests.{ActivitiesCount}
+use Rattle.bl_pass.specs.Rules.{Rule, rules}
+use Rattle.bl_pass_laws.specs.Spots.{SpotsDiffer}
+use Rattle.bl_prevs_laws.specs.Scalar.{PrevsAreScalar}
+use Rattle.bl_emit_functions_laws_formed.specs.Formed.{IsNumbered}
+use Rattle.bl_emit_pass.specs.Activities.{Activity}
+use Rattle.bl_emit_pass.specs.Programs.{activity_of, needed_units, parts_of_function, parts_of_next}
+use Rattle.bl_emit_pass.specs.Shared.{IsSharedActivityOf}
+use Rattle.bl_emit_pass_laws_bodies.specs.Bodies.{OwnsRules}
+use Rattle.bl_emit_pass_laws_points.specs.Copied.{NodesCopied, RunsCopied}
+use Rattle.bl_emit_pass_laws_formed.specs.Counts.{NodesCounted}
+use Rattle.bl_emit_pass_laws_bodies.specs.Lists.{ActivityForms, AllForm, UnitForms}
+use Rattle.bl_emit_pass_laws_formed.specs.Machines.{IsModest, MachinesDiffer, MachinesSpell}
+use Rattle.bl_emit_pass_laws_formed.specs.Needed.{NeededNumbered, NeededSmall}
+use Rattle.bl_emit_pass_laws.proofs.OnOwn.Members.{contains_at}
+use Rattle.bl_emit_pass_laws.proofs.OnOwn.Owning.{asks_on, changes_on, copied_below}
+use Rattle.bl_emit_laws.proofs.OnForms.Copying.{copies-suffice}
+use Rattle.bl_emit_laws.specs.Forms.{UnitsForm}
+
+get_behind : {A : Type 0} (xs : List A) (y : A) (ys : List A) → slice_get (xs ++ y ∷ ys) (length xs) ≡ Some y
+get_behind [] y ys = refl
+get_behind (x ∷ xs) y ys = get_behind xs y ys
+
+take_front : {A : Type 0} (xs ys : List A) → take (length xs) (xs ++ ys) ≡ xs
+take_front [] ys = refl
+take_front (x ∷ xs) ys = ap (λ rest. x ∷ rest) (take_front xs ys)
+
+-- a unit has no fewer cells than statements
+enough : (kind : UnitKind) (variables statements running calling : ℕ) → statements ≤ cells_with kind variables statements running calling
+enough Function variables statements running calling = omega arith
+enough ActivityKind variables statements running calling = omega arith
+
+places_small : (places statements cells : ℕ) → places ≤ statements → statements ≤ cells → cells ≤ 1_000_000 → places < 2 ^ 32
+places_small places statements cells few more small = omega (arith, few, more, small)
+
+-- what the laws below promise
+pub record Promised (structs : List StructDef) (units : List UnitDef) (entry : ℕ) : Type 0 where
+  pub uses : UnitsUseEarlierOnes
+  pub add : CellsAdd
+  pub nodes_counted : NodesCounted structs units entry
+  pub counted : ActivitiesCount
+  pub spell : MachinesSpell structs units entry
+  pub differ : MachinesDiffer structs units entry
+  pub small : NeededSmall structs units entry
+  pub numbered : NeededNumbered structs units entry
+  pub spots : SpotsDiffer
+  pub nodes : (slots : Slots) (body : Block) → map (λ (rule : Rule). rule.node) (rules slots body) ≡ nodes_in body
+  pub copied : NodesCopied
+  pub runs : RunsCopied
+  pub scalar : PrevsAreScalar
+
+module _ (structs : List StructDef) (units : List UnitDef) (entry : ℕ) (laws : Promised structs units entry) (keeps : Keeps structs units entry)
+    (passes : Passes units) (limits : KeepsLimits structs units entry) where
+  -- these tests tell of the units behind so many which are needed
+  abbrev Told : ℕ → List Bool → Type 0
+  Told n needed = (j : ℕ) → slice_get needed j ≡ Some true → slice_get (needed_units units entry) (n + j) ≡ Some true
+
+  told_rest : (n : ℕ) (test : Bool) (needed : List Bool) → Told n (test ∷ needed) → Told (suc n) needed
+  told_rest n test needed told j is = subst (λ m. slice_get (needed_units units entry) m ≡ Some true) (omega arith) (told (suc j) is)
+
+  statements_less : (k : ℕ) (unit : UnitDef) → slice_get units k ≡ Some unit → statements_of unit ≤ cells_at structs units k
+  statements_less k unit there =
+      subst (λ n. statements_of unit ≤ n) (sym (laws.add structs units k unit (laws.uses structs units keeps.units_stand) there))
+      (enough unit.kind (variables_of structs unit) (statements_of unit) (total (map (cells_at structs units) (runs_of unit)))
+      (greatest (map (cells_at structs units) (calls_of unit))))
+
+  module _ (earlier : List UnitDef) (unit : UnitDef) (rest : List UnitDef) (whole : earlier ++ unit ∷ rest ≡ units) (remember : List Bool) where
+    abbrev k : ℕ
+    k = length earlier
+
+    there : slice_get units k ≡ Some unit
+    there = ap (λ units. slice_get units (length earlier)) (sym whole) ∙ get_behind earlier unit rest
+
+    before : take k units ≡ earlier
+    before = ap (take (length earlier)) (sym whole) ∙ take_front earlier (unit ∷ rest)
+
+    module _ (one : InMachine) (active : is_activity unit.kind ≡ true) (needed : slice_get (needed_units units entry) k ≡ Some true)
+        (own : IsActivityOf unit one) (plain : IsSharedActivityOf unit one) where
+      abbrev a : Activity
+      a = activity_of structs (take k units) remember unit one
+
+      modest : IsModest structs units k unit one
+      modest = record { there = there; of_unit = own; shared = plain; cells = laws.small k keeps limits needed }
+
+      few_places : places_in (plain_body unit.body) < 2 ^ 32
+      few_places =
+          places_small (places_in (plain_body unit.body)) (statements_of unit) (cells_at structs units k)
+          (laws.nodes_counted k unit keeps there).places (statements_less k unit there) modest.cells
+
+      owns : OwnsRules a
+      owns = record {
+        asks = λ rule has. asks_on a one.slots laws.spots refl refl own.counters few_places rule has;
+        so = λ rule has. (changes_on a one.slots laws.spots refl refl own.counters rule has).0;
+        otherwise = λ rule has. (changes_on a one.slots laws.spots refl refl own.counters rule has).1;
+        some = laws.counted structs units entry unit one keeps passes (contains_at units k unit there) active own;
+        read = λ c on. copied_below a one.slots laws.spots refl refl own.counters c on;
+      }
+
+      forms : ActivityForms structs units k a
+      forms = record {
+        can = laws.spell k unit one remember keeps modest;
+        differ = laws.differ k unit one remember keeps modest;
+        owns = owns;
+        copies = copies-suffice structs units entry k a keeps there laws.nodes laws.copied laws.runs laws.scalar;
+      }
+
+      activity_forms : ActivityForms structs units k (activity_of structs earlier remember unit one)
+      activity_forms = subst (λ before. ActivityForms structs units k (activity_of structs before remember unit one)) before forms
+
+    -- what is listed of a unit and those behind it, an activity or a function
+    abbrev Listed : Bool → Bool → List Bool → List InMachine → Type 0
+    Listed active test needed machine =
+        UnitForms active test structs units earlier remember unit machine
+        × AllForm structs units (earlier ++ unit ∷ [])
+        (remember ++ (if active then parts_of_next structs earlier remember unit machine else parts_of_function structs earlier unit).remember)
+        rest needed (if active then drop 1 machine else machine)
+
+    -- those behind it are
+    abbrev Behind : Type 0
+    Behind = (remember : List Bool) (needed : List Bool) (machine : List InMachine) → Told (suc k) needed →
+        EachTwo IsActivityOf (activities rest) machine → EachTwo IsSharedActivityOf (activities rest) machine →
+        AllForm structs units (earlier ++ unit ∷ []) remember rest needed machine
+
+    own_needed : (needed : List Bool) → Told k (true ∷ needed) → slice_get (needed_units units entry) k ≡ Some true
+    own_needed needed told = subst (λ m. slice_get (needed_units units entry) m ≡ Some true) (omega arith) (told 0 refl)
+
+    listed : (active test : Bool) (needed : List Bool) (machine : List InMachine) → is_activity unit.kind ≡ active → Told k (test ∷ needed) →
+        EachTwo IsActivityOf (cond active (unit ∷ activities rest) (activities rest)) machine →
+        EachTwo IsSharedActivityOf (cond active (unit ∷ activities rest) (activities rest)) machine → Behind → Listed active test needed machine
+    listed true test needed [] is told own plain behind = absurd own
+    listed true true needed (one ∷ machine) is told own plain behind = (
+      activity_forms one is (own_needed needed told) own.0 plain.0,
+      behind _ needed machine (told_rest k true needed told) own.1 plain.1,
+    )
+    listed true false needed (one ∷ machine) is told own plain behind = (tt, behind _ needed machine (told_rest k false needed told) own.1 plain.1)
+    listed false true needed machine is told own plain behind = (
+      subst (λ before. IsNumbered structs before unit) before (laws.numbered k unit keeps limits there (own_needed needed told)),
+      behind _ needed machine (told_rest k true needed told) own plain,
+    )
+    listed false false needed machine is told own plain behind = (tt, behind _ needed machine (told_rest k false needed told) own plain)
+
+  length_one : (earlier : List UnitDef) (unit : UnitDef) → length (earlier ++ unit ∷ []) ≡ suc (length earlier)
+  length_one earlier unit = let all = length-append earlier (unit ∷ []) in omega arith
+
+  all_forms : (earlier : List UnitDef) (remember : List Bool) (rest : List UnitDef) (needed : List Bool) (machine : List InMachine) →
+      earlier ++ rest ≡ units → Told (length earlier) needed → EachTwo IsActivityOf (activities rest) machine →
+      EachTwo IsSharedActivityOf (activities rest) machine → AllForm structs units earlier remember rest needed machine
+  all_forms earlier remember [] needed machine whole told own plain = tt
+  all_forms earlier remember (unit ∷ rest) [] machine whole told own plain = tt
+  all_forms earlier remember (unit ∷ rest) (test ∷ needed) machine whole told own plain =
+      listed earlier unit rest whole remember (is_activity unit.kind) test needed machine refl told own plain
+      (λ remember needed machine told own plain.
+      all_forms (earlier ++ unit ∷ []) remember rest needed machine (append_assoc earlier (unit ∷ []) rest ∙ whole)
+      (subst (λ n. Told n needed) (sym (length_one earlier unit)) told) own plain)
+
+behind_none : (needed : List Bool) (n j : ℕ) → n ≡ 0 → slice_get needed j ≡ Some true → slice_get needed (n + j) ≡ Some true
+behind_none needed n j none is = subst (λ m. slice_get needed m ≡ Some true) (omega (arith, none)) is
+
+pub form : (structs : List StructDef) (units : List UnitDef) (entry : ℕ) → Promised structs units entry → UnitsForm structs units entry
+form structs units entry laws machine keeps passes limits agrees plain =
+    let needed : List Bool = needed_units units entry in
+    all_forms structs units entry laws keeps passes limits [] [] units needed machine refl
+    (λ j is. behind_none needed (length {A = UnitDef} []) j refl is) agrees plain

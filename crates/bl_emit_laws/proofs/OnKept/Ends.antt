@@ -1,0 +1,145 @@
+-- The written file ends with its interface.
+use Rattle.std.proofs.Common.{◌≡◌, ◌⊎◌, inl, inr, ⊎_elim, ℕ, suc, Bool, true, false, List, [], ◌∷◌, ◌++◌, Contains, drop, take}
+use Rattle.std.proofs.Common.{refl, sym, ap, ap₂, subst, ◌∙◌, append_assoc, codes}
+use Rattle.std.proofs.lemmas.List.Elements.{Contains-append_cases}
+use Rattle.std.specs.Prelude.{bytes_eq, if◌then◌else◌}
+use Rattle.bl_tree.specs.declared.c.CFunc.{CFunc}
+use Rattle.bl_tree.specs.declared.c.CMember.{CMember}
+use Rattle.bl_tree.specs.declared.c.CStruct.{CStruct}
+use Rattle.bl_tree.specs.declared.program.Program.{Program}
+use Rattle.bl_tree.specs.declared.text.Text.{Text}
+use Rattle.bl_tree.specs.declared.tree.StructDef.{StructDef}
+use Rattle.bl_tree.specs.declared.tree.Unit.{Unit as UnitDef}
+use Rattle.bl_tree.specs.Typing.{is_activity}
+use Rattle.bl_cmeaning.specs.Parts.{parts_from as file_from}
+use Rattle.bl_machine.specs.declared.machine.Activity.{Activity as InMachine}
+use Rattle.bl_emit_acts.specs.Types.{unit_name}
+use Rattle.bl_emit_functions.specs.Functions.{function_code, members_of, memory_name, struct_of}
+use Rattle.bl_emit_pass.specs.Activities.{Activity, activity_function, frame_struct, remembered, remembered_struct, remembers_any}
+use Rattle.bl_emit_pass.specs.Names.{frame_name}
+use Rattle.bl_emit_pass.specs.Programs.{
+  Parts,
+  activity_of,
+  interface_structs,
+  needed_units,
+  parts_from,
+  parts_of_function,
+  parts_of_next,
+  where_needed,
+  written,
+}
+use Rattle.bl_emit_structs.specs.Structs.{structs_of}
+use Rattle.bl_emit_pass_laws.specs.Calls.Built.{Activities}
+use Rattle.bl_emit_pass_laws.specs.Tables.Laws.{WrittenAs, WrittenIsKept}
+use Rattle.bl_emit_pass_laws.specs.Tables.Tables.{activities_of, each_from, functions_of_all, kept, unit_function}
+use Rattle.bl_emit_laws.specs.Kept.{FilesEnd, structs_before}
+use Rattle.bl_emit_laws.proofs.OnKept.Declared.{entry_active, structs_are}
+use Rattle.bl_emit_laws.proofs.OnKept.Lists.{first_or, further, here, none_has}
+use Rattle.bl_emit_laws.proofs.OnKept.Types.{other_name}
+
+-- ---- names of structs
+
+-- a struct has one of the names that are made of a unit's
+abbrev OfUnit : CStruct → Type 0
+OfUnit s = (name : Text) × ((s.name ≡ memory_name name) ⊎ (s.name ≡ frame_name name))
+
+of_memory : (name : Text) (members : List CMember) (s : CStruct) → Contains (struct_of name members) s → OfUnit s
+of_memory name [] s at = absurd (none_has s at)
+of_memory name (m ∷ rest) s at =
+    ⊎_elim (λ is. (name, inl (ap (λ (s : CStruct). s.name) (sym is)))) (λ none. absurd (none_has s none)) (first_or _ [] s at)
+
+module _ (structs : List StructDef) where
+  abbrev own : Bool → List UnitDef → List Bool → UnitDef → List InMachine → Parts
+  own active earlier remember unit machine =
+      if active then parts_of_next structs earlier remember unit machine else parts_of_function structs earlier unit
+
+  own_named : (test active : Bool) (earlier : List UnitDef) (remember : List Bool) (unit : UnitDef) (machine : List InMachine) (s : CStruct) →
+      Contains (where_needed test (own active earlier remember unit machine)).structs s → OfUnit s
+  own_named false active earlier remember unit machine s at = absurd (none_has s at)
+  own_named true false earlier remember unit machine s at = of_memory unit.name (members_of structs earlier unit) s at
+  own_named true true earlier remember unit [] s at = absurd (none_has s at)
+  own_named true true earlier remember unit (one ∷ machine) s at =
+      let a : Activity = activity_of structs earlier remember unit one in
+      ⊎_elim (λ is. (unit.name, inr (ap (λ (s : CStruct). s.name) (sym is)))) (λ rest. of_memory unit.name (remembered a) s rest)
+      (first_or (frame_struct a) (remembered_struct a) s at)
+
+  parts_named : (earlier : List UnitDef) (remember : List Bool) (units : List UnitDef) (needed : List Bool) (machine : List InMachine) (s : CStruct) →
+      Contains (parts_from structs earlier remember units needed machine).structs s → OfUnit s
+  parts_named earlier remember [] needed machine s at = absurd (none_has s at)
+  parts_named earlier remember (unit ∷ units) [] machine s at = absurd (none_has s at)
+  parts_named earlier remember (unit ∷ units) (test ∷ needed) machine s at =
+      let active : Bool = is_activity unit.kind in
+      let first : Parts = own active earlier remember unit machine in
+      let rest : Parts =
+      parts_from structs (earlier ++ unit ∷ []) (remember ++ first.remember) units needed (if active then drop 1 machine else machine) in
+      ⊎_elim (λ here. own_named test active earlier remember unit machine s here)
+      (λ later. parts_named (earlier ++ unit ∷ []) (remember ++ first.remember) units needed (if active then drop 1 machine else machine) s later)
+      (Contains-append_cases (where_needed test first).structs rest.structs s at)
+
+unit_other : (s : CStruct) (rest : Text) → OfUnit s → bytes_eq s.name (codes "bl_" ++ rest) ≡ false
+unit_other s rest (name, inl is) = ap (λ name. bytes_eq name (codes "bl_" ++ rest)) is
+unit_other s rest (name, inr is) = ap (λ name. bytes_eq name (codes "bl_" ++ rest)) is
+
+-- ---- names of functions
+
+kept_has : {X : Type 0} (tests : List Bool) (xs : List X) (x : X) → Contains (kept tests xs) x → Contains xs x
+kept_has [] xs x at = absurd (none_has x at)
+kept_has (test ∷ tests) [] x at = absurd (none_has x at)
+kept_has (true ∷ tests) (y ∷ xs) x at =
+    ⊎_elim (λ is. subst (λ x. Contains (y ∷ xs) x) is (here y xs)) (λ later. further y xs x (kept_has tests xs x later))
+    (first_or y (kept tests xs) x at)
+kept_has (false ∷ tests) (y ∷ xs) x at = further y xs x (kept_has tests xs x at)
+
+each_has : {X : Type 0} (of : ℕ → UnitDef → X) (k : ℕ) (units : List UnitDef) (x : X) → Contains (each_from of k units) x →
+    (n : ℕ) × (unit : UnitDef) × (of n unit ≡ x)
+each_has of k [] x at = absurd (none_has x at)
+each_has of k (unit ∷ rest) x at =
+    ⊎_elim (λ is. (k, unit, is)) (λ later. each_has of (suc k) rest x later) (first_or (of k unit) (each_from of (suc k) rest) x at)
+
+either_named : (b : Bool) (f g : CFunc) (x y : Text) → f.name ≡ unit_name x → g.name ≡ unit_name y →
+    (name : Text) × ((if b then f else g).name ≡ unit_name name)
+either_named true f g x y one other = (x, one)
+either_named false f g x y one other = (y, other)
+
+function_named : (structs : List StructDef) (units : List UnitDef) (activities : Activities) (f : CFunc) →
+    Contains (functions_of_all structs units activities) f → (name : Text) × (f.name ≡ unit_name name)
+function_named structs units activities f at =
+    let found = each_has (unit_function structs units activities) 0 units f at in
+    let named = either_named (is_activity found.1.kind) (activity_function (activities found.0)) (function_code structs (take found.0 units) found.1)
+    (activities found.0).unit.name found.1.name refl refl in
+    (named.0, ap (λ (f : CFunc). f.name) (sym found.2) ∙ named.1)
+
+-- ---- together
+
+pub files_end : (program : Program) → WrittenIsKept → FilesEnd program
+files_end program kept_as machine unit keeps agrees there = record {
+  none = record {
+    inputs = λ s at. other s (codes "in") at;
+    outputs = λ s at. other s (codes "out") at;
+    named = λ f at.
+        function_named program.structs program.units (activities_of program.structs program.units machine) f
+        (kept_has (needed_units program.units program.entry)
+        (functions_of_all program.structs program.units (activities_of program.structs program.units machine)) f at);
+  };
+  is = ap₂ file_from structs_so as_kept.funcs;
+}
+  where
+    as_kept : WrittenAs program machine unit
+    as_kept = kept_as program machine unit agrees there (entry_active program.structs program.units program.entry unit keeps there)
+
+    other : (s : CStruct) (rest : Text) → Contains (structs_before program machine) s → bytes_eq s.name (codes "bl_" ++ rest) ≡ false
+    other s rest at =
+        ⊎_elim (λ own. other_name program.structs program.units program.entry keeps s rest own)
+        (λ part. unit_other s rest
+        (parts_named program.structs [] [] program.units (needed_units program.units program.entry) machine s part))
+        (Contains-append_cases (structs_of program)
+        (parts_from program.structs [] [] program.units (needed_units program.units program.entry) machine).structs s at)
+
+    structs_so : (written program machine).structs
+        ≡ structs_before program machine
+        ++ interface_structs program.structs unit (remembers_any (activities_of program.structs program.units machine program.entry))
+    structs_so =
+        structs_are program machine unit there as_kept
+        ∙ sym (append_assoc (structs_of program)
+        (parts_from program.structs [] [] program.units (needed_units program.units program.entry) machine).structs
+        (interface_structs program.structs unit (remembers_any (activities_of program.structs program.units machine program.entry))))

@@ -1,0 +1,5 @@
+pub mod Spared
+pub mod Units
+pub mod Linked
+pub mod Coming
+pub mod Entered

@@ -1,0 +1,229 @@
+-- What the list of rules tells of an activity is what the rules of its nodes do.
+use Rattle.std.proofs.Common.{◌≡◌, ℕ, Bool, true, false, ◌||◌, List, [], ◌∷◌, ◌++◌, length, map, filter}
+use Rattle.std.proofs.Common.{refl, sym, ap, ap₂, ◌∙◌, arith}
+use Rattle.std.specs.Prelude.{codes, if◌then◌else◌, nat_lt}
+use Rattle.bl_tree.specs.declared.c.CFunc.{CFunc}
+use Rattle.bl_tree.specs.declared.c.CLocal.{CLocal}
+use Rattle.bl_tree.specs.declared.c.CMember.{CMember}
+use Rattle.bl_tree.specs.declared.c.CParam.{CParam}
+use Rattle.bl_tree.specs.declared.c.CStmt.{CStmt}
+use Rattle.bl_tree.specs.declared.c.CStruct.{CStruct}
+use Rattle.bl_tree.specs.declared.scalar.Scalar.TheVariants.{Bool as OfBool}
+use Rattle.bl_tree.specs.declared.tree.StructDef.{StructDef}
+use Rattle.bl_tree.specs.declared.tree.Unit.{Unit as UnitDef}
+use Rattle.bl_tree.specs.Program.{parameters_of}
+use Rattle.bl_tree.specs.Reduce.{joined}
+use Rattle.bl_nodes.specs.Nodes.{ActAt, CheckAt, EnterAt, Node, ResumeAt, TestAt}
+use Rattle.bl_nodes.specs.Plain.{Block, Done, Then, plain_body}
+use Rattle.bl_machine.specs.declared.machine.Activity.{Activity as InMachine}
+use Rattle.bl_machine.specs.Blocks.{up_to}
+use Rattle.bl_pass.specs.Numbered.{slots_of}
+use Rattle.bl_pass.specs.Rules as nodes
+use Rattle.bl_pass.specs.Rules.{Ended, Ends, Finishes, Flagged, Flags, Forgets, Frees, Holds, Marks, Rested, RestedIn}
+use Rattle.bl_pass_listed.specs.Callees.{callees_in, number_in}
+use Rattle.bl_pass_listed.specs.Told.{Rule, all_told, task_at, told_asked, told_change}
+use Rattle.bl_pass_listed_laws.specs.Laws.{RulesAreListed, entries, first_number}
+use Rattle.bl_emit_functions.specs.Functions.{params_from, struct_of}
+use Rattle.bl_emit_pass.specs.Activities.{Activity, RunAt, activity_function, blocks_code, entry_code, flag_local, is_flagged, is_read_by}
+use Rattle.bl_emit_pass.specs.Activities.{mark_local, mark_locals, memory_params, reads_counter, remembered, rested_code}
+use Rattle.bl_emit_pass.specs.Activities.{rested_local, run_at}
+use Rattle.bl_emit_pass.specs.Activities.{over_param, pointer_param, result_params, runs_at, runs_in_body, scalar_local, view_of}
+use Rattle.bl_emit_pass.specs.Blocks.{Sizes, Turn, View}
+use Rattle.bl_emit_pass.specs.Names.{flag_name, frame_name}
+use Rattle.bl_emit_pass.specs.Programs.{Parts, activity_of, parts_of_activity}
+use Rattle.bl_emit_acts.specs.Acts.{c_copied}
+use Rattle.bl_emit_blocks.specs.Laws.{Alike, BlocksAlike}
+use Rattle.bl_emit_blocks.specs.Numbered.{numbered_turn}
+use Rattle.bl_emit_blocks_laws.specs.Laws.{BodiesAreNumbered}
+use Rattle.bl_emit_tables.specs.Told.{asks_counter, asks_flag, flags_told, mark_told, marks_told, read_told, run_told}
+use Rattle.bl_emit_tables.specs.Told.{runs_told}
+use Rattle.bl_emit.specs.Activities.{Told, code_told, copied_told, copy_told, counters_told, entry_at, entry_told, frame_by, function_by}
+use Rattle.bl_emit.specs.Activities.{function_told, locals_told, memory_params_told, params_told, remembered_by, remembers_told}
+use Rattle.bl_emit.specs.Activities.{run_locals_told, view_told}
+use Rattle.bl_emit.specs.Programs.{parts_told, told_of}
+use Rattle.bl_emit_laws.specs.Told.{ActivitiesAreTold}
+
+-- ---- rules, one by one
+
+module _ (number : Node → ℕ) where
+  run_is : (unit : ℕ) (n : Node) → run_at number unit n ≡ run_told (task_at number unit n)
+  run_is unit (ActAt l s) = refl
+  run_is unit (TestAt l at e) = refl
+  run_is unit (CheckAt l at e) = refl
+  run_is unit (EnterAt l at arguments) = refl
+  run_is unit (ResumeAt l at arguments) = refl
+  run_is unit n = refl
+
+  runs_are : (units : List ℕ) (rules : List nodes.Rule) → runs_at number units rules ≡ runs_told (all_told number units rules)
+  runs_are [] rules = refl
+  runs_are (unit ∷ units) [] = refl
+  runs_are (unit ∷ units) (rule ∷ rules) = ap₂ ◌++◌ (run_is unit rule.node) (runs_are units rules)
+
+  asked_is : (asked : nodes.Asked) → is_flagged asked ≡ asks_flag (told_asked number asked)
+  asked_is Flagged = refl
+  asked_is (Rested slot) = refl
+  asked_is (RestedIn slots) = refl
+  asked_is (Ended age needed) = refl
+
+  flags_are : (units : List ℕ) (rules : List nodes.Rule) → length units ≡ length rules →
+      joined (map (flag_local number) rules) ≡ flags_told (all_told number units rules)
+  flags_are [] [] same = refl
+  flags_are [] (rule ∷ rules) same = absurd (omega (arith, same))
+  flags_are (unit ∷ units) [] same = refl
+  flags_are (unit ∷ units) (rule ∷ rules) same =
+      ap₂ (λ (b : Bool) (more : List CLocal). (if b then scalar_local OfBool (flag_name (number rule.node)) ∷ [] else []) ++ more)
+      (asked_is rule.asked)
+      (flags_are units rules (omega (arith, same)))
+
+  mark_is : (change : nodes.Change) → mark_local number change ≡ mark_told (told_change number change)
+  mark_is (Flags n) = refl
+  mark_is (Holds slot) = refl
+  mark_is (Frees k) = refl
+  mark_is (Forgets k) = refl
+  mark_is (Marks n) = refl
+  mark_is (Ends start surface depth) = refl
+  mark_is Finishes = refl
+
+  rule_marks : (changes : List nodes.Change) →
+      joined (map (mark_local number) changes) ≡ joined (map mark_told (map (told_change number) changes))
+  rule_marks [] = refl
+  rule_marks (change ∷ rest) = ap₂ ◌++◌ (mark_is change) (rule_marks rest)
+
+  marks_are : (units : List ℕ) (rules : List nodes.Rule) → length units ≡ length rules →
+      joined (map (mark_locals number) rules) ≡ marks_told (all_told number units rules)
+  marks_are [] [] same = refl
+  marks_are [] (rule ∷ rules) same = absurd (omega (arith, same))
+  marks_are (unit ∷ units) [] same = refl
+  marks_are (unit ∷ units) (rule ∷ rules) same = ap₂ ◌++◌ (rule_marks rule.so) (marks_are units rules (omega (arith, same)))
+
+  counter_is : (k : ℕ) (asked : nodes.Asked) → reads_counter k asked ≡ asks_counter k (told_asked number asked)
+  counter_is k Flagged = refl
+  counter_is k (Rested slot) = refl
+  counter_is k (RestedIn slots) = refl
+  counter_is k (Ended age needed) = refl
+
+  reads_are : (units : List ℕ) (rules : List nodes.Rule) → length units ≡ length rules → (k : ℕ) →
+      is_read_by rules k ≡ read_told (all_told number units rules) k
+  reads_are [] [] same k = refl
+  reads_are [] (rule ∷ rules) same k = absurd (omega (arith, same))
+  reads_are (unit ∷ units) [] same k = refl
+  reads_are (unit ∷ units) (rule ∷ rules) same k = ap₂ ◌||◌ (counter_is k rule.asked) (reads_are units rules (omega (arith, same)) k)
+
+-- ---- the entry
+
+entries_are : (view : View) (body : Block) → entry_code view body ≡ map (entry_at view.sizes) (map view.number (entries body))
+entries_are view Done = refl
+entries_are view (Then s rest) = refl
+
+first_is : (sizes : Sizes) (rules : List Rule) → entry_told sizes rules ≡ map (entry_at sizes) (first_number rules)
+first_is sizes [] = refl
+first_is sizes (rule ∷ rest) = refl
+
+memory_is : (a : Activity) (remembers : Bool) → memory_params a remembers ≡ memory_params_told a.unit.name remembers
+memory_is a true = refl
+memory_is a false = refl
+
+-- ---- an activity
+
+module _ (law : RulesAreListed) (bodies : BodiesAreNumbered) (alike : BlocksAlike) (structs : List StructDef) (earlier : List UnitDef)
+    (remember : List Bool) (unit : UnitDef) (one : InMachine) where
+  abbrev a : Activity
+  a = activity_of structs earlier remember unit one
+
+  abbrev t : Told
+  t = told_of structs earlier remember unit one
+
+  abbrev number : Node → ℕ
+  number = number_in (joined one.blocks) (plain_body unit.body)
+
+  abbrev calls : List ℕ
+  calls = callees_in (plain_body unit.body)
+
+  abbrev rules : List nodes.Rule
+  rules = nodes.rules (slots_of (plain_body unit.body) one.slots) (plain_body unit.body)
+
+  told_is : all_told number calls rules ≡ t.rules
+  told_is = law.told unit.body (joined one.blocks) one.slots
+
+  each : length calls ≡ length rules
+  each = law.each unit.body one.slots
+
+  runs_so : runs_told t.rules ≡ runs_in_body a
+  runs_so = sym (runs_are number calls rules ∙ ap runs_told told_is)
+
+  flags_so : flags_told t.rules ≡ joined (map (flag_local number) rules)
+  flags_so = sym (flags_are number calls rules each ∙ ap flags_told told_is)
+
+  marks_so : marks_told t.rules ≡ joined (map (mark_locals number) rules)
+  marks_so = sym (marks_are number calls rules each ∙ ap marks_told told_is)
+
+  read_at : (k : ℕ) → read_told t.rules k ≡ is_read_by rules k
+  read_at k = sym (reads_are number calls rules each k ∙ ap (λ (rules : List Rule). read_told rules k) told_is)
+
+  read_so : read_told t.rules ≡ is_read_by rules
+  read_so = λ i k. read_at k i
+
+  counters_so : counters_told t.sizes t.rules ≡ filter (is_read_by rules) (up_to (length t.sizes))
+  counters_so = ap (λ (test : ℕ → Bool). filter test (up_to (length t.sizes))) read_so
+
+  remembered_so : remembered_by structs earlier remember unit (runs_told t.rules) ≡ remembered a
+  remembered_so = ap (remembered_by structs earlier remember unit) runs_so
+
+  entry_so : entry_told t.sizes t.rules ≡ entry_code (view_of a) (plain_body unit.body)
+  entry_so =
+      first_is t.sizes t.rules
+      ∙ (ap (map (entry_at t.sizes)) (sym (law.begins unit.body (joined one.blocks) one.slots))
+      ∙ sym (entries_are (view_of a) (plain_body unit.body)))
+
+  views : Alike (view_told t) (view_of a)
+  views = record { site = refl; copies = refl; sizes = refl; is_read = read_at; remembers = λ k. refl }
+
+  turns_so : map (numbered_turn (view_told t)) t.rules ≡ map (numbered_turn (view_of a)) t.rules
+  turns_so = ap (λ (turn : Rule → Turn). map turn t.rules) (λ i rule. alike (view_told t) (view_of a) views rule i)
+
+  code_so : code_told t ≡ (activity_function a).body
+  code_so =
+      ap₂ (λ (counters : List ℕ) (start : List CStmt). map rested_code counters
+      ++ (start
+      ++ (map (c_copied (view_of a).site) (copied_told unit) ++ blocks_code (map (numbered_turn (view_told t)) t.rules) t.blocks))) counters_so entry_so
+      ∙ ap (λ (turns : List Turn). map rested_code (filter (is_read_by rules) (up_to (length t.sizes)))
+      ++ (entry_code (view_of a) (plain_body unit.body) ++ (map (c_copied (view_of a).site) (copied_told unit) ++ blocks_code turns t.blocks)))
+      (turns_so ∙ sym (bodies (view_of a) unit.body (joined one.blocks) one.slots refl))
+
+  locals_so : locals_told t ≡ (activity_function a).locals
+  locals_so =
+      ap₂ (λ (counters : List ℕ) (flags : List CLocal). map (rested_local t.sizes) counters
+      ++ (flags
+      ++ (marks_told t.rules ++ (map (copy_told unit) (copied_told unit) ++ joined (map (run_locals_told earlier) (runs_told t.rules))))))
+      counters_so flags_so
+      ∙ ap₂ (λ (marks : List CLocal) (runs : List RunAt). map (rested_local t.sizes) (filter (is_read_by rules) (up_to (length t.sizes)))
+      ++ (joined (map (flag_local number) rules)
+      ++ (marks ++ (map (copy_told unit) (copied_told unit) ++ joined (map (run_locals_told earlier) runs))))) marks_so runs_so
+
+  remembers_so : remembers_told t ≡ nat_lt 0 (length (remembered a))
+  remembers_so = ap (λ (members : List CMember). nat_lt 0 (length members)) remembered_so
+
+  params_so : params_told structs unit (nat_lt 0 (length (remembered a))) ≡ (activity_function a).params
+  params_so =
+      ap (λ (memory : List CParam). pointer_param (codes "f") (frame_name unit.name)
+      ∷ (memory ++ (params_from structs 0 (parameters_of unit) ++ (result_params unit.result ++ over_param ∷ []))))
+      (sym (memory_is a (nat_lt 0 (length (remembered a)))))
+
+  function_so : function_told t ≡ activity_function a
+  function_so =
+      ap (λ (remembers : Bool). function_by structs unit remembers (locals_told t) (code_told t)) remembers_so
+      ∙ (ap₂ (λ (locals : List CLocal) (code : List CStmt). function_by structs unit (nat_lt 0 (length (remembered a))) locals code)
+      locals_so code_so
+      ∙ ap (λ (params : List CParam). record (activity_function a) { params = params }) params_so)
+
+  pub parts_so : parts_told t ≡ parts_of_activity a
+  parts_so =
+      ap₂ (λ (runs : List RunAt) (f : CFunc). made (frame_by earlier unit.name t.sizes runs) (remembered_by structs earlier remember unit runs) f)
+      runs_so function_so
+    where
+      made : CStruct → List CMember → CFunc → Parts
+      made frame members f =
+          record { structs = frame ∷ struct_of unit.name members; funcs = f ∷ []; remember = nat_lt 0 (length members) ∷ [] }
+
+pub activities_are_told : RulesAreListed → BodiesAreNumbered → BlocksAlike → ActivitiesAreTold
+activities_are_told law bodies alike = λ structs earlier remember unit one. parts_so law bodies alike structs earlier remember unit one

@@ -1,0 +1,83 @@
+-- The frame of each activity has as many counters as its width.
+use Rattle.std.proofs.Common.{◌≡◌, ℕ, ◌<◌, ◌^◌, true, List, Option, Some, None, length, refl, sym, ap, subst, ◌∙◌}
+use Rattle.std.proofs.lemmas.Bool.{lt-ltb}
+use Rattle.std.specs.Prelude.{slice_get}
+use Rattle.bl_tree.specs.declared.program.Program.{Program}
+use Rattle.bl_tree.specs.declared.tree.Stmt.{Stmt}
+use Rattle.bl_tree.specs.declared.tree.Unit.{Unit as UnitDef}
+use Rattle.bl_tree.specs.Program.{is_entry}
+use Rattle.bl_tree.specs.Typing.{is_activity}
+use Rattle.bl_effects.specs.Surface.{width}
+use Rattle.bl_nodes.specs.Plain.{plain_body}
+use Rattle.bl_cause.proofs.PairLemmas.{each_at, filtered_at}
+use Rattle.bl_cause.specs.Activities.{EachTwo, activities as activities_among, graph_position}
+use Rattle.bl_ctree.specs.Instances.{Setting, setting_of, unit_at}
+use Rattle.bl_ctree_laws_confluence.specs.Deeds.Orderly.{AcceptedIsOrderly}
+use Rattle.bl_machine.specs.declared.machine.Activity.{Activity as InMachine}
+use Rattle.bl_machine.specs.Layout.{counters_in}
+use Rattle.bl_machine_laws.specs.Numbers.Width.{TakesItsWidth}
+use Rattle.bl_emit_pass.specs.Activities.{frame_struct}
+use Rattle.bl_emit_pass.specs.Names.{frame_name}
+use Rattle.bl_emit_pass.specs.Shared.{IsSharedActivityOf}
+use Rattle.bl_emit_pass_laws_runs.proofs.OnRuns.Running.{unit_there}
+use Rattle.bl_emit_pass_laws.specs.Calls.Built.{Activities, MadeOf, unit_number}
+use Rattle.bl_emit_pass_laws.specs.Calls.Laws.{Compiled}
+use Rattle.bl_emit_pass_laws.proofs.OnOwn.Members.{some_is}
+use Rattle.bl_emit_laws.specs.Kept.{FramesAreDeclared, activities_in, written_file}
+use Rattle.bl_emit_laws.specs.Width.{FrameHasWidth, FramesHaveWidth}
+use Rattle.bl_emit_laws.proofs.OnWidth.Counting.{frame_counts, sizes_wide}
+
+entry_there : (o : Option UnitDef) → is_entry o ≡ true → (unit : UnitDef) × (o ≡ Some unit)
+entry_there None is = absurd (cc)
+entry_there (Some unit) is = (unit, refl)
+
+module _ (program : Program) (orderly : AcceptedIsOrderly) (wide : (body : List Stmt) → TakesItsWidth body) (declares : FramesAreDeclared program)
+    (machine : List InMachine) (i : ℕ) (unit : UnitDef)
+    (compiled : Compiled program.structs program.units program.entry machine (activities_in program machine))
+    (plain : EachTwo IsSharedActivityOf (activities_among program.units) machine)
+    (is : unit_at (setting_of program.structs program.units program.entry) i ≡ Some unit)
+  where
+    abbrev w : Setting
+    w = setting_of program.structs program.units program.entry
+
+    abbrev k : ℕ
+    k = unit_number w i
+
+    abbrev activities : Activities
+    activities = activities_in program machine
+
+    there : slice_get program.units k ≡ Some unit
+    there = unit_there w i unit is
+
+    active : is_activity unit.kind ≡ true
+    active = ((orderly program.structs program.units program.entry compiled.keeps compiled.passes).each i unit is).activity
+
+    made : MadeOf unit (activities k) (slice_get machine (graph_position program.units k))
+    made = compiled.built.made k unit there active
+
+    own : IsSharedActivityOf unit made.one
+    own =
+        let among = filtered_at (λ (it : UnitDef). is_activity it.kind) program.units k unit there active in
+        let alone = each_at IsSharedActivityOf (activities_among program.units) machine (graph_position program.units k) unit plain among in
+        subst (IsSharedActivityOf unit) (some_is alone.0 made.one (sym alone.1 ∙ made.is)) alone.2
+
+    many : length (activities k).sizes ≡ width unit.body
+    many =
+        ap length made.sizes
+        ∙ sizes_wide made.one.slots (counters_in (plain_body unit.body) 0) (width unit.body) own.slots (wide unit.body).below (wide unit.body).each
+
+    small : (c : ℕ) → c < length (activities k).sizes → c < 2 ^ 64
+    small c less = (compiled.registers k unit there active).counters c (lt-ltb c (length (activities k).sizes) less)
+
+    pub has_frame : FrameHasWidth (written_file program machine) unit
+    has_frame =
+        let entry = entry_there (slice_get program.units program.entry) compiled.keeps.entry_stands in record {
+          frame = frame_struct (activities k);
+          there = (declares machine entry.0 compiled.keeps compiled.passes compiled.agrees entry.1).frames i unit is;
+          named = ap (λ (u : UnitDef). frame_name u.name) (compiled.built.unit k unit there);
+          counters = frame_counts (activities k) small ∙ many;
+        }
+
+pub frames_wide : (program : Program) → AcceptedIsOrderly → ((body : List Stmt) → TakesItsWidth body) → FramesAreDeclared program →
+    FramesHaveWidth program
+frames_wide program orderly wide declares machine compiled plain i unit is = has_frame program orderly wide declares machine i unit compiled plain is

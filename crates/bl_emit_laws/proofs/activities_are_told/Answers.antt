@@ -1,5 +1,0 @@
-use Rattle.bl_emit_laws.proofs.Telling.{activities_are_told}
-use Rattle.bl_emit_laws.proofs.activities_are_told.Goals as goal
-
-pub returns : goal.returns
-returns c = activities_are_told c.rules_are_listed.ensures c.bodies_are_numbered.ensures c.blocks_alike.ensures

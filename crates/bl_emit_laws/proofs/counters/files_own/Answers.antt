@@ -1,0 +1,7 @@
+use Rattle.bl_emit_laws.proofs.OnCounters.Whole.{files_own}
+use Rattle.bl_emit_laws.proofs.counters.files_own.Goals as goal
+
+pub returns : goal.returns
+returns c =
+    files_own c.args.program.now c.accepted_programs_are_orderly.ensures c.activities_built.ensures c.instances_needed.ensures
+    c.frames_are_declared.ensures c.files_end.ensures

@@ -1,0 +1,5 @@
+use Rattle.bl_emit_laws.proofs.OnFormed.Whole.{files}
+use Rattle.bl_emit_laws.proofs.formed.files_formed.Goals as goal
+
+pub returns : goal.returns
+returns c = files c.args.program.now c.needed_closed.ensures c.parts_formed.ensures

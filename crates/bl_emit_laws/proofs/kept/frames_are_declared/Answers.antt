@@ -1,0 +1,7 @@
+use Rattle.bl_emit_laws.proofs.OnKept.Declared.{frames_are_declared}
+use Rattle.bl_emit_laws.proofs.kept.frames_are_declared.Goals as goal
+
+pub returns : goal.returns
+returns c =
+    frames_are_declared c.args.program.now c.accepted_programs_are_orderly.ensures c.activities_built.ensures c.written_is_kept.ensures
+    c.types_apart.ensures c.instances_needed.ensures

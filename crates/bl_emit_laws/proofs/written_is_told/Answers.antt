@@ -1,5 +1,0 @@
-use Rattle.bl_emit_laws.proofs.Units.{written_is_told}
-use Rattle.bl_emit_laws.proofs.written_is_told.Goals as goal
-
-pub returns : goal.returns
-returns c = written_is_told c.activities_are_told.ensures

@@ -1,0 +1,19 @@
+-- The functions of the C file of an accepted program, and the counters that they name.
+use Rattle.std.specs.Prelude.{◌≡◌, List, Some, slice_get}
+use Rattle.bl_tree.specs.declared.program.Program.{Program}
+use Rattle.bl_tree.specs.declared.tree.Unit.{Unit as UnitDef}
+use Rattle.bl_tree.specs.Program.{Keeps}
+use Rattle.bl_effects.specs.Rules.{Passes}
+use Rattle.bl_cmeaning.specs.Faults.{WellFormed}
+use Rattle.bl_machine.specs.declared.machine.Activity.{Activity as InMachine}
+use Rattle.bl_machine.specs.Machines.{AreActivitiesOf}
+use Rattle.bl_emit_laws.specs.Kept.{written_file}
+use Rattle.bl_emit_laws.specs.Counters.Own.{FunctionsOwn}
+
+-- in the file that is written of a typed program that passes the rules each activity with an instance has one function and one struct, and no other
+-- function names its counters, where the file is well formed
+abbrev pub FilesOwn : Program → Type 0
+FilesOwn program =
+    (machine : List InMachine) (unit : UnitDef) → Keeps program.structs program.units program.entry → Passes program.units →
+    AreActivitiesOf program.units machine → slice_get program.units program.entry ≡ Some unit → WellFormed (written_file program machine) →
+    FunctionsOwn program.structs program.units program.entry (written_file program machine)

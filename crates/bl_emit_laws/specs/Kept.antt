@@ -1,0 +1,70 @@
+-- What stands in the C file of an accepted program.
+use Rattle.std.specs.Prelude.{◌≡◌, ℕ, List, [], ◌++◌, Some, slice_get}
+use Rattle.bl_tree.specs.declared.c.CFunc.{CFunc}
+use Rattle.bl_tree.specs.declared.c.CStruct.{CStruct}
+use Rattle.bl_tree.specs.declared.program.Program.{Program}
+use Rattle.bl_tree.specs.declared.tree.StructDef.{StructDef}
+use Rattle.bl_tree.specs.declared.tree.Unit.{Unit as UnitDef}
+use Rattle.bl_tree.specs.Program.{Keeps}
+use Rattle.bl_effects.specs.Rules.{Passes}
+use Rattle.bl_cmeaning.specs.Parts.{Parts, parts_from}
+use Rattle.bl_machine.specs.declared.machine.Activity.{Activity as InMachine}
+use Rattle.bl_machine.specs.Machines.{AreActivitiesOf}
+use Rattle.bl_emit_structs.specs.Structs.{structs_of}
+use Rattle.bl_emit_pass.specs.Activities.{remembers_any}
+use Rattle.bl_emit_pass.specs.Programs.{needed_units, written}
+use Rattle.bl_emit_pass.specs.Programs as programs
+use Rattle.bl_emit_pass_laws.specs.Calls.Built.{Activities}
+use Rattle.bl_emit_pass_laws.specs.Calls.Laws.{Compiled}
+use Rattle.bl_emit_pass_laws_files.specs.Files.{NoneOfInterface, file_with}
+use Rattle.bl_emit_pass_laws_files.specs.States.States.{FramesDeclared, RunsFound}
+use Rattle.bl_emit_pass_laws.specs.Tables.Tables.{activities_of, functions_of_all, kept}
+
+-- ---- the file
+
+-- the file that is written of a program with its machine
+abbrev pub written_file : Program → List InMachine → Parts
+written_file program machine = parts_from (written program machine).structs (written program machine).funcs
+
+-- what the C of the program's activities is made of
+abbrev pub activities_in : Program → List InMachine → Activities
+activities_in program machine = activities_of program.structs program.units machine
+
+-- its structs but those of the interface: those of types, and those of the units that the entry needs
+abbrev pub structs_before : Program → List InMachine → List CStruct
+structs_before program machine =
+    structs_of program
+    ++ (programs.parts_from program.structs [] [] program.units (needed_units program.units program.entry) machine).structs
+
+-- its functions but those of the interface: those of the units that the entry needs
+abbrev pub functions_before : Program → List InMachine → List CFunc
+functions_before program machine =
+    kept (needed_units program.units program.entry) (functions_of_all program.structs program.units (activities_in program machine))
+
+-- ---- laws
+
+-- the file declares the structs in which its program is kept from tick to tick
+abbrev pub FramesAreDeclared : Program → Type 0
+FramesAreDeclared program =
+    (machine : List InMachine) (unit : UnitDef) → Keeps program.structs program.units program.entry → Passes program.units →
+    AreActivitiesOf program.units machine → slice_get program.units program.entry ≡ Some unit →
+    FramesDeclared program.structs program.units program.entry (activities_in program machine) unit (written_file program machine)
+
+-- in a compiled program each `run` calls the unit that its node names
+abbrev pub RunsAreFound : Type 0
+RunsAreFound =
+    (structs : List StructDef) (units : List UnitDef) (entry : ℕ) (machine : List InMachine) (activities : Activities) →
+    Compiled structs units entry machine activities → RunsFound structs units entry
+
+-- the file is that of its structs and functions with those of the interface behind them, which have other names
+pub record FileEnds (program : Program) (machine : List InMachine) (unit : UnitDef) : Type 0 where
+  pub none : NoneOfInterface (structs_before program machine) (functions_before program machine)
+  pub is : written_file program machine
+      ≡ file_with program.structs unit (remembers_any (activities_in program machine program.entry)) (structs_before program machine)
+      (functions_before program machine)
+
+-- so does the file of each typed program whose entry is this unit
+abbrev pub FilesEnd : Program → Type 0
+FilesEnd program =
+    (machine : List InMachine) (unit : UnitDef) → Keeps program.structs program.units program.entry → AreActivitiesOf program.units machine →
+    slice_get program.units program.entry ≡ Some unit → FileEnds program machine unit

@@ -1,0 +1,40 @@
+-- The frames in the C file of an accepted program are as wide as its activities.
+use Rattle.std.specs.Prelude.{◌≡◌, ℕ, Bool, List, Contains, Some, filter, length}
+use Rattle.bl_tree.specs.declared.c.CMember.{CMember}
+use Rattle.bl_tree.specs.declared.c.CStruct.{CStruct}
+use Rattle.bl_tree.specs.declared.program.Program.{Program}
+use Rattle.bl_tree.specs.declared.tree.StructDef.{StructDef}
+use Rattle.bl_tree.specs.declared.tree.Unit.{Unit as UnitDef}
+use Rattle.bl_cause.specs.Activities.{EachTwo, activities}
+use Rattle.bl_effects.specs.Surface.{width}
+use Rattle.bl_ctree.specs.Instances.{setting_of, unit_at}
+use Rattle.bl_cmeaning.specs.Parts.{Parts}
+use Rattle.bl_machine.specs.declared.machine.Activity.{Activity as InMachine}
+use Rattle.bl_emit_pass.specs.Names.{frame_name}
+use Rattle.bl_emit_pass.specs.Shared.{IsSharedActivityOf}
+use Rattle.bl_emit_pass_laws.specs.Calls.Laws.{Compiled}
+use Rattle.bl_emit_laws.specs.Kept.{activities_in, written_file}
+use Rattle.bl_emit_laws.specs.Counters.Own.{is_counter_name}
+
+-- whether the member is a counter, by its name
+abbrev pub is_counter : CMember → Bool
+is_counter member = is_counter_name member.name
+
+-- the file has the struct of where the unit rests, with as many counters as its width: the most places of it that can rest at once
+pub record FrameHasWidth (file : Parts) (unit : UnitDef) : Type 0 where
+  pub frame : CStruct
+  pub there : Contains file.structs frame
+  pub named : frame.name ≡ frame_name unit.name
+  pub counters : length (filter is_counter frame.members) ≡ width unit.body
+
+-- so it has for the unit of each instance
+abbrev pub EachFrameHasWidth : List StructDef → List UnitDef → ℕ → Parts → Type 0
+EachFrameHasWidth structs units entry file =
+    (i : ℕ) (unit : UnitDef) → unit_at (setting_of structs units entry) i ≡ Some unit → FrameHasWidth file unit
+
+-- and so has the file that is written of a compiled program with a machine that shares counters
+abbrev pub FramesHaveWidth : Program → Type 0
+FramesHaveWidth program =
+    (machine : List InMachine) → Compiled program.structs program.units program.entry machine (activities_in program machine) →
+    EachTwo IsSharedActivityOf (activities program.units) machine →
+    EachFrameHasWidth program.structs program.units program.entry (written_file program machine)

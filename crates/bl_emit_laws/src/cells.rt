@@ -1,0 +1,45 @@
+//! The C file of an accepted program needs no more cells than rule Cells counts for the entry. Laws, as contracts of functions that do nothing
+//! (`specs/Cells.antt`): so it is where neither rule Frames nor Cells fails (`FilesCount`); hence it needs at most a million cells where no rule fails
+//! (`FilesSmall`).
+
+ghost use Rattle.bl_emit_laws.specs.Cells.{FilesCount, FilesSmall};
+
+use bl_emit_functions_laws_formed::cells::{cells_follow, cells_grow, sizes_stand};
+use bl_emit_pass_laws_bodies::cells::{activity_cells, bodies_run};
+use bl_emit_pass_laws_bodies::structs::parts_stand;
+use bl_emit_pass_laws_formed::chains::activities_call_few;
+use bl_emit_pass_laws_formed::closed::needed_closed;
+use bl_emit_pass_laws_formed::machines::machines_spell;
+use bl_emit_pass_laws_formed::needed::needed_small;
+use bl_measures::laws::units_add_up;
+use bl_measures_laws::laws::units_use_earlier_ones;
+use bl_pass_laws::numbers::trees_stay_placed;
+use bl_tree::Program;
+
+/// The C file needs no more cells than the entry has.
+pub fn files_count(program: &Program)
+    ensures { FilesCount program.now }
+{
+    units_use_earlier_ones();
+    units_add_up();
+    trees_stay_placed();
+    sizes_stand(program);
+    cells_follow(program);
+    cells_grow(program);
+    activities_call_few();
+    bodies_run(program);
+    activity_cells(program);
+    needed_small(program);
+    needed_closed(program);
+    machines_spell(program);
+    parts_stand(program);
+}
+
+/// The C file of an accepted program needs at most a million cells.
+pub fn files_small(program: &Program)
+    ensures { FilesSmall program.now }
+{
+    needed_small(program);
+    needed_closed(program);
+    files_count(program);
+}

@@ -1,0 +1,24 @@
+//! Which function of a program's C file stands for an activity, and which names its counters. There is no code here. A law, as the contract of a
+//! function that does nothing: in the file that is written of an accepted program (`specs/Counters/Laws.antt`, `FilesOwn`) each activity A that has an instance
+//! has exactly one function `a_A` and one struct `f_A` (`specs/Counters/Own.antt`, `EachHasOneFunctionAndFrame`), and a place that names a counter, a member `c`
+//! and digits, is `(*f).cN` in the function `a_A` whose `f` points to `struct f_A` (`CountersAreOwn`). So a counter of `struct f_A` is named in `a_A`
+//! alone (`CountersStandInOne`).
+
+ghost use Rattle.bl_emit_laws.specs.Counters.Laws.{FilesOwn};
+
+use crate::kept::{files_end, frames_are_declared};
+use bl_ctree_laws_confluence::deeds::accepted_programs_are_orderly;
+use bl_emit_pass_laws::tables::activities_built;
+use bl_emit_pass_laws_formed::closed::instances_needed;
+use bl_tree::Program;
+
+/// In the file that is written each activity has one function and one struct, and no other function names its counters.
+pub fn files_own(program: &Program)
+    ensures { FilesOwn program.now }
+{
+    accepted_programs_are_orderly();
+    activities_built();
+    instances_needed(program);
+    frames_are_declared(program);
+    files_end(program);
+}

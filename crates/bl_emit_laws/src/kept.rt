@@ -1,0 +1,41 @@
+//! What the C file of an accepted program declares and what stands in it. There is no code here. Laws, as contracts of functions that do nothing
+//! (`specs/Kept.antt`): the file that is written declares the structs in which its program is kept from tick to tick (`FramesAreDeclared`), each
+//! `run` of the program calls the unit that its node names (`RunsAreFound`), and the file ends with its interface (`FilesEnd`).
+
+ghost use Rattle.bl_emit_laws.specs.Kept.{FilesEnd, FramesAreDeclared, RunsAreFound};
+
+use bl_ctree_laws_confluence::deeds::{accepted_programs_are_orderly, instances_have_callers};
+use bl_emit_pass_laws::tables::{activities_built, written_is_kept};
+use bl_emit_pass_laws_formed::closed::instances_needed;
+use bl_emit_structs_laws::names::types_apart;
+use bl_pass_laws::numbers::trees_stay_placed;
+use bl_pass_listed_laws::rules_are_listed;
+use bl_tree::Program;
+
+/// The written file declares the structs in which its program is kept.
+pub fn frames_are_declared(program: &Program)
+    ensures { FramesAreDeclared program.now }
+{
+    accepted_programs_are_orderly();
+    activities_built();
+    written_is_kept();
+    types_apart(program);
+    instances_needed(program);
+}
+
+/// Each `run` calls the unit that its node names.
+pub fn runs_are_found()
+    ensures { RunsAreFound }
+{
+    accepted_programs_are_orderly();
+    instances_have_callers();
+    trees_stay_placed();
+    rules_are_listed();
+}
+
+/// The written file ends with its interface.
+pub fn files_end(program: &Program)
+    ensures { FilesEnd program.now }
+{
+    written_is_kept();
+}

@@ -1,0 +1,26 @@
+//! What the C file that is written of a compiled program shows. There is no code here. A law, as the contract of a function that does nothing
+//! (`specs/Shows.antt`, `WrittenShows`): where the functions of all activities do in C what passes by rules do, and the file is well formed, it shows
+//! over rows of inputs the trace of each run of such passes.
+
+ghost use Rattle.bl_emit_laws.specs.Shows.{WrittenShows};
+
+use crate::kept::{files_end, frames_are_declared, runs_are_found};
+use crate::linked::needed_come;
+use bl_emit_pass_laws_files::files::{files_show, files_stand};
+use bl_emit_pass_laws_files::states::states_are_kept;
+use bl_emit_pass_laws_formed::closed::needed_closed;
+use bl_tree::Program;
+
+/// The written file shows the traces of runs of passes by rules.
+pub fn written_shows(program: &Program)
+    ensures { WrittenShows program.now }
+{
+    frames_are_declared(program);
+    runs_are_found();
+    files_end(program);
+    needed_closed(program);
+    needed_come(program);
+    states_are_kept();
+    files_stand();
+    files_show();
+}

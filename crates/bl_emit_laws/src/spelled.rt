@@ -1,0 +1,21 @@
+//! The C file of an accepted program has a spelling. A law, as the contract of a function that does nothing: where no rule fails, what is written
+//! of a program with a machine of it that shares counters can be spelled (`specs/Spelled.antt`, `ProgramsSpelled`).
+
+ghost use Rattle.bl_emit_laws.specs.Spelled.{ProgramsSpelled};
+
+use bl_emit_pass_laws_formed::machines::machines_spell;
+use bl_emit_pass_laws_formed::needed::{needed_numbered, needed_small};
+use bl_emit_pass_laws_formed::texts::files_spelled;
+use bl_machine_laws::rests::activities_count;
+use bl_tree::Program;
+
+/// The C file that is written of an accepted program with a machine that shares counters has a spelling.
+pub fn programs_spelled(program: &Program)
+    ensures { ProgramsSpelled program.now }
+{
+    activities_count();
+    machines_spell(program);
+    needed_small(program);
+    needed_numbered(program);
+    files_spelled(program);
+}

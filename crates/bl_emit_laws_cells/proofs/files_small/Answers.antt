@@ -1,5 +1,0 @@
-use Rattle.bl_emit_laws_cells.proofs.Whole.{small}
-use Rattle.bl_emit_laws_cells.proofs.files_small.Goals as goal
-
-pub returns : goal.returns
-returns c = small c.args.program.now c.needed_small.ensures c.needed_closed.ensures c.files_count.ensures

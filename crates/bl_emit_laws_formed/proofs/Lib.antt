@@ -1,3 +1,0 @@
-mod Interface
-mod Ports
-mod Whole

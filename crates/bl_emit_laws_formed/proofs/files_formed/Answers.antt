@@ -1,5 +1,0 @@
-use Rattle.bl_emit_laws_formed.proofs.Whole.{files}
-use Rattle.bl_emit_laws_formed.proofs.files_formed.Goals as goal
-
-pub returns : goal.returns
-returns c = files c.args.program.now c.needed_closed.ensures c.parts_formed.ensures

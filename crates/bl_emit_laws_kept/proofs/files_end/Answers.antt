@@ -1,5 +1,0 @@
-use Rattle.bl_emit_laws_kept.proofs.Ends.{files_end}
-use Rattle.bl_emit_laws_kept.proofs.files_end.Goals as goal
-
-pub returns : goal.returns
-returns c = files_end c.args.program.now c.written_is_kept.ensures

@@ -1,7 +1,0 @@
-use Rattle.bl_emit_laws_kept.proofs.Declared.{frames_are_declared}
-use Rattle.bl_emit_laws_kept.proofs.frames_are_declared.Goals as goal
-
-pub returns : goal.returns
-returns c =
-    frames_are_declared c.args.program.now c.accepted_programs_are_orderly.ensures c.activities_built.ensures c.written_is_kept.ensures
-    c.types_apart.ensures c.instances_needed.ensures

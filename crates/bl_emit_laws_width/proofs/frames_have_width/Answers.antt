@@ -1,6 +1,0 @@
-use Rattle.bl_emit_laws_width.proofs.Whole.{frames_wide}
-use Rattle.bl_emit_laws_width.proofs.frames_have_width.Goals as goal
-
-pub returns : goal.returns
-returns c =
-    frames_wide c.args.program.now c.accepted_programs_are_orderly.ensures c.activities_take_their_width.ensures c.frames_are_declared.ensures

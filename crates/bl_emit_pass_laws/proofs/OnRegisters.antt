@@ -1,0 +1,9 @@
+pub mod Apart
+pub mod Cells
+pub mod Changes
+pub mod Evaluated
+pub mod Guards
+pub mod Intervals
+pub mod Numbers
+pub mod Setting
+pub mod Statements

@@ -1,0 +1,4 @@
+pub mod Lists
+pub mod Built
+pub mod Known
+pub mod Kept

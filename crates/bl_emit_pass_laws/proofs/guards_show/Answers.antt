@@ -1,5 +1,0 @@
-use Rattle.bl_emit_pass_laws.proofs.Intervals.{guard_shows}
-use Rattle.bl_emit_pass_laws.proofs.guards_show.Goals as goal
-
-pub returns : goal.returns
-returns c = λ view has scope n asked r here hold its_own. guard_shows scope here view has r hold n asked its_own

@@ -1,0 +1,115 @@
+-- Calls of the C functions of activities: what they are given, and what they leave.
+use Rattle.std.specs.Prelude.{◌≡◌, ◌⊎◌, ℕ, pos, ◌+◌, Bool, true, List, [], ◌∷◌, ◌++◌, drop, map, take, is_some, Some, None, if◌then◌else◌}
+use Rattle.std.specs.List.{list_all}
+use Rattle.bl_tree.specs.declared.tree.Unit.{Unit as UnitDef}
+use Rattle.bl_tree.specs.declared.value.Value.{Value}
+use Rattle.bl_tree.specs.Numbers.{number_of}
+use Rattle.bl_tree.specs.Typing.{inputs_of, outputs_of}
+use Rattle.bl_cmeaning.specs.Meaning.{Called, Meaning, Passed, applied, by_address}
+use Rattle.bl_cmeaning.specs.Memory.{Location, Memory, number_in, value_at}
+use Rattle.bl_cmeaning.specs.Tables.{Table}
+use Rattle.bl_ctree.specs.Actions.{result_at}
+use Rattle.bl_ctree.specs.Instances.{Setting, unit_at}
+use Rattle.bl_ctree.specs.Store.{Store, number_or_zero, view_at}
+use Rattle.bl_ctree_laws_fits.specs.Fits.{StoreFits}
+use Rattle.bl_emit_acts.specs.Types.{unit_name}
+use Rattle.bl_emit_acts_laws.specs.Acts.{KeptOutside, OutputsHold, all_apart, places_in_args}
+use Rattle.bl_emit_acts_laws.specs.Holds.{are_apart, is_live}
+use Rattle.bl_emit_acts_laws.specs.Shows.{ArgsHold}
+use Rattle.bl_emit_pass.specs.Activities.{remembers_any}
+use Rattle.bl_pass.specs.Registers.{Registers, with_at}
+use Rattle.bl_pass_laws_runs.specs.Executes.{Executes, IsCut, begun_registers, resumed_registers}
+use Rattle.bl_pass_laws_runs.specs.Frames.{Frames}
+use Rattle.bl_emit_pass_laws.specs.Calls.Built.{Activities, activity_at, cleared, rank_by, slots_by, unit_number}
+use Rattle.bl_emit_pass_laws.specs.Calls.Memories.{MemoryHolds}
+
+-- ---- what a call is given
+
+-- the places that the function of an activity is given: of the counters, of what it remembers, of the outputs, of the result and of whether its body
+-- has ended; and the inputs
+pub record Given : Type 0 where
+  pub frame : Location
+  pub memory : Location
+  pub inputs : List Passed
+  pub outputs : List Location
+  pub result : Location
+  pub over : Location
+
+-- one thing, where the test is true
+abbrev pub where_true : {X : Type 0} → Bool → X → List X
+where_true test x = if test then x ∷ [] else []
+
+-- the arguments, in the order of parameters: an activity that remembers nothing has no place for that, and one without a result none for that
+abbrev pub passed_to : UnitDef → Bool → Given → List Passed
+passed_to unit remembers given =
+    by_address given.frame
+    ∷ (where_true remembers (by_address given.memory)
+    ++ ((given.inputs ++ map by_address given.outputs)
+    ++ (where_true (is_some unit.result) (by_address given.result) ++ by_address given.over ∷ [])))
+
+-- the places that the call may write
+abbrev pub written_by : UnitDef → Bool → Given → List Location
+written_by unit remembers given =
+    given.frame
+    ∷ (where_true remembers given.memory
+    ++ (given.outputs ++ (where_true (is_some unit.result) given.result ++ given.over ∷ [])))
+
+-- a function that runs at this depth may give them: what may be written has nothing in common, nor with the inputs', and is there
+pub record MayGive (unit : UnitDef) (remembers : Bool) (depth : ℕ) (given : Given) : Type 0 where
+  pub apart : all_apart (written_by unit remembers given) ≡ true
+  pub inputs_apart : list_all (λ place. list_all (are_apart place) (places_in_args given.inputs)) (written_by unit remembers given) ≡ true
+  pub live : list_all (λ place. is_live depth place.root) (written_by unit remembers given) ≡ true
+
+-- the values of the inputs of the instance's unit, and those of its outputs
+abbrev pub input_values : Setting → Store → ℕ → UnitDef → List Value
+input_values w store i unit = take unit.inputs (view_at w store i).now
+
+abbrev pub output_values : Setting → Store → ℕ → UnitDef → List Value
+output_values w store i unit = take unit.outputs (drop unit.inputs (view_at w store i).now)
+
+-- as a call for the instance begins memory holds what the instance rests at and remembers, and at the places its inputs and outputs; the body hasn't ended
+pub record CallBegins (w : Setting) (activities : Activities) (i : ℕ) (unit : UnitDef) (depth : ℕ) (given : Given) (frames : Frames) (store : Store)
+    (here : Memory) : Type 0 where
+  pub memory : MemoryHolds w activities i given.frame given.memory frames store here
+  pub inputs : ArgsHold w.structs depth here (inputs_of unit) (input_values w store i unit) given.inputs
+  pub outputs : OutputsHold w.structs here (outputs_of unit) (output_values w store i unit) given.outputs
+  pub over : number_in (value_at here given.over) ≡ pos 0
+  -- and all values are of their types
+  pub fits : StoreFits w store
+
+-- an instance is begun, and all its counters hold 0; or it goes on, and the first doesn't
+abbrev pub PassStarts : Setting → Activities → ℕ → UnitDef → Frames → Registers → Type 0
+PassStarts w activities i unit frames r =
+    ((r ≡ begun_registers (rank_by w activities) i unit) × ((c : ℕ) → frames i c ≡ 0))
+    ⊎ ((r ≡ resumed_registers frames i) × (frames i 0 ≡ 0 → ⊥))
+
+-- ---- what a call leaves
+
+-- it leaves what a pass by rules leaves, at the same places, and all else as it was that was there
+pub record CallLeaves (w : Setting) (activities : Activities) (i : ℕ) (unit : UnitDef) (depth : ℕ) (given : Given) (frames : Frames) (left : Store)
+    (r : Registers) (here : Memory) (called : Called) : Type 0 where
+  pub returned : called.result ≡ Some (pos 0)
+  pub memory : MemoryHolds w activities i given.frame given.memory (with_at i r.counters frames) left called.memory
+  pub outputs : OutputsHold w.structs called.memory (outputs_of unit) (output_values w left i unit) given.outputs
+  pub over : number_in (value_at called.memory given.over) ≡ number_of r.over
+  -- the result is there where the body has ended
+  pub result : (value : Value) → r.over ≡ true → is_some unit.result ≡ true → result_at left i ≡ Some value →
+      number_in (value_at called.memory given.result) ≡ number_or_zero value
+  pub kept : KeptOutside depth (written_by unit (remembers_any (activity_at w activities i)) given) here called.memory
+
+-- the C function of the activity at a position, where a function that runs at a depth calls it: what it does for each instance of the activity is what a
+-- pass by rules does, and it traps where that is cut
+pub record ActivityComes (w : Setting) (activities : Activities) (u : ℕ) (known : Table Meaning) (depth : ℕ) : Type 0 where
+  pub executes : (i : ℕ) (unit : UnitDef) (given : Given) (frames : Frames) (store : Store) (r : Registers) (frames' : Frames) (left : Store)
+      (r' : Registers) (here : Memory) → unit_number w i ≡ u → unit_at w i ≡ Some unit →
+      let remembers = remembers_any (activity_at w activities i) in
+      MayGive unit remembers depth given → CallBegins w activities i unit depth given frames store here → PassStarts w activities i unit frames r →
+      Executes w (rank_by w activities) (slots_by w activities) (cleared w) i 0 frames store (view_at w store i).now r frames' left r' →
+      CallLeaves w activities i unit depth given frames' left r' here
+      (applied (known (unit_name unit.name)) (depth + 1) (passed_to unit remembers given) here)
+  pub cut : (i : ℕ) (unit : UnitDef) (given : Given) (frames : Frames) (store : Store) (r : Registers) (here : Memory) →
+      unit_number w i ≡ u → unit_at w i ≡ Some unit →
+      let remembers = remembers_any (activity_at w activities i) in
+      MayGive unit remembers depth given → CallBegins w activities i unit depth given frames store here → PassStarts w activities i unit frames r →
+      IsCut w (rank_by w activities) (slots_by w activities) (cleared w) i 0 frames store (view_at w store i).now r →
+      (applied (known (unit_name unit.name)) (depth + 1) (passed_to unit remembers given) here).result ≡ None

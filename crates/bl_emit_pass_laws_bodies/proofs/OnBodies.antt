@@ -1,0 +1,7 @@
+pub mod Lists
+pub mod Running
+pub mod Variables
+pub mod Guards
+pub mod Calls
+pub mod Nodes
+pub mod Whole

@@ -1,0 +1,9 @@
+pub mod Heights
+pub mod Interface
+pub mod Lists
+pub mod Names
+pub mod Runs
+pub mod Sound
+pub mod Stand
+pub mod Walk
+pub mod Whole

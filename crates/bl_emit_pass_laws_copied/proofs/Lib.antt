@@ -1,3 +1,0 @@
-mod Copied
-mod Expressions
-mod Statements

@@ -1,0 +1,12 @@
+pub mod Bodies
+pub mod Columns
+pub mod Given
+pub mod Inputs
+pub mod Kept
+pub mod Lists
+pub mod Rows
+pub mod Standing
+pub mod Starting
+pub mod Ticking
+pub mod Views
+pub mod Zeros

@@ -1,0 +1,22 @@
+//! Runs of the entry by the numbers that are in C. There is no code here. A law, as the contract of a function that does nothing
+//! (`specs/Entry.antt`): over all rows that fit there is a run each tick of which is one pass by rules over the entry, where nodes and resting places have
+//! the numbers that their C has; it shows the only trace that the meaning of the program allows (`EntryRuns`).
+
+ghost use Rattle.bl_emit_pass_laws_files.specs.Entry.{EntryRuns};
+
+use bl_ctree_laws_confluence::deeds::accepted_programs_are_orderly;
+use bl_emit_pass_laws::cleared::clearing_is_inside;
+use bl_pass_laws::keys::nodes_have_keys;
+use bl_pass_laws_runs::machines::machines_are_given;
+use bl_pass_laws_runs::runs::runs_go_by_rules;
+
+/// Over rows that fit there is a run by rules, with the numbers that are in C.
+pub fn entry_runs()
+    ensures { EntryRuns }
+{
+    accepted_programs_are_orderly();
+    clearing_is_inside();
+    nodes_have_keys();
+    machines_are_given();
+    runs_go_by_rules();
+}

@@ -1,0 +1,16 @@
+//! Laws of the resting places in the rules of an activity. None of these functions does anything: the contract is the law. In the rules
+//! of a typed program's activity each number of a resting place has a value of its counter's type, and those that the body of a `when` may
+//! rest at are of one counter (`specs/Rests.antt`, `RulesStand`).
+
+ghost use Rattle.bl_emit_pass_laws_formed.specs.Rests.{RulesStand};
+
+use bl_pass_laws::slots::{numbers_are_laid, typed_have_branches};
+use bl_tree::Program;
+
+/// The numbers in the rules of a typed program's activities fit their counters' types.
+pub fn rules_stand(_program: &Program)
+    ensures { RulesStand _program.now.structs _program.now.units _program.now.entry }
+{
+    numbers_are_laid();
+    typed_have_branches();
+}

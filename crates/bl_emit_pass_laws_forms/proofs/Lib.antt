@@ -1,2 +1,0 @@
-mod Copying
-mod Forms

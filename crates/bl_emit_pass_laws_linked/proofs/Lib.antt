@@ -1,5 +1,0 @@
-mod Spared
-mod Units
-mod Linked
-mod Coming
-mod Entered

@@ -1,5 +1,0 @@
-use Rattle.bl_emit_pass_laws_linked.proofs.Entered.{all_enter}
-use Rattle.bl_emit_pass_laws_linked.proofs.files_enter.Goals as goal
-
-pub returns : goal.returns
-returns c = all_enter c.calls_decide.ensures c.written_is_kept.ensures

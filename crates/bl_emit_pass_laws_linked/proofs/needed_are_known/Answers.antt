@@ -1,7 +1,0 @@
-use Rattle.bl_emit_pass_laws_linked.proofs.Linked.{all_known}
-use Rattle.bl_emit_pass_laws_linked.proofs.needed_are_known.Goals as goal
-
-pub returns : goal.returns
-returns c =
-    all_known c.args.program.now.structs c.args.program.now.units c.args.program.now.entry c.calls_decide.ensures c.activities_call_few.ensures
-    c.needed_closed.ensures

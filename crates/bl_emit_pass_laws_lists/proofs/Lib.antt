@@ -1,3 +1,0 @@
-mod Agreeing
-mod Entries
-mod Walk

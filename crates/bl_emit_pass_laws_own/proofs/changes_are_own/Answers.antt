@@ -1,6 +1,0 @@
-use Rattle.bl_emit_pass_laws_own.proofs.Programs.{unit_changes}
-use Rattle.bl_emit_pass_laws_own.proofs.changes_are_own.Goals as goal
-
-pub returns : goal.returns
-returns c structs units machine activities k unit rule at there =
-    unit_changes c.spots_differ.ensures structs units machine activities k unit at rule there

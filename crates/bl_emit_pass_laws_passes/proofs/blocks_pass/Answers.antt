@@ -1,6 +1,0 @@
-use Rattle.bl_emit_pass_laws_passes.proofs.Passing.{blocks_pass}
-use Rattle.bl_emit_pass_laws_passes.proofs.blocks_pass.Goals as goal
-
-pub returns : goal.returns
-returns c = λ structs units entry machine activities placed fit points runs skip.
-    blocks_pass structs units entry machine activities placed fit points runs skip

@@ -1,0 +1,17 @@
+pub mod ActBlocks
+pub mod ActNodes
+pub mod Apart
+pub mod Besides
+pub mod Bodies
+pub mod Cells
+pub mod Changes
+pub mod Choices
+pub mod Foreign
+pub mod Points
+pub mod Quiet
+pub mod Results
+pub mod ReturnBlocks
+pub mod Returned
+pub mod Sets
+pub mod Silent
+pub mod Tests

@@ -1,2 +1,0 @@
-mod Acting
-mod Prevs

@@ -1,0 +1,5 @@
+pub mod OnCome
+pub mod OnCompiled
+pub mod OnGives
+pub mod OnLeaves
+pub mod OnRuns

@@ -1,0 +1,10 @@
+pub mod Arguing
+pub mod Keeping
+pub mod Leading
+pub mod Lists
+pub mod Roles
+pub mod Running
+pub mod Stored
+pub mod Values
+pub mod Whole
+pub mod Writing

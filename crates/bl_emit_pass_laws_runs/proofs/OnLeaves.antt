@@ -1,0 +1,10 @@
+pub mod Fitted
+pub mod Homes
+pub mod Kept
+pub mod Leaving
+pub mod Numbers
+pub mod Outputs
+pub mod Seen
+pub mod Types
+pub mod Variables
+pub mod Ways

@@ -1,0 +1,4 @@
+pub mod Come
+pub mod Compiled
+pub mod Gives
+pub mod Leaves

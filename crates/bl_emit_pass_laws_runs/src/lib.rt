@@ -1,0 +1,9 @@
+//! The C functions of all activities of a program do what passes of their instances do (`come`), as the calls that `run`s make are
+//! given what a pass begins with (`gives`) and leave what it leaves (`leaves`). None of these functions does anything: the contract is the law.
+#![tactic(auto)]
+
+pub mod come;
+pub mod compiled;
+pub mod gives;
+pub mod leaves;
+pub mod runs;

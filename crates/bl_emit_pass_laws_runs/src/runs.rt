@@ -1,0 +1,37 @@
+//! The blocks of `run`s. There is no code here. A law, as the contract of a function that does nothing: where the call that a `run` makes is given
+//! what a pass of the called instance begins with, and leaves what that pass leaves, the blocks of the nodes at which a `run` begins or goes on do
+//! what a pass by rules does there (`RunsCome` of the crate `bl_emit_pass_laws_points`).
+
+ghost use Rattle.bl_emit_pass_laws_points.specs.Calling.{RunsCome};
+
+use bl_ctree_laws_confluence::deeds::{
+    accepted_programs_are_orderly, instances_have_callers, instances_nest,
+};
+use bl_emit_acts_laws::{frames_apart, places_lead, writes_hold};
+use bl_emit_pass_laws::cleared::clearing_is_inside;
+use bl_emit_pass_laws::registers::registers_apart;
+use bl_emit_pass_laws_points::points::{blocks_choose, changes_stand, returns_end};
+use bl_pass_laws::keys::nodes_have_keys;
+use bl_pass_laws::numbers::trees_stay_placed;
+use bl_pass_laws_fits::fits::turns_fit;
+use bl_tree::Program;
+
+/// The blocks of `run`s do what a pass by rules does there.
+pub fn runs_come(program: &Program)
+    ensures { RunsCome program.now.structs program.now.units program.now.entry }
+{
+    accepted_programs_are_orderly();
+    instances_have_callers();
+    instances_nest();
+    frames_apart();
+    places_lead(program);
+    writes_hold(program);
+    registers_apart();
+    clearing_is_inside();
+    blocks_choose();
+    changes_stand();
+    returns_end(program);
+    turns_fit();
+    nodes_have_keys();
+    trees_stay_placed();
+}

@@ -1,2 +1,0 @@
-mod Head
-pub mod Turns

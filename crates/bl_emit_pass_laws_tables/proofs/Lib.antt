@@ -1,4 +1,0 @@
-mod Lists
-mod Built
-mod Known
-mod Kept

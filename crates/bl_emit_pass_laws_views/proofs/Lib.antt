@@ -1,3 +1,0 @@
-pub mod Leaving
-mod Outputs
-mod Remembered

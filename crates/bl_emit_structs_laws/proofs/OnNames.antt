@@ -1,0 +1,5 @@
+pub mod Known
+pub mod Members
+pub mod Named
+pub mod Needed
+pub mod Once

@@ -1,0 +1,46 @@
+-- A pass over an instance, from any store.
+use Rattle.std.specs.Prelude.{◌≡◌, ◌≤◌, ℕ, Bool, List, Some, None}
+use Rattle.bl_tree.specs.declared.tree.StructDef.{StructDef}
+use Rattle.bl_tree.specs.declared.tree.Unit.{Unit as UnitDef}
+use Rattle.bl_nodes.specs.Nodes.{Node}
+use Rattle.bl_nodes.specs.Plain.{plain_body}
+use Rattle.bl_ctree.specs.Instances.{Setting, setting_of, unit_at}
+use Rattle.bl_ctree.specs.Store.{Store}
+use Rattle.bl_ctree_laws.specs.Shrinks.{Paces}
+use Rattle.bl_ctree_laws.specs.Trees.{Tree}
+use Rattle.bl_ctree_laws_traces.specs.Progress.Live.{Live}
+use Rattle.bl_ctree_laws_traces.specs.Progress.Places.{AllCallable, whole}
+use Rattle.bl_machine_laws.specs.Numbers.Turns.{Answered, Passes}
+use Rattle.bl_machine_laws.specs.Numbers.Waiting.{Waits}
+use Rattle.bl_machine_laws.specs.Passes.Follows.{Fails, Follows}
+use Rattle.bl_machine_laws.specs.Passes.Low.{LowSteps, LowTrap}
+use Rattle.bl_machine_laws.specs.Passes.Orders.{Orders}
+use Rattle.bl_machine_laws.specs.Passes.Steady.{Steady}
+
+-- all that waits in the tree has a number that is no less than this one
+abbrev pub WaitsFrom : (ℕ → Node → ℕ) → ℕ → ℕ → Tree → Type 0
+WaitsFrom rank i k c = (n : Node) → Waits c None n → k ≤ rank i n
+
+-- a whole pass over the instance, from its node with number k on, and where it leads: each of its steps is the lowest that could be taken
+pub record WholePass (w : Setting) (rank : ℕ → Node → ℕ) (i k : ℕ) (c : Tree) (store : Store) : Type 0 where
+  pub done : List Answered
+  pub tree : Tree
+  pub left : Store
+  pub passes : Passes w rank i k c done tree
+  pub steps : LowSteps w rank i c store done tree left
+  pub follows : Follows w rank i k c store tree left
+
+-- a pass comes to its end, or one of its deeds traps: turns lead to it, and so do the lowest steps
+pub data PassOrTrap (w : Setting) (rank : ℕ → Node → ℕ) (i k : ℕ) (c : Tree) (store : Store) : Type 0 where
+  comes_to_end : WholePass w rank i k c store → PassOrTrap w rank i k c store
+  is_cut : LowTrap w rank i c store → Fails w rank i k c store → PassOrTrap w rank i k c store
+
+-- over each tree that stands at its place, and in which no pass of a call is under way, a pass can be made from each store: turn by turn, in
+-- the order of the numbers, each node acts for which something waits
+abbrev pub InstancesHavePasses : Type 0
+InstancesHavePasses =
+    (structs : List StructDef) (units : List UnitDef) (entry : ℕ) (rank : ℕ → Node → ℕ) (i k : ℕ) (unit : UnitDef) (stood : Bool) (c : Tree)
+    (store : Store) →
+    let w = setting_of structs units entry in
+    Paces w → AllCallable w → Orders w rank → unit_at w i ≡ Some unit → Live w i c (whole stood (plain_body unit.body)) → Steady c →
+    WaitsFrom rank i k c → PassOrTrap w rank i k c store

@@ -1,0 +1,83 @@
+-- Runs each tick of which is one pass, and the traces that they show.
+use Rattle.std.specs.Prelude.{◌≡◌, ℕ, ℤ, true, false, List, [], ◌∷◌}
+use Rattle.bl_tree.specs.declared.row.Last.{Last}
+use Rattle.bl_tree.specs.declared.row.Last.TheVariants.{Open, Ended as HasEnded, Trap as HasTrapped}
+use Rattle.bl_tree.specs.declared.row.Trace.{Trace}
+use Rattle.bl_tree.specs.declared.tree.StructDef.{StructDef}
+use Rattle.bl_tree.specs.declared.tree.Unit.{Unit as UnitDef}
+use Rattle.bl_tree.specs.Program.{Keeps}
+use Rattle.bl_effects.specs.Rules.{Passes}
+use Rattle.bl_nodes.specs.Nodes.{Node}
+use Rattle.bl_cause.specs.Accepted.{AcceptedProgram, IsAccepted}
+use Rattle.bl_ctree.specs.Instances.{Setting, setting_of}
+use Rattle.bl_ctree.specs.Means.{Means, Shown, shown}
+use Rattle.bl_ctree.specs.Store.{Store, first_store, outputs_row, woken_store}
+use Rattle.bl_ctree_laws.specs.Runs.{entry_block}
+use Rattle.bl_ctree_laws.specs.Trees.{Tree, Idle, is_nil, woken}
+use Rattle.bl_machine.specs.declared.machine.Activity.{Activity}
+use Rattle.bl_machine.specs.Machines.{AreActivitiesOf}
+use Rattle.bl_machine_laws.specs.Passes.Low.{LowTrap}
+use Rattle.bl_machine_laws.specs.Passes.Orders.{Orders}
+use Rattle.bl_machine_laws.specs.Passes.Pass.{WholePass}
+use Rattle.bl_machine_laws.specs.Traces.Positions.{GoBy, HasPositions}
+
+-- ---- runs
+
+-- no row, and how the run stands
+abbrev pub no_row : Last → Trace
+no_row last = record { rows = []; last = last }
+
+-- one more row before those of a trace
+abbrev pub row_before : List ℤ → Trace → Trace
+row_before row rest = record { rows = row ∷ rest.rows; last = rest.last }
+
+-- PassRun w rank rows c store trace: from the tree and the store between ticks a run over the rows shows the trace, and each of its ticks is one
+-- pass over the entry's instance by these numbers. It stops at the end of the rows, of the program, or at a trap
+pub data PassRun (w : Setting) (rank : ℕ → Node → ℕ) : List (List ℤ) → Tree → Store → Trace → Type 0 where
+  stays_open : {c : Tree} {store : Store} → PassRun w rank [] c store (no_row Open)
+  traps : {row : List ℤ} {rows : List (List ℤ)} {c : Tree} {store : Store} →
+      LowTrap w rank 0 (woken c) (woken_store row store) → PassRun w rank (row ∷ rows) c store (no_row HasTrapped)
+  ends : {row : List ℤ} {rows : List (List ℤ)} {c : Tree} {store : Store} →
+      (pass : WholePass w rank 0 0 (woken c) (woken_store row store)) → is_nil pass.tree ≡ true →
+      PassRun w rank (row ∷ rows) c store (row_before (outputs_row w pass.left) (no_row HasEnded))
+  goes_on : {row : List ℤ} {rows : List (List ℤ)} {c : Tree} {store : Store} {rest : Trace} →
+      (pass : WholePass w rank 0 0 (woken c) (woken_store row store)) → is_nil pass.tree ≡ false → PassRun w rank rows pass.tree pass.left rest →
+      PassRun w rank (row ∷ rows) c store (row_before (outputs_row w pass.left) rest)
+
+-- such a run of a whole program, from its beginning
+abbrev pub Runs : List StructDef → List UnitDef → ℕ → (ℕ → Node → ℕ) → List (List ℤ) → Trace → Type 0
+Runs structs units entry rank rows trace =
+    let w = setting_of structs units entry in PassRun w rank rows (Idle (entry_block w)) (first_store w) trace
+
+-- ---- traces
+
+-- over these rows there is a run of passes; its trace is allowed by the meaning of the program, which allows nothing else; and no run of passes
+-- shows another one
+pub record OneRun (structs : List StructDef) (units : List UnitDef) (entry : ℕ) (rank : ℕ → Node → ℕ) (rows : List (List ℤ)) : Type 0 where
+  pub trace : Trace
+  pub runs : Runs structs units entry rank rows trace
+  pub means : Means structs units entry rows (shown trace)
+  pub only : (shows : Shown) → Means structs units entry rows shows → shows ≡ shown trace
+  pub same : (other : Trace) → Runs structs units entry rank rows other → other ≡ trace
+
+-- in a program that passes the rules, by numbers that rise along all edges and tell nodes apart: what a run of passes shows is allowed by the
+-- meaning, and there is one over all rows
+pub record RunsAreMeant : Type 0 where
+  pub meant : (structs : List StructDef) (units : List UnitDef) (entry : ℕ) (rank : ℕ → Node → ℕ) → Keeps structs units entry → Passes units →
+      Orders (setting_of structs units entry) rank → (rows : List (List ℤ)) (trace : Trace) → Runs structs units entry rank rows trace →
+      Means structs units entry rows (shown trace)
+  pub one : (structs : List StructDef) (units : List UnitDef) (entry : ℕ) (rank : ℕ → Node → ℕ) → Keeps structs units entry → Passes units →
+      Orders (setting_of structs units entry) rank → (rows : List (List ℤ)) → OneRun structs units entry rank rows
+
+-- so it is of the machine of each accepted program, with no further premise on orders: there are numbers by which its passes go, and whatever such
+-- numbers are taken, over all rows there is exactly one run of passes, with the only trace that the meaning of the program allows
+pub record MachinesHaveOneTrace : Type 0 where
+  pub positions : (accepted : AcceptedProgram) (machine : List Activity) →
+      let program = accepted.tree in
+      Keeps program.structs program.units program.entry → IsAccepted accepted → AreActivitiesOf program.units machine →
+      HasPositions (setting_of program.structs program.units program.entry) machine
+  pub traces : (accepted : AcceptedProgram) (machine : List Activity) (rank : ℕ → Node → ℕ) →
+      let program = accepted.tree in
+      Keeps program.structs program.units program.entry → IsAccepted accepted → AreActivitiesOf program.units machine →
+      GoBy (setting_of program.structs program.units program.entry) machine rank →
+      (rows : List (List ℤ)) → OneRun program.structs program.units program.entry rank rows

@@ -1,2 +1,0 @@
-mod Rests
-mod Whole

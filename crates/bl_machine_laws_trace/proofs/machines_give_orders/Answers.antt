@@ -1,5 +1,0 @@
-use Rattle.bl_machine_laws_trace.proofs.Positions.{machines_give_orders}
-use Rattle.bl_machine_laws_trace.proofs.machines_give_orders.Goals as goal
-
-pub returns : goal.returns
-returns c = machines_give_orders (λ body. c.graphs_stay_within.ensures body) c.graphs_give_orders.ensures c.accepted_programs_are_orderly.ensures

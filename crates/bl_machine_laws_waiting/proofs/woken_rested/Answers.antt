@@ -1,6 +1,0 @@
-use Rattle.bl_ctree_laws_progress.specs.Places.{whole}
-use Rattle.bl_machine_laws_waiting.proofs.Waking.{branch_rested}
-use Rattle.bl_machine_laws_waiting.proofs.woken_rested.Goals as goal
-
-pub returns : goal.returns
-returns c w i stood body tree n live settled h = branch_rested w i (whole stood body) tree n live settled h

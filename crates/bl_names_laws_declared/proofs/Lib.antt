@@ -1,5 +1,0 @@
-mod ExprMade
-mod Only
-mod ExprRoots
-mod Statements
-mod Program

@@ -1,0 +1,5 @@
+pub mod Dozes
+pub mod Keeps
+pub mod Laws
+pub mod Rooted
+pub mod Sits

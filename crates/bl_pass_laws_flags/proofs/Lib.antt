@@ -1,3 +1,0 @@
-mod Asking
-mod Leading
-mod Whole

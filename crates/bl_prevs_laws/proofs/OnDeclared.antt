@@ -1,0 +1,4 @@
+pub mod Alone
+pub mod Expressions
+pub mod Statements
+pub mod Program

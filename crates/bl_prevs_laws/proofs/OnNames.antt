@@ -1,0 +1,5 @@
+pub mod ExprMade
+pub mod Only
+pub mod ExprRoots
+pub mod Statements
+pub mod Program

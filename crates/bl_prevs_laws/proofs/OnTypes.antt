@@ -1,0 +1,4 @@
+pub mod Leaves
+pub mod Statements
+pub mod Units
+pub mod Program

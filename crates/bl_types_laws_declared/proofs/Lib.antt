@@ -1,4 +1,0 @@
-mod Leaves
-mod Statements
-mod Units
-mod Program
