@@ -1,5 +1,27 @@
 -- The test of two nodes tells whether the second could follow the first in one block.
-use Rattle.std.proofs.Common.{◌≡◌, ℕ, ◌<◌, Bool, true, false, not, ◌&&◌, ◌⊎◌, inl, inr, List, Some, length, get_or, replicate, refl, ap, sym, subst, ◌∙◌}
+use Rattle.std.proofs.Common.{
+  ◌≡◌,
+  ℕ,
+  ◌<◌,
+  Bool,
+  true,
+  false,
+  not,
+  ◌&&◌,
+  ◌⊎◌,
+  inl,
+  inr,
+  List,
+  Some,
+  length,
+  get_or,
+  replicate,
+  refl,
+  ap,
+  sym,
+  subst,
+  ◌∙◌,
+}
 use Rattle.std.specs.Prelude.{Contains, nat_eq, option_map, slice_get}
 use Rattle.std.proofs.lemmas.Option.{same_Some, slice_get-get_or, slice_get-map, slice_get_within}
 use Rattle.bl_tree.specs.declared.graph.Edge.{Edge as GraphEdge}
@@ -150,7 +172,8 @@ module _ (body : Block) (nodes : List GraphNode) (edges : List GraphEdge) (graph
 
   -- ---- what passes could follow
 
-  module _ (i j : ℕ) (starts : nat_eq j 0 ≡ false) (on : On i j) (only_on : (k : ℕ) → On i k → k ≡ j) (only_back : (k : ℕ) → Back j k → k ≡ i) where
+  module _ (i j : ℕ) (starts : nat_eq j 0 ≡ false) (on : On i j) (only_on : (k : ℕ) → On i k → k ≡ j)
+      (only_back : (k : ℕ) → Back j k → k ≡ i) where
     from_arrows : Between (nodes_in body) (CouldFollow body) i j
     from_arrows =
         let it = onward i j on in
@@ -184,7 +207,8 @@ module _ (body : Block) (nodes : List GraphNode) (edges : List GraphEdge) (graph
                 let place = stands k ends.1 in
                 inr (same_node k m place.place j place.there two (only_on place.place (on_of n k i place.place one place.there edge straight other)))
 
-        alone : (n m : Node) → slice_get (nodes_in body) i ≡ Some n → slice_get (nodes_in body) j ≡ Some m → (k : Node) → EdgeAll body k m → k ≡ n
+        alone : (n m : Node) → slice_get (nodes_in body) i ≡ Some n → slice_get (nodes_in body) j ≡ Some m →
+            (k : Node) → EdgeAll body k m → k ≡ n
         alone n m one two k edge =
             let ends = (within body).edges k m edge in
             let place = stands k ends.0 in

@@ -10,7 +10,7 @@ use bl_tree::{List, NoMemory};
 use std::alloc::Global;
 
 /// The nodes of the blocks, one block after another.
-pub fn joined(alloc: Global, blocks: &[List<u32>]) -> Result<List<u32>, NoMemory>
+pub fn nodes_of(alloc: Global, blocks: &[List<u32>]) -> Result<List<u32>, NoMemory>
     ensures { IfOk result (λ nodes. nodes ≡ joined blocks.now) }
 {
     let mut nodes = List::new(alloc);

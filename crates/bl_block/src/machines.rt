@@ -4,7 +4,7 @@ ghost use Rattle.std.specs.Prelude.{◌≡◌, ◌<◌, IfOk, length};
 ghost use Rattle.bl_block.specs.Merged.{AreMergedFrom};
 ghost use Rattle.bl_block.specs.inner.Merging.{EachMerges, Merges};
 
-use crate::groups::{grouped, joined};
+use crate::groups::{grouped, nodes_of};
 use crate::ways::Ways;
 use bl_cause::Accepted;
 use bl_graph::graphs_stay_within;
@@ -50,7 +50,7 @@ fn merged(alloc: Global, activity: &Activity, graph: &Graph) -> Result<Activity,
     statements_are_made_of_parts();
     graphs_stay_within();
     let ways = Ways::of(alloc, graph)?;
-    let nodes = joined(alloc, &activity.blocks)?;
+    let nodes = nodes_of(alloc, &activity.blocks)?;
     let blocks = grouped(alloc, &ways, &nodes)?;
     let slots = copied(alloc, &activity.slots)?;
     Ok(Activity { blocks, slots })

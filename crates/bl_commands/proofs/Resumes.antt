@@ -137,7 +137,8 @@ module _ (each : EachBehaves) (short : (file : Parts) → ShortStates file) (tex
   read_state left numbers holds held =
       subst (λ bytes. SavedState loads.file numbers bytes) (read_whole left held.bytes holds held.are_read) held.saved
 
-  pub not_bad : (left : Option (List ℕ)) (bytes : List ℕ) (at : ℕ) → left ≡ Some state → AreRead left bytes → ShowsBadState loads.file bytes at → ⊥
+  pub not_bad : (left : Option (List ℕ)) (bytes : List ℕ) (at : ℕ) → left ≡ Some state → AreRead left bytes →
+      ShowsBadState loads.file bytes at → ⊥
   not_bad left bytes at holds read shows =
       let numbers = cells_after loads.file first (start_cells loads.file) in
       shows.none numbers (subst (λ b. SavedState loads.file numbers b) (sym (read_whole left bytes holds read)) loaded_leaves.saved)
@@ -236,8 +237,8 @@ state_never_ok file left state _ _ (bad_state bytes at are shows) e = cc
 state_never_ok file left state _ _ (state_unread risen) e = cc
 state_never_ok file left state _ _ state_want e = cc
 
-save_ok : BytesFit → (c : Call) (text rows : Word) (ended : Status) (line built : List ℕ) → c.left text ≡ Some built → SaveEnds c text rows ended line →
-    ended ≡ status.Ok →
+save_ok : BytesFit → (c : Call) (text rows : Word) (ended : Status) (line built : List ℕ) → c.left text ≡ Some built →
+    SaveEnds c text rows ended line → ended ≡ status.Ok →
     (between : Word → Option (List ℕ)) × LeftBehind text_limit text c.left between × HasSaved built [] (between rows) c.out
 save_ok fit c text rows ended line built stands (ran bytes behaviour source loads begins between behind saves) e =
     let over = saved_ok loads.file (start_cells loads.file) (between rows) (c.rest rows) (c.file rows) c.out ended line saves e in (
@@ -310,8 +311,8 @@ module _ (each : EachBehaves) (short : (file : Parts) → ShortStates file) (byt
   abbrev Resumed : Status → List ℕ → Type 0
   Resumed = ResumedEnds source first c text state rows
 
-  resumed_wants : (ended : Status) (line : List ℕ) → (ended ≡ status.NoMemory) × (line ≡ line_of status.NoMemory) → IsKept c.out.before c.out.after →
-      Resumed ended line
+  resumed_wants : (ended : Status) (line : List ℕ) → (ended ≡ status.NoMemory) × (line ≡ line_of status.NoMemory) →
+      IsKept c.out.before c.out.after → Resumed ended line
   resumed_wants ended line why same = rw (why.0, why.1) (resumed_want same)
 
   text_stops : (ended : Status) (line : List ℕ) → TextStops (c.left text) (c.file text) ended line → IsKept c.out.before c.out.after →

@@ -63,7 +63,8 @@ rejects_never text _ _ (ill_formed file at has is) e = cc
 rejects_never text _ _ (too_many_cells file cells has is) e = cc
 rejects_never text _ _ text_no_memory e = cc
 
-text_never : (left : Option (List ℕ)) (file : Count) (ended : Status) (line : List ℕ) → TextStops left file ended line → ended ≡ status.BadState → ⊥
+text_never : (left : Option (List ℕ)) (file : Count) (ended : Status) (line : List ℕ) → TextStops left file ended line →
+    ended ≡ status.BadState → ⊥
 text_never left file ended line (rejected bytes source why) e = rejects_never bytes ended line why e
 text_never left file _ _ (text_unread risen) e = cc
 text_never left file _ _ text_want e = cc

@@ -18,6 +18,10 @@ pub record Output : Type 0 where
   pub before : Option (List ℕ)
   pub after : Option (List ℕ)
 
+-- a sink with these counts of its faults before and after the call, which holds this before it and this after it
+abbrev pub output_of : ℕ → ℕ → Option (List ℕ) → Option (List ℕ) → Output
+output_of before after held left = record { faults = record { before = before; after = after }; before = held; after = left }
+
 -- what a call of the program finds, and what it leaves
 pub record Call : Type 0 where
   -- what is left of each file before the call and after it, where that is told
@@ -27,3 +31,14 @@ pub record Call : Type 0 where
   pub file : Word → Count
   pub out : Output
   pub notes : Output
+
+-- a call before which this is left of each file, and after it the rest, with these counts of the faults of each file before
+-- and after it, and these sinks
+abbrev pub call_of : (Word → Option (List ℕ)) → (Word → Option (List ℕ)) → (Word → ℕ) → (Word → ℕ) → Output → Output → Call
+call_of left rest before after out notes = record {
+  left = left;
+  rest = rest;
+  file = λ name. record { before = before name; after = after name };
+  out = out;
+  notes = notes;
+}

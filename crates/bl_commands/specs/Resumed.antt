@@ -105,7 +105,8 @@ pub data ResumedEnds (source : Option (List ℕ)) (first : List (List ℤ)) (c :
 -- and then the one that goes on from the numbers that the state stands for, and no other
 abbrev pub StatesGoOnAsMeant : Type 0
 StatesGoOnAsMeant = (structs : List StructDef) (units : List UnitDef) (entry : ℕ) (text : List ℕ) (file : CFile) →
-    IsTextOfProgram structs units entry text → SpellsC file text → (first rest : List (List ℤ)) (state : List ℕ) (numbers : List ℤ) (shows : Shown) →
+    IsTextOfProgram structs units entry text → SpellsC file text →
+    (first rest : List (List ℤ)) (state : List ℕ) (numbers : List ℤ) (shows : Shown) →
     LeavesState (parts_of file) first state → SavedState (parts_of file) numbers state → RowsFit (inputs_of (parts_of file)) rest →
     Means structs units entry (first ++ rest) shows
     ↔ (shows ≡ shown (trace_then (c_trace (parts_of file) first) (c_trace_from (parts_of file) rest numbers)))

@@ -2,7 +2,7 @@
 
 ghost use Rattle.std.specs.Prelude.{◌≤◌, IfErr, IfOk, Some};
 ghost use Rattle.bl_commands.specs.Bound.{BoundEnds};
-ghost use Rattle.bl_commands.specs.Calls.{Output};
+ghost use Rattle.bl_commands.specs.Calls.{Output, call_of, output_of};
 ghost use Rattle.bl_commands.specs.Exec.{TextStops};
 ghost use Rattle.bl_commands.specs.inner.Outcomes.{line_in};
 ghost use Rattle.bl_commands.specs.inner.Texts.{HasBounds};
@@ -23,17 +23,10 @@ use std::alloc::Global;
 
 /// Tells how many statements each function of the C text of the file of this name can execute.
 pub fn bound<F: Files, O: Sink>(alloc: Global, text: &str, files: &mut F, out: &mut O) -> Outcome
-    ensures ends { (notes : Output) → BoundEnds (record {
-      left = F.left files.old;
-      rest = F.left files.new;
-      file = λ name. record { before = F.faults files.old name; after = F.faults files.new name };
-      out = record {
-        faults = record { before = O.faults out.old; after = O.faults out.new };
-        before = O.held out.old;
-        after = O.held out.new;
-      };
-      notes = notes;
-    }) text.now result.status (line_in result) }
+    ensures ends { (notes : Output) → BoundEnds
+        (call_of (F.left files.old) (F.left files.new) (F.faults files.old) (F.faults files.new)
+        (output_of (O.faults out.old) (O.faults out.new) (O.held out.old) (O.held out.new)) notes)
+        text.now result.status (line_in result) }
     ensures reads { Reads (files_read (Some (bound text.now))) (F.left files.old) (F.left files.new) }
     ensures file_counts { NeverFell (F.faults files.old) (F.faults files.new) }
     ensures out_count { O.faults out.old ≤ O.faults out.new }

@@ -1,7 +1,7 @@
 //! The command `check P`.
 
 ghost use Rattle.std.specs.Prelude.{◌≡◌, ◌≤◌, Some};
-ghost use Rattle.bl_commands.specs.Calls.{Output};
+ghost use Rattle.bl_commands.specs.Calls.{Output, call_of, output_of};
 ghost use Rattle.bl_commands.specs.Check.{CheckEnds, accepted_line};
 ghost use Rattle.bl_commands.specs.inner.Outcomes.{line_in};
 ghost use Rattle.bl_commands.specs.Notes.{line_of};
@@ -18,17 +18,10 @@ use std::alloc::Global;
 
 /// Judges the source file of this name, and says where it is accepted.
 pub fn check<F: Files, O: Sink>(alloc: Global, source: &str, files: &mut F, out: &mut O) -> Outcome
-    ensures ends { (notes : Output) → CheckEnds (record {
-      left = F.left files.old;
-      rest = F.left files.new;
-      file = λ name. record { before = F.faults files.old name; after = F.faults files.new name };
-      out = record {
-        faults = record { before = O.faults out.old; after = O.faults out.new };
-        before = O.held out.old;
-        after = O.held out.new;
-      };
-      notes = notes;
-    }) source.now result.status (line_in result) }
+    ensures ends { (notes : Output) → CheckEnds
+        (call_of (F.left files.old) (F.left files.new) (F.faults files.old) (F.faults files.new)
+        (output_of (O.faults out.old) (O.faults out.new) (O.held out.old) (O.held out.new)) notes)
+        source.now result.status (line_in result) }
     ensures reads { Reads (files_read (Some (check source.now))) (F.left files.old) (F.left files.new) }
     ensures file_counts { NeverFell (F.faults files.old) (F.faults files.new) }
     ensures out_count { O.faults out.old ≤ O.faults out.new }
@@ -41,11 +34,7 @@ pub fn check<F: Files, O: Sink>(alloc: Global, source: &str, files: &mut F, out:
 
 fn say_accepted<O: Sink>(alloc: Global, out: &mut O) -> Outcome
     ensures writes { Writes (λ text. text ≡ accepted_line)
-        (record {
-          faults = record { before = O.faults out.old; after = O.faults out.new };
-          before = O.held out.old;
-          after = O.held out.new;
-        }) result.status }
+        (output_of (O.faults out.old) (O.faults out.new) (O.held out.old) (O.held out.new)) result.status }
     ensures line { line_in result ≡ line_of result.status }
     ensures out_count { O.faults out.old ≤ O.faults out.new }
 {

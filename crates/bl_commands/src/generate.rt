@@ -1,7 +1,7 @@
 //! The command `gen N`.
 
 ghost use Rattle.std.specs.Prelude.{◌≡◌, ◌≢◌, ◌≤◌, ℕ, List, [], Option};
-ghost use Rattle.bl_commands.specs.Calls.{Count, Output};
+ghost use Rattle.bl_commands.specs.Calls.{Count, Output, output_of};
 ghost use Rattle.bl_commands.specs.Gen.{GenEnds, IsNotRun, status_at};
 ghost use Rattle.bl_commands.specs.inner.Outcomes.{line_in};
 ghost use Rattle.bl_commands.specs.Notes.{Written, line_of};
@@ -24,11 +24,7 @@ pub fn generate<O: Sink>(alloc: Global, stages: u32, out: &mut O) -> Outcome
       left = left;
       rest = rest;
       file = file;
-      out = record {
-        faults = record { before = O.faults out.old; after = O.faults out.new };
-        before = O.held out.old;
-        after = O.held out.new;
-      };
+      out = output_of (O.faults out.old) (O.faults out.new) (O.held out.old) (O.held out.new);
       notes = notes;
     }) stages result.status (line_in result) }
     ensures out_count { O.faults out.old ≤ O.faults out.new }
@@ -52,11 +48,8 @@ fn not_run(alloc: Global, unrun: &Unrun) -> Outcome
 /// Writes what is told of a run.
 fn write_run<O: Sink>(alloc: Global, run: &Run, out: &mut O) -> Outcome
     requires { run.now.text.items ≢ [] }
-    ensures written { Written (record {
-      faults = record { before = O.faults out.old; after = O.faults out.new };
-      before = O.held out.old;
-      after = O.held out.new;
-    }) run.now.text.items (status_at run.now.last) result.status }
+    ensures written { Written (output_of (O.faults out.old) (O.faults out.new) (O.held out.old) (O.held out.new))
+        run.now.text.items (status_at run.now.last) result.status }
     ensures line { line_in result ≡ line_of result.status }
     ensures out_count { O.faults out.old ≤ O.faults out.new }
 {

@@ -1,6 +1,7 @@
 //! The lines of a job on `notes`, that of its status last.
 
 ghost use Rattle.std.specs.Prelude.{◌≡◌, ◌≤◌};
+ghost use Rattle.bl_commands.specs.Calls.{output_of};
 ghost use Rattle.bl_commands.specs.inner.Outcomes.{line_in, lines_in};
 ghost use Rattle.bl_commands.specs.Notes.{Written, line_of};
 
@@ -11,11 +12,8 @@ use bl_io::{IoFault, Sink, write_all};
 
 /// The status after the lines of an answer were written on `notes`: the same, or that of the write.
 pub fn with_notes<N: Sink>(answer: &Answer, notes: &mut N) -> Status
-    ensures written { Written (record {
-      faults = record { before = N.faults notes.old; after = N.faults notes.new };
-      before = N.held notes.old;
-      after = N.held notes.new;
-    }) (lines_in answer.now) answer.now.outcome.status result }
+    ensures written { Written (output_of (N.faults notes.old) (N.faults notes.new) (N.held notes.old) (N.held notes.new))
+        (lines_in answer.now) answer.now.outcome.status result }
     ensures count { N.faults notes.old ≤ N.faults notes.new }
 {
     let told = answer.told.as_slice();
@@ -31,11 +29,8 @@ pub fn with_notes<N: Sink>(answer: &Answer, notes: &mut N) -> Status
 
 /// The status after its line was written on `notes`: the same, or that of the write.
 fn with_note<N: Sink>(outcome: &Outcome, notes: &mut N) -> Status
-    ensures written { Written (record {
-      faults = record { before = N.faults notes.old; after = N.faults notes.new };
-      before = N.held notes.old;
-      after = N.held notes.new;
-    }) (line_in outcome.now) outcome.now.status result }
+    ensures written { Written (output_of (N.faults notes.old) (N.faults notes.new) (N.held notes.old) (N.held notes.new))
+        (line_in outcome.now) outcome.now.status result }
     ensures count { N.faults notes.old ≤ N.faults notes.new }
 {
     let line = line_of(outcome);

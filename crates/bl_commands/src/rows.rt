@@ -2,6 +2,7 @@
 
 ghost use Rattle.std.specs.Prelude.{◌≡◌, ◌≤◌, true};
 ghost use Rattle.bl_cmeaning_laws_places.specs.Behaviour.{behaviour_of};
+ghost use Rattle.bl_commands.specs.Calls.{output_of};
 ghost use Rattle.bl_commands.specs.inner.Outcomes.{IsEndOf, line_in};
 ghost use Rattle.bl_commands.specs.Reads.{most_rows};
 ghost use Rattle.bl_commands.specs.Rows.{Streams};
@@ -30,11 +31,7 @@ pub fn run_over<F: Files, O: Sink>(
     requires fresh { runner ≡ loaded runner.parts }
     ensures streams { Streams (course_of runner.parts) (F.left files.old rows.now) (F.left files.new rows.now)
         (record { before = F.faults files.old rows.now; after = F.faults files.new rows.now })
-        (record {
-          faults = record { before = O.faults out.old; after = O.faults out.new };
-          before = O.held out.old;
-          after = O.held out.new;
-        }) result.status (line_in result) }
+        (output_of (O.faults out.old) (O.faults out.new) (O.held out.old) (O.held out.new)) result.status (line_in result) }
     ensures reads { ReadsLines most_rows (F.left files.old rows.now) (F.left files.new rows.now) }
     ensures others { KeepsOthers rows.now (F.left files.old) (F.left files.new) }
     ensures file_counts { NeverFell (F.faults files.old) (F.faults files.new) }
@@ -56,11 +53,7 @@ pub fn count_over<F: Files, O: Sink>(
     requires fresh { runner ≡ loaded runner.parts }
     ensures streams { Streams (counts_by (behaviour_of runner.parts)) (F.left files.old rows.now) (F.left files.new rows.now)
         (record { before = F.faults files.old rows.now; after = F.faults files.new rows.now })
-        (record {
-          faults = record { before = O.faults out.old; after = O.faults out.new };
-          before = O.held out.old;
-          after = O.held out.new;
-        }) result.status (line_in result) }
+        (output_of (O.faults out.old) (O.faults out.new) (O.held out.old) (O.held out.new)) result.status (line_in result) }
     ensures reads { ReadsLines most_rows (F.left files.old rows.now) (F.left files.new rows.now) }
     ensures others { KeepsOthers rows.now (F.left files.old) (F.left files.new) }
     ensures file_counts { NeverFell (F.faults files.old) (F.faults files.new) }
@@ -83,11 +76,7 @@ pub fn go_over<F: Files, O: Sink>(
     requires live { runner.live ≡ true }
     ensures streams { Streams (course_from runner) (F.left files.old rows.now) (F.left files.new rows.now)
         (record { before = F.faults files.old rows.now; after = F.faults files.new rows.now })
-        (record {
-          faults = record { before = O.faults out.old; after = O.faults out.new };
-          before = O.held out.old;
-          after = O.held out.new;
-        }) result.status (line_in result) }
+        (output_of (O.faults out.old) (O.faults out.new) (O.held out.old) (O.held out.new)) result.status (line_in result) }
     ensures reads { ReadsLines most_rows (F.left files.old rows.now) (F.left files.new rows.now) }
     ensures others { KeepsOthers rows.now (F.left files.old) (F.left files.new) }
     ensures file_counts { NeverFell (F.faults files.old) (F.faults files.new) }

@@ -1,7 +1,7 @@
 //! The commands `save C ROWS` and `save C STATE ROWS`.
 
 ghost use Rattle.std.specs.Prelude.{◌≤◌, Some};
-ghost use Rattle.bl_commands.specs.Calls.{Output};
+ghost use Rattle.bl_commands.specs.Calls.{Output, call_of, output_of};
 ghost use Rattle.bl_commands.specs.inner.Outcomes.{line_in};
 ghost use Rattle.bl_commands.specs.Reads.{Reads, files_read};
 ghost use Rattle.bl_commands.specs.Save.{SaveEnds, SaveFromEnds};
@@ -24,17 +24,10 @@ pub fn save<F: Files, O: Sink>(
     files: &mut F,
     out: &mut O,
 ) -> Outcome
-    ensures ends { (notes : Output) → SaveEnds (record {
-      left = F.left files.old;
-      rest = F.left files.new;
-      file = λ name. record { before = F.faults files.old name; after = F.faults files.new name };
-      out = record {
-        faults = record { before = O.faults out.old; after = O.faults out.new };
-        before = O.held out.old;
-        after = O.held out.new;
-      };
-      notes = notes;
-    }) text.now rows.now result.status (line_in result) }
+    ensures ends { (notes : Output) → SaveEnds
+        (call_of (F.left files.old) (F.left files.new) (F.faults files.old) (F.faults files.new)
+        (output_of (O.faults out.old) (O.faults out.new) (O.held out.old) (O.held out.new)) notes)
+        text.now rows.now result.status (line_in result) }
     ensures reads { Reads (files_read (Some (save text.now rows.now))) (F.left files.old) (F.left files.new) }
     ensures file_counts { NeverFell (F.faults files.old) (F.faults files.new) }
     ensures out_count { O.faults out.old ≤ O.faults out.new }
@@ -59,17 +52,10 @@ pub fn save_from<F: Files, O: Sink>(
     files: &mut F,
     out: &mut O,
 ) -> Outcome
-    ensures ends { (notes : Output) → SaveFromEnds (record {
-      left = F.left files.old;
-      rest = F.left files.new;
-      file = λ name. record { before = F.faults files.old name; after = F.faults files.new name };
-      out = record {
-        faults = record { before = O.faults out.old; after = O.faults out.new };
-        before = O.held out.old;
-        after = O.held out.new;
-      };
-      notes = notes;
-    }) text.now state.now rows.now result.status (line_in result) }
+    ensures ends { (notes : Output) → SaveFromEnds
+        (call_of (F.left files.old) (F.left files.new) (F.faults files.old) (F.faults files.new)
+        (output_of (O.faults out.old) (O.faults out.new) (O.held out.old) (O.held out.new)) notes)
+        text.now state.now rows.now result.status (line_in result) }
     ensures reads { Reads (files_read (Some (save_from text.now state.now rows.now))) (F.left files.old) (F.left files.new) }
     ensures file_counts { NeverFell (F.faults files.old) (F.faults files.new) }
     ensures out_count { O.faults out.old ≤ O.faults out.new }

@@ -2,6 +2,7 @@
 
 ghost use Rattle.std.specs.Prelude.{◌≡◌, ◌≤◌, ℤ, List, true, IfErr, OnOk};
 ghost use Rattle.bl_cmeaning.specs.Parts.{Parts};
+ghost use Rattle.bl_commands.specs.Calls.{output_of};
 ghost use Rattle.bl_commands.specs.inner.Outcomes.{IsEndAtState, IsTold, line_in};
 ghost use Rattle.bl_commands.specs.inner.Texts.{StandsAt};
 ghost use Rattle.bl_commands.specs.Notes.{bad_state_line, line_of};
@@ -89,11 +90,7 @@ pub fn save_over<F: Files, O: Sink>(
     requires ready { IsReady runner }
     ensures saves { SavesOver runner.parts runner.cells (F.left files.old rows.now) (F.left files.new rows.now)
         (record { before = F.faults files.old rows.now; after = F.faults files.new rows.now })
-        (record {
-          faults = record { before = O.faults out.old; after = O.faults out.new };
-          before = O.held out.old;
-          after = O.held out.new;
-        }) result.status (line_in result) }
+        (output_of (O.faults out.old) (O.faults out.new) (O.held out.old) (O.held out.new)) result.status (line_in result) }
     ensures reads { ReadsLines most_rows (F.left files.old rows.now) (F.left files.new rows.now) }
     ensures others { KeepsOthers rows.now (F.left files.old) (F.left files.new) }
     ensures file_counts { NeverFell (F.faults files.old) (F.faults files.new) }
@@ -117,11 +114,7 @@ pub fn save_over<F: Files, O: Sink>(
 fn write_state<O: Sink>(alloc: Global, runner: &Runner, out: &mut O) -> Outcome
     requires { IsReady runner.now }
     ensures writes { Writes (SavedState runner.now.parts runner.now.cells)
-        (record {
-          faults = record { before = O.faults out.old; after = O.faults out.new };
-          before = O.held out.old;
-          after = O.held out.new;
-        }) result.status }
+        (output_of (O.faults out.old) (O.faults out.new) (O.held out.old) (O.held out.new)) result.status }
     ensures line { line_in result ≡ line_of result.status }
     ensures out_count { O.faults out.old ≤ O.faults out.new }
 {

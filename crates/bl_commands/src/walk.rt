@@ -1,7 +1,7 @@
 //! The command `walk P ROWS SEED`.
 
 ghost use Rattle.std.specs.Prelude.{◌≡◌, ◌<◌, ◌≤◌, ◌^◌, length, IfOk, Some};
-ghost use Rattle.bl_commands.specs.Calls.{Output};
+ghost use Rattle.bl_commands.specs.Calls.{Output, call_of, output_of};
 ghost use Rattle.bl_commands.specs.inner.Outcomes.{lines_in};
 ghost use Rattle.bl_commands.specs.inner.Walked.{ArePorts, IsWalk, WalksRows, WritesWalk};
 ghost use Rattle.bl_commands.specs.Reads.{Reads, files_read, most_rows};
@@ -58,17 +58,10 @@ pub fn walk<F: Files, O: Sink>(
     files: &mut F,
     out: &mut O,
 ) -> Answer
-    ensures ends { (notes : Output) → WalkEnds (record {
-      left = F.left files.old;
-      rest = F.left files.new;
-      file = λ name. record { before = F.faults files.old name; after = F.faults files.new name };
-      out = record {
-        faults = record { before = O.faults out.old; after = O.faults out.new };
-        before = O.held out.old;
-        after = O.held out.new;
-      };
-      notes = notes;
-    }) source.now rows.now seed result.outcome.status (lines_in result) }
+    ensures ends { (notes : Output) → WalkEnds
+        (call_of (F.left files.old) (F.left files.new) (F.faults files.old) (F.faults files.new)
+        (output_of (O.faults out.old) (O.faults out.new) (O.held out.old) (O.held out.new)) notes)
+        source.now rows.now seed result.outcome.status (lines_in result) }
     ensures reads { Reads (files_read (Some (walk source.now rows.now seed))) (F.left files.old) (F.left files.new) }
     ensures file_counts { NeverFell (F.faults files.old) (F.faults files.new) }
     ensures out_count { O.faults out.old ≤ O.faults out.new }
@@ -161,11 +154,7 @@ fn walk_rows(
 /// Writes the text of a walk's trace. The lines of its steps are for `notes`.
 fn write_walk<O: Sink>(alloc: Global, walk: Walked, out: &mut O) -> Answer
     ensures writes { WritesWalk walk.text.items walk.told.items walk.finish
-        (record {
-          faults = record { before = O.faults out.old; after = O.faults out.new };
-          before = O.held out.old;
-          after = O.held out.new;
-        }) result }
+        (output_of (O.faults out.old) (O.faults out.new) (O.held out.old) (O.held out.new)) result }
     ensures out_count { O.faults out.old ≤ O.faults out.new }
 {
     match write_all(out, walk.text.as_slice()) {

@@ -1,6 +1,7 @@
 //! Results written on `out`.
 
 ghost use Rattle.std.specs.Prelude.{◌≡◌, ◌≤◌};
+ghost use Rattle.bl_commands.specs.Calls.{output_of};
 ghost use Rattle.bl_commands.specs.inner.Outcomes.{line_in};
 ghost use Rattle.bl_commands.specs.Notes.{line_of};
 ghost use Rattle.bl_commands.specs.Results.{Writes};
@@ -13,11 +14,7 @@ use std::alloc::Global;
 /// Writes the whole result of a job.
 pub fn write_result<O: Sink>(alloc: Global, text: &[u8], out: &mut O) -> Outcome
     ensures writes { Writes (λ written. written ≡ text.now)
-        (record {
-          faults = record { before = O.faults out.old; after = O.faults out.new };
-          before = O.held out.old;
-          after = O.held out.new;
-        }) result.status }
+        (output_of (O.faults out.old) (O.faults out.new) (O.held out.old) (O.held out.new)) result.status }
     ensures line { line_in result ≡ line_of result.status }
     ensures out_count { O.faults out.old ≤ O.faults out.new }
 {

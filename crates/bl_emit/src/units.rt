@@ -1,13 +1,13 @@
 //! The parts of the units of a program.
 
-ghost use Rattle.std.specs.Prelude.{◌≡◌, ◌++◌, [], IfOk, OnOk, drop, if◌then◌else◌};
-ghost use Rattle.bl_tree.specs.Reduce as reduce;
+ghost use Rattle.std.specs.Prelude.{◌≡◌, [], IfOk, drop, if◌then◌else◌};
 ghost use Rattle.bl_tree.specs.Typing as typing;
 ghost use Rattle.bl_emit_pass.specs.Programs.{no_parts, parts_of_function, parts_then, where_needed};
 ghost use Rattle.bl_emit.specs.Kept.{parts_in};
 ghost use Rattle.bl_emit.specs.Programs.{next_told, parts_told, told_of, unit_told, units_told};
 
 use crate::activity::{Parts, Told, activity_parts};
+use bl_block::nodes_of;
 use bl_emit_acts::parts::joined;
 use bl_emit_functions::{function, memory};
 use bl_emit_tables::sizes_of;
@@ -27,27 +27,6 @@ fn is_activity(kind: UnitKind) -> bool
     }
 }
 
-/// The nodes of blocks, one block after another.
-fn order_of(alloc: Global, blocks: &[List<u32>]) -> Result<List<u32>, NoMemory>
-    ensures { IfOk result (λ order. order ≡ reduce.joined blocks.now) }
-{
-    let mut order = List::new(alloc);
-    for block in blocks {
-        add_nodes(&mut order, block)?;
-    }
-    Ok(order)
-}
-
-/// Appends the nodes of a block.
-fn add_nodes(order: &mut List<u32>, block: &[u32]) -> Result<(), NoMemory>
-    ensures { OnOk result (order.new ≡ order.old ++ block.now) }
-{
-    for node in block {
-        order.push(*node)?;
-    }
-    Ok(())
-}
-
 /// The parts of an activity of a machine.
 fn machine_parts(
     alloc: Global,
@@ -61,7 +40,7 @@ fn machine_parts(
     ensures { IfOk result (λ made. parts_in made
         ≡ where_needed needed (parts_told (told_of structs.now earlier.now remember.now unit.now one.now))) }
 {
-    let order = order_of(alloc, &one.blocks)?;
+    let order = nodes_of(alloc, &one.blocks)?;
     let rules = rules(alloc, &unit.body, &order, &one.slots)?;
     let sizes = sizes_of(alloc, &one.slots)?;
     let told = Told {

@@ -58,8 +58,8 @@ pub record BlocksPlaced (structs : List StructDef) (units : List UnitDef) (entry
       Compiled structs units entry machine activities → unit_at w i ≡ Some unit → HasRule (slots_by w activities) i unit rule →
       BlockAt (activity_at w activities i) unit (rank_by w activities i rule.node) rule
   pub of_number : (i : ℕ) (unit : UnitDef) (number : ℕ) → let w = setting_of structs units entry in
-      Compiled structs units entry machine activities → unit_at w i ≡ Some unit → number < length (joined (turns_in_blocks (activity_at w activities i))) →
-      RuleAt w activities i unit number
+      Compiled structs units entry machine activities → unit_at w i ≡ Some unit →
+      number < length (joined (turns_in_blocks (activity_at w activities i))) → RuleAt w activities i unit number
   -- a node behind another one in its block waits by its flag
   pub waits : (i : ℕ) (unit : UnitDef) (rule : Rule) → let w = setting_of structs units entry in
       Compiled structs units entry machine activities → unit_at w i ≡ Some unit → HasRule (slots_by w activities) i unit rule →

@@ -49,7 +49,8 @@ fn lines(
     last: i128,
 ) -> Result<Vec<u8>, AllocError>
     ensures { IfOk result (λ text. text.items
-        ≡ line_text (codes "stages ") (pos stages) ++ (line_text (codes "ticks ") (pos ticks) ++ (line_text (codes "sum ") sum ++ line_text (codes "last ") last))) }
+        ≡ line_text (codes "stages ") (pos stages) ++ (line_text (codes "ticks ") (pos ticks)
+        ++ (line_text (codes "sum ") sum ++ line_text (codes "last ") last))) }
 {
     let mut text = Vec::new(alloc);
     append_line("stages ", i128::from(stages), &mut text)?;

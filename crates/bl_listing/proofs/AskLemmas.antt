@@ -234,7 +234,8 @@ is_left k keys = list_any (λ key. nat_eq key.2 k) keys
 -- each branch has been asked again, or is as it was and still left
 abbrev pub Reached : List (List Location) → Location → List (List Spot) → List (List Bool) → List (List Bool) → List Key → Type 0
 Reached hs changed ms was free keys =
-    (k : ℕ) → (slice_get free k ≡ slice_get (asked_from hs 0 (changed ∷ []) ms was) k) ⊎ ((slice_get free k ≡ slice_get was k) × (is_left k keys ≡ true))
+    (k : ℕ) → (slice_get free k ≡ slice_get (asked_from hs 0 (changed ∷ []) ms was) k)
+    ⊎ ((slice_get free k ≡ slice_get was k) × (is_left k keys ≡ true))
 
 reads_within : (changed : List Location) (ms : List (List Spot)) (k : ℕ) → touches changed (reads_in (list_at ms k)) ≡ true → k < length ms
 reads_within changed [] k is = absurd cc
@@ -290,8 +291,10 @@ module _ (hs : List (List Location)) (changed : Location) (ms : List (List Spot)
   reached_more free new key keys is before k = by (nat_eq key.2 k) refl (before k)
     where
       by : (b : Bool) → nat_eq key.2 k ≡ b
-          → (slice_get free k ≡ slice_get (asked_from hs 0 (changed ∷ []) ms was) k) ⊎ ((slice_get free k ≡ slice_get was k) × (is_left k (key ∷ keys) ≡ true))
-          → (slice_get new k ≡ slice_get (asked_from hs 0 (changed ∷ []) ms was) k) ⊎ ((slice_get new k ≡ slice_get was k) × (is_left k keys ≡ true))
+          → (slice_get free k ≡ slice_get (asked_from hs 0 (changed ∷ []) ms was) k)
+          ⊎ ((slice_get free k ≡ slice_get was k) × (is_left k (key ∷ keys) ≡ true))
+          → (slice_get new k ≡ slice_get (asked_from hs 0 (changed ∷ []) ms was) k)
+          ⊎ ((slice_get new k ≡ slice_get was k) × (is_left k keys ≡ true))
       by true same found =
           let now : slice_get new k ≡ option_map (ask k) (slice_get free k) =
           ap (λ free. slice_get free k) (is ∙ ap (λ n. slice_set free n (ask n (list_at free n))) (nat_same key.2 k same))

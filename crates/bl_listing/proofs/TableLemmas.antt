@@ -122,7 +122,8 @@ kept_in f p q (k ∷ ks) has inside hits = by (kept_in f p q ks) (is_at (key_cmp
     later true rest = ap (λ b. f k || b) rest ∙ or_true (f k)
     later false rest = rest
 
-    by : (list_any (is_at (key_cmp q)) ks ≡ true → p q ≡ true → f q ≡ true → list_any f (filter p ks) ≡ true) → (b : Bool) → is_at (key_cmp q) k ≡ b
+    by : (list_any (is_at (key_cmp q)) ks ≡ true → p q ≡ true → f q ≡ true → list_any f (filter p ks) ≡ true) →
+        (b : Bool) → is_at (key_cmp q) k ≡ b
         → list_any f (cond (p k) (k ∷ filter p ks) (filter p ks)) ≡ true
     by rest true here =
         let same = key_same q k here in

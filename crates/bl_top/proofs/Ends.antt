@@ -124,7 +124,8 @@ answers_walk c plants job source rows seed ended lines asked ends = rw asked (wa
 
 -- an answer that is an outcome alone
 pub answers_alone : (c : Call) (plants : Plants) (job : Option JobSpec) (answer : Answer) (outcome : Outcome) → answer.outcome ≡ outcome →
-    lines_in answer ≡ line_in outcome → Answers c plants job outcome.status (line_in outcome) → Answers c plants job answer.outcome.status (lines_in answer)
+    lines_in answer ≡ line_in outcome → Answers c plants job outcome.status (line_in outcome) →
+    Answers c plants job answer.outcome.status (lines_in answer)
 answers_alone c plants job answer outcome same lines answers =
     subst (λ ls. Answers c plants job answer.outcome.status ls) (sym lines)
     (subst (λ (o : Outcome). Answers c plants job o.status (line_in outcome)) (sym same) answers)

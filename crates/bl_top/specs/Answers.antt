@@ -22,7 +22,8 @@ use Rattle.bl_words.specs.Jobs.{JobSpec, Word, bound, build, check, count, drive
 pub data Answers (c : Call) (plants : Plants) : Option JobSpec → Status → List ℕ → Type 0 where
   checks : {source : Word} {ended : Status} {lines : List ℕ} → CheckEnds c source ended lines → Answers c plants (Some (check source)) ended lines
   builds : {source : Word} {ended : Status} {lines : List ℕ} → BuildEnds c source ended lines → Answers c plants (Some (build source)) ended lines
-  runs : {source rows : Word} {ended : Status} {lines : List ℕ} → RunEnds c source rows ended lines → Answers c plants (Some (run source rows)) ended lines
+  runs : {source rows : Word} {ended : Status} {lines : List ℕ} → RunEnds c source rows ended lines →
+      Answers c plants (Some (run source rows)) ended lines
   walks : {source rows : Word} {seed : ℕ} {ended : Status} {lines : List ℕ} → WalkEnds c source rows seed ended lines →
       Answers c plants (Some (walk source rows seed)) ended lines
   execs : {text rows : Word} {ended : Status} {lines : List ℕ} → ExecEnds c text rows ended lines → Answers c plants (Some (exec text rows)) ended lines
@@ -30,7 +31,8 @@ pub data Answers (c : Call) (plants : Plants) : Option JobSpec → Status → Li
       Answers c plants (Some (drive source ticks names)) ended lines
   gens : {stages : ℕ} {ended : Status} {lines : List ℕ} → GenEnds c stages ended lines → Answers c plants (Some (gen stages)) ended lines
   bounds : {text : Word} {ended : Status} {lines : List ℕ} → BoundEnds c text ended lines → Answers c plants (Some (bound text)) ended lines
-  counts : {text rows : Word} {ended : Status} {lines : List ℕ} → CountEnds c text rows ended lines → Answers c plants (Some (count text rows)) ended lines
+  counts : {text rows : Word} {ended : Status} {lines : List ℕ} → CountEnds c text rows ended lines →
+      Answers c plants (Some (count text rows)) ended lines
   saves : {text rows : Word} {ended : Status} {lines : List ℕ} → SaveEnds c text rows ended lines → Answers c plants (Some (save text rows)) ended lines
   saves_from : {text state rows : Word} {ended : Status} {lines : List ℕ} → SaveFromEnds c text state rows ended lines →
       Answers c plants (Some (save_from text state rows)) ended lines
@@ -39,7 +41,8 @@ pub data Answers (c : Call) (plants : Plants) : Option JobSpec → Status → Li
   -- the words ask for no job
   no_job : IsKept c.out.before c.out.after → Answers c plants None status.Usage (line_of status.Usage)
   -- memory was refused before they were read
-  short : {job : Option JobSpec} → IsKept c.out.before c.out.after → plants.after ≡ plants.before → Answers c plants job status.NoMemory (line_of status.NoMemory)
+  short : {job : Option JobSpec} → IsKept c.out.before c.out.after → plants.after ≡ plants.before →
+      Answers c plants job status.NoMemory (line_of status.NoMemory)
 
 -- every command but `drive` keeps the plants
 abbrev pub KeepsPlants : Option JobSpec → Plants → Type 0

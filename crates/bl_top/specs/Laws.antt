@@ -36,7 +36,8 @@ BuiltTextsAreRejectedForLength = (structs : List StructDef) (units : List UnitDe
 -- so `exec` of one that isn't too long runs it
 abbrev pub BuiltTextsAreRun : Type 0
 BuiltTextsAreRun = (left : Option (List ℕ)) (built : List ℕ) (c : Call) (text rows : Word) (ended : Status) (line : List ℕ) →
-    IsTextOf left built → c.left text ≡ Some built → length built ≤ longest_text → ExecEnds c text rows ended line → BuiltEnds left c text rows ended line
+    IsTextOf left built → c.left text ≡ Some built → length built ≤ longest_text →
+    ExecEnds c text rows ended line → BuiltEnds left c text rows ended line
 
 -- a run ends by each course that runs a source as it ends by one
 abbrev pub SourcesRunInOneWay : Type 0

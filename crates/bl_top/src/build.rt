@@ -1,7 +1,7 @@
 //! The command `build P`.
 
 ghost use Rattle.std.specs.Prelude.{◌≡◌, ◌≤◌, IfOk, Some};
-ghost use Rattle.bl_commands.specs.Calls.{Output};
+ghost use Rattle.bl_commands.specs.Calls.{Output, call_of, output_of};
 ghost use Rattle.bl_commands.specs.inner.Outcomes.{line_in};
 ghost use Rattle.bl_commands.specs.Notes.{line_of};
 ghost use Rattle.bl_commands.specs.Reads.{Reads, files_read};
@@ -23,17 +23,10 @@ use std::alloc::Global;
 
 /// Writes the C text of the source file of this name.
 pub fn build<F: Files, O: Sink>(alloc: Global, source: &str, files: &mut F, out: &mut O) -> Outcome
-    ensures ends { (notes : Output) → BuildEnds (record {
-      left = F.left files.old;
-      rest = F.left files.new;
-      file = λ name. record { before = F.faults files.old name; after = F.faults files.new name };
-      out = record {
-        faults = record { before = O.faults out.old; after = O.faults out.new };
-        before = O.held out.old;
-        after = O.held out.new;
-      };
-      notes = notes;
-    }) source.now result.status (line_in result) }
+    ensures ends { (notes : Output) → BuildEnds
+        (call_of (F.left files.old) (F.left files.new) (F.faults files.old) (F.faults files.new)
+        (output_of (O.faults out.old) (O.faults out.new) (O.held out.old) (O.held out.new)) notes)
+        source.now result.status (line_in result) }
     ensures reads { Reads (files_read (Some (build source.now))) (F.left files.old) (F.left files.new) }
     ensures file_counts { NeverFell (F.faults files.old) (F.faults files.new) }
     ensures out_count { O.faults out.old ≤ O.faults out.new }
@@ -48,11 +41,7 @@ pub fn build<F: Files, O: Sink>(alloc: Global, source: &str, files: &mut F, out:
 fn write_c<O: Sink>(alloc: Global, accepted: &Accepted, out: &mut O) -> Outcome
     requires { IsOfText accepted.now.program }
     ensures writes { Writes (IsBuiltOfProgram accepted.now.program.structs accepted.now.program.units accepted.now.program.entry)
-        (record {
-          faults = record { before = O.faults out.old; after = O.faults out.new };
-          before = O.held out.old;
-          after = O.held out.new;
-        }) result.status }
+        (output_of (O.faults out.old) (O.faults out.new) (O.held out.old) (O.held out.new)) result.status }
     ensures line { line_in result ≡ line_of result.status }
     ensures out_count { O.faults out.old ≤ O.faults out.new }
 {

@@ -1,7 +1,7 @@
 //! The one call: the job that words ask for, done.
 
 ghost use Rattle.std.specs.Prelude.{◌≤◌, map, string_bytes};
-ghost use Rattle.bl_commands.specs.Calls.{Output};
+ghost use Rattle.bl_commands.specs.Calls.{Output, call_of, output_of};
 ghost use Rattle.bl_commands.specs.inner.Outcomes.{lines_in};
 ghost use Rattle.bl_commands.specs.Reads.{Reads, files_read};
 ghost use Rattle.bl_io.specs.Count.{NeverFell};
@@ -41,21 +41,9 @@ pub fn blechc<F: Files, O: Sink, N: Sink>(
     plants: &mut Vec<Box<dyn Plant>>,
 ) -> Status
     ensures answered { Answered (map string_bytes words.now)
-        (record {
-          left = F.left files.old;
-          rest = F.left files.new;
-          file = λ name. record { before = F.faults files.old name; after = F.faults files.new name };
-          out = record {
-            faults = record { before = O.faults out.old; after = O.faults out.new };
-            before = O.held out.old;
-            after = O.held out.new;
-          };
-          notes = record {
-            faults = record { before = N.faults notes.old; after = N.faults notes.new };
-            before = N.held notes.old;
-            after = N.held notes.new;
-          };
-        })
+        (call_of (F.left files.old) (F.left files.new) (F.faults files.old) (F.faults files.new)
+        (output_of (O.faults out.old) (O.faults out.new) (O.held out.old) (O.held out.new))
+        (output_of (N.faults notes.old) (N.faults notes.new) (N.held notes.old) (N.held notes.new)))
         (record { before = map (λ b. shown b) plants.old.items; after = map (λ b. shown b) plants.new.items }) result }
     ensures plants { KeepsPlants (job_of (map string_bytes words.now))
         (record { before = map (λ b. shown b) plants.old.items; after = map (λ b. shown b) plants.new.items }) }
@@ -76,17 +64,10 @@ fn answer<F: Files, O: Sink>(
     out: &mut O,
     plants: &mut Vec<Box<dyn Plant>>,
 ) -> Answer
-    ensures answers { (notes : Output) → Answers (record {
-      left = F.left files.old;
-      rest = F.left files.new;
-      file = λ name. record { before = F.faults files.old name; after = F.faults files.new name };
-      out = record {
-        faults = record { before = O.faults out.old; after = O.faults out.new };
-        before = O.held out.old;
-        after = O.held out.new;
-      };
-      notes = notes;
-    }) (record { before = map (λ b. shown b) plants.old.items; after = map (λ b. shown b) plants.new.items })
+    ensures answers { (notes : Output) → Answers
+        (call_of (F.left files.old) (F.left files.new) (F.faults files.old) (F.faults files.new)
+        (output_of (O.faults out.old) (O.faults out.new) (O.held out.old) (O.held out.new)) notes)
+        (record { before = map (λ b. shown b) plants.old.items; after = map (λ b. shown b) plants.new.items })
         (job_of (map string_bytes words.now)) result.outcome.status (lines_in result) }
     ensures plants { KeepsPlants (job_of (map string_bytes words.now))
         (record { before = map (λ b. shown b) plants.old.items; after = map (λ b. shown b) plants.new.items }) }

@@ -1,7 +1,7 @@
 //! The command `drive P TICKS PLANT..`.
 
 ghost use Rattle.std.specs.Prelude.{◌≡◌, ◌≤◌, map, IfErr, IfOk, Some};
-ghost use Rattle.bl_commands.specs.Calls.{Output};
+ghost use Rattle.bl_commands.specs.Calls.{Output, call_of, output_of};
 ghost use Rattle.bl_commands.specs.inner.Outcomes.{lines_in};
 ghost use Rattle.bl_commands.specs.Reads.{Reads, files_read};
 ghost use Rattle.bl_io.specs.Count.{NeverFell};
@@ -33,17 +33,10 @@ pub fn drive<F: Files, O: Sink>(
     out: &mut O,
     plants: &mut Vec<Box<dyn Plant>>,
 ) -> Answer
-    ensures ends { (notes : Output) → DriveEnds (record {
-      left = F.left files.old;
-      rest = F.left files.new;
-      file = λ name. record { before = F.faults files.old name; after = F.faults files.new name };
-      out = record {
-        faults = record { before = O.faults out.old; after = O.faults out.new };
-        before = O.held out.old;
-        after = O.held out.new;
-      };
-      notes = notes;
-    }) (record { before = map (λ b. shown b) plants.old.items; after = map (λ b. shown b) plants.new.items })
+    ensures ends { (notes : Output) → DriveEnds
+        (call_of (F.left files.old) (F.left files.new) (F.faults files.old) (F.faults files.new)
+        (output_of (O.faults out.old) (O.faults out.new) (O.held out.old) (O.held out.new)) notes)
+        (record { before = map (λ b. shown b) plants.old.items; after = map (λ b. shown b) plants.new.items })
         source.now ticks names.now result.outcome.status (lines_in result) }
     ensures reads { Reads (files_read (Some (drive source.now ticks names.now))) (F.left files.old) (F.left files.new) }
     ensures file_counts { NeverFell (F.faults files.old) (F.faults files.new) }
@@ -82,11 +75,7 @@ fn report_of(
 /// Writes what a drive shows. The lines of the plants that have finished are for `notes`.
 fn write_report<O: Sink>(alloc: Global, report: Report, out: &mut O) -> Answer
     ensures writes { WritesReport report
-        (record {
-          faults = record { before = O.faults out.old; after = O.faults out.new };
-          before = O.held out.old;
-          after = O.held out.new;
-        }) result }
+        (output_of (O.faults out.old) (O.faults out.new) (O.held out.old) (O.held out.new)) result }
     ensures out_count { O.faults out.old ≤ O.faults out.new }
 {
     match write_all(out, report.text.as_slice()) {

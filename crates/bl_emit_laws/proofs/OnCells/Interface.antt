@@ -1,5 +1,25 @@
 -- The two functions of the interface: what they call, and how many cells they need; and the structs of the interface.
-use Rattle.std.proofs.Common.{◌≡◌, ℕ, zero, suc, ◌+◌, ◌≤◌, arith, pos, Bool, true, false, List, [], ◌∷◌, ◌++◌, map, take, drop, length}
+use Rattle.std.proofs.Common.{
+  ◌≡◌,
+  ℕ,
+  zero,
+  suc,
+  ◌+◌,
+  ◌≤◌,
+  arith,
+  pos,
+  Bool,
+  true,
+  false,
+  List,
+  [],
+  ◌∷◌,
+  ◌++◌,
+  map,
+  take,
+  drop,
+  length,
+}
 use Rattle.std.proofs.Common.{Some, None, refl, sym, ap, ◌∙◌, codes}
 use Rattle.std.proofs.lemmas.List.{map-append}
 use Rattle.std.specs.List.{list_all}
@@ -219,7 +239,8 @@ module _ (structs : List StructDef) (units : List UnitDef) (known : Sizes) (size
   abbrev size_all : List Var → ℕ
   size_all vars = total (map (λ (var : Var). size structs var.ty) vars)
 
-  members_cells : (prefix : Text) (vars : List Var) → Stand vars → total (map (size_of_member known) (map (port_member structs prefix) vars)) ≤ size_all vars
+  members_cells : (prefix : Text) (vars : List Var) → Stand vars →
+      total (map (size_of_member known) (map (port_member structs prefix) vars)) ≤ size_all vars
   members_cells prefix [] stand = omega arith
   members_cells prefix (var ∷ vars) stand =
       let one = sizes.types var.ty

@@ -1,5 +1,25 @@
 -- Lists of numbers with one more.
-use Rattle.std.proofs.Common.{◌≡◌, ℕ, zero, suc, ◌<◌, ◌≤◌, max, arith, Bool, true, false, ◌||◌, nat_eq, List, [], ◌∷◌, ◌++◌, map, length}
+use Rattle.std.proofs.Common.{
+  ◌≡◌,
+  ℕ,
+  zero,
+  suc,
+  ◌<◌,
+  ◌≤◌,
+  max,
+  arith,
+  Bool,
+  true,
+  false,
+  ◌||◌,
+  nat_eq,
+  List,
+  [],
+  ◌∷◌,
+  ◌++◌,
+  map,
+  length,
+}
 use Rattle.std.proofs.Common.{refl, ap}
 use Rattle.std.proofs.lemmas.Bool.{eqb-true}
 use Rattle.std.specs.List.{list_any}
@@ -20,7 +40,8 @@ pub index_last : (xs : List ℕ) (y : ℕ) → slice_index (xs ++ y ∷ []) (len
 index_last [] y = refl
 index_last (x ∷ xs) y = index_last xs y
 
-pub index_under : (xs : List ℕ) (y j most : ℕ) → slice_index xs j ≤ most → (j ≡ length xs → y ≤ most) → slice_index (xs ++ y ∷ []) j ≤ most
+pub index_under : (xs : List ℕ) (y j most : ℕ) → slice_index xs j ≤ most → (j ≡ length xs → y ≤ most) →
+    slice_index (xs ++ y ∷ []) j ≤ most
 index_under [] y zero most old new = new refl
 index_under [] y (suc j) most old new = omega arith
 index_under (x ∷ xs) y zero most old new = old

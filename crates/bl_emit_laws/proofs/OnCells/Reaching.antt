@@ -1,6 +1,26 @@
 -- A number for each unit: enough for the chain of calls that its C function heads, no less than those of what it calls and runs, and no more than
 -- rule Cells counts.
-use Rattle.std.proofs.Common.{◌≡◌, ⊎_elim, ℕ, suc, ◌+◌, ◌<◌, ◌≤◌, arith, Bool, true, false, nat_eq, List, [], ◌∷◌, ◌++◌, Contains, map, take}
+use Rattle.std.proofs.Common.{
+  ◌≡◌,
+  ⊎_elim,
+  ℕ,
+  suc,
+  ◌+◌,
+  ◌<◌,
+  ◌≤◌,
+  arith,
+  Bool,
+  true,
+  false,
+  nat_eq,
+  List,
+  [],
+  ◌∷◌,
+  ◌++◌,
+  Contains,
+  map,
+  take,
+}
 use Rattle.std.proofs.Common.{length, Option, Some, None, refl, sym, ap, ◌∙◌, subst}
 use Rattle.std.proofs.lemmas.List.{length-append}
 use Rattle.std.proofs.lemmas.Option.{same_Some}
@@ -118,8 +138,8 @@ module _ (structs : List StructDef) (units : List UnitDef) (entry : ℕ) (keeps 
     }
 
     -- a C function joins
-    joined_bound : (list : List ℕ) (chains : Table ℕ) (k : ℕ) (unit : UnitDef) (r n : ℕ) → slice_get units k ≡ Some unit → Reached list chains k →
-        n ≤ r → (f : ℕ) (other : UnitDef) → slice_get units f ≡ Some other →
+    joined_bound : (list : List ℕ) (chains : Table ℕ) (k : ℕ) (unit : UnitDef) (r n : ℕ) → slice_get units k ≡ Some unit →
+        Reached list chains k → n ≤ r → (f : ℕ) (other : UnitDef) → slice_get units f ≡ Some other →
         entry_or 0 (with_entry chains (unit_name unit.name) n) (unit_name other.name) ≤ slice_index (list ++ r ∷ []) f
     joined_bound list chains k unit r n there st le f other found =
         let old : entry_or 0 chains (unit_name other.name) ≤ slice_index list f = st.bound f other found in

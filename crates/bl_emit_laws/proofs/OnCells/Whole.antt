@@ -1,5 +1,26 @@
 -- The cells of the whole file.
-use Rattle.std.proofs.Common.{◌≡◌, ◌⊎◌, inl, inr, ⊎_elim, ℕ, suc, ◌+◌, ◌<◌, ◌≤◌, arith, Bool, true, false, ◌&&◌, ◌||◌, nat_eq, List, [], ◌∷◌}
+use Rattle.std.proofs.Common.{
+  ◌≡◌,
+  ◌⊎◌,
+  inl,
+  inr,
+  ⊎_elim,
+  ℕ,
+  suc,
+  ◌+◌,
+  ◌<◌,
+  ◌≤◌,
+  arith,
+  Bool,
+  true,
+  false,
+  ◌&&◌,
+  ◌||◌,
+  nat_eq,
+  List,
+  [],
+  ◌∷◌,
+}
 use Rattle.std.proofs.Common.{◌++◌, Contains, map, take, length, Option, Some, None, refl, sym, ap, ◌∙◌, subst, codes}
 use Rattle.std.proofs.lemmas.Bool.{eqb-true}
 use Rattle.std.proofs.lemmas.List.Elements.{All-contains, Contains-append_cases}
@@ -94,7 +115,8 @@ any_at (x ∷ xs) j h = by (nat_eq j x) refl h (any_at xs j)
     further : Contains xs j → Contains (x ∷ xs) j
     further at = (suc at.0, (let lt = at.1 in omega arith), at.2)
 
-    by : (b : Bool) → nat_eq j x ≡ b → (b || list_any (nat_eq j) xs) ≡ true → (list_any (nat_eq j) xs ≡ true → Contains xs j) → Contains (x ∷ xs) j
+    by : (b : Bool) → nat_eq j x ≡ b → (b || list_any (nat_eq j) xs) ≡ true → (list_any (nat_eq j) xs ≡ true → Contains xs j) →
+        Contains (x ∷ xs) j
     by true is h rest = (0, omega arith, sym (eqb-true j x is))
     by false is h rest = further (rest h)
 
@@ -225,7 +247,8 @@ module _ (program : Program)
       (λ is. subst (λ (s : CStruct). NamesNone structs units s.name) (sym is) (file_none structs units (codes "out"))) more) (last_cases s has)) in
       subst (SizesKnown structs units) (sym (sizes_append parts.structs last T) ∙ split) three
 
-  fresh : (j : ℕ) (other : UnitDef) → 0 ≤ j → slice_get units j ≡ Some other → (T (frame_name other.name) ≡ None) × (T (memory_name other.name) ≡ None)
+  fresh : (j : ℕ) (other : UnitDef) → 0 ≤ j → slice_get units j ≡ Some other →
+      (T (frame_name other.name) ≡ None) × (T (memory_name other.name) ≡ None)
   fresh j other above found = (
     sizes_none types no_entries (frame_name other.name) refl (λ s has same. let o = type_at s has in
         alike (frame_name other.name) (type_name structs o.ty) (no_frame structs other.name o.ty) (sym same ∙ o.named)),

@@ -124,7 +124,8 @@ module _ (P : CPath → Type 0) (plain : (place : CPath) → names_counter place
 
   -- ---- acts
 
-  acted_by : (s : Stmt) (layer : StmtKind-F StmtKind Arm Branch Stmt) → out-StmtKind (out-Stmt s).what ≡ layer → CodeFine P plain (layer_acted view s layer)
+  acted_by : (s : Stmt) (layer : StmtKind-F StmtKind Arm Branch Stmt) → out-StmtKind (out-Stmt s).what ≡ layer →
+      CodeFine P plain (layer_acted view s layer)
   acted_by s (StmtKind-F.Return (Some e)) is =
       one_stmt P plain (c_set result_place (code_made view.site e))
       (set-fine P plain result_place (code_made view.site e) (root-fine P plain true (codes "r")) (code_fine e))

@@ -53,7 +53,8 @@ counter-names k =
     place-names true (codes "f") (c_step (counter_name k) ∷ [])
     ∙ ap (λ (step : StepParts). own_counter step.member ∷ (step.inside ++ [])) (step-passes (counter_name k))
 
-module _ (P : CPath → Type 0) (plain : (place : CPath) → names_counter place ≡ false → P place) (own : (k : ℕ) → P (own_counter (counter_name k))) where
+module _ (P : CPath → Type 0) (plain : (place : CPath) → names_counter place ≡ false → P place)
+    (own : (k : ℕ) → P (own_counter (counter_name k))) where
   -- ---- places of registers
 
   pub counter_fine : (k : ℕ) → PlaceFine P plain (counter_place k)

@@ -78,7 +78,8 @@ module _ {X : Type 0} (name_of : X → Text) (name : Text) where
   one_named seen (y ∷ xs) x at is differ =
       by (named y) refl at (λ behind. one_named (λ asked. seen asked || bytes_eq (name_of y) asked) xs x behind is differ.1)
     where
-      by : (b : Bool) → named y ≡ b → Contains (y ∷ xs) x → (Contains xs x → Alone xs) → (z : X) × (cond b (y ∷ those xs) (those xs) ≡ z ∷ [])
+      by : (b : Bool) → named y ≡ b → Contains (y ∷ xs) x → (Contains xs x → Alone xs) →
+          (z : X) × (cond b (y ∷ those xs) (those xs) ≡ z ∷ [])
       by true eq at later = (
         y,
         ap (λ rest. y ∷ rest)

@@ -192,8 +192,8 @@ module _ (structs : List StructDef) (units : List UnitDef) (entry : ℕ) (machin
 
   -- nothing is left where all rules have lesser numbers
   none_left : (i k : ℕ) (unit : UnitDef) (scope : Scope) (frames : Frames) (store : Store) (copies : List Value) (r : Registers) (here : Memory) →
-      Mid i unit scope frames store copies r here → ((rule : Rule) → HasRule S i unit rule → R i rule.node < k) → (xs : List Turn) → drop k (all i) ≡ xs →
-      xs ≡ []
+      Mid i unit scope frames store copies r here → ((rule : Rule) → HasRule S i unit rule → R i rule.node < k) → (xs : List Turn) →
+      drop k (all i) ≡ xs → xs ≡ []
   none_left i k unit scope frames store copies r here mid below [] is = refl
   none_left i k unit scope frames store copies r here mid below (t ∷ ts) is =
       let last = rule_there i k unit scope frames store copies r here mid t ts is in
@@ -285,7 +285,8 @@ module _ (structs : List StructDef) (units : List UnitDef) (entry : ℕ) (machin
           }
 
       -- behind all
-      skip_none : (rest : List (List Turn)) → Place i k [] rest → joined rest ≡ [] → merged rest ≡ [] → behind_firsts rest ≡ [] → Left false [] rest here r
+      skip_none : (rest : List (List Turn)) → Place i k [] rest → joined rest ≡ [] → merged rest ≡ [] → behind_firsts rest ≡ [] →
+          Left false [] rest here r
       skip_none rest place turns code behind = record {
         enters = false;
         turns = [];
@@ -413,7 +414,8 @@ module _ (structs : List StructDef) (units : List UnitDef) (entry : ℕ) (machin
             merged rest ≡ merged_code (t ∷ ts) ++ merged more → (block_c (merged rest) scope here).end ≡ traps
         trap_first t ts rest more place turns code =
             ap (λ (b : List CStmt). (block_c b scope here).end) code
-            ∙ ap (λ (x : Turn). (block_c (merged_code (x ∷ ts) ++ merged more) scope here).end) (sym (same_turn t (ts ++ joined more) (place.turns ∙ turns)))
+            ∙ ap (λ (x : Turn). (block_c (merged_code (x ∷ ts) ++ merged more) scope here).end)
+            (sym (same_turn t (ts ++ joined more) (place.turns ∙ turns)))
             ∙ more_traps (guarded (view_of (A i)) rule (turn.code ++ map turn_code ts)) (merged more) scope here
             ((entered_so ts).0 ∙ then_traps turn.code (map turn_code ts) scope here (sym done_so.0 ∙ ends))
 

@@ -36,7 +36,8 @@ text_alone false rest = refl
 pub data Head (rest : List (List Turn)) : Type 0 where
   nothing : joined rest ≡ [] → merged rest ≡ [] → behind_firsts rest ≡ [] → Head rest
   leads : (t : Turn) (ts : List Turn) (more : List (List Turn)) → joined rest ≡ t ∷ (ts ++ joined more) →
-      merged rest ≡ merged_code (t ∷ ts) ++ merged more → behind_firsts rest ≡ false ∷ (map (λ (t : Turn). true) ts ++ behind_firsts more) → Head rest
+      merged rest ≡ merged_code (t ∷ ts) ++ merged more →
+      behind_firsts rest ≡ false ∷ (map (λ (t : Turn). true) ts ++ behind_firsts more) → Head rest
 
 pub head_of : (rest : List (List Turn)) → Head rest
 head_of [] = nothing refl refl refl

@@ -82,7 +82,8 @@ pub record PassOutside (site : Site) (unit : UnitDef) (remembers : Bool) (scope 
 -- such numbers that were there before the function began are as they were
 abbrev pub PassKeeps : Site → UnitDef → Bool → Scope → Memory → Memory → Type 0
 PassKeeps site unit remembers scope here after =
-    (root : Root) (way : List Part) → is_older scope.depth root ≡ true → PassOutside site unit remembers scope root way → after root way ≡ here root way
+    (root : Root) (way : List Part) → is_older scope.depth root ≡ true → PassOutside site unit remembers scope root way →
+    after root way ≡ here root way
 
 -- a part of the function goes on, and leaves memory that stands for these
 pub record PartComes (w : Setting) (activities : Activities) (i : ℕ) (unit : UnitDef) (scope : Scope) (frames : Frames) (store : Store)

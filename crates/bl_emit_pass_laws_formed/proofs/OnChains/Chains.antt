@@ -44,7 +44,8 @@ chain_is : (units : List UnitDef) (k : ℕ) (unit : UnitDef) → slice_get units
     → chain_at units k ≡ chain_by (take k (all_chains units)) unit
 chain_is units k unit there = answer_at chain_by units k unit 0 there
 
-both_greatest : (by : ℕ → ℕ) (n : ℕ) (xs ys : List ℕ) → greatest (map by xs) ≤ n → greatest (map by ys) ≤ n → greatest (map by (xs ++ ys)) ≤ n
+both_greatest : (by : ℕ → ℕ) (n : ℕ) (xs ys : List ℕ) → greatest (map by xs) ≤ n → greatest (map by ys) ≤ n →
+    greatest (map by (xs ++ ys)) ≤ n
 both_greatest by n [] ys one two = two
 both_greatest by n (x ∷ xs) ys one two =
     let first : by x ≤ n = omega (arith, one) in

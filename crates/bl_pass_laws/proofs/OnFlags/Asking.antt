@@ -1,5 +1,27 @@
 -- The rule of a node asks for its flag where it could stand in one block with the node before it.
-use Rattle.std.proofs.Common.{◌≡◌, inl, inr, ℕ, zero, suc, Bool, true, false, List, [], ◌∷◌, ◌++◌, Contains, map, ap, refl, sym, subst, ◌∙◌, arith}
+use Rattle.std.proofs.Common.{
+  ◌≡◌,
+  inl,
+  inr,
+  ℕ,
+  zero,
+  suc,
+  Bool,
+  true,
+  false,
+  List,
+  [],
+  ◌∷◌,
+  ◌++◌,
+  Contains,
+  map,
+  ap,
+  refl,
+  sym,
+  subst,
+  ◌∙◌,
+  arith,
+}
 use Rattle.bl_tree.specs.declared.place.Place.{Place}
 use Rattle.bl_nodes.specs.Nodes.{CheckAt, DepthEndAt, DepthJoinAt, ForkAt, HeadAt, Node, SurfaceEndAt, SurfaceJoinAt, TestAt, are_instant, is_instant}
 use Rattle.bl_nodes.specs.Plain.{
@@ -50,8 +72,8 @@ where_waits E R true rule waits = (waits, tt)
 where_waits E R false rule waits = tt
 
 -- in a greater part
-all_wider : (E : Node → Node → Type 0) (R : Node → Type 0) (E' : Node → Node → Type 0) (R' : Node → Type 0) → ((k m : Node) → E k m → E' k m) →
-    ((rule : Rule) → R rule.node → Waits E' R' rule) → (xs : List Rule) → AllWait E R xs → AllWait E' R' xs
+all_wider : (E : Node → Node → Type 0) (R : Node → Type 0) (E' : Node → Node → Type 0) (R' : Node → Type 0) →
+    ((k m : Node) → E k m → E' k m) → ((rule : Rule) → R rule.node → Waits E' R' rule) → (xs : List Rule) → AllWait E R xs → AllWait E' R' xs
 all_wider E R E' R' edges resume [] all = tt
 all_wider E R E' R' edges resume (rule ∷ rest) all = (by all.0, all_wider E R E' R' edges resume rest all.1)
   where
@@ -156,7 +178,8 @@ module _ (slots : Slots) where
         (λ n m edge. inr (inr (inr (inr edge)))) (λ rule there. resumes (inr there)) (rules_in_each slots l (suc k) rest)
         (wait_each l at instant (suc k) rest))
 
-rule_waits : (E : Node → Node → Type 0) (R : Node → Type 0) (some : List Rule) (rule : Rule) → AllWait E R some → Contains some rule → Waits E R rule
+rule_waits : (E : Node → Node → Type 0) (R : Node → Type 0) (some : List Rule) (rule : Rule) → AllWait E R some →
+    Contains some rule → Waits E R rule
 rule_waits E R [] rule all has = let less = has.1 in absurd (omega (arith, less))
 rule_waits E R (r ∷ rest) rule all (zero, within, is) = subst (λ (x : Rule). Waits E R x) is all.0
 rule_waits E R (r ∷ rest) rule all (suc k, within, is) = rule_waits E R rest rule all.1 (k, omega arith, is)

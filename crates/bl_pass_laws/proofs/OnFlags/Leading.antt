@@ -230,7 +230,8 @@ module _ (slots : Slots) where
         into m flags = into_end l at body m (entered body (body_ends l at body) m flags)
 
         -- an `abort` goes on behind the `when`, to which its end in a later tick leads
-        fired : (g : Guard) → guard ≡ g → FlagsLed (Edge (When l at guard e body)) (Out (When l at guard e body)) next (CheckAt l at e) (fires g l at body next)
+        fired : (g : Guard) → guard ≡ g →
+            FlagsLed (Edge (When l at guard e body)) (Out (When l at guard e body)) next (CheckAt l at e) (fires g l at body next)
         fired Abort is m flags = record { via = DepthEndAt l at; own = inr refl; edge = inr (inr refl, flags) }
         fired Reset is m flags =
             by_edge (CheckAt l at e) m

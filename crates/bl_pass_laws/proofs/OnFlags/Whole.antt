@@ -70,5 +70,5 @@ flags_reached slots body m rule change there among flags = by among
         found (change_at (λ c. (m : Node) → MayFlag c m → Led (EdgeAll body) (OutAll body) Finishes rule.node m) rule.so change of_rule.so so m flags)
     by (inr otherwise) =
         found
-        (change_at (λ c. (m : Node) → MayFlag c m → Led (EdgeAll body) (OutAll body) Finishes rule.node m) rule.otherwise change of_rule.otherwise otherwise
-        m flags)
+        (change_at (λ c. (m : Node) → MayFlag c m → Led (EdgeAll body) (OutAll body) Finishes rule.node m)
+        rule.otherwise change of_rule.otherwise otherwise m flags)

@@ -18,7 +18,8 @@ returns-then-j-len-clause-free c =
     let free = c.args.free.now in
     let in_points : j < length xs = omega (arith, c.if-j-points.true) in
     let in_free : j < length free = omega (arith, c.if-j-len.true, c.len.ensures) in
-    let spots = ap (map spot_of) (c.deref.ensures ∙ sym (list_here xs j c.index-points-j.result in_points c.index-points-j.is)) ∙ sym (list_map spot_of xs j) in
+    let spots = ap (map spot_of) (c.deref.ensures ∙ sym (list_here xs j c.index-points-j.result in_points c.index-points-j.is))
+    ∙ sym (list_map spot_of xs j) in
     let flags = sym (list_here free j c.get_mut.result.now in_free c.get_mut.ensures.value) in
     ap (slice_set free j)
     (c.ask_points.ensures ∙ (λ i. asked_flags hs j (location_of c.args.changed.now ∷ []) (spots i) (flags i)))
@@ -32,7 +33,8 @@ returns-then-j-len-clause-counts c =
     let in_free : j < length free = omega (arith, c.if-j-len.true, c.len.ensures) in
     let read : c.trues.result ≡ trues new =
     c.trues.ensures
-    ∙ ap trues (c.deref-then-j-len-2.ensures ∙ c.index-deref-j.is ∙ ap (λ xs. get_or xs j d) c.deref-then-j-len.ensures ∙ set_read free j new d in_free) in
+    ∙ ap trues (c.deref-then-j-len-2.ensures ∙ c.index-deref-j.is ∙ ap (λ xs. get_or xs j d) c.deref-then-j-len.ensures
+    ∙ set_read free j new d in_free) in
     c.set.ensures ∙ ap (slice_set c.args.counts.now j) read ∙ counts_set free c.args.counts.now j new c.requires.counted
 
 pub returns-else-j-points-clause-free : goal.returns-else-j-points-clause-free

@@ -55,7 +55,8 @@ loop-m-preserved c =
             let read = ap (λ (q : Point). q.reads) (sym v.index-points-m.is) in
             let off = sym (v.touches.ensures ∙ ap (λ r. touches changed (map location_of r)) (v.deref.ensures ∙ read)) ∙ v.if-touches.false in
             w.free-is
-            ∙ flag_left hs j changed spots was m (spot_of p) c.loop-m.free within (map_here spot_of xs m p in_points v.index-points-m.is) off c.loop-m.invariant
+            ∙ flag_left hs j changed spots was m (spot_of p) c.loop-m.free within
+            (map_here spot_of xs m p in_points v.index-points-m.is) off c.loop-m.invariant
         | else-m-points-via-else-m-points v ↦
             w.free-is
             ∙ flag_past hs j changed spots was m c.loop-m.free within (omega (arith, v.if-m-points.false, map_many spot_of xs)) c.loop-m.invariant

@@ -7,7 +7,22 @@ use Rattle.std.specs.List.{list_all}
 use Rattle.std.specs.Prelude.{◌&&◌, nat_lt}
 use Rattle.std.specs.Str.{bytes_eq}
 use Rattle.bl_words.specs.Jobs.{HasStages, JobSpec, Word, bound, build, check, command_job, count, driven, exec, is_plain_word, job_of, of_one}
-use Rattle.bl_words.specs.Jobs.{of_one_if, of_three, of_two, of_two_or_three, other_job, plants_of, resumed, run, save, save_from, seed_of, seeded, staged, stages_in}
+use Rattle.bl_words.specs.Jobs.{
+  of_one_if,
+  of_three,
+  of_two,
+  of_two_or_three,
+  other_job,
+  plants_of,
+  resumed,
+  run,
+  save,
+  save_from,
+  seed_of,
+  seeded,
+  staged,
+  stages_in,
+}
 use Rattle.bl_words.specs.Jobs.{ticks_of}
 use Rattle.bl_words.proofs.job.programs_have_stages.Goals as goal
 

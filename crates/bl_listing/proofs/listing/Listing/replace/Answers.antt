@@ -21,7 +21,8 @@ pub ask_all-requires-clause-writers : goal.ask_all-requires-clause-writers
 ask_all-requires-clause-writers c =
     let old = c.args.self.now in
     let all = map (map location_of) old.homes in
-    let homes = ap (map (map location_of)) (c.deref-6.ensures ∙ c.put-before.ensures.now) ∙ set_map (map location_of) old.homes c.args.k c.args.found.homes in
+    let homes = ap (map (map location_of)) (c.deref-6.ensures ∙ c.put-before.ensures.now)
+    ∙ set_map (map location_of) old.homes c.args.k c.args.found.homes in
     subst (AllNoted c.note.new.writers) (sym homes)
     (all_set c.note.new.writers all c.args.k (map location_of c.args.found.homes)
     (all_grow old.writers c.note.new.writers all c.in_ok-note.ensures.writers old.writers_noted) c.in_ok-note.ensures.noted.0)
@@ -30,7 +31,8 @@ pub ask_all-requires-clause-readers : goal.ask_all-requires-clause-readers
 ask_all-requires-clause-readers c =
     let old = c.args.self.now in
     let ms = map (map spot_of) old.points in
-    let points = ap (map reads_in) (ap (map (map spot_of)) (c.deref-5.ensures ∙ c.set.ensures) ∙ set_map (map spot_of) old.points c.args.k c.args.found.points)
+    let points = ap (map reads_in) (ap (map (map spot_of)) (c.deref-5.ensures ∙ c.set.ensures)
+    ∙ set_map (map spot_of) old.points c.args.k c.args.found.points)
     ∙ set_map reads_in ms c.args.k (map spot_of c.args.found.points) in
     subst (AllNoted c.note.new.readers) (sym points)
     (all_set c.note.new.readers (map reads_in ms) c.args.k (reads_in (map spot_of c.args.found.points))
@@ -51,7 +53,8 @@ pub ask_all-requires-2-clause-writers : goal.ask_all-requires-2-clause-writers
 ask_all-requires-2-clause-writers c =
     let old = c.args.self.now in
     let all = map (map location_of) old.homes in
-    let homes = ap (map (map location_of)) (c.deref-8.ensures ∙ c.put-before.ensures.now) ∙ set_map (map location_of) old.homes c.args.k c.args.found.homes in
+    let homes = ap (map (map location_of)) (c.deref-8.ensures ∙ c.put-before.ensures.now)
+    ∙ set_map (map location_of) old.homes c.args.k c.args.found.homes in
     subst (AllNoted c.note.new.writers) (sym homes)
     (all_set c.note.new.writers all c.args.k (map location_of c.args.found.homes)
     (all_grow old.writers c.note.new.writers all c.in_ok-note.ensures.writers old.writers_noted) c.in_ok-note.ensures.noted.0)
@@ -60,7 +63,8 @@ pub ask_all-requires-2-clause-readers : goal.ask_all-requires-2-clause-readers
 ask_all-requires-2-clause-readers c =
     let old = c.args.self.now in
     let ms = map (map spot_of) old.points in
-    let points = ap (map reads_in) (ap (map (map spot_of)) (c.deref-7.ensures ∙ c.set.ensures) ∙ set_map (map spot_of) old.points c.args.k c.args.found.points)
+    let points = ap (map reads_in) (ap (map (map spot_of)) (c.deref-7.ensures ∙ c.set.ensures)
+    ∙ set_map (map spot_of) old.points c.args.k c.args.found.points)
     ∙ set_map reads_in ms c.args.k (map spot_of c.args.found.points) in
     subst (AllNoted c.note.new.readers) (sym points)
     (all_set c.note.new.readers (map reads_in ms) c.args.k (reads_in (map spot_of c.args.found.points))
