@@ -1,22 +1,24 @@
 -- What is kept of a machine whose blocks are merged.
-use Rattle.std.proofs.Common.{List, [], ◌∷◌, ◌∙◌}
-use Rattle.std.proofs.Common.{◌≡◌, true, subst, sym}
+use Rattle.std.proofs.Common.{◌≡◌, true, List, [], ◌∷◌, ap, subst, sym, ◌∙◌}
 use Rattle.bl_tree.specs.declared.program.Program.{Program}
 use Rattle.bl_tree.specs.declared.tree.Unit.{Unit as UnitDef}
-use Rattle.bl_tree.specs.Program.{Keeps}
-use Rattle.bl_effects.specs.Rules.{Passes}
 use Rattle.bl_limits.specs.Rules.{Passes as KeepsLimits}
 use Rattle.bl_prevs.specs.Declared.{FromText}
 use Rattle.bl_block.specs.Merged.{AreMergedFrom, EachThree, IsMergedFrom}
+use Rattle.bl_cause.specs.Accepted.{AcceptedProgram, IsAccepted}
 use Rattle.bl_cause.specs.Activities.{EachTwo, activities}
+use Rattle.bl_cmeaning.specs.Parts.{parts_from}
 use Rattle.bl_emit_pass.specs.Shared.{IsShared, IsSharedActivityOf}
 use Rattle.bl_machine.specs.declared.machine.Activity.{Activity}
-use Rattle.bl_machine.specs.Machines.{AreActivitiesOf, IsPlainActivityOf}
+use Rattle.bl_machine.specs.Machines.{AreActivitiesOf, IsMachine, IsPlainActivityOf, IsPlainMachine, SeenMachine}
 use Rattle.bl_ctext.specs.Spellable.{is_spellable}
+use Rattle.bl_emit.specs.Programs.{written_told}
+use Rattle.bl_emit_laws.specs.Told.{WrittenIsTold}
 use Rattle.bl_emit_pass.specs.Programs.{Written, written}
 use Rattle.bl_emit_pass_laws_runs.specs.Compiled.{AreCountable}
 use Rattle.bl_emit_laws.specs.Spelled.{ProgramsSpelled}
 use Rattle.bl_emit_file.specs.Laws.{Known}
+use Rattle.bl_emit_file.specs.Merged.{AreMerged, IsMerged, IsOfMerged}
 
 each_shared : (units : List UnitDef) (from to : List Activity) → EachTwo IsPlainActivityOf units from → EachThree IsMergedFrom units from to →
     EachTwo IsSharedActivityOf units to
@@ -33,26 +35,59 @@ pub merged_shares : (units : List UnitDef) (from to : List Activity) → EachTwo
     IsShared units to
 merged_shares units from to plain merged = each_shared (activities units) from to plain merged
 
--- all is known of such a program and the merged machine that is known of it and the plain one
-pub known_merged : (tree plain merged : Program) (from to : List Activity) → plain ≡ tree → merged ≡ plain →
-    EachTwo IsPlainActivityOf (activities plain.units) from → AreMergedFrom plain.units from to → AreActivitiesOf merged.units to →
-    Keeps tree.structs tree.units tree.entry → Passes tree.units → KeepsLimits tree.structs tree.units tree.entry → FromText tree.units →
-    AreCountable tree.units → Known tree to
-known_merged tree plain merged from to one two are_plain are_merged agrees keeps passes limits text countable = record {
-  keeps = keeps;
-  passes = passes;
-  limits = limits;
-  text = text;
-  agrees = subst (λ (of : Program). AreActivitiesOf of.units to) (two ∙ one) agrees;
-  shared =
-      merged_shares tree.units from to (subst (λ (of : Program). EachTwo IsPlainActivityOf (activities of.units) from) one are_plain)
-      (subst (λ (of : Program). AreMergedFrom of.units from to) one are_merged);
-  countable = countable;
-}
+each_merged : (units : List UnitDef) (from to : List Activity) → EachThree IsMergedFrom units from to → EachTwo IsMerged units to
+each_merged [] [] [] merged = tt
+each_merged [] [] (b ∷ to) merged = absurd merged
+each_merged [] (a ∷ from) to merged = absurd merged
+each_merged (unit ∷ units) [] to merged = absurd merged
+each_merged (unit ∷ units) (a ∷ from) [] merged = absurd merged
+each_merged (unit ∷ units) (a ∷ from) (b ∷ to) merged = (merged.0.none_left, each_merged units from to merged.1)
+
+-- and its blocks are merged
+pub merged_is : (units : List UnitDef) (from to : List Activity) → AreMergedFrom units from to → AreMerged units to
+merged_is units from to merged = each_merged (activities units) from to merged
+
+-- what is made of an accepted program: all is known of its machine, and the file is what is written of that
+pub record IsMadeOf (tree : Program) (machine : List Activity) (made : Written) : Type 0 where
+  pub known : Known tree machine
+  pub is : made ≡ written tree machine
+
+pub made_known : (accepted : AcceptedProgram) (plain merged : SeenMachine) (made : Written) → IsAccepted accepted → FromText accepted.tree.units →
+    AreCountable accepted.tree.units → plain.program ≡ accepted.tree → IsPlainMachine plain → merged.program ≡ plain.program →
+    AreMergedFrom plain.program.units plain.activities merged.activities → IsMachine merged → WrittenIsTold →
+    made ≡ written_told merged.program merged.activities → IsMadeOf accepted.tree merged.activities made
+made_known accepted plain merged made is_accepted text countable one are_plain two are_merged is_machine told same =
+    let tree = accepted.tree in
+    let from : List Activity = plain.activities in
+    let to : List Activity = merged.activities in
+    let of_tree : AreMergedFrom tree.units from to = subst (λ (of : Program). AreMergedFrom of.units from to) one are_merged in record {
+      known = record {
+        keeps = tree.keeps;
+        passes = is_accepted.tree_passes;
+        limits = subst (λ (of : Program). KeepsLimits of.structs of.units of.entry) (sym is_accepted.is_tree) is_accepted.limits;
+        text = text;
+        agrees = subst (λ (of : Program). AreActivitiesOf of.units to) (two ∙ one) is_machine;
+        shared =
+            merged_shares tree.units from to (subst (λ (of : Program). EachTwo IsPlainActivityOf (activities of.units) from) one are_plain) of_tree;
+        merged = merged_is tree.units from to of_tree;
+        countable = countable;
+      };
+      is = same ∙ ap (λ (of : Program). written_told of to) (two ∙ one) ∙ told tree to;
+    }
 
 -- what is made as is written has a spelling
-pub made_spelled : (program : Program) (machine : List Activity) (made : Written) → ProgramsSpelled program → Known program machine →
-    made ≡ written program machine → is_spellable made.structs made.funcs ≡ true
-made_spelled program machine made spelled known same =
-    subst (λ (it : Written). is_spellable it.structs it.funcs ≡ true) (sym same)
-    (spelled machine known.keeps known.passes known.limits known.agrees known.shared)
+pub made_spelled : (program : Program) (machine : List Activity) (made : Written) → ProgramsSpelled program → IsMadeOf program machine made →
+    is_spellable made.structs made.funcs ≡ true
+made_spelled program machine made spelled it =
+    subst (λ (it : Written). is_spellable it.structs it.funcs ≡ true) (sym it.is)
+    (spelled machine it.known.keeps it.known.passes it.known.limits it.known.agrees it.known.shared)
+
+-- and it is of a machine whose blocks are merged
+pub made_of_merged : (program : Program) (machine : List Activity) (made : Written) → IsMadeOf program machine made →
+    IsOfMerged program (parts_from made.structs made.funcs)
+made_of_merged program machine made it = record {
+  machine = machine;
+  agrees = it.known.agrees;
+  merged = it.known.merged;
+  is = ap (λ (file : Written). parts_from file.structs file.funcs) it.is;
+}

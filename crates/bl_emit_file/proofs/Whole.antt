@@ -46,7 +46,7 @@ use Rattle.bl_emit_pass_laws_files.specs.Files.{FileShows, RowsSuffice}
 use Rattle.bl_emit_pass_laws.specs.Tables.Laws.{ActivitiesBuilt}
 use Rattle.bl_emit_laws.specs.Accepted.{ProgramsFormed}
 use Rattle.bl_emit_laws.specs.Cells.{FilesSmall}
-use Rattle.bl_emit_laws.specs.Counters.Laws.{FilesOwn}
+use Rattle.bl_emit_laws.specs.Counters.Laws.{FilesHaveIfs, FilesOwn}
 use Rattle.bl_emit_laws.specs.Kept.{activities_in, written_file}
 use Rattle.bl_emit_laws.specs.Shows.{WrittenShows}
 use Rattle.bl_emit_laws.specs.Width.{FramesHaveWidth}
@@ -86,6 +86,7 @@ pub record Laws (program : Program) : Type 0 where
   pub formed : ProgramsFormed program
   pub small : FilesSmall program
   pub own : FilesOwn program
+  pub ifs : FilesHaveIfs program
   pub wide : FramesHaveWidth program
 
 module _ (program : Program) (machine : List InMachine) (laws : Laws program) (known : Known program machine) where
@@ -147,6 +148,12 @@ module _ (program : Program) (machine : List InMachine) (laws : Laws program) (k
       outputs = shows.outputs;
       functions = laws.own machine unit known.keeps known.passes known.agrees there formed;
       frames = laws.wide machine compiled known.shared;
+      blocks = record {
+        machine = machine;
+        agrees = known.agrees;
+        merged = known.merged;
+        each = laws.ifs machine unit known.keeps known.passes known.agrees there formed;
+      };
       trace = traced;
     }
 

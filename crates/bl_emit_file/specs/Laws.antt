@@ -10,9 +10,11 @@ use Rattle.bl_machine.specs.Machines.{AreActivitiesOf}
 use Rattle.bl_emit_laws.specs.Kept.{written_file}
 use Rattle.bl_emit_pass.specs.Shared.{IsShared}
 use Rattle.bl_emit_pass_laws_runs.specs.Compiled.{AreCountable}
+use Rattle.bl_emit_file.specs.Merged.{AreMerged}
 use Rattle.bl_emit_file.specs.Shows.{ShowsProgram}
 
--- no rule fails for a program that is made of a text, its machine shares counters, and 64 bits count the variables and statements of its units
+-- no rule fails for a program that is made of a text, its machine shares counters and has merged blocks, and 64 bits count the variables and
+-- statements of its units
 pub record Known (program : Program) (machine : List InMachine) : Type 0 where
   pub keeps : Keeps program.structs program.units program.entry
   pub passes : Passes program.units
@@ -20,6 +22,7 @@ pub record Known (program : Program) (machine : List InMachine) : Type 0 where
   pub text : FromText program.units
   pub agrees : AreActivitiesOf program.units machine
   pub shared : IsShared program.units machine
+  pub merged : AreMerged program.units machine
   pub countable : AreCountable program.units
 
 -- what is written of such a program shows what it means

@@ -1,3 +1,4 @@
 pub mod Laws
+pub mod Merged
 pub mod Shows
 pub mod inner

@@ -11,6 +11,7 @@ use Rattle.bl_cmeaning.specs.Sizes.{cells_needed}
 use Rattle.bl_cmeaning.specs.Trace.{c_trace}
 use Rattle.bl_emit_laws.specs.Counters.Own.{FunctionsOwn}
 use Rattle.bl_emit_laws.specs.Width.{EachFrameHasWidth}
+use Rattle.bl_emit_file.specs.Merged.{HasMergedBlocks}
 
 -- the C file of the program with these structs, these units and this entry
 pub record ShowsProgram (structs : List StructDef) (units : List UnitDef) (entry : ℕ) (file : Parts) : Type 0 where
@@ -26,6 +27,8 @@ pub record ShowsProgram (structs : List StructDef) (units : List UnitDef) (entry
   pub functions : FunctionsOwn structs units entry file
   -- and that struct has as many counters as the activity's width: the most places of it that can rest at once
   pub frames : EachFrameHasWidth structs units entry file
+  -- the body of that function is assignments, and then one `if` for each block that a machine with merged blocks has for the activity
+  pub blocks : HasMergedBlocks structs units entry file
   -- over all rows that fit its inputs the parallel meaning allows its trace, and no other
   pub trace : (rows : List (List ℤ)) (shows : Shown) → RowsFit (input_columns unit) rows →
       Means structs units entry rows shows ↔ (shows ≡ shown (c_trace file rows))

@@ -4,7 +4,7 @@ ghost use Rattle.bl_emit_file.specs.Laws.{ProgramsShow};
 
 use bl_emit_laws::accepted::programs_formed;
 use bl_emit_laws::cells::files_small;
-use bl_emit_laws::counters::files_own;
+use bl_emit_laws::counters::{files_have_ifs, files_own};
 use bl_emit_laws::shows::written_shows;
 use bl_emit_laws::width::frames_have_width;
 use bl_emit_pass_laws::tables::activities_built;
@@ -27,5 +27,6 @@ pub fn programs_show(program: &Program)
     programs_formed(program);
     files_small(program);
     files_own(program);
+    files_have_ifs(program);
     frames_have_width(program);
 }

@@ -1,8 +1,9 @@
 //! The C file of an accepted program. `c_file` makes it: it has a spelling, is well formed, has the columns of the program's entry and needs at most
-//! 1,000,000 cells; each activity that has an instance has one function, which alone names its counters, and as many counters as its width; over all rows
-//! that fit it has the one trace that the meaning of the program allows, and no other (`specs/Shows.antt`, `ShowsProgram`). The program has to be made of
-//! a source text (`FromText` of `bl_prevs`). A law, as the contract of a function that does nothing, puts those of the parts together (`specs/Laws.antt`,
-//! `ProgramsShow`).
+//! 1,000,000 cells; each activity that has an instance has one function, which alone names its counters, as many counters as its width, and one `if` for
+//! each of its blocks; over all rows that fit it has the one trace that the meaning of the program allows, and no other (`specs/Shows.antt`,
+//! `ShowsProgram`). It is what is written of a machine of the program in which no two neighbouring blocks could be one (`specs/Merged.antt`,
+//! `IsOfMerged`). The program has to be made of a source text (`FromText` of `bl_prevs`). A law, as the contract of a function that does nothing, puts
+//! those of the parts together (`specs/Laws.antt`, `ProgramsShow`).
 #![tactic(auto)]
 
 mod counts;
@@ -11,6 +12,7 @@ mod laws;
 ghost use Rattle.std.specs.Prelude.{IfOk};
 ghost use Rattle.bl_cmeaning.specs.Parts.{parts_of};
 ghost use Rattle.bl_prevs.specs.Declared.{FromText};
+ghost use Rattle.bl_emit_file.specs.Merged.{IsOfMerged};
 ghost use Rattle.bl_emit_file.specs.Shows.{ShowsProgram};
 
 use crate::counts::counted;
@@ -28,7 +30,8 @@ use std::alloc::Global;
 /// The C file of an accepted program. Fails only for want of memory.
 pub fn c_file(alloc: Global, accepted: &Accepted) -> Result<CFile, NoMemory>
     requires { FromText accepted.now.tree.units }
-    ensures { IfOk result (λ file. ShowsProgram accepted.now.tree.structs accepted.now.tree.units accepted.now.tree.entry (parts_of file)) }
+    ensures shows { IfOk result (λ file. ShowsProgram accepted.now.tree.structs accepted.now.tree.units accepted.now.tree.entry (parts_of file)) }
+    ensures merged { IfOk result (λ file. IsOfMerged accepted.now.tree (parts_of file)) }
 {
     let program = accepted.tree();
     accepted.is_accepted();

@@ -1,8 +1,10 @@
 pub mod Activities
+pub mod Blocks
 pub mod Expressions
 pub mod Fine
 pub mod Functions
 pub mod Guards
+pub mod Ifs
 pub mod Lists
 pub mod Once
 pub mod Shapes

@@ -1,3 +1,4 @@
+pub mod Ifs
 pub mod Laws
 pub mod Own
 pub mod Places

@@ -1,15 +1,18 @@
-//! Which function of a program's C file stands for an activity, and which names its counters. There is no code here. A law, as the contract of a
-//! function that does nothing: in the file that is written of an accepted program (`specs/Counters/Laws.antt`, `FilesOwn`) each activity A that has an instance
-//! has exactly one function `a_A` and one struct `f_A` (`specs/Counters/Own.antt`, `EachHasOneFunctionAndFrame`), and a place that names a counter, a member `c`
-//! and digits, is `(*f).cN` in the function `a_A` whose `f` points to `struct f_A` (`CountersAreOwn`). So a counter of `struct f_A` is named in `a_A`
-//! alone (`CountersStandInOne`).
+//! Which function of a program's C file stands for an activity, which names its counters, and what stands in its body. There is no code here. Laws,
+//! as contracts of functions that do nothing (`specs/Counters/Laws.antt`): in the file that is written of an accepted program (`FilesOwn`) each activity A that
+//! has an instance has exactly one function `a_A` and one struct `f_A` (`specs/Counters/Own.antt`, `EachHasOneFunctionAndFrame`), and a place that names a
+//! counter, a member `c` and digits, is `(*f).cN` in the function `a_A` whose `f` points to `struct f_A` (`CountersAreOwn`). So a counter of
+//! `struct f_A` is named in `a_A` alone (`CountersStandInOne`). The body of `a_A` is assignments, and then one `if` for each block that the machine has
+//! for A (`FilesHaveIfs`; `specs/Counters/Ifs.antt`, `HasIfForEach`).
 
-ghost use Rattle.bl_emit_laws.specs.Counters.Laws.{FilesOwn};
+ghost use Rattle.bl_emit_laws.specs.Counters.Laws.{FilesHaveIfs, FilesOwn};
 
 use crate::kept::{files_end, frames_are_declared};
 use bl_ctree_laws_confluence::deeds::accepted_programs_are_orderly;
 use bl_emit_pass_laws::tables::activities_built;
 use bl_emit_pass_laws_formed::closed::instances_needed;
+use bl_pass_laws::numbers::trees_stay_placed;
+use bl_pass_listed_laws::rules_are_listed;
 use bl_tree::Program;
 
 /// In the file that is written each activity has one function and one struct, and no other function names its counters.
@@ -20,5 +23,17 @@ pub fn files_own(program: &Program)
     activities_built();
     instances_needed(program);
     frames_are_declared(program);
+    files_end(program);
+}
+
+/// In the body of the function of each activity stands one `if` for each block that the machine has for it.
+pub fn files_have_ifs(program: &Program)
+    ensures { FilesHaveIfs program.now }
+{
+    accepted_programs_are_orderly();
+    activities_built();
+    trees_stay_placed();
+    rules_are_listed();
+    instances_needed(program);
     files_end(program);
 }

@@ -52,6 +52,7 @@ text_of_file structs units entry file text spells has = record {
   };
   functions = has.functions;
   frames = has.frames;
+  blocks = has.blocks;
 }
 
 -- ---- what is run

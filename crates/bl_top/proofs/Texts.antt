@@ -29,6 +29,7 @@ file_shows structs units entry file one shows = record {
   };
   functions = shows.functions;
   frames = shows.frames;
+  blocks = shows.blocks;
 }
 
 -- the tree of an accepted program is the program

@@ -7,6 +7,7 @@ use Rattle.bl_commands.specs.Refusals.{IsNotAccepted}
 use Rattle.bl_commands.specs.Results.{Writes}
 use Rattle.bl_commands.specs.declared.status.Status.{Status}
 use Rattle.bl_commands.specs.Sources.{IsTextOfProgram, IsTreeOf}
+use Rattle.bl_emit_file.specs.Merged.{HasMergedBlocks}
 use Rattle.bl_emit_laws.specs.Counters.Own.{FunctionsOwn}
 use Rattle.bl_emit_laws.specs.Width.{EachFrameHasWidth}
 use Rattle.bl_io.specs.Left.{IsKept}
@@ -17,11 +18,13 @@ use Rattle.bl_tree.specs.declared.tree.Unit.{Unit as UnitDef}
 use Rattle.bl_words.specs.Jobs.{Word}
 
 -- the bytes are a C text of the program with these structs, these units and this entry. In the file that they spell each activity that has an
--- instance has one function, which alone names its counters, and as many of these as its width
+-- instance has one function, which alone names its counters, as many of these as its width, and in the body of that function one `if` for each block
+-- that a machine of the program with merged blocks has for the activity
 pub record IsBuiltOfProgram (structs : List StructDef) (units : List UnitDef) (entry : ℕ) (text : List ℕ) : Type 0 where
   pub is : IsTextOfProgram structs units entry text
   pub functions : FunctionsOwn structs units entry (parts_of is.behaves.file)
   pub frames : EachFrameHasWidth structs units entry (parts_of is.behaves.file)
+  pub blocks : HasMergedBlocks structs units entry (parts_of is.behaves.file)
 
 -- so they are of the program of a source
 pub record IsBuiltOf (left : Option (List ℕ)) (text : List ℕ) : Type 0 where

@@ -198,6 +198,24 @@ module _ (program : Program) (machine : List InMachine) (unit : UnitDef) (ends :
   functions_are : file.funcs ≡ own_functions ++ last_functions
   functions_are = ap (λ (file : Parts). file.funcs) ends.is
 
+  chosen : (k : ℕ) (one : UnitDef) (active : Bool) → active ≡ true →
+      (if active then activity_function (activities k) else function_code structs (take k units) one) ≡ activity_function (activities k)
+  chosen k one true is = refl
+  chosen k one false is = absurd (cc)
+
+  -- the function of an activity that is needed is there
+  pub function_there : (k : ℕ) (one : UnitDef) → slice_get units k ≡ Some one → is_activity one.kind ≡ true → slice_get needed k ≡ Some true →
+      Contains file.funcs (activity_function (activities k))
+  function_there k one there active is =
+      let first : 0 + k ≡ k = omega arith in
+      let all : slice_get (functions_of_all structs units activities) k ≡ Some (activity_function (activities k)) =
+      each_at (unit_function structs units activities) 0 units k one there
+      ∙ ap (λ k. Some (unit_function structs units activities k one)) first
+      ∙ ap Some (chosen k one (is_activity one.kind) active) in
+      subst (λ list. Contains list (activity_function (activities k))) (sym functions_are)
+      (Contains-append_left own_functions last_functions (activity_function (activities k))
+      (kept_at needed (functions_of_all structs units activities) k (activity_function (activities k)) is all))
+
   module _ (built : AreBuilt program.structs program.units machine (activities_in program machine)) where
     own_unit : (k : ℕ) (one : UnitDef) (active : Bool) → slice_get units k ≡ Some one → is_activity one.kind ≡ active →
         NamesOwn units (if active then activity_function (activities k) else function_code structs (take k units) one)
@@ -236,23 +254,6 @@ module _ (program : Program) (machine : List InMachine) (unit : UnitDef) (ends :
       where
         abbrev w : Setting
         w = setting_of program.structs program.units program.entry
-
-        chosen : (k : ℕ) (one : UnitDef) (active : Bool) → active ≡ true →
-            (if active then activity_function (activities k) else function_code structs (take k units) one) ≡ activity_function (activities k)
-        chosen k one true is = refl
-        chosen k one false is = absurd (cc)
-
-        function_there : (k : ℕ) (one : UnitDef) → slice_get units k ≡ Some one → is_activity one.kind ≡ true → slice_get needed k ≡ Some true →
-            Contains file.funcs (activity_function (activities k))
-        function_there k one there active is =
-            let first : 0 + k ≡ k = omega arith in
-            let all : slice_get (functions_of_all structs units activities) k ≡ Some (activity_function (activities k)) =
-            each_at (unit_function structs units activities) 0 units k one there
-            ∙ ap (λ k. Some (unit_function structs units activities k one)) first
-            ∙ ap Some (chosen k one (is_activity one.kind) active) in
-            subst (λ list. Contains list (activity_function (activities k))) (sym functions_are)
-            (Contains-append_left own_functions last_functions (activity_function (activities k))
-            (kept_at needed (functions_of_all structs units activities) k (activity_function (activities k)) is all))
 
         pub one_each : EachHasOneFunctionAndFrame structs units program.entry file
         one_each i activity is =

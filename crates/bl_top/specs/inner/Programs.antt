@@ -5,6 +5,7 @@ use Rattle.bl_cmeaning.specs.Parts.{parts_of}
 use Rattle.bl_cmeaning_laws_places.specs.Behaviour.{behaviour_of}
 use Rattle.bl_commands.specs.Traces.{OneTrace}
 use Rattle.bl_ctext.specs.declared.file.CFile.{CFile}
+use Rattle.bl_emit_file.specs.Merged.{HasMergedBlocks}
 use Rattle.bl_emit_laws.specs.Counters.Own.{FunctionsOwn}
 use Rattle.bl_emit_laws.specs.Width.{EachFrameHasWidth}
 use Rattle.bl_rules.specs.Accepted.{HasProgram}
@@ -18,9 +19,10 @@ pub record IsOfText (program : Program) : Type 0 where
   pub has : HasProgram text program
 
 -- the C file is well formed and has the one trace of a program; each activity that has an instance has one function in it, which alone names its
--- counters, and as many of these as its width
+-- counters, as many of these as its width, and in the body of that function one `if` for each of its blocks
 pub record IsFileOf (structs : List StructDef) (units : List UnitDef) (entry : ℕ) (file : CFile) : Type 0 where
   pub well_formed : WellFormed (parts_of file)
   pub one_trace : OneTrace structs units entry (behaviour_of (parts_of file))
   pub functions : FunctionsOwn structs units entry (parts_of file)
   pub frames : EachFrameHasWidth structs units entry (parts_of file)
+  pub blocks : HasMergedBlocks structs units entry (parts_of file)

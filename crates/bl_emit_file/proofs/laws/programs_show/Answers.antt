@@ -13,5 +13,6 @@ returns c machine known =
       formed = c.programs_formed.ensures;
       small = c.files_small.ensures;
       own = c.files_own.ensures;
+      ifs = c.files_have_ifs.ensures;
       wide = c.frames_have_width.ensures;
     }) known

@@ -7,4 +7,4 @@ c_file-requires c = tree_of_text c.args.accepted.now c.is_accepted.ensures c.req
 
 pub returns-in-Ok : goal.returns-in-Ok
 returns-in-Ok c =
-    file_of_tree c.args.accepted.now c.in-Ok.file c.is_accepted.ensures c.requires c.accepted_texts_have_one_trace.ensures c.in-Ok.ensures
+    file_of_tree c.args.accepted.now c.in-Ok.file c.is_accepted.ensures c.requires c.accepted_texts_have_one_trace.ensures c.in-Ok.ensures.shows

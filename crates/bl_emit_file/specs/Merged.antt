@@ -1,0 +1,36 @@
+-- Files that are written of machines whose blocks are merged.
+use Rattle.std.specs.Prelude.{◌≡◌, ℕ, List}
+use Rattle.bl_tree.specs.declared.program.Program.{Program}
+use Rattle.bl_tree.specs.declared.tree.StructDef.{StructDef}
+use Rattle.bl_tree.specs.declared.tree.Unit.{Unit as UnitDef}
+use Rattle.bl_block.specs.Merged.{NothingLeft}
+use Rattle.bl_cause.specs.Activities.{EachTwo, activities}
+use Rattle.bl_cmeaning.specs.Parts.{Parts}
+use Rattle.bl_machine.specs.declared.machine.Activity.{Activity}
+use Rattle.bl_machine.specs.Machines.{AreActivitiesOf}
+use Rattle.bl_nodes.specs.Plain.{plain_body}
+use Rattle.bl_emit_laws.specs.Counters.Ifs.{EachFunctionHasIfs}
+use Rattle.bl_emit_laws.specs.Kept.{written_file}
+
+-- no two neighbouring blocks of the activity could be one
+abbrev pub IsMerged : UnitDef → Activity → Type 0
+IsMerged unit activity = NothingLeft (plain_body unit.body) activity.blocks
+
+-- so it is of each activity among the units
+abbrev pub AreMerged : List UnitDef → List Activity → Type 0
+AreMerged units machine = EachTwo IsMerged (activities units) machine
+
+-- the file is what is written of a machine of the program whose blocks are merged
+pub record IsOfMerged (program : Program) (file : Parts) : Type 0 where
+  pub machine : List Activity
+  pub agrees : AreActivitiesOf program.units machine
+  pub merged : AreMerged program.units machine
+  pub is : file ≡ written_file program machine
+
+-- there is a machine of the program with these structs, these units and this entry whose blocks are merged, and in the file the function of each
+-- activity that has an instance has one `if` for each block of the activity, directly in its body
+pub record HasMergedBlocks (structs : List StructDef) (units : List UnitDef) (entry : ℕ) (file : Parts) : Type 0 where
+  pub machine : List Activity
+  pub agrees : AreActivitiesOf units machine
+  pub merged : AreMerged units machine
+  pub each : EachFunctionHasIfs structs units entry machine file

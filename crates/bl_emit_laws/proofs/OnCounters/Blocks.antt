@@ -1,0 +1,159 @@
+-- The function of each activity of a written file has one `if` for each block that the machine has for it.
+use Rattle.std.proofs.Common.{◌≡◌, ⊎_elim, ℕ, suc, ◌<◌, true, List, [], ◌∷◌, Contains, length, Some, refl, sym, ap, subst, ◌∙◌, arith}
+use Rattle.std.proofs.lemmas.Slice.Eq.{bytes_eq-Decides}
+use Rattle.std.specs.Prelude.{bytes_eq, option_and_then, slice_get}
+use Rattle.bl_tree.specs.declared.c.CFunc.{CFunc}
+use Rattle.bl_tree.specs.declared.program.Program.{Program}
+use Rattle.bl_tree.specs.declared.text.Text.{Text}
+use Rattle.bl_tree.specs.declared.tree.Unit.{Unit as UnitDef}
+use Rattle.bl_tree.specs.Program.{Keeps}
+use Rattle.bl_tree.specs.Reduce.{joined}
+use Rattle.bl_tree.specs.Typing.{is_activity}
+use Rattle.bl_cause.proofs.ListLemmas.{filter_keeps}
+use Rattle.bl_cause.proofs.PairLemmas.{each_at, filtered_at}
+use Rattle.bl_cause.specs.Activities.{activities as activities_among, graph_position}
+use Rattle.bl_nodes.specs.Nodes.{Node, nodes_in}
+use Rattle.bl_nodes.specs.Plain.{Block, plain_body}
+use Rattle.bl_ctree.specs.declared.instance.Instance.{Instance}
+use Rattle.bl_ctree.specs.Instances.{Setting, setting_of, unit_of}
+use Rattle.bl_ctree_laws_confluence.specs.Deeds.Orderly.{AcceptedIsOrderly, Orderly}
+use Rattle.bl_cmeaning.specs.Faults.{WellFormed}
+use Rattle.bl_cmeaning.specs.Parts.{Parts}
+use Rattle.bl_machine.specs.declared.machine.Activity.{Activity as InMachine}
+use Rattle.bl_machine.specs.Blocks.{Ordered}
+use Rattle.bl_machine.specs.Machines.{AreActivitiesOf, IsActivityOf}
+use Rattle.bl_pass.specs.Numbered.{slots_of}
+use Rattle.bl_pass.specs.Rules.{Rule, rules}
+use Rattle.bl_pass_laws.specs.Turns.Laws.{StaysPlaced}
+use Rattle.bl_pass_listed.specs.Callees.{callees_in}
+use Rattle.bl_pass_listed_laws.specs.Laws.{RulesAreListed}
+use Rattle.bl_emit_acts.specs.Types.{unit_name}
+use Rattle.bl_emit_pass.specs.Activities.{Activity, activity_function, blocks_code, blocks_in_order, turns_in_source, view_of}
+use Rattle.bl_emit_pass.specs.Blocks.{Turn, View, turns_of}
+use Rattle.bl_emit_pass_laws.specs.Calls.Built.{Activities, AreBuilt, MadeOf}
+use Rattle.bl_emit_pass_laws_formed.specs.Closed.{InstancesNeeded}
+use Rattle.bl_emit_pass_laws.proofs.OnPlaced.Lists.{mapped_many, number_below, some_is, stands_at}
+use Rattle.bl_emit_pass_laws.specs.Tables.Laws.{ActivitiesBuilt}
+use Rattle.bl_emit_laws.specs.Kept.{FileEnds, FilesEnd, activities_in, written_file}
+use Rattle.bl_emit_laws.proofs.OnKept.Lists.{first_or, none_has}
+use Rattle.bl_emit_laws.specs.Counters.Ifs.{EachFunctionHasIfs, FunctionHasIfs, HasIfForEach}
+use Rattle.bl_emit_laws.specs.Counters.Laws.{FilesHaveIfs}
+use Rattle.bl_emit_laws.specs.Counters.Own.{functions_named}
+use Rattle.bl_emit_laws.proofs.OnCounters.Ifs.{blocks_many, body_has}
+use Rattle.bl_emit_laws.proofs.OnCounters.Once.{function_alone}
+use Rattle.bl_emit_laws.proofs.OnCounters.Whole.{function_there}
+
+-- ---- turns
+
+turns_many : (view : View) (callees : List ℕ) (rs : List Rule) → length callees ≡ length rs → length (turns_of view callees rs) ≡ length rs
+turns_many view [] [] is = refl
+turns_many view [] (r ∷ rs) is = absurd (omega (arith, is))
+turns_many view (c ∷ callees) [] is = refl
+turns_many view (c ∷ callees) (r ∷ rs) is = ap suc (turns_many view callees rs (let less : length callees ≡ length rs = omega (arith, is) in less))
+
+-- an activity has one turn for each node of its body
+module _ (placed : StaysPlaced) (listed : RulesAreListed) (a : Activity) (unit : UnitDef) (one : InMachine) (unit_is : a.unit ≡ unit)
+    (slots_are : a.slots ≡ slots_of (plain_body unit.body) one.slots)
+  where
+    abbrev body : Block
+    body = plain_body unit.body
+
+    abbrev rs : List Rule
+    rs = rules a.slots body
+
+    many_rules : length rs ≡ length (nodes_in body)
+    many_rules = sym (mapped_many (λ (rule : Rule). rule.node) rs) ∙ ap (λ (xs : List Node). length xs) (placed.nodes a.slots body)
+
+    many_callees : length (callees_in body) ≡ length rs
+    many_callees = listed.each unit.body one.slots ∙ ap (λ slots. length (rules slots body)) (sym slots_are)
+
+    turns_are : turns_in_source a ≡ turns_of (view_of a) (callees_in body) rs
+    turns_are = ap (λ (u : UnitDef). turns_of (view_of a) (callees_in (plain_body u.body)) (rules a.slots (plain_body u.body))) unit_is
+
+    many_turns : length (turns_in_source a) ≡ length (nodes_in body)
+    many_turns = ap (λ (xs : List Turn). length xs) turns_are ∙ turns_many (view_of a) (callees_in body) rs many_callees ∙ many_rules
+
+    many_ifs : a.blocks ≡ one.blocks → Ordered (plain_body unit.body) one.blocks → length (blocks_in_order a) ≡ length one.blocks
+    many_ifs blocks_are ordered =
+        ap (λ (blocks : List (List ℕ)). length (blocks_code (turns_in_source a) blocks)) blocks_are
+        ∙ blocks_many (turns_in_source a) one.blocks ordered.filled within
+      where
+        within : (k : ℕ) → Contains (joined one.blocks) k → k < length (turns_in_source a)
+        within k at =
+            let stands = stands_at (joined one.blocks) k at in
+            subst (λ n. k < n) (sym many_turns) (number_below (length (nodes_in body)) (joined one.blocks) ordered.all k stands.0 stands.1)
+
+-- ---- functions
+
+-- the only function of a name is the one that is there
+the_only : (name : Text) (file : Parts) (function one : CFunc) → Contains file.funcs function → function.name ≡ name →
+    functions_named name file ≡ one ∷ [] → one ≡ function
+the_only name file function one at is alone =
+    let kept : Contains (functions_named name file) function =
+    filter_keeps (λ (f : CFunc). bytes_eq f.name name) file.funcs function at ((bytes_eq-Decides function.name name).1 is) in
+    ⊎_elim (λ same. same) (λ none. absurd (none_has function none))
+    (first_or one [] function (subst (λ (list : List CFunc). Contains list function) alone kept))
+
+module _ (program : Program) (machine : List InMachine) (unit : UnitDef) (ends : FileEnds program machine unit)
+    (built : AreBuilt program.structs program.units machine (activities_in program machine)) (placed : StaysPlaced) (listed : RulesAreListed)
+    (needs : InstancesNeeded program.structs program.units program.entry) (keeps : Keeps program.structs program.units program.entry)
+    (orderly : Orderly program.structs program.units (setting_of program.structs program.units program.entry))
+    (agrees : AreActivitiesOf program.units machine) (formed : WellFormed (written_file program machine)) (i : ℕ) (instance : Instance) (activity : UnitDef)
+    (at : slice_get (setting_of program.structs program.units program.entry).instances i ≡ Some instance)
+    (there : slice_get program.units instance.unit ≡ Some activity)
+  where
+    abbrev w : Setting
+    w = setting_of program.structs program.units program.entry
+
+    abbrev k : ℕ
+    k = instance.unit
+
+    abbrev activities : Activities
+    activities = activities_in program machine
+
+    abbrev file : Parts
+    file = written_file program machine
+
+    active : is_activity activity.kind ≡ true
+    active = (orderly.each i activity (ap (option_and_then (unit_of w)) at ∙ there)).activity
+
+    made : MadeOf activity (activities k) (slice_get machine (graph_position program.units k))
+    made = built.made k activity there active
+
+    part : IsActivityOf activity made.one
+    part =
+        let among = filtered_at (λ (it : UnitDef). is_activity it.kind) program.units k activity there active in
+        let alone = each_at IsActivityOf (activities_among program.units) machine (graph_position program.units k) activity agrees among in
+        subst (IsActivityOf activity) (some_is alone.0 made.one (sym alone.1 ∙ made.is)) alone.2
+
+    same : (activities k).unit ≡ activity
+    same = built.unit k activity there
+
+    is_there : Contains file.funcs (activity_function (activities k))
+    is_there = function_there program machine unit ends k activity there active (needs i instance keeps at)
+
+    named : unit_name (activities k).unit.name ≡ unit_name activity.name
+    named = ap (λ (u : UnitDef). unit_name u.name) same
+
+    alone : functions_named (unit_name activity.name) file ≡ activity_function (activities k) ∷ []
+    alone =
+        let found = function_alone file formed (unit_name activity.name) (activity_function (activities k)) is_there named in
+        found.1
+        ∙ ap (λ (f : CFunc). f ∷ []) (the_only (unit_name activity.name) file (activity_function (activities k)) found.0 is_there named found.1)
+
+    pub function_has : FunctionHasIfs activity (slice_get machine (graph_position program.units k)) file
+    function_has = record {
+      one = made.one;
+      is = made.is;
+      function = activity_function (activities k);
+      functions = alone;
+      body =
+          body_has (activities k) made.one.blocks
+          (many_ifs placed listed (activities k) activity made.one same made.slots made.blocks part.order);
+    }
+
+pub files_have_ifs : (program : Program) → AcceptedIsOrderly → ActivitiesBuilt → StaysPlaced → RulesAreListed →
+    InstancesNeeded program.structs program.units program.entry → FilesEnd program → FilesHaveIfs program
+files_have_ifs program orderly built placed listed needs ends machine unit keeps passes agrees there formed i instance activity at is =
+    function_has program machine unit (ends machine unit keeps agrees there) (built program.structs program.units machine agrees) placed listed needs
+    keeps (orderly program.structs program.units program.entry keeps passes) agrees formed i instance activity at is

@@ -1,0 +1,159 @@
+-- The body of an activity's C function is assignments, and then one `if` for each block.
+use Rattle.std.proofs.Common.{◌≡◌, ℕ, suc, ◌<◌, Bool, true, false, ◌&&◌, cond, List, [], ◌∷◌, ◌++◌, Contains, map, length}
+use Rattle.std.proofs.Common.{Option, None, refl, sym, ap, subst, ◌∙◌, arith}
+use Rattle.std.proofs.lemmas.List.{append_assoc}
+use Rattle.std.proofs.lemmas.List.Elements.{Contains-append_right, filter-append}
+use Rattle.std.specs.List.{list_all}
+use Rattle.std.specs.Prelude.{option_to_list}
+use Rattle.bl_tree.specs.declared.c.CExpr.{CExpr}
+use Rattle.bl_tree.specs.declared.c.CPlace.{CPlace}
+use Rattle.bl_tree.specs.declared.c.CStmt.{CStmt, fold-roll-CStmt}
+use Rattle.bl_tree.specs.declared.c.CStmtKind.{CStmtKind, CStmtKind-F, fold-roll-CStmtKind, roll-CStmtKind}
+use Rattle.bl_tree.specs.declared.c.CStmtKind.TheVariants as statement
+use Rattle.bl_tree.specs.declared.scalar.Op.TheVariants.{Eq}
+use Rattle.bl_tree.specs.Reduce.{joined}
+use Rattle.bl_tree.specs.Typing.{Site}
+use Rattle.bl_nodes.specs.Nodes.{entry}
+use Rattle.bl_nodes.specs.Plain.{Block, Done, Then}
+use Rattle.bl_emit_acts.specs.Acts.{c_copied, c_set, c_stmt}
+use Rattle.bl_emit_acts.specs.Places.{place_in}
+use Rattle.bl_emit_acts.specs.Trees.{c_place, c_read, c_two}
+use Rattle.bl_emit_acts.specs.Types.{copy_name}
+use Rattle.bl_emit_functions.specs.Trees.{c_if}
+use Rattle.bl_emit_pass.specs.Activities.{Activity, activity_code, blocks_code, blocks_in_order, body_of, copied_in, counters_read, entry_code, picked}
+use Rattle.bl_emit_pass.specs.Activities.{rested_code, turns_in_source, view_of}
+use Rattle.bl_emit_pass.specs.Blocks.{Turn, View, counter_value, merged_code, turn_code}
+use Rattle.bl_emit_pass.specs.Names.{counter_place, flag_place, rested_place}
+use Rattle.bl_emit_pass_laws.proofs.OnPlaced.Lists.{there_at}
+use Rattle.bl_emit_laws.proofs.OnKept.Lists.{further, here}
+use Rattle.bl_emit_laws.specs.Counters.Ifs.{HasIfForEach, ifs_in, is_if, is_setting}
+
+-- ---- forms
+
+-- the answer for a statement of a form
+by_form : (is : CStmt → Bool) (k made : CStmtKind) (answer : Bool) → made ≡ k → is (c_stmt made) ≡ answer → is (c_stmt k) ≡ answer
+by_form is k made answer same shape = subst (λ (k : CStmtKind). is (c_stmt k) ≡ answer) same shape
+
+set_sets : (place : CPlace) (value : CExpr) → is_setting (c_set place value) ≡ true
+set_sets place value =
+    by_form is_setting (statement.Set place value) (roll-CStmtKind (CStmtKind-F.Set place value)) true (statement.rolls-Set place value)
+    (rw (fold-roll-CStmt, fold-roll-CStmtKind) refl)
+
+set_asks : (place : CPlace) (value : CExpr) → is_if (c_set place value) ≡ false
+set_asks place value =
+    by_form is_if (statement.Set place value) (roll-CStmtKind (CStmtKind-F.Set place value)) false (statement.rolls-Set place value)
+    (rw (fold-roll-CStmt, fold-roll-CStmtKind) refl)
+
+if_asks : (test : CExpr) (block : List CStmt) → is_if (c_if test block None) ≡ true
+if_asks test block =
+    by_form is_if (statement.If test block None) (roll-CStmtKind (CStmtKind-F.If test block None)) true (statement.rolls-If test block None)
+    (rw (fold-roll-CStmt, fold-roll-CStmtKind) refl)
+
+-- ---- assignments
+
+-- code that is assignments alone
+record AreSettings (code : List CStmt) : Type 0 where
+  pub all : list_all is_setting code ≡ true
+  pub none : ifs_in code ≡ []
+
+no_settings : AreSettings []
+no_settings = record { all = refl; none = refl }
+
+first_setting : (place : CPlace) (value : CExpr) (code : List CStmt) → AreSettings code → AreSettings (c_set place value ∷ code)
+first_setting place value code more = record {
+  all = ap (λ (b : Bool). b && list_all is_setting code) (set_sets place value) ∙ more.all;
+  none = ap (λ (b : Bool). cond b (c_set place value ∷ ifs_in code) (ifs_in code)) (set_asks place value) ∙ more.none;
+}
+
+all_both : (xs ys : List CStmt) → list_all is_setting xs ≡ true → list_all is_setting ys ≡ true → list_all is_setting (xs ++ ys) ≡ true
+all_both [] ys one two = two
+all_both (x ∷ xs) ys one two = by (is_setting x) (list_all is_setting xs) one (λ rest. all_both xs ys rest two)
+  where
+    by : (first rest : Bool) → (first && rest) ≡ true → (rest ≡ true → list_all is_setting (xs ++ ys) ≡ true) →
+        (first && list_all is_setting (xs ++ ys)) ≡ true
+    by true rest both more = more both
+    by false rest both more = both
+
+both_settings : (first second : List CStmt) → AreSettings first → AreSettings second → AreSettings (first ++ second)
+both_settings first second one two = record {
+  all = all_both first second one.all two.all;
+  none = filter-append is_if first second ∙ ap (λ (ifs : List CStmt). ifs ++ ifs_in second) one.none ∙ two.none;
+}
+
+resteds : (counters : List ℕ) → AreSettings (map rested_code counters)
+resteds [] = no_settings
+resteds (k ∷ rest) = first_setting (rested_place k) (c_read (counter_place k)) (map rested_code rest) (resteds rest)
+
+entries : (view : View) (body : Block) → AreSettings (entry_code view body)
+entries view Done = no_settings
+entries view (Then s rest) =
+    first_setting (flag_place (view.number (entry s))) (c_two Eq (c_read (counter_place 0)) (counter_value view.sizes 0 0)) [] no_settings
+
+copies : (site : Site) (ks : List ℕ) → AreSettings (map (c_copied site) ks)
+copies site [] = no_settings
+copies site (k ∷ rest) =
+    first_setting (c_place false (copy_name k) []) (c_read (place_in site k [])) (map (c_copied site) rest) (copies site rest)
+
+-- what stands before the blocks
+abbrev before : Activity → List CStmt
+before a = map rested_code (counters_read a) ++ (entry_code (view_of a) (body_of a) ++ map (c_copied (view_of a).site) (copied_in a))
+
+before_sets : (a : Activity) → AreSettings (before a)
+before_sets a =
+    both_settings (map rested_code (counters_read a)) (entry_code (view_of a) (body_of a) ++ map (c_copied (view_of a).site) (copied_in a))
+    (resteds (counters_read a))
+    (both_settings (entry_code (view_of a) (body_of a)) (map (c_copied (view_of a).site) (copied_in a)) (entries (view_of a) (body_of a))
+    (copies (view_of a).site (copied_in a)))
+
+-- ---- blocks
+
+first_if : (test : CExpr) (block code : List CStmt) → ifs_in code ≡ code → ifs_in (c_if test block None ∷ code) ≡ c_if test block None ∷ code
+first_if test block code more =
+    ap (λ (b : Bool). cond b (c_if test block None ∷ ifs_in code) (ifs_in code)) (if_asks test block)
+    ∙ ap (λ (later : List CStmt). c_if test block None ∷ later) more
+
+-- nothing but `if`s stands there
+blocks_alone : (turns : List Turn) (blocks : List (List ℕ)) → ifs_in (blocks_code turns blocks) ≡ blocks_code turns blocks
+blocks_alone turns [] = refl
+blocks_alone turns (block ∷ rest) = by (picked turns block) (blocks_alone turns rest)
+  where
+    by : (list : List Turn) → ifs_in (blocks_code turns rest) ≡ blocks_code turns rest →
+        ifs_in (merged_code list ++ blocks_code turns rest) ≡ merged_code list ++ blocks_code turns rest
+    by [] more = more
+    by (first ∷ others) more = first_if first.test (first.code ++ map turn_code others) (blocks_code turns rest) more
+
+-- one for each block, where none is empty and each number is that of a turn
+pub blocks_many : (turns : List Turn) (blocks : List (List ℕ)) → ((block : List ℕ) → Contains blocks block → 0 < length block) →
+    ((k : ℕ) → Contains (joined blocks) k → k < length turns) → length (blocks_code turns blocks) ≡ length blocks
+blocks_many turns [] filled within = refl
+blocks_many turns ([] ∷ rest) filled within = absurd (let none : 0 < 0 = filled [] (here [] rest) in omega (arith, none))
+blocks_many turns ((k ∷ more) ∷ rest) filled within =
+    let found = there_at turns k (within k (here k (more ++ joined rest))) in
+    ap (λ (o : Option Turn). length (merged_code (option_to_list o ++ picked turns more) ++ blocks_code turns rest)) found.1
+    ∙ ap suc
+    (blocks_many turns rest (λ block at. filled block (further (k ∷ more) rest block at))
+    (λ j at. within j (Contains-append_right (k ∷ more) (joined rest) j at)))
+
+-- ---- bodies
+
+body_stands : (a : Activity) → activity_code a ≡ before a ++ blocks_in_order a
+body_stands a =
+    let rested : List CStmt = map rested_code (counters_read a) in
+    let begun : List CStmt = entry_code (view_of a) (body_of a) in
+    let copied : List CStmt = map (c_copied (view_of a).site) (copied_in a) in
+    ap (λ (rest : List CStmt). rested ++ rest) (sym (append_assoc begun copied (blocks_in_order a)))
+    ∙ sym (append_assoc rested (begun ++ copied) (blocks_in_order a))
+
+ifs_are : (a : Activity) → ifs_in (activity_code a) ≡ blocks_in_order a
+ifs_are a =
+    ap ifs_in (body_stands a) ∙ filter-append is_if (before a) (blocks_in_order a)
+    ∙ ap (λ (ifs : List CStmt). ifs ++ ifs_in (blocks_in_order a)) (before_sets a).none ∙ blocks_alone (turns_in_source a) a.blocks
+
+-- a body whose blocks have one `if` each
+pub body_has : (a : Activity) (blocks : List (List ℕ)) → length (blocks_in_order a) ≡ length blocks → HasIfForEach blocks (activity_code a)
+body_has a blocks many = record {
+  before = before a;
+  settings = (before_sets a).all;
+  is = body_stands a ∙ ap (λ (ifs : List CStmt). before a ++ ifs) (sym (ifs_are a));
+  many = ap length (ifs_are a) ∙ many;
+}
