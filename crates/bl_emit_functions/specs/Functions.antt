@@ -1,6 +1,6 @@
 -- The C functions of functions.
 use Rattle.std.specs.Prelude.{ℕ, zero, suc, ◌+◌, Bool, true, false, ◌||◌, List, [], ◌∷◌, ◌++◌}
-use Rattle.std.specs.Prelude.{map, Option, Some, None, codes, is_none, option_map}
+use Rattle.std.specs.Prelude.{map, Option, Some, None, codes, is_none, option_map, if◌then◌else◌}
 use Rattle.std.specs.List.{list_any}
 use Rattle.bl_tree.specs.declared.text.Text.{Text}
 use Rattle.bl_tree.specs.declared.c.CFunc.{CFunc}
@@ -28,6 +28,7 @@ use Rattle.bl_emit_acts.specs.Trees.{c_place, c_read, nowhere}
 use Rattle.bl_emit_acts.specs.Types.{c_scalar, c_type, unit_name, variable_name}
 use Rattle.bl_emit_functions.specs.declared.coded.Coded.{Coded}
 use Rattle.bl_emit_functions.specs.declared.coded.Free.{Free}
+use Rattle.bl_emit_functions.specs.Reads.{reads_in_block}
 use Rattle.bl_emit_functions.specs.Statements.{block_codes, codes_of}
 use Rattle.bl_emit_functions.specs.Trees.{c_return_zero, flag_name}
 
@@ -135,10 +136,29 @@ none_taken = record { flags = 0; turns = 0 }
 abbrev pub body_coded : Site → UnitDef → Coded
 body_coded site unit = block_codes (map (codes_of site) unit.body) none_taken
 
--- the body of the C function of a function
+-- the copies of inputs, the C of the statements, and what ends them
 abbrev pub body_code : Site → UnitDef → List CStmt
 body_code site unit =
     copies_from site 0 (inputs_of unit) ++ ((body_coded site unit).code ++ end_code unit.result (returns_last false unit.body))
+
+-- the position of the first variable that the unit holds, of those from this position on
+abbrev pub first_held : Site → ℕ → List Var → Option ℕ
+first_held site k [] = None
+first_held site k (var ∷ rest) = if is_held (home_of site (Some var)) then Some k else first_held site (k + 1) rest
+
+-- a variable is set to what it has
+abbrev pub c_set_again : Site → ℕ → CStmt
+c_set_again site k = c_set (place_in site k []) (c_read (place_in site k []))
+
+-- Compilers warn of a struct that is set and never read. So where nothing of it is read, a variable in it is set to what it has
+abbrev pub read_code : Site → Option ℕ → Bool → List CStmt
+read_code site None reads = []
+read_code site (Some k) true = []
+read_code site (Some k) false = c_set_again site k ∷ []
+
+-- the body of the C function of a function
+abbrev pub whole_code : Site → UnitDef → List CStmt
+whole_code site unit = read_code site (first_held site 0 unit.vars) (reads_in_block (body_code site unit)) ++ body_code site unit
 
 -- the C function of a function
 abbrev pub function_code : List StructDef → List UnitDef → UnitDef → CFunc
@@ -150,5 +170,5 @@ function_code structs earlier unit = record {
   params = params_from structs 0 (parameters_of unit);
   locals = memory_local unit.name (holds_any (site_of structs earlier unit) unit.vars)
       ++ flag_locals (body_coded (site_of structs earlier unit) unit).free.flags;
-  body = body_code (site_of structs earlier unit) unit;
+  body = whole_code (site_of structs earlier unit) unit;
 }

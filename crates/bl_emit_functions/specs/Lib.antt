@@ -1,3 +1,4 @@
 pub mod Functions
+pub mod Reads
 pub mod Statements
 pub mod Trees

@@ -8,11 +8,13 @@ ghost use Rattle.bl_emit_acts.specs.Places.{home_of};
 ghost use Rattle.bl_emit_acts.specs.Sites.{site_in};
 ghost use Rattle.bl_emit_acts.specs.Types.{c_scalar};
 ghost use Rattle.bl_emit_functions.specs.Functions as functions;
+ghost use Rattle.bl_emit_functions.specs.Reads.{reads_in_block};
 ghost use Rattle.bl_emit_functions.specs.Trees.{c_return_zero};
 
 use crate::coded::{Coded, Free};
 use crate::homes::home_of_var;
 use crate::parts::returning;
+use crate::reads::in_block;
 use crate::statements::block;
 use bl_emit_acts::parts::{NOWHERE, joined, literal, numbered, prefixed, read, set, single, whole};
 use bl_emit_acts::{Home, Site, c_type, scalar_in, scalar_in_c, variable};
@@ -48,6 +50,7 @@ pub fn function(
     let params = params(alloc, structs, unit)?;
     let locals = locals(alloc, &site, unit, flags)?;
     let body = body(alloc, &site, unit, coded.code)?;
+    let body = whole_body(alloc, &site, unit, body)?;
     Ok(CFunc {
         place: NOWHERE,
         fixed: true,
@@ -284,6 +287,59 @@ fn copy(alloc: Global, site: &Site, k: u32) -> Result<CStmt, NoMemory>
 {
     let to = variable(alloc, site, k, List::new(alloc))?;
     let from = whole(alloc, true, numbered(alloc, "v", u64::from(k))?);
+    set(alloc, to, read(from))
+}
+
+/// The whole body: a struct of variables that are only set is read first, since compilers warn of it.
+fn whole_body(
+    alloc: Global,
+    site: &Site,
+    unit: &Unit,
+    body: List<CStmt>,
+) -> Result<List<CStmt>, NoMemory>
+    ensures { IfOk result (λ made. made
+        ≡ functions.read_code (site_in site.entry.now) (functions.first_held (site_in site.entry.now) 0 unit.now.vars) (reads_in_block body) ++ body) }
+{
+    let held = first_held(site, &unit.vars)?;
+    let reads = in_block(&body);
+    joined(reading(alloc, site, held, reads)?, body)
+}
+
+/// The position of the first variable that the unit holds.
+fn first_held(site: &Site, vars: &[Var]) -> Result<Option<u32>, NoMemory>
+    ensures { IfOk result (λ held. held ≡ functions.first_held (site_in site.entry.now) 0 vars.now) }
+{
+    let mut k: u32 = 0;
+    for var in vars {
+        if is_held(site, var) {
+            return Ok(Some(k));
+        }
+        k = k.checked_add(1).ok_or(NoMemory)?;
+    }
+    Ok(None)
+}
+
+/// A statement that reads the struct of the variables, where there is one and no other statement does.
+fn reading(
+    alloc: Global,
+    site: &Site,
+    held: Option<u32>,
+    reads: bool,
+) -> Result<List<CStmt>, NoMemory>
+    ensures { IfOk result (λ made. made ≡ functions.read_code (site_in site.entry.now) held reads) }
+{
+    match held {
+        Some(k) if !reads => single(alloc, set_again(alloc, site, k)?),
+        _ => Ok(List::new(alloc)),
+    }
+}
+
+/// The variable is set to what it has.
+fn set_again(alloc: Global, site: &Site, k: u32) -> Result<CStmt, NoMemory>
+    ensures { IfOk result (λ s. s ≡ functions.c_set_again (site_in site.entry.now) k) }
+{
+    let to = variable(alloc, site, k, List::new(alloc))?;
+    let from = variable(alloc, site, k, List::new(alloc))?;
     set(alloc, to, read(from))
 }
 

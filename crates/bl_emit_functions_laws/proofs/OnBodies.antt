@@ -1,3 +1,4 @@
+pub mod Again
 pub mod Bodies
 pub mod Courses
 pub mod Flags

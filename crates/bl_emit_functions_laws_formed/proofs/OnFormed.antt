@@ -1,6 +1,7 @@
 pub mod Counters
 pub mod Function
 pub mod Head
+pub mod Held
 pub mod Lookups
 pub mod Memories
 pub mod Shapes

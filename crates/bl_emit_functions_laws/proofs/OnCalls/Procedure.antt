@@ -354,6 +354,23 @@ module _ (structs : List StructDef) (units : List UnitDef) (entry k : ℕ) (unit
       test : Var → Value → Bool
       test var = value_fits structs var.ty
 
+  -- the body without the statement that reads what the function holds
+  abbrev inner : Outcome Memory
+  inner = block_c (body_code site unit) scope begun
+
+  flow_alike : (flow : Option Flow) → FlowComes site scope 0 begun flow inner → FlowComes site scope 0 begun flow done
+  flow_alike flow h =
+      let alike = read_alike scope begun site (first_held site 0 unit.vars) (reads_in_block (body_code site unit)) (body_code site unit) in
+      by flow alike.0 alike.1 h
+    where
+      by : (flow : Option Flow) → done.end ≡ inner.end → done.memory ≡ inner.memory → FlowComes site scope 0 begun flow inner →
+          FlowComes site scope 0 begun flow done
+      by None end same h = end ∙ h
+      by (Some (Flow.On now)) end same h =
+          (end ∙ h.0, subst (Stands site scope now) (sym same) h.1, subst (Spared site scope 0 begun) (sym same) h.2)
+      by (Some (Flow.Back now result)) end same h =
+          (end ∙ h.0, subst (Stands site scope now) (sym same) h.1, subst (Spared site scope 0 begun) (sym same) h.2)
+
   by_flow : (flow : Option Flow) → FlowComes site scope 0 begun flow done → EndsFor None flow →
       CallComes structs (outputs_of unit) depth outputs here (option_map (left_by unit) flow) called
   by_flow None h ends = ap result_at h
@@ -366,7 +383,7 @@ module _ (structs : List StructDef) (units : List UnitDef) (entry k : ℕ) (unit
       let sees = scope_among structs (callees_of structs (take k units)) unit in
       let flow : Option Flow = in_order (map (does sees) unit.body) frame in
       by_flow flow
-      (subst (λ (body : List CStmt). FlowComes site scope 0 begun flow (block_c body scope begun)) (sym body_is)
+      (flow_alike flow (subst (λ (body : List CStmt). FlowComes site scope 0 begun flow (block_c body scope begun)) (sym body_is)
       (statements k unit scope unit.body none_taken frame begun keeps
       (record {
         is_there = there;
@@ -375,7 +392,7 @@ module _ (structs : List StructDef) (units : List UnitDef) (entry k : ℕ) (unit
         functions = may_run.functions;
         procedures = may_run.procedures;
       })
-      (body_fits structs (take k units) unit (stands_at structs units entry k unit keeps there)) may_run.apart may_run.flags stands))
+      (body_fits structs (take k units) unit (stands_at structs units entry k unit keeps there)) may_run.apart may_run.flags stands)))
       (subst (λ result. EndsFor result flow) procedure (end_all structs units entry k unit sees frame keeps there function))
     where
       not_activity : (b : Bool) → not b ≡ true → b ≡ false

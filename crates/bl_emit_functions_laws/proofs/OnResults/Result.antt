@@ -263,18 +263,20 @@ module _ (structs : List StructDef) (units : List UnitDef) (entry k : ℕ) (unit
           and_second true b h = h
           and_second false b h = absurd (cc)
 
+  done_alike : (block_c copies scope begun).end ≡ goes_on → (ran.end ≡ goes_on → ⊥) → Alike done ran
+  done_alike goes stops =
+      alike_trans done (block_c (body_code site unit) scope begun) ran
+      (read_alike scope begun site (first_held site 0 unit.vars) (reads_in_block (body_code site unit)) (body_code site unit))
+      (body_alike scope copies (body_coded site unit).code (end_code unit.result (returns_last false unit.body)) begun goes stops)
+
   by_flow : CallsKeep → (block_c copies scope begun).end ≡ goes_on → InputsBegun site scope begun frame copied → (flow : Option Flow) →
       FlowComes site scope 0 copied flow ran → EndsFor (Some s) flow → CallReturns depth here (option_map (left_by unit) flow) called
   by_flow calls goes first None h ends =
-      let alike =
-      body_alike scope copies (body_coded site unit).code (end_code unit.result (returns_last false unit.body)) begun goes
-      (λ on. let no = sym h ∙ on in cc) in
+      let alike = done_alike goes (λ on. let no = sym h ∙ on in cc) in
       ap result_at (alike.0 ∙ h)
   by_flow calls goes first (Some (Flow.On now)) h ends = absurd (cc)
   by_flow calls goes first (Some (Flow.Back now given)) h ends =
-      let alike =
-      body_alike scope copies (body_coded site unit).code (end_code unit.result (returns_last false unit.body)) begun goes
-      (λ on. let no = sym h.0 ∙ on in cc) in
+      let alike = done_alike goes (λ on. let no = sym h.0 ∙ on in cc) in
       record {
         datum = ends.0;
         is_given = ends.1;

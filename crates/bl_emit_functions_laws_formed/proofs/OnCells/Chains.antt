@@ -75,21 +75,31 @@ end-turns (Some s) false = one-turns _ [] (return-turns _)
 end-turns (Some s) true = refl
 end-turns None returns = refl
 
+read-turns : (site : Site) (held : Option ℕ) (reads : Bool) → turns_in_block (read_code site held reads) ≡ []
+read-turns site None reads = refl
+read-turns site (Some k) true = refl
+read-turns site (Some k) false = one-turns _ [] (set-turns _ _)
+
 numbered-length : (t n : ℕ) → length (numbered t n) ≡ n
 numbered-length t zero = refl
 numbered-length t (suc n) = ap suc (numbered-length (t + 1) n)
 
 module _ (site : Site) (unit : UnitDef) where
-  turns-are : turns_in_block (body_code site unit) ≡ numbered 0 ((body_counted site unit.body).count none_taken)
-  turns-are =
+  body-turns : turns_in_block (body_code site unit) ≡ numbered 0 ((body_counted site unit.body).count none_taken)
+  body-turns =
       block-turns (copies_from site 0 (inputs_of unit)) ((body_coded site unit).code ++ end_code unit.result (returns_last false unit.body))
       ∙ (λ i. copies-turns site 0 (inputs_of unit) i
       ++ block-turns (body_coded site unit).code (end_code unit.result (returns_last false unit.body)) i)
       ∙ (λ i. (body_counted site unit.body).are none_taken i ++ end-turns unit.result (returns_last false unit.body) i)
       ∙ append-nil (numbered 0 ((body_counted site unit.body).count none_taken))
 
+  turns-are : turns_in_block (whole_code site unit) ≡ numbered 0 ((body_counted site unit.body).count none_taken)
+  turns-are =
+      block-turns (read_code site (first_held site 0 unit.vars) (reads_in_block (body_code site unit))) (body_code site unit)
+      ∙ (λ i. read-turns site (first_held site 0 unit.vars) (reads_in_block (body_code site unit)) i ++ body-turns i)
+
   -- the loops are as many as the turns that are taken
-  turns-count : length (turns_in_block (body_code site unit)) ≡ (body_coded site unit).free.turns
+  turns-count : length (turns_in_block (whole_code site unit)) ≡ (body_coded site unit).free.turns
   turns-count =
       let after = (body_counted site unit.body).after none_taken in
       ap length turns-are ∙ numbered-length 0 ((body_counted site unit.body).count none_taken) ∙ omega (arith, after)
@@ -202,7 +212,7 @@ module _ (structs : List StructDef) (units : List UnitDef) (entry : ℕ) (keeps 
       chain-less : chain_cells known chains (function_code structs (take k units) unit) ≤ cells_at structs units k
       chain-less =
           let n : ℕ = greatest (map by (calls_of unit)) in
-          let all : most chains (calls_in_block (body_code site unit)) ≤ n =
+          let all : most chains (calls_in_block (whole_code site unit)) ≤ n =
           code_few weight prelude-none site by (λ f. callee-by f (slice_get (take k units) f) refl) n unit (omega arith) in
           let is : cells_at structs units k ≡ cells_by (struct_sizes structs) (take k (all_cells structs units)) unit =
           answer_at (cells_by (struct_sizes structs)) units k unit 0 there in

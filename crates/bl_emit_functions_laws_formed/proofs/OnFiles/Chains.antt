@@ -57,13 +57,26 @@ module _ (weight : Text → ℕ) (prelude : (word : Text) (s : ScalarType) → w
   end_few (Some s) true = none_few weight prelude n
   end_few None returns = none_few weight prelude n
 
-  -- the body of a unit's C function calls what the unit calls
-  pub code_few : (unit : UnitDef) → Under by n (calls_of unit) → Few weight prelude n (body_code site unit)
-  code_few unit few =
+  body_few_of : (unit : UnitDef) → Under by n (calls_of unit) → Few weight prelude n (body_code site unit)
+  body_few_of unit few =
       then_few weight prelude n (copies_from site 0 (inputs_of unit)) ((body_coded site unit).code ++ end_code unit.result (returns_last false unit.body))
       (copies_few 0 (inputs_of unit))
       (then_few weight prelude n (body_coded site unit).code (end_code unit.result (returns_last false unit.body))
       (body_few weight prelude site by callees unit.body n few none_taken) (end_few unit.result (returns_last false unit.body)))
+
+  read_few : (held : Option ℕ) (reads : Bool) → Few weight prelude n (read_code site held reads)
+  read_few None reads = none_few weight prelude n
+  read_few (Some k) true = none_few weight prelude n
+  read_few (Some k) false =
+      let own = own_few weight prelude site by callees n k in
+      one_few weight prelude n (c_set_again site k)
+      (set_few weight prelude n (place_in site k []) (c_read (place_in site k [])) own (read-light weight prelude n (place_in site k []) own))
+
+  -- the body of a unit's C function calls what the unit calls
+  pub code_few : (unit : UnitDef) → Under by n (calls_of unit) → Few weight prelude n (whole_code site unit)
+  code_few unit few =
+      then_few weight prelude n (read_code site (first_held site 0 unit.vars) (reads_in_block (body_code site unit))) (body_code site unit)
+      (read_few (first_held site 0 unit.vars) (reads_in_block (body_code site unit))) (body_few_of unit few)
 
 -- ---- chains
 
@@ -109,7 +122,7 @@ module _ (structs : List StructDef) (units : List UnitDef) (k : ℕ) (depths : T
       (function_code structs (take k units) unit) ≤ chain_at units k
   no_longer unit there =
       let n : ℕ = greatest (map by (calls_of unit)) in
-      let all : most depths (calls_in_block (body_code (site_of structs (take k units) unit) unit)) ≤ n =
+      let all : most depths (calls_in_block (whole_code (site_of structs (take k units) unit) unit)) ≤ n =
       code_few weight prelude_none (site_of structs (take k units) unit) by (callees_by unit) n unit (omega arith) in
       let is : chain_at units k ≡ 1 + max n (greatest_at (take k (all_chains units)) (runs_of unit)) = chain_is units k unit there in
       omega (arith, all, is)

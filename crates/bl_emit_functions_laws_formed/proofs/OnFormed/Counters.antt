@@ -57,6 +57,11 @@ end-turns (Some s) false = one-turns _ [] (return-turns _)
 end-turns (Some s) true = refl
 end-turns None returns = refl
 
+read-turns : (site : Site) (held : Option ℕ) (reads : Bool) → turns_in_block (read_code site held reads) ≡ []
+read-turns site None reads = refl
+read-turns site (Some k) true = refl
+read-turns site (Some k) false = one-turns _ [] (set-turns _ _)
+
 -- ---- names that no turn has
 
 -- names as entries of a table
@@ -88,13 +93,18 @@ module _ (structs : List StructDef) (earlier : List UnitDef) (unit : UnitDef) (n
   abbrev site : Site
   site = site_of structs earlier unit
 
-  turns_are : turns_in_block (body_code site unit) ≡ numbered 0 ((body_counted site unit.body).count none_taken)
-  turns_are =
+  body_turns : turns_in_block (body_code site unit) ≡ numbered 0 ((body_counted site unit.body).count none_taken)
+  body_turns =
       block-turns (copies_from site 0 (inputs_of unit)) ((body_coded site unit).code ++ end_code unit.result (returns_last false unit.body))
       ∙ (λ i. copies-turns site 0 (inputs_of unit) i
       ++ block-turns (body_coded site unit).code (end_code unit.result (returns_last false unit.body)) i)
       ∙ (λ i. (body_counted site unit.body).are none_taken i ++ end-turns unit.result (returns_last false unit.body) i)
       ∙ append-nil (numbered 0 ((body_counted site unit.body).count none_taken))
+
+  turns_are : turns_in_block (whole_code site unit) ≡ numbered 0 ((body_counted site unit.body).count none_taken)
+  turns_are =
+      block-turns (read_code site (first_held site 0 unit.vars) (reads_in_block (body_code site unit))) (body_code site unit)
+      ∙ (λ i. read-turns site (first_held site 0 unit.vars) (reads_in_block (body_code site unit)) i ++ body_turns i)
 
   no_name : (k : ℕ) → names_table (variable_names (function_code structs earlier unit)) (turn_name k) ≡ None
   no_name k =

@@ -26,7 +26,9 @@ use Rattle.bl_emit_acts.specs.declared.home.Home.TheVariants.{Held, Given, Lent}
 use Rattle.bl_emit_acts.specs.Places.{copies_inputs, home_of, home_of_role, place_in}
 use Rattle.bl_emit_acts.specs.Trees.{c_literal, c_place, c_read}
 use Rattle.bl_emit_acts.specs.Types.{c_scalar, c_type, variable_name}
-use Rattle.bl_emit_functions.specs.Functions.{body_code, body_coded, c_input_copied, copies_from, end_code, input_copied, none_taken, returns_last}
+use Rattle.bl_emit_functions.specs.Functions.{body_code, body_coded, c_input_copied, c_set_again, copies_from, end_code, first_held}
+use Rattle.bl_emit_functions.specs.Functions.{input_copied, none_taken, read_code, returns_last, whole_code}
+use Rattle.bl_emit_functions.specs.Reads.{reads_in_block}
 use Rattle.bl_emit_functions.specs.Statements.{block_codes, codes_of}
 use Rattle.bl_emit_functions.specs.Trees.{c_return_zero}
 use Rattle.bl_emit_acts_laws_formed.specs.Formed.Declared.{home_leads, leads_through, variable_of}
@@ -37,6 +39,7 @@ use Rattle.bl_emit_acts_laws_formed.proofs.OnFormed.SiteActs.{no_more, own_place
 use Rattle.bl_emit_acts_laws_formed.proofs.OnFormed.Typed.{pointer_place}
 use Rattle.bl_emit_acts_laws_formed.proofs.OnFormed.Units.{body_stands, inputs_stand}
 use Rattle.bl_emit_functions_laws_formed.specs.Formed.{IsNumbered, StandsBefore}
+use Rattle.bl_emit_functions_laws_formed.proofs.OnFormed.Held.{held_there}
 use Rattle.bl_emit_functions_laws_formed.proofs.OnFormed.Shapes.{return-is}
 use Rattle.bl_emit_functions_laws_formed.proofs.OnFormed.Statements.{Good, body_good}
 use Rattle.bl_emit_functions_laws_formed.proofs.OnFormed.Variables.{declared_here, earlier_here, flag_there, my_context, my_site, n_flags, param_there}
@@ -148,10 +151,36 @@ module _ (structs : List StructDef) (units : List UnitDef) (entry k : ℕ) (unit
   end_is (Some s) true is = block_nil context
   end_is None returns is = block_nil context
 
-  -- nothing fails in the statements of the function
-  pub body_is : BlockIs context (body_code site unit)
+  body_is : BlockIs context (body_code site unit)
   body_is =
       block_append context (copies_from site 0 (inputs_of unit)) ((body_coded site unit).code ++ end_code unit.result (returns_last false unit.body))
       (copies_are 0 (inputs_of unit) inputs_there)
       (block_append context (body_coded site unit).code (end_code unit.result (returns_last false unit.body))
       (body_is_good.formed none_taken (omega arith)) (end_is unit.result (returns_last false unit.body) refl))
+
+  -- ---- the statement that reads what the function holds
+
+  again_is : (j : ℕ) (var : Var) → slice_get unit.vars j ≡ Some var → home_of site (Some var) ≡ Held → BlockIs context (c_set_again site j ∷ [])
+  again_is j var in_vars is =
+      let leads : leads_through site j ≡ false =
+      (λ i. home_leads (function i) (home_of site (in_vars i))) ∙ ap (home_leads false) is in
+      let own : PlaceIs context (leads_through site j) (c_type structs var.ty) (place_in site j []) =
+      own_place site (is_copied []) context (declared_here structs units entry k unit keeps there function table functions before numbers)
+      keeps.structs_stand (earlier_here structs units entry k unit keeps there function table functions before numbers)
+      (typed_here structs units entry k unit keeps there function table functions before numbers)
+      (plain_here structs units entry k unit keeps there function table functions before numbers) j var in_vars in
+      block_one context (c_set_again site j)
+      (set-is context (leads_through site j) (c_type structs var.ty) (place_in site j []) (c_read (place_in site j [])) own
+      (read-is context (leads_through site j) (c_type structs var.ty) (place_in site j []) own)
+      (ap (λ b. context.keeps && b) leads ∙ no_more context.keeps))
+
+  read_is : (held : Option ℕ) (reads : Bool) → first_held site 0 unit.vars ≡ held → BlockIs context (read_code site held reads)
+  read_is None reads is = block_nil context
+  read_is (Some j) true is = block_nil context
+  read_is (Some j) false is = let found = held_there site unit.vars j is in again_is j found.0 found.1 found.2
+
+  -- nothing fails in the statements of the function
+  pub whole_is : BlockIs context (whole_code site unit)
+  whole_is =
+      block_append context (read_code site (first_held site 0 unit.vars) (reads_in_block (body_code site unit))) (body_code site unit)
+      (read_is (first_held site 0 unit.vars) (reads_in_block (body_code site unit)) refl) body_is

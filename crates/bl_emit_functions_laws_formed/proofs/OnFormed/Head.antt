@@ -253,27 +253,29 @@ module _ (site : Site) where
       ∙ body_returns rest (codes_of site s free).free (is_return s) (last_or x (map surely_returns (codes_of site s free).code)) returns
       (λ is. return_last s is free x)
 
-  whole_returns : (unit : UnitDef) (s : ScalarType) (b : Bool) → returns_last false unit.body ≡ b →
-      last_returns (map surely_returns (copies_from site 0 (inputs_of unit) ++ ((body_coded site unit).code ++ end_code (Some s) b))) ≡ true
-  whole_returns unit s b is =
-      last_append false (copies_from site 0 (inputs_of unit)) ((body_coded site unit).code ++ end_code (Some s) b)
+  whole_returns : (x : Bool) (unit : UnitDef) (s : ScalarType) (b : Bool) → returns_last false unit.body ≡ b →
+      last_or x (map surely_returns (copies_from site 0 (inputs_of unit) ++ ((body_coded site unit).code ++ end_code (Some s) b))) ≡ true
+  whole_returns x unit s b is =
+      last_append x (copies_from site 0 (inputs_of unit)) ((body_coded site unit).code ++ end_code (Some s) b)
       ∙ last_append _ (body_coded site unit).code (end_code (Some s) b) ∙ by b is
     where
       by : (b : Bool) → returns_last false unit.body ≡ b →
-          last_or (last_or (last_or false (map surely_returns (copies_from site 0 (inputs_of unit)))) (map surely_returns (body_coded site unit).code))
+          last_or (last_or (last_or x (map surely_returns (copies_from site 0 (inputs_of unit)))) (map surely_returns (body_coded site unit).code))
           (map surely_returns (end_code (Some s) b))
           ≡ true
       by true is =
-          body_returns unit.body none_taken false (last_or false (map surely_returns (copies_from site 0 (inputs_of unit)))) is
+          body_returns unit.body none_taken false (last_or x (map surely_returns (copies_from site 0 (inputs_of unit)))) is
           (λ no. absurd (cc))
       by false is = return-returns _
 
-  pub surely : (unit : UnitDef) (r : Option ScalarType) →
-      (is_none (option_map c_scalar r) || last_returns (map surely_returns (copies_from site 0 (inputs_of unit) ++ ((body_coded site unit).code
-      ++ end_code r (returns_last false unit.body)))))
+  pub surely : (read : List CStmt) (unit : UnitDef) (r : Option ScalarType) →
+      (is_none (option_map c_scalar r) || last_returns (map surely_returns (read ++ (copies_from site 0 (inputs_of unit)
+      ++ ((body_coded site unit).code ++ end_code r (returns_last false unit.body))))))
       ≡ true
-  surely unit None = refl
-  surely unit (Some s) = whole_returns unit s (returns_last false unit.body) refl
+  surely read unit None = refl
+  surely read unit (Some s) =
+      last_append false read (copies_from site 0 (inputs_of unit) ++ ((body_coded site unit).code ++ end_code (Some s) (returns_last false unit.body)))
+      ∙ whole_returns (last_or false (map surely_returns read)) unit s (returns_last false unit.body) refl
 
 -- ---- the head
 
@@ -391,5 +393,6 @@ module _ (structs : List StructDef) (units : List UnitDef) (entry k : ℕ) (unit
       locals_declared) in
       let four = kept (list_all (λ (p : CParam). p.pointer || is_scalar p.ty) f.params) scalar_parameter f.place params_scalar in
       let six = kept (nat_le (depth_of_function depths f) 300) short_chain f.place (at_most (depth_of_function depths f) short) in
-      let seven = kept (is_none f.result || last_returns (map surely_returns f.body)) returns_result f.place (surely site unit unit.result) in
+      let seven = kept (is_none f.result || last_returns (map surely_returns f.body)) returns_result f.place
+      (surely site (read_code site (first_held site 0 unit.vars) (reads_in_block (body_code site unit))) unit unit.result) in
       (λ i. one i ++ (two i ++ (three i ++ (four i ++ ([] ++ (six i ++ seven i))))))

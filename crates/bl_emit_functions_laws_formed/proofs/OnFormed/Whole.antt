@@ -10,17 +10,17 @@ use Rattle.bl_emit_functions.specs.Functions.{params_from}
 use Rattle.bl_emit_acts_laws_formed.specs.Formed.Declared.{parameter_for, signature_for}
 use Rattle.bl_emit_functions_laws_formed.specs.Formed.{BodiesFormed, FunctionsFormed, FunctionsSigned}
 use Rattle.bl_emit_functions_laws_formed.proofs.OnFormed.Counters.{turns}
-use Rattle.bl_emit_functions_laws_formed.proofs.OnFormed.Function.{body_is}
+use Rattle.bl_emit_functions_laws_formed.proofs.OnFormed.Function.{whole_is}
 use Rattle.bl_emit_functions_laws_formed.proofs.OnFormed.Head.{head_is}
 
 pub bodies : (structs : List StructDef) (units : List UnitDef) (entry : ℕ) → BodiesFormed structs units entry
 bodies structs units entry k unit table functions keeps there function before numbers =
-    body_is structs units entry k unit keeps there function table functions before numbers
+    whole_is structs units entry k unit keeps there function table functions before numbers
 
 pub functions : (structs : List StructDef) (units : List UnitDef) (entry : ℕ) → FunctionsFormed structs units entry
 functions structs units entry k unit table known depths keeps there function before numbers new short =
     (λ i. head_is structs units entry k unit keeps there function table known before numbers depths new short i
-    ++ (turns structs units k unit there numbers i ++ body_is structs units entry k unit keeps there function table known before numbers false i))
+    ++ (turns structs units k unit there numbers i ++ whole_is structs units entry k unit keeps there function table known before numbers false i))
 
 params_are : (structs : List StructDef) (base : ℕ) (vars : List Var) →
     map (λ (p : CParam). record { pointer = p.pointer; ty = p.ty }) (params_from structs base vars) ≡ map (parameter_for structs) vars

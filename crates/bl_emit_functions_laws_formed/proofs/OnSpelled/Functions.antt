@@ -216,6 +216,19 @@ module _ (structs : List StructDef) (units : List UnitDef) (entry k : ℕ) (unit
     end_by d low (Some s) true = refl
     end_by d low None returns = refl
 
+    read_by : (d : ℕ) → 1 ≤ d → (held : Option ℕ) (reads : Bool) → first_held site 0 unit.vars ≡ held
+        → stmts_fit d (read_code site held reads) ≡ true
+    read_by d low None reads is = refl
+    read_by d low (Some j) true is = refl
+    read_by d low (Some j) false is =
+        let found = held_there site unit.vars j is in
+        let less : j < length unit.vars = slice_get_within unit.vars j found.0 found.1 in
+        let small : j < 2 ^ 64 = omega (arith, less, few) in
+        let own =
+        own-fits site few names earlier_named typed (λ e ty typed. fit k unit e ty keeps there few typed)
+        (λ path ty typed. fit_places k unit path ty keeps there few typed) d j low small in
+        one-fits d (c_set_again site j) (set-fits d nowhere (place_in site j []) (c_read (place_in site j [])) own (read-fits d nowhere (place_in site j []) own))
+
     shallow : (nat_le (block 0 (map depth_of unit.body)).blocks 200 && nat_le (of_all (map depth_of unit.body)).exprs 200) ≡ true
     shallow =
         let types : Bool = list_all (λ (var : Var). type_stands (length structs) var.ty) unit.vars in
@@ -252,8 +265,10 @@ module _ (structs : List StructDef) (units : List UnitDef) (entry k : ℕ) (unit
         (name-function (unit_name unit.name) (name-with_prefix (codes "a_") unit.name refl (source_name unit.name own_name))) params-spelled
         (all_append spells_local (memory_local unit.name (holds_any site unit.vars)) (flag_locals (body_coded site unit).free.flags)
         (memory_by (holds_any site unit.vars)) (flags_by (body_coded site unit).free.flags numbers.flags))
+        (all_append (stmt_fits 1999) (read_code site (first_held site 0 unit.vars) (reads_in_block (body_code site unit))) (body_code site unit)
+        (read_by 1999 (omega arith) (first_held site 0 unit.vars) (reads_in_block (body_code site unit)) refl)
         (all_append (stmt_fits 1999) (copies_from site 0 (inputs_of unit))
         ((body_coded site unit).code ++ end_code unit.result (returns_last false unit.body))
         (copies_by 1999 0 (inputs_of unit) (omega arith) room)
         (all_append (stmt_fits 1999) (body_coded site unit).code (end_code unit.result (returns_last false unit.body))
-        (body_is.fits none_taken numbers.flags numbers.turns) (end_by 1999 (omega arith) unit.result (returns_last false unit.body))))
+        (body_is.fits none_taken numbers.flags numbers.turns) (end_by 1999 (omega arith) unit.result (returns_last false unit.body)))))

@@ -55,6 +55,14 @@ module _ (P : CPath → Type 0) (plain : (place : CPath) → names_counter place
   end_fine (Some s) true = tt
   end_fine None last = tt
 
+  read_fine : (site : Site) (held : Option ℕ) (reads : Bool) → CodeFine P plain (read_code site held reads)
+  read_fine site None reads = tt
+  read_fine site (Some k) true = tt
+  read_fine site (Some k) false =
+      one_stmt P plain (c_set_again site k)
+      (set-fine P plain (place_in site k []) (c_read (place_in site k [])) (own_fine P plain site k)
+      (read-fine P plain (place_in site k []) (own_fine P plain site k)))
+
   body_named : (site : Site) (unit : UnitDef) → CodeFine P plain (body_code site unit)
   body_named site unit =
       then_code P plain (copies_from site 0 (inputs_of unit)) ((body_coded site unit).code ++ end_code unit.result (returns_last false unit.body))
@@ -63,7 +71,10 @@ module _ (P : CPath → Type 0) (plain : (place : CPath) → names_counter place
       (end_fine unit.result (returns_last false unit.body)))
 
   pub function-fine : (structs : List StructDef) (earlier : List UnitDef) (unit : UnitDef) → Fine P (places_named (function_code structs earlier unit))
-  function-fine structs earlier unit = body_named (site_of structs earlier unit) unit
+  function-fine structs earlier unit =
+      let site = site_of structs earlier unit in
+      then_code P plain (read_code site (first_held site 0 unit.vars) (reads_in_block (body_code site unit))) (body_code site unit)
+      (read_fine site (first_held site 0 unit.vars) (reads_in_block (body_code site unit))) (body_named site unit)
 
   -- ---- those of the interface
 
