@@ -1,9 +1,9 @@
-//! Where numbers rise along the edges of tick graphs no tree that runs reach is stuck: the second part of progress. There is
-//! no code here. Laws, as contracts of functions that do nothing: what keeps a step waiting writes what the nodes of its label read, each in its instance
-//! (`specs/Ready/Touching.antt`). So where numbers rise along all control and data edges of the bodies, the lowest step that could
-//! be taken may be taken (`specs/Ready/Ranks.antt`), and there is a lowest one (`specs/Ready/Least.antt`). So wherever something is left
-//! to do a step may be taken: there no tick of an accepted program is stuck (`specs/Ready/Never.antt`). Orders of the tick graphs of its
-//! activities are such numbers (`specs/Ready/Ordered.antt`).
+//! Where numbers rise along the edges of tick graphs no tree that runs reach is stuck: the second part of progress. There is no code here.
+//! Laws, as contracts of functions that do nothing: what keeps a step waiting writes what the nodes of its label read, each in its instance
+//! (`specs/Ready/Touching.antt`). So where numbers rise along all control and data edges of the bodies, the lowest step that could be taken
+//! may be taken (`specs/Ready/Ranks.antt`), and there is a lowest one (`specs/Ready/Least.antt`). So wherever something is left to do a
+//! step may be taken: there no tick of an accepted program is stuck (`specs/Ready/Never.antt`). Orders of the tick graphs of its activities
+//! are such numbers (`specs/Ready/Ordered.antt`).
 
 ghost use Rattle.bl_ctree_laws_traces.specs.Ready.Least.{LeastMayAct, UnsettledHasLeast};
 ghost use Rattle.bl_ctree_laws_traces.specs.Ready.Never.{AcceptedNeverStuck, ReachedLowestMayAct, TypedCallsStand, UnsettledMay};

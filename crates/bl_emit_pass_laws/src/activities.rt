@@ -1,6 +1,6 @@
-//! One call of the C function of an activity does what a pass of the instance by rules does (`specs/Activities.antt`, `CallsCome`): where the function begins
-//! as a pass does, its pointers lead to what the call gives, and its blocks do what the pass does. So do the functions of all activities of a program,
-//! each over those before it (`AllActivitiesCome`).
+//! One call of the C function of an activity does what a pass of the instance by rules does (`specs/Activities.antt`, `CallsCome`): where
+//! the function begins as a pass does, its pointers lead to what the call gives, and its blocks do what the pass does. So do the functions
+//! of all activities of a program, each over those before it (`AllActivitiesCome`).
 
 ghost use Rattle.bl_emit_pass_laws.specs.Activities.{AllActivitiesCome, CallsCome};
 

@@ -1,8 +1,8 @@
-//! What the call that a `run` makes is given: a law, as the contract of a function that does nothing (`specs/Gives.antt`, `RunsAreGiven`). In the middle
-//! of a pass the C call that is written for a `run` hands over the places of what the callee rests at and remembers, the values of the inputs and the
-//! places of the outputs, of the result and of whether the body has ended. They keep apart, and memory has at them what a pass of the callee begins
-//! with, over the store in which the inputs went to the callee. Where an input traps so does the call. It asks that what the arguments name under a
-//! `prev` is copied.
+//! What the call that a `run` makes is given: a law, as the contract of a function that does nothing (`specs/Gives.antt`, `RunsAreGiven`).
+//! In the middle of a pass the C call that is written for a `run` hands over the places of what the callee rests at and remembers, the
+//! values of the inputs and the places of the outputs, of the result and of whether the body has ended. They keep apart, and memory has at
+//! them what a pass of the callee begins with, over the store in which the inputs went to the callee. Where an input traps so does the
+//! call. It asks that what the arguments name under a `prev` is copied.
 
 ghost use Rattle.bl_emit_pass_laws_runs.specs.Gives.{RunsAreGiven};
 

@@ -11,6 +11,7 @@ use crate::beside::{is_free, touches};
 use crate::counting::trues;
 use crate::point::Point;
 use crate::table::Table;
+use bl_counts::Counts;
 use bl_store::Home;
 use bl_tree::List;
 
@@ -41,7 +42,7 @@ fn ask_branch(
     j: usize,
     changed: &Home,
     free: &mut List<List<bool>>,
-    counts: &mut List<usize>,
+    counts: &mut Counts,
 )
     requires noted { AllNoted writers.now (map (map location_of) all.now) }
     requires counted { counts.old ≡ map trues free.old }
@@ -63,7 +64,7 @@ fn ask_readers(
     readers: &Table,
     changed: &Home,
     free: &mut List<List<bool>>,
-    counts: &mut List<usize>,
+    counts: &mut Counts,
 )
     requires writers { AllNoted writers.now (map (map location_of) all.now) }
     requires readers { AllNoted readers.now (map reads_in (map (map spot_of) points.now)) }
@@ -84,7 +85,7 @@ pub fn ask_all(
     readers: &Table,
     changed: &[Home],
     free: &mut List<List<bool>>,
-    counts: &mut List<usize>,
+    counts: &mut Counts,
 )
     requires writers { AllNoted writers.now (map (map location_of) all.now) }
     requires readers { AllNoted readers.now (map reads_in (map (map spot_of) points.now)) }

@@ -1,11 +1,10 @@
 //! Points whose flags are true.
 
-ghost use Rattle.std.specs.Prelude.{◌≡◌, ◌+◌, IfOk, map, option_map, slice_get};
+ghost use Rattle.std.specs.Prelude.{◌≡◌, map, option_map, slice_get};
 ghost use Rattle.bl_listing.specs.Listing.{flagged, trues};
 ghost use Rattle.bl_listing.specs.Spots.{spot_of};
 
 use crate::point::Point;
-use bl_tree::NoMemory;
 
 /// How many are true.
 pub fn trues(flags: &[bool]) -> usize
@@ -37,14 +36,4 @@ pub fn nth<'b, 'a>(points: &'b [Point<'a>], flags: &[bool], n: usize) -> Option<
         }
     }
     None
-}
-
-/// Fails only where the sum is too large for memory.
-pub fn sum(a: usize, b: usize) -> Result<usize, NoMemory>
-    ensures { IfOk result (λ n. n ≡ a + b) }
-{
-    match a.checked_add(b) {
-        Some(n) => Ok(n),
-        None => Err(NoMemory),
-    }
 }

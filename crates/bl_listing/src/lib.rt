@@ -3,7 +3,8 @@
 //! contract (`specs/Listing.antt`, `IsRight`), and where it lists the branches of a tree (`Lists`), the points that may
 //! act by it are those of the definition in `bl_ctree` (`specs/Laws.antt`). Two tables of branches by variable tell who may
 //! write what a point reads, and who may read what a branch writes: `replace` asks these branches again and no others.
-//! A running tree (`bl_steps`) keeps one.
+//! How many points of each branch may act `bl_counts` keeps, so that `count` and `choose` don't go over all branches. A running
+//! tree (`bl_steps`) keeps a listing.
 #![tactic(auto)]
 
 mod asking;

@@ -6,10 +6,11 @@ ghost use Rattle.bl_listing.specs.Spots.{spot_of};
 ghost use Rattle.bl_listing.specs.inner.Tables.{AllNoted, reads_in};
 
 use crate::beside::flags;
-use crate::counting::{nth, sum, trues};
+use crate::counting::{nth, trues};
 use crate::point::Point;
 use crate::table::Table;
 use crate::tables::{readers_of, writers_of};
+use bl_counts::Counts;
 use bl_store::Home;
 use bl_tree::{List, NoMemory};
 use std::alloc::Global;
@@ -24,7 +25,7 @@ pub struct Listing<'a> {
     /// Which of these read nothing that another branch may still write.
     pub free: List<List<bool>>,
     /// How many these are.
-    pub counts: List<usize>,
+    pub counts: Counts,
     /// By variable, all branches that may still write to it, and maybe some that could.
     pub(crate) writers: Table,
     /// By variable, all branches that have a point that reads it, and maybe some that had one.
@@ -41,7 +42,7 @@ pub struct Found<'a> {
 }
 
 impl<'a> Listing<'a> {
-    ghost use Rattle.std.specs.Prelude.{◌≡◌, ◌≢◌, [], IfOk, IsTrue, length, option_map, slice_get};
+    ghost use Rattle.std.specs.Prelude.{◌≡◌, IfOk, length, option_map, slice_get};
     ghost use Rattle.bl_listing.specs.Listing.{IsRight, enabled, flagged, flags_of, kept_of, list_at, shown};
 
     /// Of branches that may still write to these homes, and have these points each by itself. Fails only for want of memory.
@@ -61,6 +62,7 @@ impl<'a> Listing<'a> {
             counts.push(trues(&flags))?;
             free.push(flags)?;
         }
+        let counts = Counts::of(alloc, counts)?;
         Ok(Listing {
             homes,
             points,
@@ -83,26 +85,7 @@ impl<'a> Listing<'a> {
         requires { IsRight (shown self.now) }
         ensures { IfOk result (λ n. n ≡ length (enabled (shown self.now))) }
     {
-        let mut total: usize = 0;
-        for k in 0..self.counts.len() {
-            let more = sum(total, self.counts[k])?;
-            total = more;
-        }
-        Ok(total)
-    }
-
-    /// Whether some point may act.
-    pub fn has_enabled(&self) -> bool
-        requires { IsRight (shown self.now) }
-        ensures { IsTrue result → enabled (shown self.now) ≢ [] }
-    {
-        for k in 0..self.counts.len() {
-            let count = self.counts[k];
-            if count > 0 {
-                return true;
-            }
-        }
-        false
+        self.counts.total()
     }
 
     fn nth_of(&self, k: usize, n: usize) -> Option<&Point<'a>>
@@ -123,14 +106,9 @@ impl<'a> Listing<'a> {
         requires { IsRight (shown self.now) }
         ensures { option_map (λ point. spot_of point.now) result ≡ slice_get (enabled (shown self.now)) n }
     {
-        let mut left = n;
-        for k in 0..self.counts.len() {
-            let count = self.counts[k];
-            if left < count {
-                return self.nth_of(k, left);
-            }
-            left -= count;
+        match self.counts.find(n) {
+            None => None,
+            Some(found) => self.nth_of(found.at, found.rest),
         }
-        None
     }
 }

@@ -1,49 +1,24 @@
 -- What is listed of branches, and what is kept of one that changes.
-use Rattle.std.proofs.Common.{
-  ◌≡◌,
-  ◌≢◌,
-  ℕ,
-  suc,
-  ◌<◌,
-  ◌≤◌,
-  Bool,
-  List,
-  [],
-  ◌∷◌,
-  ◌++◌,
-  map,
-  drop,
-  length,
-  get_or,
-  refl,
-  sym,
-  ap,
-  ◌∙◌,
-  subst,
-  append_assoc,
-}
-use Rattle.std.proofs.Common.{arith, append-nil}
-use Rattle.std.specs.Prelude.{Option, Some, None, option_map, slice_get, slice_set}
+use Rattle.std.proofs.Common.{◌≡◌, ℕ, suc, ◌<◌, ◌≤◌, Bool, List, [], ◌∷◌, ◌++◌, map, drop, length, get_or, sym, ap, ◌∙◌, subst, append_assoc}
+use Rattle.std.proofs.Common.{append-nil}
+use Rattle.std.specs.Prelude.{Option, Some, slice_get, slice_set}
 use Rattle.bl_ctree.specs.declared.node.Branch.{Branch as BranchNode, out-Branch}
 use Rattle.bl_ctree.specs.Control.{Control}
 use Rattle.bl_ctree.specs.Instances.{Setting}
 use Rattle.bl_ctree.specs.Nodes.{Seen, control_of, seen_of}
-use Rattle.bl_ctree.specs.Store.{homes}
 use Rattle.bl_listing.specs.declared.listing.Listing.{Listing}
 use Rattle.bl_listing.specs.declared.point.Point.{Point as PointNode}
-use Rattle.bl_listing.specs.Laws.{ListedIsRight, ReplacedIsListed}
-use Rattle.bl_listing.specs.Listing.{Fork, IsRight, Lists, Shown, flags_of, listing_in, shown, spots_from, spots_in}
+use Rattle.bl_listing.specs.Laws.{ReplacedIsListed}
+use Rattle.bl_listing.specs.Listing.{Fork, IsRight, Lists, Shown, shown, spots_from, spots_in}
 use Rattle.bl_listing.specs.Spots.{Spot, spot_of}
 use Rattle.bl_listing.proofs.ListLemmas.{drop_here, get_here, map_here}
-use Rattle.bl_listing.proofs.ListingLemmas.{map_many}
 use Rattle.bl_listing.proofs.NodeLemmas.{seen_out}
 use Rattle.bl_listing.proofs.BranchLemmas.{map-append}
 use Rattle.bl_store.specs.Seen.{location_of}
-use Rattle.bl_pending.specs.Writes.{write_paths}
 use Rattle.bl_steps.specs.declared.listed.Kept.{Kept}
 use Rattle.bl_steps.specs.inner.Spines.{Fits, ListsEnd, fork_at, listed_by, with_fork}
 use Rattle.bl_steps.specs.inner.Spots.{after_by}
-use Rattle.bl_steps.proofs.BranchLemmas.{drop_all, none_left}
+use Rattle.bl_steps.proofs.BranchLemmas.{none_left}
 use Rattle.bl_steps.proofs.SpineLemmas.{leads_into, spine_replaced}
 
 -- ---- the points of each branch

@@ -1,28 +1,5 @@
 -- What the spine of a tree leads to: the points of its `cobegin` are those of the tree, and the tree after one of them differs in one branch.
-use Rattle.std.proofs.Common.{
-  ◌≡◌,
-  ◌≢◌,
-  ◌≤◌,
-  ℕ,
-  zero,
-  suc,
-  Bool,
-  true,
-  false,
-  List,
-  [],
-  ◌∷◌,
-  ◌++◌,
-  map,
-  length,
-  arith,
-  refl,
-  sym,
-  ap,
-  ◌∙◌,
-  Some,
-  if◌then◌else◌,
-}
+use Rattle.std.proofs.Common.{◌≡◌, ◌≢◌, ◌≤◌, ℕ, zero, suc, Bool, false, List, [], ◌∷◌, ◌++◌, map, length, arith, refl, sym, ap, ◌∙◌, Some, if◌then◌else◌}
 use Rattle.std.specs.Prelude.{slice_get, slice_set}
 use Rattle.bl_ctree.specs.Actions.{Silent}
 use Rattle.bl_ctree.specs.Control.{

@@ -81,13 +81,19 @@ told_steps w s n spot nth =
     ∙ sym (ap (option_and_then (stepped_by w s)) nth.there_is)
 
 -- the n-th point acts as it is told
-pub acts_nth : (w : Setting) (s new : State) (n : ℕ) (p : PointNode) (effect : Effect) (path : List ℕ) (r : Result Did NoMemory)
+pub acts_nth : (w : Setting) (s new : State) (n : ℕ) (p : PointNode) (r : Result Did NoMemory)
     → option_map unread (slice_get (map (spot_below w []) (points w 0 s.control)) n) ≡ Some (spot_of p)
-    → effect_in p.effect ≡ effect → path ≡ p.path → Acted (acted_at w s p.instance effect path) s new r → Acted (stepped w s n) s new r
-acts_nth w s new n p effect path r is is_effect is_path acted =
+    → Acted (acted_at w s p.instance (effect_in p.effect) p.path) s new r → Acted (stepped w s n) s new r
+acts_nth w s new n p r is acted =
+    subst (λ outcome. Acted outcome s new r) (told_steps w s n (spot_of p) (nth_of w s.control (points w 0 s.control) n (spot_of p) is)) acted
+
+-- by its effect and the branches that lead to it
+pub acts_told : (w : Setting) (s new : State) (p : PointNode) (effect : Effect) (path : List ℕ) (r : Result Did NoMemory) → effect_in p.effect ≡ effect →
+    path ≡ p.path → Acted (acted_at w s p.instance effect path) s new r
+    → Acted (acted_at w s p.instance (effect_in p.effect) p.path) s new r
+acts_told w s new p effect path r is_effect is_path acted =
     subst (λ outcome. Acted outcome s new r)
-    (ap (λ effect. acted_at w s p.instance effect path) (sym is_effect) ∙ ap (acted_at w s p.instance (effect_in p.effect)) is_path
-    ∙ told_steps w s n (spot_of p) (nth_of w s.control (points w 0 s.control) n (spot_of p) is)) acted
+    (ap (λ effect. acted_at w s p.instance effect path) (sym is_effect) ∙ ap (acted_at w s p.instance (effect_in p.effect)) is_path) acted
 
 -- and its action is the one that is told
 pub told_nth : (w : Setting) (all : List (Point Control)) (n : ℕ) (spot : Spot)
@@ -133,6 +139,10 @@ pub count_listed : PointsAreListed → (w : Setting) (c : Control) (l : Shown) �
     → length (enabled l) ≡ length (points w 0 c)
 count_listed law w c l lists some =
     ap length (sym (spine_points w l law 0 c lists some)) ∙ map_many (spot_below w []) (points w 0 c)
+
+-- some may act where so many are counted
+pub some_counted : (l : Shown) (count : ℕ) → count ≡ length (enabled l) → 0 < count → enabled l ≢ []
+some_counted l count is some none = absurd (omega (arith, is, some, ap length none))
 
 -- as many as are found
 pub count_found : (w : Setting) (all : List (Point Control)) (found : List PointNode) → map spot_of found ≡ map (spot_below w []) all

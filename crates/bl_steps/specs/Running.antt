@@ -11,6 +11,7 @@ use Rattle.bl_ctree.specs.Points.{Point, points}
 use Rattle.bl_ctree.specs.Store.{Store}
 use Rattle.bl_store.specs.Seen.{setting_in, store_of}
 use Rattle.bl_steps.specs.declared.action.Action.{Action}
+use Rattle.bl_steps.specs.declared.action.Step.{Step}
 use Rattle.bl_steps.specs.declared.tree.Tree.{Tree}
 use Rattle.bl_listing.specs.Spots.{Spot}
 use Rattle.bl_steps.specs.inner.Spots.{after_by}
@@ -45,6 +46,11 @@ abbrev pub Acted : Option State → State → State → Result Did NoMemory → 
 Acted outcome old new (Ok Done) = outcome ≡ Some new
 Acted outcome old new (Ok Trap) = (outcome ≡ None) × (new ≡ old)
 Acted outcome old new (Err e) = new ≡ old
+
+-- how a step went that is told with its action
+abbrev pub how_of : Result Step NoMemory → Result Did NoMemory
+how_of (Ok step) = Ok step.did
+how_of (Err e) = Err e
 
 -- the state after an effect in an instance, at the point to which these branches lead
 abbrev pub acted_at : Setting → State → ℕ → Effect → List ℕ → Option State

@@ -1,9 +1,10 @@
 //! Programs that run by the parallel meaning: a `Tree` is started, woken with a row, asked for the points that may act,
-//! and stepped (docs/LANGUAGE.md, "Control trees"). `count` tells how many these are, `action` what one of them does, and
+//! and stepped (docs/LANGUAGE.md, "Control trees"). `count` tells how many these are, and
 //! `actions` lists all, from left to right in source order (`Points.antt` of `bl_ctree`, `points`). `act` leaves exactly
 //! the tree and the store that the chosen one is to leave (`specs/Running.antt`, `stepped`); where its action traps, and
-//! after want of memory, all is as it was (`Acted`). `settled`, `ended` and `outs` tell how the tick stands. `Tree::start`
-//! asks that the program has fewer than 2^32 instances; `bl_rules_laws` shows that an accepted one has at most 4,096.
+//! after want of memory, all is as it was (`Acted`). `step` does the same and tells what the chosen one does. `settled`,
+//! `ended` and `outs` tell how the tick stands. `Tree::start` asks that the program has fewer than 2^32 instances;
+//! `bl_rules_laws` shows that an accepted one has at most 4,096.
 //!
 //! `count` keeps what it finds of the branches of the outermost `cobegin` that has begun (`bl_listing`, `src/spine.rt`).
 //! As long as these act, `act` puts the tree of the one that acts in the place of the old one and lists its points alone
@@ -23,5 +24,5 @@ mod start;
 pub mod tree;
 mod writers;
 
-pub use action::Action;
+pub use action::{Action, Step};
 pub use tree::Tree;

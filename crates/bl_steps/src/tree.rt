@@ -10,7 +10,7 @@ ghost use Rattle.bl_store.specs.Seen.{setting_in, store_of};
 ghost use Rattle.bl_steps.specs.Outputs.{HasOutputs};
 ghost use Rattle.bl_steps.specs.inner.Spines.{ListsEnd, listed_by};
 
-use crate::action::{Action, told};
+use crate::action::{Action, Step, action_at, told};
 use crate::after::after;
 use crate::chosen::chosen;
 use crate::listed::{Kept, Next, change, listed};
@@ -24,7 +24,7 @@ use bl_eval::Did;
 use bl_listing::laws::{listings_tell_points, replaced_branches_are_listed};
 use bl_listing::{Effect, Listing, Point};
 use bl_store::expansion::setting_of;
-use bl_store::{Deed, Frame, Setting, asks, carry_out, ticks};
+use bl_store::{Deed, Frame, Setting, Views, asks, carry_out, ticks};
 use bl_tree::tree::Expr;
 use bl_tree::{List, NoMemory, Program, Row};
 use std::alloc::Global;
@@ -38,6 +38,8 @@ pub struct Tree<'a> {
     /// The branches at the end of its spine, where they are listed.
     listing: Option<Listing<'a>>,
     frames: Vec<Frame>,
+    /// Views of instances that actions used.
+    views: Views,
     ghost lists: { ListsEnd (setting_in setting) (control_of node) (listed_by listing) } by { Prim.hlevel (props, codes, an_expr.the_row.coded, a_path.the_row.coded, a_stmt.the_row.coded) },
     ghost outputs: { HasOutputs (setting_in setting) (store_of frames.items) },
 }
@@ -52,7 +54,7 @@ impl<'a> Tree<'a> {
     ghost use Rattle.bl_ctree.specs.Store.{first_store, outputs_row, woken_store};
     ghost use Rattle.bl_store.specs.Deeds.{effect_of};
     ghost use Rattle.bl_steps.specs.Outputs.{count_of_outputs, outputs_of_unit};
-    ghost use Rattle.bl_steps.specs.Running.{Acted, acted_at, action_of, setting, state, stepped};
+    ghost use Rattle.bl_steps.specs.Running.{Acted, acted_at, action_of, how_of, setting, state, stepped};
     ghost use Rattle.bl_listing.specs.Spots.{spot_below, spot_of};
     ghost use Rattle.bl_steps.specs.inner.Spines.{FitsAny, FitsListed, led, with_fork};
     ghost use Rattle.bl_steps.specs.inner.Spots.{after_by, unread};
@@ -67,12 +69,14 @@ impl<'a> Tree<'a> {
         let setting = setting_of(alloc, program)?;
         let node = idle(alloc, &setting);
         let frames = ticks::first_frames(alloc, &setting)?.into_vec();
+        let views = Views::new(alloc, program.units.len())?;
         Ok(Tree {
             alloc,
             setting,
             node,
             listing: None,
             frames,
+            views,
         })
     }
 
@@ -146,11 +150,8 @@ impl<'a> Tree<'a> {
         match &self.listing {
             None => Ok(None),
             Some(listing) => {
-                if listing.has_enabled() {
-                    Ok(Some(listing.count()?))
-                } else {
-                    Ok(None)
-                }
+                let count = listing.count()?;
+                if count > 0 { Ok(Some(count)) } else { Ok(None) }
             }
         }
     }
@@ -182,15 +183,20 @@ impl<'a> Tree<'a> {
         }
     }
 
-    /// The action with number n of those that may be done next.
-    pub fn action(&self, n: u32) -> Result<Action, NoMemory>
-        requires { n < length (points (setting self.now) 0 (state self.now).control) }
-        ensures { IfOk result (λ action. option_map action_of (slice_get (points (setting self.now) 0 (state self.now).control) n) ≡ Some action) }
+    /// Does the action with number n of those that may be done next, and tells it. After `Trap` and after want of memory the tree
+    /// is as before.
+    pub fn step(&mut self, n: u32) -> Result<Step, NoMemory>
+        requires { n < length (points (setting self.old) 0 (state self.old).control) }
+        ensures setting { setting self.new ≡ setting self.old }
+        ensures step { Acted (stepped (setting self.old) (state self.old) n) (state self.old) (state self.new) (how_of result) }
+        ensures action { IfOk result
+            (λ step. option_map action_of (slice_get (points (setting self.old) 0 (state self.old).control) n) ≡ Some step.action) }
     {
         let point = self.chosen(n as usize)?;
-        Ok(Action {
-            place: point.place,
-            instance: point.instance,
+        let did = self.perform(&point)?;
+        Ok(Step {
+            action: action_at(&point),
+            did,
         })
     }
 
@@ -201,6 +207,15 @@ impl<'a> Tree<'a> {
         ensures step { Acted (stepped (setting self.old) (state self.old) n) (state self.old) (state self.new) result }
     {
         let point = self.chosen(n as usize)?;
+        self.perform(&point)
+    }
+
+    /// Does what a point does.
+    fn perform(&mut self, point: &Point<'a>) -> Result<Did, NoMemory>
+        ensures setting { setting self.new ≡ setting self.old }
+        ensures step { Acted (acted_at (setting self.old) (state self.old) (spot_of point.now).instance (spot_of point.now).effect (spot_of point.now).path)
+            (state self.old) (state self.new) result }
+    {
         match point.effect {
             Effect::Asks(e) => self.ask(point.instance, &point.path, e),
             Effect::Does(deed) => self.carry(point.instance, &point.path, deed),
@@ -211,7 +226,14 @@ impl<'a> Tree<'a> {
         ensures setting { setting self.new ≡ setting self.old }
         ensures step { Acted (acted_at (setting self.old) (state self.old) i (Asks e.now) path.now) (state self.old) (state self.new) result }
     {
-        match asks(self.alloc, &self.setting, self.frames.as_slice(), i, e)? {
+        match asks(
+            self.alloc,
+            &self.setting,
+            self.frames.as_slice(),
+            &mut self.views,
+            i,
+            e,
+        )? {
             None => Ok(Did::Trap),
             Some(answer) => {
                 let next = self.next(path, answer)?;
@@ -226,7 +248,14 @@ impl<'a> Tree<'a> {
         ensures step { Acted (acted_at (setting self.old) (state self.old) i (effect_of deed.entry) path.now) (state self.old) (state self.new) result }
     {
         let next = self.next(path, true)?;
-        match carry_out(self.alloc, &self.setting, &mut self.frames, i, deed)? {
+        match carry_out(
+            self.alloc,
+            &self.setting,
+            &mut self.frames,
+            &mut self.views,
+            i,
+            deed,
+        )? {
             Did::Trap => Ok(Did::Trap),
             Did::Done => {
                 self.go(next);

@@ -13,9 +13,9 @@ use Rattle.bl_eval.specs.declared.datum.Left.{Left}
 use Rattle.bl_eval.specs.Functions.{acted, assigned, call_of, declared, initial_value, outcome_of_call, put_all, put_back}
 use Rattle.bl_eval.specs.Meaning.{Callee, Meaning, PathMeaning, Scope, View, meaning_of, path_meaning_of, plain, reading, value_in, values_of}
 use Rattle.bl_eval.specs.Values.{put_at, with_value_at}
-use Rattle.bl_store.specs.Agree.{roots_of_act}
+use Rattle.bl_store.specs.Agree.{Same, roots_of_act}
 use Rattle.bl_store.proofs.AgreeLemmas.{set_both}
-use Rattle.bl_store.proofs.NamedLemmas.{Same, SameSpot, expr_same, reading_same, same_first, same_others, same_second, spot_same}
+use Rattle.bl_store.proofs.NamedLemmas.{SameSpot, expr_same, reading_same, same_first, same_others, same_second, spot_same}
 
 -- wherever the views have the same value, so have the lists
 abbrev pub Follows : View → View → List Value → List Value → Type 0

@@ -12,7 +12,6 @@ use Rattle.std.proofs.Common.{
   length,
   map,
   Some,
-  pos,
   refl,
   sym,
   ap,
@@ -24,8 +23,7 @@ use Rattle.std.proofs.lemmas.List.FromFn.{length-map-range_with_len}
 use Rattle.std.specs.Prelude.{slice_get, slice_set}
 use Rattle.std.specs.List.{range_with_len}
 use Rattle.bl_tree.specs.declared.value.Value.{Value}
-use Rattle.bl_tree.specs.declared.value.Value.TheVariants.{Number}
-use Rattle.bl_store.specs.Agree.{Agree, blanks, filled}
+use Rattle.bl_store.specs.Agree.{Agree, filled}
 
 pub agree_first : (ks rest : List ℕ) (xs ys : List Value) → Agree (ks ++ rest) xs ys → Agree ks xs ys
 agree_first [] rest xs ys same = tt
@@ -92,12 +90,12 @@ module _ (value : ℕ → Value) (count : ℕ) where
   kept (j ∷ ks) made k long same =
       kept ks (slice_set made j (value j)) k (length-set made j (value j) ∙ long) (given_elsewhere made all j k (value j) long (is_listed j) same)
 
-  pub all_filled : (ks : List ℕ) (made : List Value) → length made ≡ length all → Agree ks (filled value ks made) all
+  all_filled : (ks : List ℕ) (made : List Value) → length made ≡ length all → Agree ks (filled value ks made) all
   all_filled [] made long = tt
   all_filled (k ∷ ks) made long =
       let next : length (slice_set made k (value k)) ≡ length all = length-set made k (value k) ∙ long in
       (kept ks (slice_set made k (value k)) k next (given_here made all k (value k) long (is_listed k)), all_filled ks (slice_set made k (value k)) next)
 
   -- those that are filled in are as all are
-  pub filled_agree : (ks : List ℕ) → Agree ks (filled value ks (blanks count)) all
-  filled_agree ks = all_filled ks (blanks count) (length-map-range_with_len (λ k. Number (pos 0)) 0 count ∙ sym (length-map-range_with_len value 0 count))
+  pub filled_agree : (ks : List ℕ) (made : List Value) → length made ≡ count → Agree ks (filled value ks made) all
+  filled_agree ks made long = all_filled ks made (long ∙ sym (length-map-range_with_len value 0 count))

@@ -45,12 +45,8 @@ use Rattle.bl_eval.specs.Meaning.{
   values_of,
 }
 use Rattle.bl_eval.specs.Values.{value_at}
-use Rattle.bl_store.specs.Agree.{Agree, roots_in_part}
+use Rattle.bl_store.specs.Agree.{Same, roots_in_part}
 use Rattle.bl_store.proofs.AgreeLemmas.{agree_first, agree_second}
-
--- both have the same values of these variables, now and before
-abbrev pub Same : List ℕ → View → View → Type 0
-Same roots a b = Agree roots a.now b.now × Agree roots a.before b.before
 
 pub same_first : (ks rest : List ℕ) (a b : View) → Same (ks ++ rest) a b → Same ks a b
 same_first ks rest a b same = (agree_first ks rest a.now b.now same.0, agree_first ks rest a.before b.before same.1)

@@ -14,11 +14,6 @@ use Rattle.bl_store.specs.Own.{now_there, with_value_before}
 use Rattle.bl_store.specs.Seen.{location_of, put_all, put_one}
 use Rattle.bl_store.proofs.StoreLemmas.{remembers}
 
-pub and_then_map : {A B C : Type 0} (f : B → Option C) (g : A → B) (o : Option A) →
-    option_and_then f (option_map g o) ≡ option_and_then (λ x. f (g x)) o
-and_then_map f g None = refl
-and_then_map f g (Some x) = refl
-
 -- ---- values one after another
 
 put_behind : {A : Type 0} (made : List A) (x : A) (rest : Option (List A))

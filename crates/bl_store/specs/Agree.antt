@@ -1,17 +1,20 @@
 -- Values of variables of which some alone are looked at.
-use Rattle.std.specs.Prelude.{◌≡◌, ℕ, ◌++◌, List, [], ◌∷◌, map, pos, slice_get, slice_set}
-use Rattle.std.specs.List.{range_with_len}
+use Rattle.std.specs.Prelude.{◌≡◌, ℕ, ◌++◌, List, [], ◌∷◌, map, slice_get, slice_set}
 use Rattle.bl_tree.specs.declared.tree.StmtKind.TheOpen.{StmtKind-F}
 use Rattle.bl_tree.specs.declared.value.Value.{Value}
-use Rattle.bl_tree.specs.declared.value.Value.TheVariants.{Number}
 use Rattle.bl_tree.specs.declared.tree.Part.{Part, fold-Part}
 use Rattle.bl_tree.specs.Apart.{Roots, argument_roots, expr_layer_roots, kind_roots, optional_roots, part_roots, path_layer_roots, roots_in, roots_in_path}
 use Rattle.bl_tree.specs.declared.static_path.Static.{Static}
+use Rattle.bl_eval.specs.Meaning.{View}
 
 -- both have the same values of these variables
 abbrev pub Agree : List ℕ → List Value → List Value → Type 0
 Agree [] xs ys = Unit {0}
 Agree (k ∷ rest) xs ys = (slice_get xs k ≡ slice_get ys k) × Agree rest xs ys
+
+-- both views have the same values of these variables, now and before
+abbrev pub Same : List ℕ → View → View → Type 0
+Same roots a b = Agree roots a.now b.now × Agree roots a.before b.before
 
 -- values that agree at the variables agree at those into which the paths lead
 abbrev pub Covers : List ℕ → List Static → Type 0
@@ -27,10 +30,6 @@ roots_of_act (StmtKind-F.Declare k initial) = k ∷ optional_roots initial
 roots_of_act (StmtKind-F.Assign path e) = roots_in_path path ++ roots_in e
 roots_of_act (StmtKind-F.Call f inputs outputs) = argument_roots inputs outputs
 roots_of_act _ = []
-
--- nothing yet of so many variables
-abbrev pub blanks : ℕ → List Value
-blanks count = map (λ k. Number (pos 0)) (range_with_len 0 count)
 
 -- the values, those of these variables being given
 abbrev pub filled : (ℕ → Value) → List ℕ → List Value → List Value

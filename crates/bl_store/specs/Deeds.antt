@@ -13,6 +13,8 @@ use Rattle.bl_ctree.specs.Positions.{stmt_kind}
 use Rattle.bl_ctree.specs.Store.{Store, with_frame, with_inputs}
 use Rattle.bl_store.specs.declared.perform.Deed.{Deed}
 use Rattle.bl_store.specs.declared.perform.Deed.TheVariants.{Silent as IsSilent, Acts as DoesAct, Copies as DoesCopy, Gives as DoesGive}
+use Rattle.bl_store.specs.Agree.{roots_of_act}
+use Rattle.bl_store.specs.Glimpse.{Glimpses}
 use Rattle.bl_store.specs.Seen.{Sight}
 
 -- the effect of an action that does this
@@ -42,3 +44,9 @@ value_by w sight e = option_and_then (λ s. value_in_unit w.structs w.units s.un
 -- the variables after an act by what is seen; none where it traps
 abbrev pub outcome_by : Setting → Option Sight → Stmt → Option (List Value)
 outcome_by w sight s = option_and_then (λ seen. outcome_in_unit w.structs w.units seen.unit s seen.view) sight
+
+-- the variables after an act, by something that is seen of those that it names; none where it traps
+pub record LeftBy (w : Setting) (store : Store) (i : ℕ) (s : Stmt) (left : Option (List Value)) : Type 0 where
+  pub sight : Option Sight
+  pub glimpses : Glimpses (roots_of_act (stmt_kind s)) w store i sight
+  pub left_is : left ≡ outcome_by w sight s

@@ -68,6 +68,10 @@ pub record Sight : Type 0 where
 abbrev pub seen_by : ViewNode → Sight
 seen_by v = record { unit = v.now.unit; view = view_of v.now v.before }
 
+-- the values now in a view
+abbrev pub values_in : ViewNode → List Value
+values_in v = v.now.list
+
 -- ---- what an act writes
 
 -- the store with one value at its home

@@ -1,23 +1,26 @@
 //! What actions make of the store.
 
 ghost use Rattle.std.specs.Prelude.{◌≡◌, [], ◌++◌, ◌∷◌, map, IfOk, OnOk, Some, option_map, option_and_then, slice_get, unwrap_or};
+ghost use Rattle.bl_tree.specs.Apart.{roots_in};
 ghost use Rattle.bl_tree.specs.Numbers.{is_one};
+ghost use Rattle.bl_tree.specs.Reduce.{joined};
 ghost use Rattle.bl_eval.specs.Standing.{got_value};
 ghost use Rattle.bl_ctree.specs.Actions.{acted_kind, given_to, is_true_value, outcome_there, result_at, value_there, values_there, with_result};
 ghost use Rattle.bl_ctree.specs.Positions.{stmt_kind};
 ghost use Rattle.bl_tree.specs.Static.{whole};
 ghost use Rattle.bl_ctree.specs.Store.{put, put_written, remember, with_frame, with_inputs};
 ghost use Rattle.bl_store.specs.Agree.{Covers, roots_of_act};
-ghost use Rattle.bl_store.specs.Deeds.{Carried, deed_on, outcome_by, value_by};
-ghost use Rattle.bl_store.specs.Glimpse.{glimpse};
+ghost use Rattle.bl_store.specs.Deeds.{Carried, LeftBy, deed_on, outcome_by, value_by};
+ghost use Rattle.bl_store.specs.Glimpse.{Glimpses};
 ghost use Rattle.bl_store.specs.Own.{now_there, with_value_before};
-ghost use Rattle.bl_store.specs.Seen.{location_of, seen_by, setting_in, store_of};
+ghost use Rattle.bl_store.specs.Seen.{location_of, seen_by, setting_in, store_of, values_in};
 
 use crate::frame::{Frame, now_at, put};
 use crate::home::{Home, home_of, positions_of};
 use crate::naming::{all_named, named, named_by_act};
 use crate::setting::Setting;
 use crate::view::{View, look};
+use crate::views::Views;
 use crate::writing::{put_all, puts, set_before, set_inputs, set_result};
 use bl_ctree::paths::statics_of;
 use bl_effects::sets::set_of;
@@ -51,19 +54,43 @@ fn value_seen(alloc: Global, w: &Setting, seen: &Option<View>, e: &Expr) -> Resu
     }
 }
 
+fn keep(views: &mut Views, seen: Option<View>) {
+    if let Some(view) = seen {
+        views.keep(view);
+    }
+}
+
 /// The value of an expression in an instance.
 fn value_there(
     alloc: Global,
     w: &Setting,
     frames: &[Frame],
+    views: &mut Views,
     i: u32,
     e: &Expr,
 ) -> Result<Got, NoMemory>
     ensures { IfOk result (λ got. got_value got ≡ value_there (setting_in w.now) (store_of frames.now) i e.now) }
 {
     let asked = named(alloc, e)?;
-    let seen = look(alloc, w, frames, i, &asked)?;
-    value_seen(alloc, w, &seen, e)
+    let seen = look(alloc, w, frames, views, i, &asked)?;
+    let got = value_seen(alloc, w, &seen, e)?;
+    keep(views, seen);
+    Ok(got)
+}
+
+/// What is seen of the variables that some expressions name.
+fn look_for(
+    alloc: Global,
+    w: &Setting,
+    frames: &[Frame],
+    views: &mut Views,
+    i: u32,
+    inputs: &[Expr],
+) -> Result<Option<View>, NoMemory>
+    ensures { IfOk result (λ made. Glimpses (joined (map roots_in inputs.now)) (setting_in w.now) (store_of frames.now) i (option_map seen_by made)) }
+{
+    let asked = all_named(alloc, inputs)?;
+    look(alloc, w, frames, views, i, &asked)
 }
 
 /// The values of expressions in an instance; none where one traps.
@@ -71,13 +98,13 @@ fn values_there(
     alloc: Global,
     w: &Setting,
     frames: &[Frame],
+    views: &mut Views,
     i: u32,
     inputs: &[Expr],
 ) -> Result<Option<List<Value>>, NoMemory>
     ensures { IfOk result (λ values. values ≡ values_there (setting_in w.now) (store_of frames.now) i inputs.now) }
 {
-    let asked = all_named(alloc, inputs)?;
-    let seen = look(alloc, w, frames, i, &asked)?;
+    let seen = look_for(alloc, w, frames, views, i, inputs)?;
     let mut values = List::new(alloc);
     for e in inputs {
         match value_seen(alloc, w, &seen, e)? {
@@ -85,6 +112,7 @@ fn values_there(
             Got::Trap => return Ok(None),
         }
     }
+    keep(views, seen);
     Ok(Some(values))
 }
 
@@ -102,12 +130,13 @@ pub fn asks(
     alloc: Global,
     w: &Setting,
     frames: &[Frame],
+    views: &mut Views,
     i: u32,
     e: &Expr,
 ) -> Result<Option<bool>, NoMemory>
     ensures { IfOk result (λ answer. answer ≡ option_map is_true_value (value_there (setting_in w.now) (store_of frames.now) i e.now)) }
 {
-    match value_there(alloc, w, frames, i, e)? {
+    match value_there(alloc, w, frames, views, i, e)? {
         Got::Val(value) => Ok(Some(is_true(&value))),
         Got::Trap => Ok(None),
     }
@@ -118,8 +147,8 @@ fn outcome_seen(
     w: &Setting,
     seen: Option<View>,
     s: &Stmt,
-) -> Result<Option<List<Value>>, NoMemory>
-    ensures { IfOk result (λ left. left ≡ outcome_by (setting_in w.now) (option_map seen_by seen) s.now) }
+) -> Result<Option<View>, NoMemory>
+    ensures { IfOk result (λ left. option_map values_in left ≡ outcome_by (setting_in w.now) (option_map seen_by seen) s.now) }
 {
     match seen {
         None => Ok(None),
@@ -127,26 +156,26 @@ fn outcome_seen(
             let View { now, before } = seen;
             let mut now = now;
             match act(alloc, w.program, &mut now, &before, s)? {
-                Did::Done => Ok(Some(now.list)),
+                Did::Done => Ok(Some(View { now, before })),
                 Did::Trap => Ok(None),
             }
         }
     }
 }
 
-/// The variables that an act names, after it, among blank ones; none where it traps.
+/// The variables that an act names, after it, among others; none where it traps.
 fn outcome(
     alloc: Global,
     w: &Setting,
     frames: &[Frame],
+    views: &mut Views,
     i: u32,
     s: &Stmt,
-) -> Result<Option<List<Value>>, NoMemory>
-    ensures { IfOk result (λ left. left ≡ outcome_by (setting_in w.now) (glimpse (roots_of_act (stmt_kind s.now)) (setting_in w.now) (store_of frames.now) i)
-        s.now) }
+) -> Result<Option<View>, NoMemory>
+    ensures { IfOk result (λ left. LeftBy (setting_in w.now) (store_of frames.now) i s.now (option_map values_in left)) }
 {
     let asked = named_by_act(alloc, &s.what)?;
-    let seen = look(alloc, w, frames, i, &asked)?;
+    let seen = look(alloc, w, frames, views, i, &asked)?;
     outcome_seen(alloc, w, seen, s)
 }
 
@@ -155,6 +184,7 @@ fn writes(
     alloc: Global,
     w: &Setting,
     frames: &mut Vec<Frame>,
+    views: &mut Views,
     i: u32,
     s: &Stmt,
     paths: &[Static],
@@ -163,11 +193,12 @@ fn writes(
     ensures { Carried (option_map (λ values. put_written (setting_in w.now) i values paths.now (store_of frames.old.items))
         (outcome_there (setting_in w.now) (store_of frames.old.items) i s.now)) (store_of frames.old.items) (store_of frames.new.items) result }
 {
-    let Some(variables) = outcome(alloc, w, frames, i, s)? else {
+    let Some(left) = outcome(alloc, w, frames, views, i, s)? else {
         return Ok(Did::Trap);
     };
-    let puts = puts(alloc, w, i, &variables, paths)?;
+    let puts = puts(alloc, w, i, &left.now.list, paths)?;
     put_all(frames, puts);
+    views.keep(left);
     Ok(Did::Done)
 }
 
@@ -222,10 +253,21 @@ fn declare(
     Ok(Did::Done)
 }
 
+/// The value of a variable after an act.
+fn value_left(alloc: Global, left: &View, k: usize) -> Result<Option<Value>, NoMemory>
+    ensures { IfOk result (λ value. value ≡ slice_get (values_in left.entry.now) k) }
+{
+    match element(&left.now.list, k) {
+        None => Ok(None),
+        Some(value) => Ok(Some(copy(alloc, value)?)),
+    }
+}
+
 fn declares(
     alloc: Global,
     w: &Setting,
     frames: &mut Vec<Frame>,
+    views: &mut Views,
     i: u32,
     s: &Stmt,
     k: u32,
@@ -234,10 +276,12 @@ fn declares(
     ensures { Carried (option_map (λ values. with_frame i (remember k) (put_written (setting_in w.now) i values (whole k ∷ []) (store_of frames.old.items)))
         (outcome_there (setting_in w.now) (store_of frames.old.items) i s.now)) (store_of frames.old.items) (store_of frames.new.items) result }
 {
-    let Some(variables) = outcome(alloc, w, frames, i, s)? else {
+    let Some(left) = outcome(alloc, w, frames, views, i, s)? else {
         return Ok(Did::Trap);
     };
-    match element(&variables, k as usize) {
+    let value = value_left(alloc, &left, k as usize)?;
+    views.keep(left);
+    match value {
         None => {
             let before = kept(alloc, frames, i as usize, k as usize)?;
             remember(frames, i as usize, k as usize, before);
@@ -245,7 +289,6 @@ fn declares(
         }
         Some(value) => {
             let at = home_of(alloc, w, i, k as usize, List::new(alloc))?;
-            let value = copy(alloc, value)?;
             declare(alloc, frames, i as usize, k as usize, &at, value)
         }
     }
@@ -265,13 +308,14 @@ fn returns(
     alloc: Global,
     w: &Setting,
     frames: &mut Vec<Frame>,
+    views: &mut Views,
     i: u32,
     e: &Expr,
 ) -> Result<Did, NoMemory>
     ensures { Carried (option_map (λ value. with_frame i (with_result value) (store_of frames.old.items))
         (value_there (setting_in w.now) (store_of frames.old.items) i e.now)) (store_of frames.old.items) (store_of frames.new.items) result }
 {
-    match value_there(alloc, w, frames, i, e)? {
+    match value_there(alloc, w, frames, views, i, e)? {
         Got::Trap => Ok(Did::Trap),
         Got::Val(value) => {
             set_result(frames, i as usize, value);
@@ -293,6 +337,7 @@ fn acts(
     alloc: Global,
     w: &Setting,
     frames: &mut Vec<Frame>,
+    views: &mut Views,
     i: u32,
     s: &Stmt,
 ) -> Result<Did, NoMemory>
@@ -301,15 +346,15 @@ fn acts(
 {
     match &s.what {
         StmtKind::Return(None) => Ok(Did::Done),
-        StmtKind::Return(Some(e)) => returns(alloc, w, frames, i, e),
-        StmtKind::Declare(k, _) => declares(alloc, w, frames, i, s, *k),
+        StmtKind::Return(Some(e)) => returns(alloc, w, frames, views, i, e),
+        StmtKind::Declare(k, _) => declares(alloc, w, frames, views, i, s, *k),
         StmtKind::Assign(path, _) => {
             let paths = one(alloc, static_of(alloc, path)?)?;
-            writes(alloc, w, frames, i, s, &paths)
+            writes(alloc, w, frames, views, i, s, &paths)
         }
         StmtKind::Call(_, _, outputs) => {
             let paths = set_of(statics_of(alloc, outputs)?);
-            writes(alloc, w, frames, i, s, &paths)
+            writes(alloc, w, frames, views, i, s, &paths)
         }
         StmtKind::Await(_)
         | StmtKind::Run(_, _, _, _)
@@ -326,6 +371,7 @@ fn copies(
     alloc: Global,
     w: &Setting,
     frames: &mut Vec<Frame>,
+    views: &mut Views,
     i: u32,
     callee: u32,
     inputs: &[Expr],
@@ -333,7 +379,7 @@ fn copies(
     ensures { Carried (option_map (λ values. with_frame callee (with_inputs values) (store_of frames.old.items))
         (values_there (setting_in w.now) (store_of frames.old.items) i inputs.now)) (store_of frames.old.items) (store_of frames.new.items) result }
 {
-    match values_there(alloc, w, frames, i, inputs)? {
+    match values_there(alloc, w, frames, views, i, inputs)? {
         None => Ok(Did::Trap),
         Some(values) => {
             set_inputs(frames, callee as usize, values);
@@ -385,6 +431,7 @@ pub fn carry_out(
     alloc: Global,
     w: &Setting,
     frames: &mut Vec<Frame>,
+    views: &mut Views,
     i: u32,
     deed: Deed,
 ) -> Result<Did, NoMemory>
@@ -392,8 +439,8 @@ pub fn carry_out(
 {
     match deed {
         Deed::Silent => Ok(Did::Done),
-        Deed::Acts(s) => acts(alloc, w, frames, i, s),
-        Deed::Copies(callee, inputs) => copies(alloc, w, frames, i, callee, inputs),
+        Deed::Acts(s) => acts(alloc, w, frames, views, i, s),
+        Deed::Copies(callee, inputs) => copies(alloc, w, frames, views, i, callee, inputs),
         Deed::Gives(callee, target) => gives(alloc, w, frames, i, callee, target),
     }
 }

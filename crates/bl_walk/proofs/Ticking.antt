@@ -1,29 +1,5 @@
 -- How steps lead through a tick.
-use Rattle.std.proofs.Common.{
-  ◌≡◌,
-  ℕ,
-  zero,
-  suc,
-  ◌+◌,
-  ◌<◌,
-  ◌≤◌,
-  ℤ,
-  Bool,
-  true,
-  false,
-  List,
-  [],
-  ◌∷◌,
-  ◌++◌,
-  length,
-  map,
-  refl,
-  sym,
-  ap,
-  ◌∙◌,
-  subst,
-  arith,
-}
+use Rattle.std.proofs.Common.{◌≡◌, ℕ, zero, suc, ◌+◌, ◌<◌, ◌≤◌, ℤ, Bool, true, false, List, [], ◌∷◌, ◌++◌, length, refl, sym, ap, ◌∙◌, subst, arith}
 use Rattle.std.proofs.lemmas.List.{length-append, length-map, map-append}
 use Rattle.std.specs.Prelude.{Option, Some, None, Result, Ok, Err, IfOk, option_and_then, option_map, slice_get, if◌then◌else◌}
 use Rattle.bl_tree.specs.declared.memory.NoMemory.{NoMemory}
@@ -39,7 +15,7 @@ use Rattle.bl_ctree.specs.Laws.{SettledIsStill, StillIsUnlisted}
 use Rattle.bl_ctree.specs.Points.{Point, points}
 use Rattle.bl_ctree.specs.Reaches.{ReachesInside}
 use Rattle.bl_ctree.specs.Store.{outputs_row, woken_store}
-use Rattle.bl_ctree.specs.Ticks.{End, Ended, Rests, Steps, Trapped, resting_outcome}
+use Rattle.bl_ctree.specs.Ticks.{End, Rests, Steps, Trapped, resting_outcome}
 use Rattle.bl_steps.specs.Running.{Acted, State, action_of, stepped, stepped_by}
 use Rattle.bl_steps.specs.declared.action.Action.{Action as Told}
 use Rattle.bl_walk.specs.declared.choice.Choice.{Choice}

@@ -91,9 +91,9 @@ fn step(
     let Ok(number) = u32::try_from(at) else {
         return Err(NoMemory);
     };
-    let action = tree.action(number)?;
-    places.push(action.place)?;
-    tree.act(number)
+    let done = tree.step(number)?;
+    places.push(done.action.place)?;
+    Ok(done.did)
 }
 
 // How the run stands after a tick that didn't trap.

@@ -1,10 +1,10 @@
 -- A statement that sets a variable to what it has leaves all as it is.
-use Rattle.std.proofs.Common.{◌≡◌, ℕ, Bool, true, false, List, [], ◌∷◌, ◌++◌, Option, Some, None, refl, ap, ◌∙◌, subst}
+use Rattle.std.proofs.Common.{◌≡◌, ℕ, Bool, true, false, List, [], ◌++◌, Option, Some, None, refl, ap, ◌∙◌, subst}
 use Rattle.bl_tree.specs.declared.c.CPlace.{CPlace}
 use Rattle.bl_tree.specs.declared.c.CStmt.{CStmt}
 use Rattle.bl_tree.specs.Typing.{Site, is_activity, var_at}
 use Rattle.bl_cmeaning.specs.Course.{End, Outcome, breaks, following_end, goes_on, returns, traps}
-use Rattle.bl_cmeaning.specs.Meaning.{Scope, block_c, location_c, runs_c, value_c}
+use Rattle.bl_cmeaning.specs.Meaning.{Scope, block_c, location_c, runs_c}
 use Rattle.bl_cmeaning.specs.Memory.{Location, Memory, Part, Root, set_at, value_at}
 use Rattle.bl_emit_acts.specs.Acts.{c_set}
 use Rattle.bl_emit_acts.specs.Places.{home_of, place_in}

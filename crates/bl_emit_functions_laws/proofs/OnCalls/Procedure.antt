@@ -39,7 +39,9 @@ use Rattle.bl_emit_acts_laws.specs.Frames.{is_older, lent_at}
 use Rattle.bl_emit_acts_laws.specs.Holds.{Holds, home_at, is_live, lead_in, location_in, start_in}
 use Rattle.bl_emit_acts_laws.specs.Shows.{ArgsHold}
 use Rattle.bl_emit_functions.specs.Functions.{body_code, body_coded, copies_from, end_code, function_code, input_copied, is_held, none_taken, returns_last}
+use Rattle.bl_emit_functions.specs.Functions.{first_held}
 use Rattle.bl_emit_functions.specs.Trees.{flag_name}
+use Rattle.bl_emit_functions.specs.Reads.{reads_in_block}
 use Rattle.bl_emit_functions_laws.specs.Bodies.{FlowComes, Spared, Stands, StatementsCome, number_back}
 use Rattle.bl_emit_functions_laws.specs.Calls.{EndsFor, FrameBegun, HandedOver, MayRun, ProceduresCome, is_copied_input, memory_begun, scope_begun}
 use Rattle.bl_emit_functions_laws.proofs.OnCalls.Frame.{Where, frame_begun, holds_same, leads, where_is}
@@ -47,6 +49,7 @@ use Rattle.bl_emit_functions_laws.proofs.OnCalls.Handing.{get_behind, handed_ove
 use Rattle.bl_emit_functions_laws.proofs.OnCalls.Kept.{keep, older_differs}
 use Rattle.bl_emit_functions_laws.proofs.OnCalls.Lists.{all_at, front_all}
 use Rattle.bl_emit_functions_laws.proofs.OnCalls.Standing.{body_fits, end_all, roles, stands_at}
+use Rattle.bl_emit_functions_laws.proofs.OnBodies.Again.{read_alike}
 
 no_such : true ≡ false → ⊥
 no_such h = cc

@@ -37,9 +37,13 @@ use Rattle.bl_emit_acts_laws.specs.Frames.{is_older}
 use Rattle.bl_emit_acts_laws.specs.Holds.{home_at, lead_in, location_in, start_in}
 use Rattle.bl_emit_acts_laws.specs.Shows.{ArgsHold}
 use Rattle.bl_emit_functions.specs.Functions.{body_coded, copies_from, end_code, function_code, is_held, none_taken, returns_last}
+use Rattle.bl_emit_functions.specs.Functions.{body_code, first_held}
 use Rattle.bl_emit_functions.specs.Trees.{flag_name}
+use Rattle.bl_emit_functions.specs.Reads.{reads_in_block}
 use Rattle.bl_emit_functions_laws.specs.Bodies.{FlowComes, Spared, StatementsCome, Untouched, number_back}
 use Rattle.bl_emit_functions_laws.proofs.OnBodies.Courses.{Alike, append_alike}
+use Rattle.bl_emit_functions_laws.proofs.OnBodies.Courses.{alike_trans}
+use Rattle.bl_emit_functions_laws.proofs.OnBodies.Again.{read_alike}
 use Rattle.bl_emit_functions_laws.specs.Calls.{
   BodiesEnd,
   CallKeeps,

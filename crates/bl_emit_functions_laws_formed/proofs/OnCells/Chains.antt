@@ -52,6 +52,8 @@ use Rattle.bl_emit_functions.specs.Functions.{
   params_from,
   returns_last,
 }
+use Rattle.bl_emit_functions.specs.Functions.{first_held, read_code, whole_code}
+use Rattle.bl_emit_functions.specs.Reads.{reads_in_block}
 use Rattle.bl_emit_functions_laws_formed.proofs.OnFormed.Turns.{block-turns, body_counted, numbered, one-turns, return-turns, set-turns}
 use Rattle.bl_emit_functions_laws_formed.proofs.OnFiles.Chains.{code_few, taken}
 use Rattle.bl_emit_functions_laws_formed.specs.Numbered.{IsCounted, TypesHaveScalars, UnitsCounted}

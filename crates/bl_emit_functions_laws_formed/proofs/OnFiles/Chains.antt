@@ -26,7 +26,9 @@ use Rattle.bl_emit_acts.specs.Trees.{c_literal, c_place, c_read}
 use Rattle.bl_emit_acts.specs.Types.{c_scalar, unit_name, variable_name}
 use Rattle.bl_emit_functions.specs.Functions.{body_code, body_coded, c_input_copied, copies_from}
 use Rattle.bl_emit_functions.specs.Functions.{end_code, function_code, input_copied, none_taken, returns_last}
+use Rattle.bl_emit_functions.specs.Functions.{c_set_again, first_held, read_code, whole_code}
 use Rattle.bl_emit_functions.specs.Trees.{c_return_zero}
+use Rattle.bl_emit_functions.specs.Reads.{reads_in_block}
 use Rattle.bl_emit_functions_laws_formed.specs.Files.Laws.{ChainsFollow, ChainsKnown}
 use Rattle.bl_emit_functions_laws_formed.proofs.OnFiles.Expressions.{literal-light, read-light, root-light}
 use Rattle.bl_emit_functions_laws_formed.proofs.OnFiles.Statements.{Few, body_few, none_few, one_few, own_few, return_few, set_few, then_few}

@@ -1,5 +1,5 @@
 -- A table that tells the chains still does so once a C function joins it.
-use Rattle.std.proofs.Common.{◌≡◌, ℕ, zero, suc, ◌<◌, ◌≤◌, ◌⊎◌, inr, ⊎_elim, Bool, true, false, not, ◌||◌, List, []}
+use Rattle.std.proofs.Common.{◌≡◌, ℕ, zero, suc, ◌<◌, ◌≤◌, inr, ⊎_elim, Bool, true, false, not, ◌||◌, List, []}
 use Rattle.std.proofs.Common.{◌∷◌, ◌++◌, map, take}
 use Rattle.std.proofs.Common.{Option, Some, None, refl, sym, ap, ◌∙◌, subst, arith}
 use Rattle.std.proofs.lemmas.Bool.{cases_lt}

@@ -33,7 +33,9 @@ use Rattle.bl_emit_functions.specs.Functions.{
   params_from,
   returns_last,
 }
+use Rattle.bl_emit_functions.specs.Functions.{first_held, read_code, whole_code}
 use Rattle.bl_emit_functions.specs.Trees.{turn_name}
+use Rattle.bl_emit_functions.specs.Reads.{reads_in_block}
 use Rattle.bl_emit_functions_laws_formed.specs.Formed.{IsNumbered, TurnsDiffer}
 use Rattle.bl_emit_functions_laws_formed.proofs.OnFormed.Lookups.{found_behind}
 use Rattle.bl_emit_functions_laws_formed.proofs.OnFormed.Turns.{block-turns, body_counted, none_repeated, numbered, one-turns, return-turns, set-turns}

@@ -35,28 +35,7 @@ use Rattle.bl_tree.specs.Typing.{Site, inputs_of, is_activity, var_at}
 use Rattle.bl_tree.specs.Words.{are_distinct, is_among}
 use Rattle.bl_tree.proofs.StmtInduction.{stmt}
 use Rattle.bl_eval.proofs.PassLemmas.{and_left, and_right, both}
-use Rattle.bl_cmeaning.specs.Faults.{
-  Context,
-  Fault,
-  Signature,
-  all_distinct,
-  declared_before,
-  depth_of_function,
-  distinct_names,
-  faults_in_head,
-  is_declared,
-  is_scalar,
-  last_or,
-  last_returns,
-  member_table,
-  returns_result,
-  scalar_parameter,
-  short_chain,
-  static_functions,
-  surely_returns,
-  unless,
-  variable_names,
-}
+use Rattle.bl_cmeaning.specs.Faults.{Context, Signature, all_distinct, declared_before, depth_of_function, distinct_names, faults_in_head, is_declared, is_scalar, last_or, last_returns, returns_result, scalar_parameter, short_chain, surely_returns, variable_names}
 use Rattle.bl_cmeaning.specs.Tables.{Table, no_entries}
 use Rattle.bl_emit_acts.specs.Acts.{code_made}
 use Rattle.bl_emit_acts.specs.Places.{home_of}
@@ -64,29 +43,11 @@ use Rattle.bl_emit_acts.specs.Trees.{nowhere}
 use Rattle.bl_emit_acts.specs.Types.{c_scalar, c_type, variable_name}
 use Rattle.bl_emit_structs.specs.Structs.{arrays_of}
 use Rattle.bl_emit_functions.specs.declared.coded.Free.{Free}
-use Rattle.bl_emit_functions.specs.Functions.{
-  body_code,
-  body_coded,
-  copies_from,
-  end_code,
-  flag_local,
-  flag_locals,
-  function_code,
-  holds_any,
-  is_held,
-  member_of,
-  members_from,
-  memory_local,
-  memory_name,
-  memory_struct,
-  none_taken,
-  param_of,
-  params_from,
-  returns_last,
-  struct_of,
-}
+use Rattle.bl_emit_functions.specs.Functions.{body_code, body_coded, copies_from, end_code, flag_local, flag_locals, function_code, holds_any, is_held, member_of, members_from, memory_local, memory_name, none_taken, param_of, params_from, returns_last, struct_of}
+use Rattle.bl_emit_functions.specs.Functions.{first_held, read_code}
 use Rattle.bl_emit_functions.specs.Statements.{block_codes, codes_of}
 use Rattle.bl_emit_functions.specs.Trees.{c_return, flag_name}
+use Rattle.bl_emit_functions.specs.Reads.{reads_in_block}
 use Rattle.bl_emit_acts_laws_formed.specs.Formed.Declared.{AreDeclared}
 use Rattle.bl_emit_acts_laws_formed.proofs.OnFormed.Judged.{kept}
 use Rattle.bl_emit_acts_laws_formed.proofs.OnFormed.Parts.{c_scalar_type}

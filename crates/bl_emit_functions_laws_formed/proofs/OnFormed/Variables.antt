@@ -1,7 +1,7 @@
 -- In the C function of a function all is declared that its statements name.
 use Rattle.std.proofs.Common.{◌≡◌, ℕ, zero, suc, ◌+◌, ◌-◌, ◌<◌, ◌≤◌, ◌^◌, Bool, true, false, not, ◌&&◌, ◌||◌}
 use Rattle.std.proofs.Common.{List, [], ◌∷◌, ◌++◌, map, take, drop, length}
-use Rattle.std.proofs.Common.{Option, Some, None, refl, sym, ap, ◌∙◌, subst, arith, codes, ◌⊎◌, ⊎_elim}
+use Rattle.std.proofs.Common.{Option, Some, None, refl, sym, ap, ◌∙◌, subst, arith, codes, ⊎_elim}
 use Rattle.std.proofs.lemmas.Bool.{cases_lt, eqb-true}
 use Rattle.std.proofs.lemmas.List.Elements.{Contains-append_left, Contains-append_right}
 use Rattle.std.proofs.lemmas.Option.{slice_get_within}
@@ -33,20 +33,7 @@ use Rattle.bl_emit_acts.specs.declared.home.Home.TheVariants.{Held, Given, Lent}
 use Rattle.bl_emit_acts.specs.Places.{copies_inputs, home_of, home_of_role}
 use Rattle.bl_emit_acts.specs.Types.{c_scalar, c_type, variable_name}
 use Rattle.bl_emit_structs.specs.Structs.{arrays_of, structs_for_definition, structs_for_unit}
-use Rattle.bl_emit_functions.specs.Functions.{
-  body_coded,
-  flag_locals,
-  function_code,
-  holds_any,
-  held_member,
-  is_held,
-  members_from,
-  members_of,
-  memory_local,
-  memory_name,
-  memory_struct,
-  struct_of,
-}
+use Rattle.bl_emit_functions.specs.Functions.{body_coded, flag_locals, function_code, holds_any, held_member, is_held, members_of, memory_local, memory_name, struct_of}
 use Rattle.bl_emit_functions.specs.Trees.{flag_name}
 use Rattle.bl_emit_acts_laws_formed.specs.Formed.Declared.{AreDeclared, Declared, HeldIn, StandsIn, home_leads, leads_through, parameter_for, plain_member}
 use Rattle.bl_emit_acts_laws_formed.specs.Formed.Declared.{variable_of}

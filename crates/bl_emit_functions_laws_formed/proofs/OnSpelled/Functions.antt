@@ -5,6 +5,7 @@ use Rattle.std.proofs.Common.{map, take, length, Option, Some, None, refl, sym, 
 use Rattle.std.proofs.lemmas.Bool.Decides.{nat_tests}
 use Rattle.std.proofs.lemmas.List.Folds.{list_all-append}
 use Rattle.std.proofs.lemmas.Option.{same_Some}
+use Rattle.std.proofs.lemmas.Option.{slice_get_within}
 use Rattle.std.specs.Prelude.{nat_le, option_map, slice_get}
 use Rattle.std.specs.List.{list_all}
 use Rattle.bl_tree.specs.declared.text.Text.{Text}
@@ -43,13 +44,16 @@ use Rattle.bl_emit_functions.specs.Functions.{body_coded, c_input_copied, copies
 use Rattle.bl_emit_functions.specs.Functions.{function_code, held_member, holds_any, input_copied, is_held}
 use Rattle.bl_emit_functions.specs.Functions.{member_of, members_from, members_of, memory_local, memory_name, memory_struct}
 use Rattle.bl_emit_functions.specs.Functions.{none_taken, param_of, params_from, returns_last, struct_of}
+use Rattle.bl_emit_functions.specs.Functions.{body_code, c_set_again, first_held, read_code}
 use Rattle.bl_emit_functions.specs.Statements.{block_codes, codes_of}
 use Rattle.bl_emit_functions.specs.Trees.{c_return_zero}
+use Rattle.bl_emit_functions.specs.Reads.{reads_in_block}
 use Rattle.bl_emit_functions_laws_formed.specs.Formed.{IsNumbered}
 use Rattle.bl_emit_functions_laws_formed.proofs.OnSpelled.Acts.{one-fits, own-fits, zero-fits}
 use Rattle.bl_emit_functions_laws_formed.proofs.OnSpelled.Numbers.{flag-name}
 use Rattle.bl_emit_functions_laws_formed.proofs.OnSpelled.Statements.{Good, body_good, space}
 use Rattle.bl_emit_functions_laws_formed.proofs.OnSpelled.Types.{all_append, scalar_spelled, source_name, struct_names, type-spelled}
+use Rattle.bl_emit_functions_laws_formed.proofs.OnFormed.Held.{held_there}
 
 all_listed : (test : Stmt → Bool) (body : List Stmt) → list_all test body ≡ true → all_of (map test body) ≡ true
 all_listed test [] all = refl

@@ -36,7 +36,7 @@ use Rattle.bl_emit_pass_laws.proofs.OnPlaced.Lists.{mapped_many, number_below, s
 use Rattle.bl_emit_pass_laws.specs.Tables.Laws.{ActivitiesBuilt}
 use Rattle.bl_emit_laws.specs.Kept.{FileEnds, FilesEnd, activities_in, written_file}
 use Rattle.bl_emit_laws.proofs.OnKept.Lists.{first_or, none_has}
-use Rattle.bl_emit_laws.specs.Counters.Ifs.{EachFunctionHasIfs, FunctionHasIfs, HasIfForEach}
+use Rattle.bl_emit_laws.specs.Counters.Ifs.{FunctionHasIfs}
 use Rattle.bl_emit_laws.specs.Counters.Laws.{FilesHaveIfs}
 use Rattle.bl_emit_laws.specs.Counters.Own.{functions_named}
 use Rattle.bl_emit_laws.proofs.OnCounters.Ifs.{blocks_many, body_has}

@@ -20,7 +20,9 @@ use Rattle.bl_emit_acts.specs.Trees.{c_call, c_literal, c_place, c_read, c_step}
 use Rattle.bl_emit_acts.specs.Types.{c_scalar, unit_name, variable_name}
 use Rattle.bl_emit_functions.specs.Functions.{body_code, body_coded, c_input_copied, copies_from, end_code, function_code, input_copied, none_taken}
 use Rattle.bl_emit_functions.specs.Functions.{returns_last}
+use Rattle.bl_emit_functions.specs.Functions.{c_set_again, first_held, read_code}
 use Rattle.bl_emit_functions.specs.Trees.{c_if, c_return_zero}
+use Rattle.bl_emit_functions.specs.Reads.{reads_in_block}
 use Rattle.bl_emit_pass.specs.Names.{frame_name}
 use Rattle.bl_emit_pass.specs.Programs.{c_returned, init_function, input_arg, output_arg, tick_args, tick_function}
 use Rattle.bl_emit_laws.specs.Counters.Own.{is_counter_name, names_counter}

@@ -21,7 +21,7 @@ use Rattle.std.proofs.Common.{
   ◌++◌,
   Contains,
 }
-use Rattle.std.proofs.Common.{map, length, refl, sym, ap, subst, ◌∙◌, arith}
+use Rattle.std.proofs.Common.{map, length, refl, ap, ◌∙◌, arith}
 use Rattle.std.proofs.lemmas.Bool.Decides.{nat_tests}
 use Rattle.std.proofs.lemmas.Fmt.{decimal_by_steps}
 use Rattle.std.proofs.lemmas.List.{append-nil, length_push}
@@ -36,7 +36,7 @@ use Rattle.bl_machine.specs.declared.slots.Slot.{Slot}
 use Rattle.bl_machine.specs.Blocks.{up_to}
 use Rattle.bl_machine.specs.Slots.{counters_at, numbered, numbered_after, times}
 use Rattle.bl_pass.specs.Numbered.{sizes_for, sizes_of}
-use Rattle.bl_emit_pass.specs.Activities.{Activity, RunAt, counter_member, frame_member, frame_struct, runs_in_body}
+use Rattle.bl_emit_pass.specs.Activities.{Activity, counter_member, frame_member, frame_struct, runs_in_body}
 use Rattle.bl_emit_pass.specs.Names.{callee_name, counter_name}
 use Rattle.bl_emit_laws.specs.Counters.Own.{is_digit_run, is_counter_name}
 use Rattle.bl_emit_laws.specs.Width.{is_counter}

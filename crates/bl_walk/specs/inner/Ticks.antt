@@ -17,7 +17,6 @@ use Rattle.bl_ctree.specs.Store.{Store, outputs_row, woken_store}
 use Rattle.bl_ctree.specs.Ticks.{End, Ended, Paused, Rests, Trapped, outcome_at}
 use Rattle.bl_steps.specs.Running.{State, stepped_by}
 use Rattle.bl_walk.specs.declared.choice.Choice.{Choice}
-use Rattle.bl_walk.specs.Choices.{moved}
 use Rattle.bl_walk.specs.Walks.{IsPicked, PickedTick, Picks, places_of}
 
 -- the most steps of a tick

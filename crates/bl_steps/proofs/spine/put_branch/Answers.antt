@@ -1,4 +1,4 @@
-use Rattle.std.proofs.Common.{◌≤◌, map, length, ap, sym, ◌∙◌, arith}
+use Rattle.std.proofs.Common.{◌≤◌, length, ap, sym, arith}
 use Rattle.bl_ctree.specs.Nodes.{control_of, seen_of}
 use Rattle.bl_listing.specs.Listing.{top_of}
 use Rattle.bl_listing.proofs.ListingLemmas.{map_many}

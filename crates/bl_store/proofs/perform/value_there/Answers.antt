@@ -1,9 +1,7 @@
-use Rattle.std.proofs.Common.{◌≡◌, Option, ap, subst, ◌∙◌, IfOk}
-use Rattle.bl_tree.specs.declared.value.Value.{Value}
-use Rattle.bl_eval.specs.Standing.{got_value}
-use Rattle.bl_store.specs.Deeds.{value_by}
-use Rattle.bl_store.specs.Glimpse.{glimpse}
-use Rattle.bl_store.specs.Seen.{setting_in, store_of}
+use Rattle.std.proofs.Common.{List, ℕ, subst, ◌∙◌}
+use Rattle.std.specs.Prelude.{option_map}
+use Rattle.bl_store.specs.Glimpse.{Glimpses}
+use Rattle.bl_store.specs.Seen.{seen_by, setting_in, store_of}
 use Rattle.bl_store.proofs.GlimpseLemmas.{value_alone}
 use Rattle.bl_store.proofs.perform.value_there.Goals as goal
 
@@ -11,7 +9,7 @@ pub returns : goal.returns
 returns c =
     let w = setting_in c.args.w.now in
     let store = store_of c.args.frames.now in
-    subst (λ (value : Option Value). IfOk c.value_seen.result (λ got. got_value got ≡ value))
-    (ap (λ seen. value_by w seen c.args.e.now) (c.in_ok-seen.ensures
-    ∙ ap (λ asked. glimpse asked w store c.args.i) (c.deref.ensures ∙ c.in_ok-asked.ensures)) ∙ value_alone w store c.args.i c.args.e.now)
-    c.value_seen.ensures
+    let sight = option_map seen_by c.in_ok-seen.seen in
+    c.in_ok-got.ensures
+    ∙ value_alone w store c.args.i c.args.e.now sight
+    (subst (λ (asked : List ℕ). Glimpses asked w store c.args.i sight) (c.deref.ensures ∙ c.in_ok-asked.ensures) c.in_ok-seen.ensures)

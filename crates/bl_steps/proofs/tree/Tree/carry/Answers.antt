@@ -1,4 +1,4 @@
-use Rattle.std.proofs.Common.{◌≡◌, ◌∙◌, Some, ap, sym, subst}
+use Rattle.std.proofs.Common.{◌∙◌, Some, ap, sym, subst}
 use Rattle.std.specs.Prelude.{Ok}
 use Rattle.bl_eval.specs.declared.values.Did.{Did}
 use Rattle.bl_eval.specs.declared.values.Did.TheVariants.{Trap}

@@ -1,15 +1,15 @@
-use Rattle.std.proofs.Common.{refl, ◌∙◌}
+use Rattle.std.proofs.Common.{◌∙◌}
 use Rattle.bl_ctree.specs.Nodes.{control_of}
 use Rattle.bl_listing.specs.Listing.{shown}
 use Rattle.bl_steps.specs.Running.{setting}
 use Rattle.bl_steps.proofs.ListedLemmas.{lists_end}
-use Rattle.bl_steps.proofs.TreeLemmas.{count_listed}
+use Rattle.bl_steps.proofs.TreeLemmas.{count_listed, some_counted}
 use Rattle.bl_steps.proofs.tree.Tree.listed_count.Goals as goal
 
-pub returns-in_ok-count-in-Some : goal.returns-in_ok-count-in-Some
-returns-in_ok-count-in-Some c =
+pub returns-then-count-gt0 : goal.returns-then-count-gt0
+returns-then-count-gt0 c =
     let tree = c.args.self.now in
     c.in_ok-count-in-Some.ensures
     ∙ count_listed c.listings_tell_points.ensures.points (setting tree) (control_of tree.node) (shown c.in-Some.listing)
     (lists_end (setting tree) (control_of tree.node) tree.listing c.in-Some.listing tree.lists c.in-Some.is)
-    (c.if-has_enabled.ensures refl)
+    (some_counted (shown c.in-Some.listing) c.in_ok-count-in-Some.count c.in_ok-count-in-Some.ensures c.if-count-gt0.true)
