@@ -55,12 +55,33 @@ pub fn at_slot(alloc: Global, view: &View, slot: Slot) -> Result<CExpr, NoMemory
     two(alloc, Op::Eq, at, value_of(view, slot.counter, slot.value))
 }
 
-/// Whether it rested at the number when the tick began.
+/// The greatest value that a counter has.
+fn greatest_value(view: &View, k: u32) -> u32
+    ensures { result ≡ blocks.greatest_value (view_in view.entry.now).sizes k }
+{
+    match element(view.sizes, k as usize) {
+        Some(n) => *n,
+        None => 0,
+    }
+}
+
+/// Whether the number is the only one that its counter has.
+fn is_only(view: &View, slot: Slot) -> bool
+    ensures { result ≡ blocks.is_only (view_in view.entry.now).sizes slot }
+{
+    slot.value == 1 && greatest_value(view, slot.counter) <= 1
+}
+
+/// Whether it rested at the number when the tick began: a counter with one value had that where it wasn't 0.
 pub fn rested_at(alloc: Global, view: &View, slot: Slot) -> Result<CExpr, NoMemory>
     ensures { IfOk result (λ e. e ≡ blocks.rested_at (view_in view.entry.now) slot) }
 {
     let at = read(rested(alloc, slot.counter)?);
-    two(alloc, Op::Eq, at, value_of(view, slot.counter, slot.value))
+    if is_only(view, slot) {
+        two(alloc, Op::Ne, at, value_of(view, slot.counter, 0))
+    } else {
+        two(alloc, Op::Eq, at, value_of(view, slot.counter, slot.value))
+    }
 }
 
 /// The name of the prelude's function that makes a number of an unsigned type one of this type.

@@ -1,13 +1,13 @@
 -- The C of the blocks of a pass: one `if` for each block, with what its nodes do and what changes then, and in it one for each further node.
 use Rattle.std.specs.Prelude.{ℕ, zero, suc, pos, Bool, true, false, List, [], ◌∷◌, ◌++◌, map, Option, Some, None, if◌then◌else◌}
-use Rattle.std.specs.Prelude.{length, is_some, nat_le, slice_get, unwrap_or}
+use Rattle.std.specs.Prelude.{◌&&◌, length, is_some, nat_eq, nat_le, slice_get, unwrap_or}
 use Rattle.bl_tree.specs.declared.text.Text.{Text}
 use Rattle.bl_tree.specs.declared.c.CArg.{CArg}
 use Rattle.bl_tree.specs.declared.c.CArg.TheVariants.{Address}
 use Rattle.bl_tree.specs.declared.c.CExpr.{CExpr}
 use Rattle.bl_tree.specs.declared.c.CStmt.{CStmt}
 use Rattle.bl_tree.specs.declared.scalar.Op.{Op}
-use Rattle.bl_tree.specs.declared.scalar.Op.TheVariants.{And, Eq, Ge, Le, Or}
+use Rattle.bl_tree.specs.declared.scalar.Op.TheVariants.{And, Eq, Ge, Le, Ne, Or}
 use Rattle.bl_tree.specs.declared.scalar.Scalar.{Scalar}
 use Rattle.bl_tree.specs.declared.scalar.Scalar.TheVariants.{Nat}
 use Rattle.bl_tree.specs.declared.scalar.Width.TheVariants.{W8, W16, W32}
@@ -90,9 +90,22 @@ some_test tests = in_tree (c_truth false) Or (length tests) tests
 abbrev pub at_slot : View → Slot → CExpr
 at_slot view slot = c_two Eq (c_read (counter_place slot.counter)) (counter_value view.sizes slot.counter slot.value)
 
--- whether it rested at the number when the tick began
+-- the greatest value that a counter has
+abbrev pub greatest_value : Sizes → ℕ → ℕ
+greatest_value sizes k = unwrap_or (slice_get sizes k) 0
+
+-- whether the number is the only one that its counter has
+abbrev pub is_only : Sizes → Slot → Bool
+is_only sizes slot = nat_eq slot.value 1 && nat_le (greatest_value sizes slot.counter) 1
+
+-- whether what the counter held when the tick began isn't 0, or is the value
+abbrev pub rested_by : View → Slot → Bool → CExpr
+rested_by view slot true = c_two Ne (c_read (rested_place slot.counter)) (counter_value view.sizes slot.counter 0)
+rested_by view slot false = c_two Eq (c_read (rested_place slot.counter)) (counter_value view.sizes slot.counter slot.value)
+
+-- whether it rested at the number when the tick began. A counter with one value had that where it wasn't 0, which leaves a compiler no other case
 abbrev pub rested_at : View → Slot → CExpr
-rested_at view slot = c_two Eq (c_read (rested_place slot.counter)) (counter_value view.sizes slot.counter slot.value)
+rested_at view slot = rested_by view slot (is_only view.sizes slot)
 
 -- whether the counter held one of the values from the first to the last
 abbrev pub rested_between : View → ℕ → ℕ → ℕ → CExpr

@@ -7,3 +7,4 @@ pub mod OnPlaced
 pub mod OnRegisters
 pub mod OnRemember
 pub mod OnTables
+pub mod OnWithin

@@ -8,3 +8,4 @@ pub mod Placed
 pub mod Registers
 pub mod Remember
 pub mod Tables
+pub mod Within

@@ -19,6 +19,7 @@ use Rattle.bl_emit_pass.specs.Activities.{Activity, picked, turns_in_source, vie
 use Rattle.bl_emit_pass.specs.Blocks.{Turn, turn_of}
 use Rattle.bl_emit_pass_laws.specs.Calls.Built.{Activities, activity_at, cleared, rank_by, slots_by}
 use Rattle.bl_emit_pass_laws.specs.Calls.Laws.{BlocksCome, CalledAt, Compiled, GuardsChoose, PassesCome}
+use Rattle.bl_emit_pass_laws.specs.Within.{PassesStayWithin}
 
 -- ---- where blocks stand
 
@@ -91,5 +92,6 @@ abbrev pub BlocksPass : Type 0
 BlocksPass =
     (structs : List StructDef) (units : List UnitDef) (entry : ℕ) (machine : List InMachine) (activities : Activities) →
     BlocksPlaced structs units entry machine activities → TurnsFit structs units entry machine activities →
+    PassesStayWithin structs units entry machine activities →
     BlocksCome structs units entry machine activities IsPoint → BlocksCome structs units entry machine activities (λ n. IsPoint n → ⊥) →
     GuardsChoose structs units entry machine activities → PassesCome structs units entry machine activities

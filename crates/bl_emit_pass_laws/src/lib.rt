@@ -14,3 +14,4 @@ pub mod placed;
 pub mod registers;
 pub mod remember;
 pub mod tables;
+pub mod within;

@@ -6,6 +6,7 @@
 ghost use Rattle.bl_emit_pass_laws_files.specs.Files.{FilesShow, FilesStand, RowsSuffice};
 
 use bl_ctree_laws_confluence::deeds::{accepted_programs_are_orderly, instances_have_callers};
+use bl_emit_pass_laws::within::passes_stay_within;
 use bl_pass_laws_fits::fits::turns_fit;
 use bl_pass_laws_fits::starts::starts_fit;
 
@@ -17,6 +18,7 @@ pub fn files_show()
     accepted_programs_are_orderly();
     turns_fit();
     starts_fit();
+    passes_stay_within();
 }
 
 /// Files that end with the interface stand.

@@ -25,6 +25,7 @@ use Rattle.bl_emit_pass_laws.specs.Placed.{BlocksArePlaced}
 use Rattle.bl_emit_pass_laws_points.specs.Points.Nodes.{PrevsAgree}
 use Rattle.bl_emit_pass_laws_points.specs.Points.Points.{PointsCome, PointsStand}
 use Rattle.bl_emit_pass_laws.specs.Remember.{CallersRemember}
+use Rattle.bl_emit_pass_laws.specs.Within.{AllStayWithin}
 use Rattle.bl_emit_pass_laws_points.specs.Seen.{OwnIsSeen, TargetsAreSeen}
 use Rattle.bl_emit_pass_laws_points.specs.Views.{ActsLeave, RememberingStands}
 
@@ -46,6 +47,7 @@ pub record Parts (structs : List StructDef) (units : List UnitDef) (entry : ℕ)
   pub given : RunsAreGiven structs units entry
   pub left : AllRunsLeave
   pub pass : BlocksPass
+  pub stay : AllStayWithin
   pub placed : BlocksArePlaced
   pub points : PointsCome structs units entry
   pub prevs : PrevsAgree
@@ -86,7 +88,7 @@ module _ (structs : List StructDef) (units : List UnitDef) (entry : ℕ) (parts 
         (λ i unit store ok there fits. (parts.views structs units entry i unit store ok.keeps there fits).now)
         (parts.remember structs units entry machine activities)
         (parts.pass structs units entry machine activities (parts.placed structs units entry machine activities)
-        (parts.turns structs units entry machine activities) points.0
+        (parts.turns structs units entry machine activities) (parts.stay structs units entry machine activities) points.0
         (parts.runs machine activities
         (parts.given machine activities (parts.runs_copied structs units entry compiled.keeps)) (parts.left structs units entry machine activities)
         (parts.targets structs units entry machine activities compiled) (λ ok. points_stand)) points.1)

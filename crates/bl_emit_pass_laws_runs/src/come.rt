@@ -16,6 +16,7 @@ use bl_emit_pass_laws::fits::turns_fit_compiled;
 use bl_emit_pass_laws::passes::blocks_pass;
 use bl_emit_pass_laws::placed::blocks_are_placed;
 use bl_emit_pass_laws::remember::callees_remember;
+use bl_emit_pass_laws::within::passes_stay_within;
 use bl_emit_pass_laws_files::begins::{functions_begin, pointers_follow};
 use bl_emit_pass_laws_files::counters::counters_suffice;
 use bl_emit_pass_laws_points::copied::{nodes_copied, runs_copied};
@@ -46,6 +47,7 @@ pub fn all_come(program: &Program)
     runs_give(program);
     runs_leave();
     blocks_pass();
+    passes_stay_within();
     blocks_are_placed();
     points_come(program);
     prevs_agree();

@@ -10,6 +10,7 @@ use bl_ctree_laws_confluence::deeds::{
 use bl_emit_acts_laws::{frames_apart, places_lead, writes_hold};
 use bl_emit_pass_laws::cleared::clearing_is_inside;
 use bl_emit_pass_laws::registers::registers_apart;
+use bl_emit_pass_laws::within::passes_stay_within;
 use bl_emit_pass_laws_points::points::{blocks_choose, changes_stand, returns_end};
 use bl_pass_laws::keys::nodes_have_keys;
 use bl_pass_laws::numbers::trees_stay_placed;
@@ -32,6 +33,7 @@ pub fn runs_come(program: &Program)
     changes_stand();
     returns_end(program);
     turns_fit();
+    passes_stay_within();
     nodes_have_keys();
     trees_stay_placed();
 }

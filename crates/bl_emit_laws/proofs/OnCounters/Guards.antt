@@ -4,7 +4,7 @@ use Rattle.std.proofs.Common.{length, ap, ◌∙◌, codes}
 use Rattle.std.specs.Prelude.{if◌then◌else◌}
 use Rattle.bl_tree.specs.declared.c.CExpr.{CExpr}
 use Rattle.bl_tree.specs.declared.scalar.Op.{Op}
-use Rattle.bl_tree.specs.declared.scalar.Op.TheVariants.{And, Eq, Ge, Le, Or}
+use Rattle.bl_tree.specs.declared.scalar.Op.TheVariants.{And, Eq, Ge, Le, Ne, Or}
 use Rattle.bl_tree.specs.declared.text.Text.{Text}
 use Rattle.bl_nodes.specs.Nodes.{Node}
 use Rattle.bl_machine.specs.declared.slots.Slot.{Slot}
@@ -15,6 +15,7 @@ use Rattle.bl_emit_functions.specs.Trees.{c_if, c_truth}
 use Rattle.bl_pass.specs.Rules.{Age, Asked, Change, Needed}
 use Rattle.bl_pass.specs.Rules.{Ended, Ends, Finishes, Flagged, Flags, Forgets, Frees, Holds, IsNew, IsOld, Marks, Rested, RestedIn, Whatever}
 use Rattle.bl_emit_pass.specs.Blocks.{
+  is_only,
   View,
   aged_test,
   all_tests,
@@ -32,6 +33,7 @@ use Rattle.bl_emit_pass.specs.Blocks.{
   in_tree,
   last_value,
   rested_at,
+  rested_by,
   rested_between,
   rested_in,
   some_test,
@@ -103,9 +105,15 @@ module _ (P : CPath → Type 0) (plain : (place : CPath) → names_counter place
   slots_fine view (slot ∷ rest) = (slot_fine view slot, slots_fine view rest)
 
   rested_fine : (view : View) (slot : Slot) → ExprFine P plain (rested_at view slot)
-  rested_fine view slot =
-      two-fine P plain Eq (c_read (rested_place slot.counter)) (counter_value view.sizes slot.counter slot.value)
-      (local_read (rested_name slot.counter)) (value_fine view slot.counter slot.value)
+  rested_fine view slot = by (is_only view.sizes slot)
+    where
+      by : (only : Bool) → ExprFine P plain (rested_by view slot only)
+      by true =
+          two-fine P plain Ne (c_read (rested_place slot.counter)) (counter_value view.sizes slot.counter 0)
+          (local_read (rested_name slot.counter)) (value_fine view slot.counter 0)
+      by false =
+          two-fine P plain Eq (c_read (rested_place slot.counter)) (counter_value view.sizes slot.counter slot.value)
+          (local_read (rested_name slot.counter)) (value_fine view slot.counter slot.value)
 
   between_fine : (view : View) (k least most : ℕ) → ExprFine P plain (rested_between view k least most)
   between_fine view k least most =

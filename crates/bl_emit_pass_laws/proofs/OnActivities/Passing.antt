@@ -79,6 +79,7 @@ use Rattle.bl_emit_pass_laws.proofs.OnActivities.Calling.{output_place, outputs_
 use Rattle.bl_emit_pass_laws.proofs.OnActivities.Lists.{any_at, any_left, any_right, get_drop, get_take, or_left, or_right}
 use Rattle.bl_emit_pass_laws.proofs.OnActivities.Nested.{left_held, unit_there}
 use Rattle.bl_emit_pass_laws.proofs.OnActivities.Roles.{lent_output, output_at, output_lent, unit_roles}
+use Rattle.bl_emit_pass_laws.proofs.OnWithin.Passing.{starts_within}
 
 first_where : {X : Type 0} (test : Bool) (x : X) → test ≡ true → slice_get (where_true test x) 0 ≡ Some x
 first_where true x is = refl
@@ -132,6 +133,8 @@ module _ (structs : List StructDef) (units : List UnitDef) (entry : ℕ) (machin
       stands = started.stands;
       fits = begins.fits;
       copies_fit = views i unit store compiled is_there begins.fits;
+      frames_within = begins.within;
+      within = starts_within W activities i unit frames r begins.within starts;
     }
 
     -- the body is the start, and then all blocks

@@ -32,6 +32,7 @@ use Rattle.bl_emit_pass_laws.proofs.OnOwn.Fitting.{AgeFits, AskedFits, ChangeFit
 use Rattle.bl_emit_pass_laws.proofs.OnOwn.InRow.{rows_in, spots_in_many, there_at}
 use Rattle.bl_emit_pass_laws.proofs.OnOwn.Members.{Every, all_true, any_found, any_true, both_true, contains_at, every_at, every_from}
 use Rattle.bl_emit_pass_laws.proofs.OnOwn.Members.{stands_at}
+use Rattle.bl_emit_pass_laws.proofs.OnWithin.Changing.{ChangeWithin}
 
 -- ---- numbers of types
 
@@ -170,6 +171,28 @@ module _ (a : Activity) (list : List Slot) (spots : SpotsDiffer) (slots_are : a.
           all_true (ChangeFits a.slots all Listed) (changes_its_own number (registered a)) rule.so change_on fits.so,
           all_true (ChangeFits a.slots all Listed) (changes_its_own number (registered a)) rule.otherwise change_on fits.otherwise,
         )
+
+    -- ---- values that counters come to hold
+
+    change_within : (change : Change) → ChangeFits a.slots all Listed change → ChangeWithin a.sizes change
+    change_within (Flags n) fits = tt
+    change_within (Holds slot) fits = (listed_counts slot fits).high
+    change_within (Frees k) fits = tt
+    change_within (Forgets k) fits = tt
+    change_within (Marks n) fits = tt
+    change_within (Ends start surface depth) fits = tt
+    change_within Finishes fits = tt
+
+    each_within : (changes : List Change) → Every (ChangeFits a.slots all Listed) changes → Every (ChangeWithin a.sizes) changes
+    each_within changes fits =
+        every_from (ChangeWithin a.sizes) changes
+        (λ change there. change_within change (every_at (ChangeFits a.slots all Listed) changes change fits there))
+
+    pub changes_stay : (rule : Rule) → Contains all rule → Every (ChangeWithin a.sizes) rule.so × Every (ChangeWithin a.sizes) rule.otherwise
+    changes_stay rule there =
+        let fits = rule_fits rule there in (each_within rule.so fits.so, each_within rule.otherwise fits.otherwise)
+
+    -- ---- what rules ask
 
     age_on : (age : Age) → AgeFits a.slots all Listed age → has_age number (registered a) age ≡ true
     age_on (IsNew n) fits = mark_on n fits

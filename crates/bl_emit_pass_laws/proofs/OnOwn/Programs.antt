@@ -25,8 +25,9 @@ use Rattle.bl_emit_pass_laws.specs.Registers.Registers.{FewRegisters}
 use Rattle.bl_emit_pass_laws.specs.Calls.Built.{Activities, registered}
 use Rattle.bl_emit_pass_laws.specs.Own.{BuiltAt, PlaceCounts}
 use Rattle.bl_emit_pass_laws.proofs.OnOwn.Few.{registers_few}
-use Rattle.bl_emit_pass_laws.proofs.OnOwn.Members.{some_is}
-use Rattle.bl_emit_pass_laws.proofs.OnOwn.Owning.{asks_on, changes_on, copied_below, place_counts}
+use Rattle.bl_emit_pass_laws.proofs.OnOwn.Members.{Every, some_is}
+use Rattle.bl_emit_pass_laws.proofs.OnOwn.Owning.{asks_on, changes_on, changes_stay, copied_below, place_counts}
+use Rattle.bl_emit_pass_laws.proofs.OnWithin.Changing.{ChangeWithin}
 
 module _ (spots : SpotsDiffer) (structs : List StructDef) (units : List UnitDef) (machine : List InMachine) (activities : Activities) (k : ℕ)
     (unit : UnitDef) (at : BuiltAt structs units machine activities k unit)
@@ -76,6 +77,10 @@ module _ (spots : SpotsDiffer) (structs : List StructDef) (units : List UnitDef)
         (list_all (changes_its_own (view_of a).number (registered a)) rule.so ≡ true)
         × (list_all (changes_its_own (view_of a).number (registered a)) rule.otherwise ≡ true)
     unit_changes rule there = changes_on a made.one.slots spots made.slots made.sizes made.counters rule (rule_there rule there)
+
+    pub unit_within : (rule : Rule) → Contains (rules a.slots (plain_body unit.body)) rule →
+        Every (ChangeWithin a.sizes) rule.so × Every (ChangeWithin a.sizes) rule.otherwise
+    unit_within rule there = changes_stay a made.one.slots spots made.slots made.sizes made.counters rule (rule_there rule there)
 
     pub unit_asks : places_in (plain_body unit.body) < 2 ^ 32 → (rule : Rule) → Contains (rules a.slots (plain_body unit.body)) rule →
         asks_its_own (view_of a) (registered a) rule.node rule.asked ≡ true

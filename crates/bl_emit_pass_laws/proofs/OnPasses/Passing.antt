@@ -46,6 +46,7 @@ use Rattle.bl_emit_pass_laws.specs.Calls.Calls.{PassStarts}
 use Rattle.bl_emit_pass_laws.specs.Calls.Laws.{BlocksCome, CalledAt, GuardsChoose, Midway, PartComes, PassKeeps, block_done, guarded}
 use Rattle.bl_emit_pass_laws.specs.Calls.Standing.{PassStands}
 use Rattle.bl_emit_pass_laws.specs.Passes.{BlockAt, BlocksPass, BlocksPlaced, IsBehind, TurnsFit, behind_firsts, turns_in_blocks}
+use Rattle.bl_emit_pass_laws.specs.Within.{PassesStayWithin}
 use Rattle.bl_emit_pass_laws.proofs.OnPasses.Blocks.{Alike, drop_all, drop_at, drop_next, drop_none, drop_past, first_done, get_behind, get_first}
 use Rattle.bl_emit_pass_laws.proofs.OnPasses.Blocks.{more_traps, opened, then_traps}
 use Rattle.bl_emit_pass_laws.proofs.OnPasses.Turns.{Head, flags_kept, head_of, leads, merged, merged_is, nothing, text, text_alone}
@@ -74,6 +75,7 @@ within_or_not (suc k) (suc n) = ⊎_elim (λ less. inl (omega (arith, less))) (�
 
 module _ (structs : List StructDef) (units : List UnitDef) (entry : ℕ) (machine : List InMachine) (activities : Activities)
     (placed : BlocksPlaced structs units entry machine activities) (fit : TurnsFit structs units entry machine activities)
+    (stay : PassesStayWithin structs units entry machine activities)
     (points : BlocksCome structs units entry machine activities IsPoint)
     (runs : BlocksCome structs units entry machine activities (λ n. IsPoint n → ⊥))
     (choose : GuardsChoose structs units entry machine activities) where
@@ -502,6 +504,8 @@ module _ (structs : List StructDef) (units : List UnitDef) (entry : ℕ) (machin
         stands = part.stands;
         fits = now;
         copies_fit = fit.copies i unit rule.node left copies mid.compiled mid.is_there now mid.copies_fit;
+        frames_within = stay.performs i rule.node frames store answer frames' left mid.compiled mid.frames_within performs;
+        within = stay.changes i unit rule answer r mid.compiled mid.is_there there mid.within;
       }
 
   own_rule : (i : ℕ) (unit other : UnitDef) (rule : Rule) → unit_at W i ≡ Some unit → unit_at W i ≡ Some other → HasRule S i other rule →
@@ -578,24 +582,24 @@ module _ (structs : List StructDef) (units : List UnitDef) (entry : ℕ) (machin
   first_text i = merged_is (turns_in_source (A i)) (A i).blocks
 
 pub blocks_pass : BlocksPass
-blocks_pass structs units entry machine activities placed fit points runs choose = record {
+blocks_pass structs units entry machine activities placed fit stay points runs choose = record {
   executes = λ i unit scope frames store copies r frames' left r' here mid starts way.
       (let w = setting_of structs units entry in
       let a = activity_at w activities i in
-      let unflagged = unflagged_first structs units entry machine activities placed fit points runs choose i unit scope frames store copies r here mid starts
-      in
-      let came = pass structs units entry machine activities placed fit points runs choose way unit scope here mid unflagged true [] (turns_in_blocks a)
-      (first_place structs units entry machine activities placed fit points runs choose i) (λ is. absurd (cc)) in (
+      let unflagged = unflagged_first structs units entry machine activities placed fit stay points runs choose i unit scope frames store copies r here
+      mid starts in
+      let came = pass structs units entry machine activities placed fit stay points runs choose way unit scope here mid unflagged true [] (turns_in_blocks a)
+      (first_place structs units entry machine activities placed fit stay points runs choose i) (λ is. absurd (cc)) in (
         came.copies,
         subst (λ (b : List CStmt). PartComes w activities i unit scope frames' left came.copies r' here (block_c b scope here))
-            (sym (first_text structs units entry machine activities placed fit points runs choose i)) came.part,
+            (sym (first_text structs units entry machine activities placed fit stay points runs choose i)) came.part,
       ));
   cut = λ i unit scope frames store copies r here mid starts way.
       (let w = setting_of structs units entry in
       let a = activity_at w activities i in
-      let unflagged = unflagged_first structs units entry machine activities placed fit points runs choose i unit scope frames store copies r here mid starts
-      in
-      ap (λ (b : List CStmt). (block_c b scope here).end) (first_text structs units entry machine activities placed fit points runs choose i)
-      ∙ cut structs units entry machine activities placed fit points runs choose way unit scope here mid unflagged true [] (turns_in_blocks a)
-      (first_place structs units entry machine activities placed fit points runs choose i) (λ is. absurd (cc)));
+      let unflagged = unflagged_first structs units entry machine activities placed fit stay points runs choose i unit scope frames store copies r here
+      mid starts in
+      ap (λ (b : List CStmt). (block_c b scope here).end) (first_text structs units entry machine activities placed fit stay points runs choose i)
+      ∙ cut structs units entry machine activities placed fit stay points runs choose way unit scope here mid unflagged true [] (turns_in_blocks a)
+      (first_place structs units entry machine activities placed fit stay points runs choose i) (λ is. absurd (cc)));
 }

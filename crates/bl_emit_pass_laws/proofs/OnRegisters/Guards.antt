@@ -1,17 +1,17 @@
 -- The C of a guard has the value of what is asked: flags, numbers, and the ends of branches.
 use Rattle.std.proofs.Common.{◌≡◌, ℕ, zero, suc, ◌≤◌, ℤ, pos, Bool, true, false, not, ◌&&◌, ◌||◌, List, [], ◌∷◌, map}
-use Rattle.std.proofs.Common.{Option, Some, refl, sym, ap, ap₂}
+use Rattle.std.proofs.Common.{Option, Some, refl, sym, ap, ap₂, subst}
 use Rattle.std.proofs.Common.{◌∙◌, arith}
-use Rattle.std.proofs.lemmas.Bool.{eq-eqb, eqb-true}
+use Rattle.std.proofs.lemmas.Bool.{eq-eqb, eqb-true, leb-true}
 use Rattle.std.proofs.lemmas.Bool.Decides.{Decides-int_eq}
 use Rattle.std.specs.Cmp.{int_eq_equiv}
 use Rattle.std.specs.Ordering.{int_eq}
 use Rattle.std.specs.List.{list_all, list_any}
-use Rattle.std.specs.Prelude.{length, nat_eq, option_and_then, option_map, if◌then◌else◌}
+use Rattle.std.specs.Prelude.{length, nat_eq, nat_le, option_and_then, option_map, if◌then◌else◌}
 use Rattle.bl_tree.specs.Numbers.{checked_of, checked_one_of, is_one, number_of}
 use Rattle.bl_tree.specs.declared.c.CExpr.{CExpr}
 use Rattle.bl_tree.specs.declared.scalar.Op.{Op}
-use Rattle.bl_tree.specs.declared.scalar.Op.TheVariants.{And, Eq, Not, Or}
+use Rattle.bl_tree.specs.declared.scalar.Op.TheVariants.{And, Eq, Ne, Not, Or}
 use Rattle.bl_tree.specs.declared.scalar.Scalar.{Scalar}
 use Rattle.bl_tree.specs.declared.scalar.Scalar.TheVariants.{Bool as OfBool}
 use Rattle.bl_machine.specs.declared.slots.Slot.{Slot}
@@ -22,9 +22,9 @@ use Rattle.bl_emit_functions.specs.Trees.{c_truth}
 use Rattle.bl_pass.specs.Registers.{Registers, are_ended, is_aged, is_at}
 use Rattle.bl_pass.specs.Rules.{Age, Needed}
 use Rattle.bl_pass.specs.Rules.{IsNew, IsOld, Whatever}
-use Rattle.bl_emit_pass.specs.Blocks.{View, aged_test, at_slot, counter_value, ends_test, in_pairs, in_tree, rested_at}
+use Rattle.bl_emit_pass.specs.Blocks.{View, aged_test, at_slot, counter_value, ends_test, greatest_value, in_pairs, in_tree, is_only, rested_at, rested_by}
 use Rattle.bl_emit_pass.specs.Names.{counter_place, flag_name, flag_place, mark_name, mark_place, rested_name, rested_place}
-use Rattle.bl_emit_pass_laws.specs.Registers.Laws.{has_age}
+use Rattle.bl_emit_pass_laws.specs.Registers.Laws.{RestsWithin, has_age}
 use Rattle.bl_emit_pass_laws.specs.Registers.Registers.{Before, Counter, Flag, Mark, Registered, RegistersHold, register_at}
 use Rattle.bl_emit_pass_laws.proofs.OnRegisters.Cells.{and_both}
 use Rattle.bl_emit_pass_laws.proofs.OnRegisters.Evaluated.{literal-value}
@@ -96,6 +96,15 @@ same_test k l = by (int_eq (pos k) (pos l)) (nat_eq k l) refl refl
     by false true h i =
         absurd (no_such (sym (int_eq_equiv.refl (pos k)) ∙ (ap (λ n. int_eq (pos k) (pos n)) (eqb-true k l i) ∙ h)))
 
+-- what is at most 1 is 1 where it isn't 0
+one_value : (w v most : ℕ) → v ≡ 1 → most ≤ 1 → w ≤ most → not (nat_eq w 0) ≡ nat_eq w v
+one_value w v most is few within = subst (λ v. not (nat_eq w 0) ≡ nat_eq w v) (sym is) (by w (omega (arith, few, within)))
+  where
+    by : (w : ℕ) → w ≤ 1 → not (nat_eq w 0) ≡ nat_eq w 1
+    by zero small = refl
+    by (suc zero) small = refl
+    by (suc (suc w)) small = absurd (omega (arith, small))
+
 module _ (scope : Scope) (here : Memory) where
   -- an expression has the number of a truth
   abbrev pub Shows : CExpr → Bool → Type 0
@@ -138,6 +147,13 @@ module _ (scope : Scope) (here : Memory) where
       compare-number scope here Eq e f (λ l r. refl)
       ∙ (ap₂ (λ (x y : Option ℤ). option_and_then (λ x. option_and_then (checked_of Eq OfBool x) y) x) first second
       ∙ ap (λ b. Some (number_of b)) (same_test k l))
+
+  differs_shows : (e f : CExpr) (k l : ℕ) → gives scope here e ≡ Some (pos k) → gives scope here f ≡ Some (pos l) →
+      Shows (c_two Ne e f) (not (nat_eq k l))
+  differs_shows e f k l first second =
+      compare-number scope here Ne e f (λ l r. refl)
+      ∙ (ap₂ (λ (x y : Option ℤ). option_and_then (λ x. option_and_then (checked_of Ne OfBool x) y) x) first second
+      ∙ ap (λ b. Some (number_of (not b))) (same_test k l))
 
   -- ---- trees of tests
 
@@ -199,10 +215,21 @@ module _ (scope : Scope) (here : Memory) where
         ap (option_map number_in) (read_answer scope here (mark_place k) (register_at scope (Mark k)) (local_answer scope here (mark_name k)))
         ∙ ap Some (hold.each (Mark k) its)
 
-    pub rested_shows : (slot : Slot) → has.copied slot.counter ≡ true → Shows (rested_at view slot) (is_at r.rested slot)
-    rested_shows slot its =
-        eq_shows (c_read (rested_place slot.counter)) (counter_value view.sizes slot.counter slot.value) (r.rested slot.counter) slot.value
-        (rested_gives slot.counter its) (literal_gives _ (pos slot.value))
+    pub rested_shows : RestsWithin view.sizes r → (slot : Slot) → has.copied slot.counter ≡ true →
+        Shows (rested_at view slot) (is_at r.rested slot)
+    rested_shows within slot its = by (is_only view.sizes slot) refl
+      where
+        by : (only : Bool) → is_only view.sizes slot ≡ only → Shows (rested_by view slot only) (is_at r.rested slot)
+        by true is =
+            let found = and_both (nat_eq slot.value 1) (nat_le (greatest_value view.sizes slot.counter) 1) is in
+            differs_shows (c_read (rested_place slot.counter)) (counter_value view.sizes slot.counter 0) (r.rested slot.counter) 0
+            (rested_gives slot.counter its) (literal_gives _ (pos 0))
+            ∙ ap (λ b. Some (number_of b))
+            (one_value (r.rested slot.counter) slot.value (greatest_value view.sizes slot.counter) (eqb-true slot.value 1 found.0)
+            (leb-true (greatest_value view.sizes slot.counter) 1 found.1) (within slot.counter))
+        by false is =
+            eq_shows (c_read (rested_place slot.counter)) (counter_value view.sizes slot.counter slot.value) (r.rested slot.counter) slot.value
+            (rested_gives slot.counter its) (literal_gives _ (pos slot.value))
 
     slot_shows : (slot : Slot) → has.counters slot.counter ≡ true → Shows (at_slot view slot) (is_at r.counters slot)
     slot_shows slot its =

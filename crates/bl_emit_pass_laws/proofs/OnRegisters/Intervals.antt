@@ -30,7 +30,7 @@ use Rattle.bl_pass.specs.Rules.{Asked}
 use Rattle.bl_pass.specs.Rules.{Ended, Flagged, Rested, RestedIn}
 use Rattle.bl_emit_pass.specs.Blocks.{View, counter_type, counter_value, ends_test, guard_of, last_value, rested_between, rested_in, type_for}
 use Rattle.bl_emit_pass.specs.Names.{rested_place}
-use Rattle.bl_emit_pass_laws.specs.Registers.Laws.{are_in_a_row, asks_its_own, fits_counter, follow_on, has_age}
+use Rattle.bl_emit_pass_laws.specs.Registers.Laws.{RestsWithin, are_in_a_row, asks_its_own, fits_counter, follow_on, has_age}
 use Rattle.bl_emit_pass_laws.specs.Registers.Registers.{Registered, RegistersHold}
 use Rattle.bl_emit_pass_laws.proofs.OnRegisters.Cells.{and_both}
 use Rattle.bl_emit_pass_laws.proofs.OnRegisters.Guards.{Shows, aged_shows, and_shows, ends_show, flag_shows}
@@ -188,7 +188,7 @@ module _ (scope : Scope) (here : Memory) where
         ∙ (compare-number scope here Le (c_read place) (hidden s (c_literal s (pos n))) (λ l r. refl)
         ∙ ap₂ (λ (x y : Option ℤ). option_and_then (λ x. option_and_then (checked_of Le OfBool x) y) x) stands told)
 
-  module _ (view : View) (has : Registered) (r : Registers) (hold : RegistersHold has scope r here) where
+  module _ (view : View) (has : Registered) (r : Registers) (hold : RegistersHold has scope r here) (within : RestsWithin view.sizes r) where
     between_shows : (k least greatest : ℕ) → has.copied k ≡ true → in_range (counter_type view.sizes k) (pos least) ≡ true →
         in_range (counter_type view.sizes k) (pos greatest) ≡ true →
         Shows scope here (rested_between view k least greatest) (nat_le least (r.rested k) && nat_le (r.rested k) greatest)
@@ -206,7 +206,7 @@ module _ (scope : Scope) (here : Memory) where
     row_shows [] its fits row = truth_shows scope here false
     row_shows (slot ∷ []) its fits row =
         let found = and_both (has.copied slot.counter) true its in
-        rested_shows scope here view has r hold slot found.0 ∙ ap (λ b. Some (number_of b)) (sym (or_false (is_at r.rested slot)))
+        rested_shows scope here view has r hold within slot found.0 ∙ ap (λ b. Some (number_of b)) (sym (or_false (is_at r.rested slot)))
     row_shows (slot ∷ more ∷ rest) its fits row =
         let found = and_both (has.copied slot.counter) (list_all (λ slot. has.copied slot.counter) (more ∷ rest)) its in
         let within = and_both (fits_counter view.sizes slot) (list_all (fits_counter view.sizes) (more ∷ rest)) fits in
@@ -219,7 +219,7 @@ module _ (scope : Scope) (here : Memory) where
     pub guard_shows : (n : Node) (asked : Asked) → asks_its_own view has n asked ≡ true →
         Shows scope here (guard_of view n asked) (due_by view.number r n asked)
     guard_shows n Flagged its = flag_shows scope here view has r hold (view.number n) its
-    guard_shows n (Rested slot) its = rested_shows scope here view has r hold slot its
+    guard_shows n (Rested slot) its = rested_shows scope here view has r hold within slot its
     guard_shows n (RestedIn slots) its =
         let found = and_both (list_all (λ slot. has.copied slot.counter) slots) (list_all (fits_counter view.sizes) slots && are_in_a_row slots) its in
         let more = and_both (list_all (fits_counter view.sizes) slots) (are_in_a_row slots) found.1 in

@@ -1,7 +1,6 @@
 -- The `run`s of a body, among the activities that its nodes call.
 use Rattle.std.proofs.Common.{◌≡◌, ◌⊎◌, inl, inr, ℕ, suc, Bool, true, false, List, [], ◌∷◌, ◌++◌, length}
-use Rattle.std.proofs.Common.{map, refl, sym, ap, subst, ◌∙◌, arith}
-use Rattle.std.proofs.Common.{if◌then◌else◌}
+use Rattle.std.proofs.Common.{map, refl, sym, ap, subst, arith}
 use Rattle.std.proofs.lemmas.List.{length-append}
 use Rattle.bl_tree.specs.declared.place.Place.{Place}
 use Rattle.bl_nodes.specs.Nodes.{Arguments, EnterAt, Node, are_instant, is_instant, nodes_in, nodes_in_each, nodes_of, where_so}

@@ -1,9 +1,8 @@
 -- An activity remembers what those that it runs do.
-use Rattle.std.proofs.Common.{◌≡◌, ◌⊎◌, inl, inr, ℕ, zero, suc, ◌+◌, ◌<◌, Bool, true, false, ◌&&◌, List}
+use Rattle.std.proofs.Common.{◌≡◌, inl, inr, ℕ, zero, suc, ◌<◌, Bool, true, false, ◌&&◌, List}
 use Rattle.std.proofs.Common.{[], ◌∷◌, ◌++◌, Contains, Option, Some, None}
-use Rattle.std.proofs.Common.{length, map, take, get_or, nat_eq, nat_lt, unwrap_or, refl, sym, ap}
+use Rattle.std.proofs.Common.{length, map, take, get_or, nat_eq, unwrap_or, refl, sym, ap}
 use Rattle.std.proofs.Common.{subst, ◌∙◌, arith, eqb-true, lt-ltb, if◌then◌else◌}
-use Rattle.std.proofs.lemmas.Bool.{ltb-true}
 use Rattle.std.proofs.lemmas.List.{length-append}
 use Rattle.std.proofs.lemmas.List.Quantifiers.{position-Some}
 use Rattle.std.specs.Prelude.{option_and_then, option_map, slice_get}
@@ -13,7 +12,7 @@ use Rattle.bl_tree.specs.declared.tree.StructDef.{StructDef}
 use Rattle.bl_tree.specs.declared.tree.Unit.{Unit as UnitDef}
 use Rattle.bl_tree.specs.Reduce.{joined}
 use Rattle.bl_tree.specs.Rules.{same_place}
-use Rattle.bl_tree.specs.Typing.{is_activity, site_of}
+use Rattle.bl_tree.specs.Typing.{site_of}
 use Rattle.bl_nodes.specs.Nodes.{nodes_in}
 use Rattle.bl_nodes.specs.Plain.{Block, plain_body}
 use Rattle.bl_ctree.specs.declared.instance.Instance.{Instance}

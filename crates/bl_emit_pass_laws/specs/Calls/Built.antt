@@ -10,14 +10,14 @@ use Rattle.bl_nodes.specs.Nodes.{Node}
 use Rattle.bl_nodes.specs.Plain.{plain_body}
 use Rattle.bl_cause.specs.Activities.{graph_position}
 use Rattle.bl_ctree.specs.declared.instance.Origin.{Origin}
-use Rattle.bl_ctree.specs.Instances.{Setting, unit_at}
+use Rattle.bl_ctree.specs.Instances.{Setting}
 use Rattle.bl_ctree.specs.Store.{depth_at}
 use Rattle.bl_machine.specs.declared.machine.Activity.{Activity as InMachine}
 use Rattle.bl_machine.specs.Uses.{Slots}
 use Rattle.bl_pass.specs.Numbered.{sizes_of, slots_of}
 use Rattle.bl_pass.specs.Rules.{Change, Marks, Rule}
 use Rattle.bl_pass_laws_runs.specs.Frames.{Frames}
-use Rattle.bl_emit_pass.specs.Activities.{Activity, body_of, is_flagged, remembers_any, rules_at, view_of}
+use Rattle.bl_emit_pass.specs.Activities.{Activity, is_flagged, remembers_any, rules_at, view_of}
 use Rattle.bl_emit_pass_laws.specs.Registers.Registers.{Registered}
 
 -- ---- activities

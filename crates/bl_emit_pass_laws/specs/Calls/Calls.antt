@@ -2,6 +2,7 @@
 use Rattle.std.specs.Prelude.{
   ◌≡◌,
   ◌⊎◌,
+  ◌≤◌,
   ℕ,
   pos,
   ◌+◌,
@@ -36,6 +37,7 @@ use Rattle.bl_emit_acts_laws.specs.Acts.{KeptOutside, OutputsHold, all_apart, pl
 use Rattle.bl_emit_acts_laws.specs.Holds.{are_apart, is_live}
 use Rattle.bl_emit_acts_laws.specs.Shows.{ArgsHold}
 use Rattle.bl_emit_pass.specs.Activities.{remembers_any}
+use Rattle.bl_emit_pass.specs.Blocks.{greatest_value}
 use Rattle.bl_pass.specs.Registers.{Registers, with_at}
 use Rattle.bl_pass_laws_runs.specs.Executes.{Executes, IsCut, begun_registers, resumed_registers}
 use Rattle.bl_pass_laws_runs.specs.Frames.{Frames}
@@ -86,6 +88,10 @@ input_values w store i unit = take unit.inputs (view_at w store i).now
 abbrev pub output_values : Setting → Store → ℕ → UnitDef → List Value
 output_values w store i unit = take unit.outputs (drop unit.inputs (view_at w store i).now)
 
+-- no counter of an instance holds more than its greatest value
+abbrev pub FramesWithin : Setting → Activities → Frames → Type 0
+FramesWithin w activities frames = (i c : ℕ) → frames i c ≤ greatest_value (activity_at w activities i).sizes c
+
 -- as a call for the instance begins memory holds what the instance rests at and remembers, and at the places its inputs and outputs; the body hasn't ended
 pub record CallBegins (w : Setting) (activities : Activities) (i : ℕ) (unit : UnitDef) (depth : ℕ) (given : Given) (frames : Frames) (store : Store)
     (here : Memory) : Type 0 where
@@ -93,8 +99,9 @@ pub record CallBegins (w : Setting) (activities : Activities) (i : ℕ) (unit : 
   pub inputs : ArgsHold w.structs depth here (inputs_of unit) (input_values w store i unit) given.inputs
   pub outputs : OutputsHold w.structs here (outputs_of unit) (output_values w store i unit) given.outputs
   pub over : number_in (value_at here given.over) ≡ pos 0
-  -- and all values are of their types
+  -- all values are of their types, and no counter holds more than its greatest value
   pub fits : StoreFits w store
+  pub within : FramesWithin w activities frames
 
 -- an instance is begun, and all its counters hold 0; or it goes on, and the first doesn't
 abbrev pub PassStarts : Setting → Activities → ℕ → UnitDef → Frames → Registers → Type 0

@@ -43,6 +43,7 @@ use Rattle.bl_emit_pass.specs.Activities.{
   view_of,
 }
 use Rattle.bl_emit_pass.specs.Blocks.{View, block_code, guard_of, turn_code}
+use Rattle.bl_emit_pass_laws.specs.Registers.Laws.{RegistersWithin}
 use Rattle.bl_emit_pass_laws.specs.Registers.Registers.{FewRegisters, frame_at, over_at}
 use Rattle.bl_machine.specs.declared.machine.Activity.{Activity as InMachine}
 use Rattle.bl_machine.specs.Machines.{AreActivitiesOf}
@@ -51,7 +52,7 @@ use Rattle.bl_pass.specs.Rules.{Rule}
 use Rattle.bl_pass_laws_runs.specs.Executes.{Executes, HasRule, IsCut, Performs, Sees, Stops, recopied}
 use Rattle.bl_pass_laws_runs.specs.Frames.{Frames}
 use Rattle.bl_emit_pass_laws.specs.Calls.Built.{Activities, AreBuilt, activity_at, cleared, rank_by, registered, site_at, slots_by, unit_number}
-use Rattle.bl_emit_pass_laws.specs.Calls.Calls.{ActivityComes, CallBegins, Given, MayGive, PassStarts, passed_to}
+use Rattle.bl_emit_pass_laws.specs.Calls.Calls.{ActivityComes, CallBegins, FramesWithin, Given, MayGive, PassStarts, passed_to}
 use Rattle.bl_emit_pass_laws.specs.Calls.Standing.{FunctionStands, PassStands, result_at_c}
 
 -- ---- what is asked of a program
@@ -149,6 +150,9 @@ pub record Midway (structs : List StructDef) (units : List UnitDef) (entry : ℕ
   pub stands : PassStands (setting_of structs units entry) activities i unit scope frames store copies r here
   pub fits : StoreFits (setting_of structs units entry) store
   pub copies_fit : values_fit structs unit.vars copies ≡ true
+  -- no counter holds more than its greatest value, nor did one as the tick began
+  pub frames_within : FramesWithin (setting_of structs units entry) activities frames
+  pub within : RegistersWithin (activity_at (setting_of structs units entry) activities i).sizes r
 
 -- The block of a node among these whose rule is due. Where what is to be done there is done it goes on, and leaves memory that stands for what is
 -- left; where that traps it traps

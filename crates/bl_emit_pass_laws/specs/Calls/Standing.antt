@@ -1,5 +1,5 @@
 -- How the C function of an activity stands in the middle of its pass.
-use Rattle.std.specs.Prelude.{◌≡◌, ℕ, ◌<◌, Bool, true, List, [], ◌∷◌, Contains, is_some, Some, slice_get, codes}
+use Rattle.std.specs.Prelude.{◌≡◌, ℕ, ◌<◌, Bool, true, List, Contains, is_some, Some, slice_get, codes}
 use Rattle.bl_tree.specs.declared.place.Place.{Place}
 use Rattle.bl_tree.specs.declared.tree.StructDef.{StructDef}
 use Rattle.bl_tree.specs.declared.tree.Unit.{Unit as UnitDef}
@@ -11,7 +11,7 @@ use Rattle.bl_nodes.specs.Plain.{Label, plain_body}
 use Rattle.bl_cmeaning.specs.Meaning.{Scope, start_of}
 use Rattle.bl_cmeaning.specs.Memory.{Location, Memory, number_in, value_at}
 use Rattle.bl_ctree.specs.Actions.{result_at}
-use Rattle.bl_ctree.specs.Instances.{Setting, callee_of, unit_at}
+use Rattle.bl_ctree.specs.Instances.{Setting, callee_of}
 use Rattle.bl_ctree.specs.Store.{Store, number_or_zero, view_at}
 use Rattle.bl_emit_acts.specs.Acts.{is_copied}
 use Rattle.bl_emit_acts.specs.declared.home.Home.TheVariants.{Lent}

@@ -1,5 +1,5 @@
 -- What holds of the C of a pass, beside the registers of the pass.
-use Rattle.std.specs.Prelude.{◌≡◌, ℕ, suc, pos, Bool, true, ◌&&◌, List, [], ◌∷◌, Some, nat_eq, option_map}
+use Rattle.std.specs.Prelude.{◌≡◌, ℕ, suc, ◌≤◌, pos, Bool, true, ◌&&◌, List, [], ◌∷◌, Some, nat_eq, option_map}
 use Rattle.std.specs.List.{list_all}
 use Rattle.bl_tree.specs.Numbers.{number_of}
 use Rattle.bl_tree.specs.Scalar.{in_range}
@@ -12,7 +12,7 @@ use Rattle.bl_cmeaning.specs.Memory.{Memory, number_in}
 use Rattle.bl_pass.specs.Registers.{Registers, all_changed, due_by}
 use Rattle.bl_pass.specs.Rules.{Age, Asked, Change}
 use Rattle.bl_pass.specs.Rules.{Ended, Ends, Finishes, Flagged, Flags, Forgets, Frees, Holds, IsNew, IsOld, Marks, Rested, RestedIn, Whatever}
-use Rattle.bl_emit_pass.specs.Blocks.{Sizes, View, changes_code, counter_type, guard_of}
+use Rattle.bl_emit_pass.specs.Blocks.{Sizes, View, changes_code, counter_type, greatest_value, guard_of}
 use Rattle.bl_emit_pass_laws.specs.Registers.Registers.{ApartFromPointers, FewRegisters, FrameStands, PointersOlder, Registered, RegistersApart}
 use Rattle.bl_emit_pass_laws.specs.Registers.Registers.{RegistersBeside}
 use Rattle.bl_emit_pass_laws.specs.Registers.Registers.{RegistersHold, RegistersLeft, frame_at, over_at}
@@ -51,6 +51,15 @@ abbrev pub are_in_a_row : List Slot → Bool
 are_in_a_row [] = true
 are_in_a_row (slot ∷ rest) = follow_on slot.counter (suc slot.value) rest
 
+-- no counter held more than its greatest value as the tick began
+abbrev pub RestsWithin : Sizes → Registers → Type 0
+RestsWithin sizes r = (k : ℕ) → r.rested k ≤ greatest_value sizes k
+
+-- nor does one hold more now
+pub record RegistersWithin (sizes : Sizes) (r : Registers) : Type 0 where
+  pub counters : (k : ℕ) → r.counters k ≤ greatest_value sizes k
+  pub rested : RestsWithin sizes r
+
 -- whether a value is a number of its counter's type
 abbrev pub fits_counter : Sizes → Slot → Bool
 fits_counter sizes slot = in_range (counter_type sizes slot.counter) (pos slot.value)
@@ -73,7 +82,7 @@ asks_its_own view has n (Ended age needed) = has_age view.number has age && list
 abbrev pub GuardsShow : Type 0
 GuardsShow =
     (view : View) (has : Registered) (scope : Scope) (n : Node) (asked : Asked) (r : Registers) (here : Memory) →
-    RegistersHold has scope r here → asks_its_own view has n asked ≡ true →
+    RegistersHold has scope r here → RestsWithin view.sizes r → asks_its_own view has n asked ≡ true →
     option_map number_in (value_c (guard_of view n asked) scope here).answer ≡ Some (number_of (due_by view.number r n asked))
 
 -- ---- what keeps apart

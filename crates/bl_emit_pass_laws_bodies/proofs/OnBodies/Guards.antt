@@ -8,7 +8,7 @@ use Rattle.bl_tree.specs.declared.c.CPlace.{CPlace}
 use Rattle.bl_tree.specs.declared.c.CType.{CType}
 use Rattle.bl_tree.specs.declared.c.CType.TheVariants.{Scalar as OfScalar}
 use Rattle.bl_tree.specs.declared.scalar.Op.{Op}
-use Rattle.bl_tree.specs.declared.scalar.Op.TheVariants.{And, Eq, Ge, Le, Or}
+use Rattle.bl_tree.specs.declared.scalar.Op.TheVariants.{And, Eq, Ge, Le, Ne, Or}
 use Rattle.bl_tree.specs.declared.scalar.Scalar.{Scalar as ScalarType}
 use Rattle.bl_tree.specs.declared.scalar.Scalar.TheVariants.{Bool as OfBool, Nat}
 use Rattle.bl_tree.specs.declared.scalar.Width.TheVariants.{W8, W16, W32}
@@ -34,7 +34,7 @@ use Rattle.bl_emit_acts_laws_formed.proofs.OnFormed.Prelude.{type_same}
 use Rattle.bl_emit_functions_laws_formed.proofs.OnFormed.Shapes.{if-is}
 use Rattle.bl_emit_pass.specs.Activities.{Activity, view_of}
 use Rattle.bl_emit_pass.specs.Blocks.{View, all_tests, at_slot, change_code, changes_code, counter_type, counter_value, ends_test, flagged_now}
-use Rattle.bl_emit_pass.specs.Blocks.{forgotten, freed, guard_of, in_pairs, in_tree, last_value, rested_at, rested_in, some_test, type_for}
+use Rattle.bl_emit_pass.specs.Blocks.{forgotten, freed, guard_of, in_pairs, in_tree, is_only, last_value, rested_at, rested_by, rested_in, some_test, type_for}
 use Rattle.bl_emit_pass.specs.Names.{counter_place, flag_place, mark_place, over_place, rested_place}
 use Rattle.bl_emit_pass_laws.specs.Registers.Laws.{asks_its_own, changes_its_own}
 use Rattle.bl_emit_pass_laws.specs.Calls.Built.{registered}
@@ -109,7 +109,13 @@ module _ (units : List UnitDef) (entry k : ℕ) (a : Activity) (table : Table (T
   begins-is on = equal-is 0 0 (c_read (counter_place 0)) (read-counter 0 on)
 
   slot-rested : (slot : Slot) → view.is_read slot.counter ≡ true → ExprIs here bool_type (rested_at view slot)
-  slot-rested slot on = equal-is slot.counter slot.value (c_read (rested_place slot.counter)) (read-rested slot.counter on)
+  slot-rested slot on = by (is_only a.sizes slot)
+    where
+      by : (only : Bool) → ExprIs here bool_type (rested_by view slot only)
+      by true =
+          two-is here Ne (kind slot.counter) (c_read (rested_place slot.counter)) (counter_value a.sizes slot.counter 0) refl
+          (type_same (kind slot.counter)) (read-rested slot.counter on) (value-is slot.counter 0)
+      by false = equal-is slot.counter slot.value (c_read (rested_place slot.counter)) (read-rested slot.counter on)
 
   same_counter : (c : ℕ) → c_scalar (counter_type a.sizes c) ≡ counter_type a.sizes c
   same_counter c = by_type (λ s. c_scalar s ≡ s) refl refl refl (unwrap_or (slice_get a.sizes c) 0)

@@ -33,7 +33,7 @@ use Rattle.bl_emit_functions_laws.specs.Calls.{CallsKeep, HandsOver, memory_begu
 use Rattle.bl_emit_pass.specs.Activities.{Activity, activity_function, body_of, copied_in, copies_of, counters_read, entry_code, remembers_any}
 use Rattle.bl_emit_pass.specs.Activities.{rested_code, view_of}
 use Rattle.bl_emit_pass.specs.Names.{counter_name, flag_name, mark_name, rested_name}
-use Rattle.bl_emit_pass_laws.specs.Registers.Laws.{GuardsShow, RegistersKeepApart}
+use Rattle.bl_emit_pass_laws.specs.Registers.Laws.{GuardsShow, RegistersKeepApart, RegistersWithin}
 use Rattle.bl_emit_pass_laws.specs.Registers.Registers.{Before, Counter, FewRegisters, Flag, Mark, Over, PointersOlder, Register, Registered, RegistersApart}
 use Rattle.bl_emit_pass_laws.specs.Registers.Registers.{RegistersBeside, frame_at, has_register, held_in, register_at}
 use Rattle.bl_machine.specs.Blocks.{up_to}
@@ -50,6 +50,7 @@ use Rattle.bl_emit_pass_laws.specs.Calls.Memories as memories
 use Rattle.bl_emit_pass_laws.specs.Calls.Memories.{MemoryHolds, inner}
 use Rattle.bl_emit_pass_laws.specs.Calls.Standing.{PassStands, PlacesStand}
 use Rattle.bl_emit_pass_laws.specs.Activities.{CalleesRemember, PointersLead}
+use Rattle.bl_emit_pass_laws.proofs.OnWithin.Changing.{none_within}
 use Rattle.bl_emit_pass_laws_files.specs.Begins.{CountersSuffice, FunctionsBeginWhere}
 use Rattle.bl_emit_pass_laws_files.proofs.OnBegins.Callees.{callee_kept}
 use Rattle.bl_emit_pass_laws_files.proofs.OnBegins.Cells.{apart_flip, left_apart}
@@ -59,7 +60,7 @@ use Rattle.bl_emit_pass_laws_files.proofs.OnBegins.Pointers.{local_zero}
 use Rattle.bl_emit_pass_laws_files.proofs.OnBegins.Setting.{GoesTo, then_goes}
 use Rattle.bl_emit_pass_laws_files.proofs.OnBegins.Standing.{active, few, functions_stand_all, gives, handed, kind_is, many, places_are, pointers_go}
 use Rattle.bl_emit_pass_laws_files.proofs.OnBegins.Standing.{standing, stands_there, unit_is}
-use Rattle.bl_emit_pass_laws_files.proofs.OnBegins.Start.{Stands, comes_rested, entry_asks, entry_begun, entry_goes, entry_resumed, other_parts}
+use Rattle.bl_emit_pass_laws_files.proofs.OnBegins.Start.{Stands, comes_rested, copies_within, entry_asks, entry_begun, entry_goes, entry_resumed, other_parts}
 use Rattle.bl_emit_pass_laws_files.proofs.OnBegins.Start.{rested_goes, same_parts, with_entry, with_rested}
 use Rattle.bl_emit_pass_laws_files.proofs.OnBegins.Variables.{variables_begin_all}
 
@@ -206,6 +207,10 @@ module _ (structs : List StructDef) (units : List UnitDef) (entry_at : ℕ) (ord
   abbrev third : Registers
   third = with_entry (view_of a) (body_of a) second
 
+  second_within : RegistersWithin a.sizes second
+  second_within =
+      copies_within a.sizes Read (at_first (frames i)) (record { counters = begins.within i; rested = none_within a.sizes })
+
   read_below : (k : ℕ) → list_any (nat_eq k) Read ≡ true → has.counters k ≡ true
   read_below k h =
       lt-ltb k (length a.sizes) (there_below (length a.sizes) k (there_picked (view_of a).is_read (up_to (length a.sizes)) k h).1)
@@ -226,7 +231,7 @@ module _ (structs : List StructDef) (units : List UnitDef) (entry_at : ℕ) (ord
       entry_goes has site scope apart beside now begun (view_of a) guards (lt-ltb 0 (length a.sizes) suffice.some) (body_of a) second m
       (λ s rest is. subst (λ (body : Block). list_any (asks_flag (view_of a).number ((view_of a).number (entry s))) (rules a.slots body) ≡ true)
       (sym is)
-      (entry_asks (view_of a).number a.slots s rest Finishes)) stands
+      (entry_asks (view_of a).number a.slots s rest Finishes)) second_within.rested stands
 
   -- ---- the copies of variables
 

@@ -27,15 +27,16 @@ use Rattle.bl_emit_acts.specs.Trees.{c_read, c_two}
 use Rattle.bl_emit_acts_laws.specs.Frames.{is_older}
 use Rattle.bl_emit_acts_laws.specs.Holds.{Holds, VariablesHold, location_in, way_to}
 use Rattle.bl_emit_pass.specs.Activities.{entry_code, rested_code}
-use Rattle.bl_emit_pass.specs.Blocks.{View, counter_value}
+use Rattle.bl_emit_pass.specs.Blocks.{Sizes, View, counter_value}
 use Rattle.bl_emit_pass.specs.Names.{counter_place, flag_name, flag_place, rested_name, rested_place}
-use Rattle.bl_emit_pass_laws.specs.Registers.Laws.{GuardsShow}
+use Rattle.bl_emit_pass_laws.specs.Registers.Laws.{GuardsShow, RegistersWithin, RestsWithin}
 use Rattle.bl_emit_pass_laws.specs.Registers.Registers.{Before, Counter, Flag, Mark, Over, Register, Registered, RegistersApart, RegistersBeside, RegistersHold}
 use Rattle.bl_emit_pass_laws.specs.Registers.Registers.{has_register, held_in, register_at, same_register}
 use Rattle.bl_pass.specs.Registers.{Registers, with_at}
 use Rattle.bl_pass.specs.Rules.{Asked, Change, Ended, Rule, Whatever, enter, rules_in, rules_of}
 use Rattle.bl_pass_laws.specs.Turns.Laws.{entry_flag}
 use Rattle.bl_emit_pass_laws.specs.Calls.Built.{asks_flag}
+use Rattle.bl_emit_pass_laws.proofs.OnWithin.Changing.{with_within}
 use Rattle.bl_emit_pass_laws_files.proofs.OnBegins.Cells.{apart_flip, apart_same, left_behind, same_object}
 use Rattle.bl_emit_pass_laws_files.proofs.OnBegins.Places.{older_differs}
 use Rattle.bl_emit_pass_laws_files.proofs.OnBegins.Setting.{GoesTo, SetIn, counter_answer, local_answer, read_answer, register_is, then_goes}
@@ -205,13 +206,13 @@ module _ (has : Registered) (site : Site) (scope : Scope) (apart : RegistersApar
     none_yet = Ended Whatever (record { all = true; slots = record { counter = 0; value = 0 } ∷ [] })
 
     pub entry_goes : (body : Block) (r : Registers) (m : Memory) →
-        ((s : Plain) (rest : Block) → body ≡ Then s rest → has.flags (view.number (entry s)) ≡ true) → Mid r m →
+        ((s : Plain) (rest : Block) → body ≡ Then s rest → has.flags (view.number (entry s)) ≡ true) → RestsWithin view.sizes r → Mid r m →
         GoesTo (Mid (with_entry view body r)) (block_c (entry_code view body) scope m)
-    entry_goes Done r m flagged stands = (refl, stands)
-    entry_goes (Then s rest) r m flagged stands =
+    entry_goes Done r m flagged within stands = (refl, stands)
+    entry_goes (Then s rest) r m flagged within stands =
         let shows : option_map number_in (value_c (c_two Eq (c_read (counter_place 0)) (counter_value view.sizes 0 0)) scope m).answer
         ≡ Some (number_of (nat_eq (r.counters 0) 0)) =
-        guards view has scope (entry s) none_yet r m stands.hold (ap (λ b. b && true) first)
+        guards view has scope (entry s) none_yet r m stands.hold within (ap (λ b. b && true) first)
         ∙ ap (λ b. Some (number_of b)) (and_true (nat_eq (r.counters 0) 0)) in
         let found = number_is (value_c (c_two Eq (c_read (counter_place 0)) (counter_value view.sizes 0 0)) scope m).answer
         (number_of (nat_eq (r.counters 0) 0)) shows in
@@ -226,6 +227,14 @@ pub same_parts : (ks : List ℕ) (r : Registers) → ((with_rested ks r).counter
     × ((with_rested ks r).marks ≡ r.marks) × ((with_rested ks r).over ≡ r.over)
 same_parts [] r = (refl, refl, refl, refl)
 same_parts (k ∷ ks) r = same_parts ks (with_rested (k ∷ []) r)
+
+-- none of them is greater than its counter's greatest value where no counter holds more
+pub copies_within : (sizes : Sizes) (ks : List ℕ) (r : Registers) → RegistersWithin sizes r → RegistersWithin sizes (with_rested ks r)
+copies_within sizes [] r within = within
+copies_within sizes (k ∷ ks) r within = copies_within sizes ks (with_rested (k ∷ []) r) (record {
+  counters = within.counters;
+  rested = with_within sizes k (r.counters k) r.rested (within.counters k) within.rested;
+})
 
 stays_rested : (ks : List ℕ) (r : Registers) (k : ℕ) → r.rested k ≡ r.counters k → (with_rested ks r).rested k ≡ r.counters k
 stays_rested [] r k h = h

@@ -44,6 +44,7 @@ use Rattle.bl_emit_acts_laws.specs.Acts.{OutputsHold}
 use Rattle.bl_emit_acts_laws.specs.Holds.{Holds}
 use Rattle.bl_emit_acts_laws.specs.Shows.{ArgsHold}
 use Rattle.bl_emit_pass.specs.Activities.{remembers_any}
+use Rattle.bl_emit_pass.specs.Blocks.{greatest_value}
 use Rattle.bl_emit_pass.specs.Names.{counter_name}
 use Rattle.bl_emit_pass.specs.Programs.{port_member}
 use Rattle.bl_machine.specs.declared.machine.Activity.{Activity as InMachine}
@@ -56,9 +57,13 @@ use Rattle.bl_pass_laws_runs.specs.Frames.{Frames}
 use Rattle.bl_pass_laws_runs.specs.Runs as run
 use Rattle.bl_pass_laws_runs.specs.Runs.{RuleRun, TickStarts}
 use Rattle.bl_emit_pass_laws.specs.Calls.Built.{Activities, activity_at, cleared, rank_by, slots_by, unit_number}
-use Rattle.bl_emit_pass_laws.specs.Calls.Calls.{ActivityComes, CallBegins, MayGive, PassStarts, input_values, output_values}
+use Rattle.bl_emit_pass_laws.specs.Calls.Calls.{ActivityComes, CallBegins, FramesWithin, MayGive, PassStarts, input_values, output_values}
 use Rattle.bl_emit_pass_laws.specs.Calls.Laws.{Compiled}
 use Rattle.bl_emit_pass_laws.specs.Calls.Memories.{MemoryHolds}
+use Rattle.bl_emit_pass_laws.specs.Registers.Laws.{RegistersWithin}
+use Rattle.bl_emit_pass_laws.specs.Within.{AllStayWithin}
+use Rattle.bl_emit_pass_laws.proofs.OnWithin.Changing.{none_within}
+use Rattle.bl_emit_pass_laws.proofs.OnWithin.Passing.{frame_within, starts_within}
 use Rattle.bl_emit_pass_laws_files.specs.States.Cells.{regained}
 use Rattle.bl_emit_pass_laws_files.specs.States.States.{StateKept, frame_place, memory_place, output_place}
 use Rattle.bl_emit_pass_laws_files.specs.Files.{FileShows, FileStands, FilesShow}
@@ -129,8 +134,9 @@ module _ (structs : List StructDef) where
 
 -- ---- a file
 
-module _ (out : HomesLeadOut) (orderly : AcceptedIsOrderly) (keep : PassesKeepTypes) (starts_fit : AllStartsFit) (structs : List StructDef)
-    (units : List UnitDef) (entry : ℕ) (machine : List InMachine) (activities : Activities) (unit : UnitDef) (known : Table Meaning) (file : Parts)
+module _ (out : HomesLeadOut) (orderly : AcceptedIsOrderly) (keep : PassesKeepTypes) (starts_fit : AllStartsFit) (stay : AllStayWithin)
+    (structs : List StructDef) (units : List UnitDef) (entry : ℕ) (machine : List InMachine) (activities : Activities) (unit : UnitDef)
+    (known : Table Meaning) (file : Parts)
     (compiled : Compiled structs units entry machine activities) (there : slice_get units entry ≡ Some unit)
     (comes : ActivityComes (setting_of structs units entry) activities entry known 0)
     (stands_entry : FileStands structs unit (remembers_any (activities entry)) known file)
@@ -239,6 +245,7 @@ module _ (out : HomesLeadOut) (orderly : AcceptedIsOrderly) (keep : PassesKeepTy
     memory : MemoryHolds W activities 0 frame_place memory_place frames s here
     outputs : OutputsHold structs here (outputs_of unit) (output_values W s 0 unit) (map output_place (outputs_of unit))
     fits : StoreFits W s
+    within : FramesWithin W activities frames
     begins : frames 0 0 ≡ 0 → (c : ℕ) → frames 0 c ≡ 0
 
   abbrev Has : Store → Type 0
@@ -346,6 +353,7 @@ module _ (out : HomesLeadOut) (orderly : AcceptedIsOrderly) (keep : PassesKeepTy
             (kept.outputs (output_values W s 0 unit) here between.outputs));
         over = refl;
         fits = woken_fits;
+        within = between.within;
       }
 
       pass_starts : (r : Registers) → TickStarts (rank_by W activities) unit frames r → PassStarts W activities 0 unit frames r
@@ -385,6 +393,9 @@ module _ (out : HomesLeadOut) (orderly : AcceptedIsOrderly) (keep : PassesKeepTy
           let fits : StoreFits W left =
           (keep structs units entry compiled.keeps).executes (rank_by W activities) (slots_by W activities) (cleared W) 0 0 frames
           (woken_store row s) (view_at W (woken_store row s) 0).now r inner left r' woken_fits pass in
+          let within : FramesWithin W activities inner × RegistersWithin (activity_at W activities 0).sizes r' =
+          (stay structs units entry machine activities).executes 0 0 frames (woken_store row s) (view_at W (woken_store row s) 0).now r inner left r'
+          compiled between.within (starts_within W activities 0 unit frames r between.within (pass_starts r starts)) pass in
           let outs = outputs_moved structs c.memory after (outputs_of unit) (output_values W left 0 unit) (λ way. refl) leaves.outputs in
           record {
             after = after;
@@ -397,6 +408,7 @@ module _ (out : HomesLeadOut) (orderly : AcceptedIsOrderly) (keep : PassesKeepTy
               memory = memory_moved W activities (with_at 0 r'.counters inner) left c.memory after (λ way. refl) leaves.memory;
               outputs = outs;
               fits = fits;
+              within = frame_within W activities 0 r'.counters inner within.1.counters within.0;
               begins = λ none. absurd (some none);
             };
           }
@@ -469,6 +481,9 @@ module _ (out : HomesLeadOut) (orderly : AcceptedIsOrderly) (keep : PassesKeepTy
     outputs = subst (λ (values : List Value). OutputsHold structs first_memory (outputs_of unit) values (map output_place (outputs_of unit)))
         (sym first_outputs) (zeros_hold structs (outputs_of unit) first_memory first_zero);
     fits = first_fits;
+    within = λ i c.
+        subst (λ (n : ℕ). n ≤ greatest_value (activity_at W activities i).sizes c) (sym (none i c))
+        (none_within (activity_at W activities i).sizes c);
     begins = λ first c. none 0 c;
   }
     where
@@ -505,6 +520,6 @@ module _ (out : HomesLeadOut) (orderly : AcceptedIsOrderly) (keep : PassesKeepTy
     outputs = outputs_columns;
   }
 
-pub files_show : HomesLeadOut → AcceptedIsOrderly → PassesKeepTypes → AllStartsFit → FilesShow
-files_show out orderly keep starts_fit structs units entry machine activities unit known file compiled there comes stands kept =
-    shows out orderly keep starts_fit structs units entry machine activities unit known file compiled there comes stands kept
+pub files_show : HomesLeadOut → AcceptedIsOrderly → PassesKeepTypes → AllStartsFit → AllStayWithin → FilesShow
+files_show out orderly keep starts_fit stay structs units entry machine activities unit known file compiled there comes stands kept =
+    shows out orderly keep starts_fit stay structs units entry machine activities unit known file compiled there comes stands kept

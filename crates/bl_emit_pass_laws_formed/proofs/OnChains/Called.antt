@@ -30,7 +30,7 @@ use Rattle.bl_tree.specs.declared.c.CExpr.{CExpr}
 use Rattle.bl_tree.specs.declared.c.CPlace.{CPlace}
 use Rattle.bl_tree.specs.declared.c.CStmt.{CStmt}
 use Rattle.bl_tree.specs.declared.scalar.Op.{Op}
-use Rattle.bl_tree.specs.declared.scalar.Op.TheVariants.{And, Eq, Ge, Le, Or}
+use Rattle.bl_tree.specs.declared.scalar.Op.TheVariants.{And, Eq, Ge, Le, Ne, Or}
 use Rattle.bl_tree.specs.declared.scalar.Scalar.{Scalar as ScalarType}
 use Rattle.bl_tree.specs.declared.scalar.Scalar.TheVariants.{Bool as OfBool, Bits, Int, Nat}
 use Rattle.bl_tree.specs.declared.tree.Arm.{Arm}
@@ -133,6 +133,7 @@ use Rattle.bl_emit_pass.specs.Activities.{
   view_of,
 }
 use Rattle.bl_emit_pass.specs.Blocks.{
+  is_only,
   Turn,
   View,
   acted,
@@ -159,6 +160,7 @@ use Rattle.bl_emit_pass.specs.Blocks.{
   name_in,
   node_code,
   rested_at,
+  rested_by,
   rested_between,
   rested_in,
   resumed_code,
@@ -269,9 +271,15 @@ module _ (weight : Text → ℕ) (prelude : (word : Text) (s : ScalarType) → w
   slots_few view (slot ∷ rest) = (slot_few view slot, slots_few view rest)
 
   rested_few : (view : View) (slot : Slot) → ExprFew (rested_at view slot)
-  rested_few view slot =
-      two-light weight prelude n Eq (c_read (rested_place slot.counter)) (counter_value view.sizes slot.counter slot.value)
-      (reads_few (rested_place slot.counter) (local_few (rested_name slot.counter))) (value_few view slot.counter slot.value)
+  rested_few view slot = by (is_only view.sizes slot)
+    where
+      by : (only : Bool) → ExprFew (rested_by view slot only)
+      by true =
+          two-light weight prelude n Ne (c_read (rested_place slot.counter)) (counter_value view.sizes slot.counter 0)
+          (reads_few (rested_place slot.counter) (local_few (rested_name slot.counter))) (value_few view slot.counter 0)
+      by false =
+          two-light weight prelude n Eq (c_read (rested_place slot.counter)) (counter_value view.sizes slot.counter slot.value)
+          (reads_few (rested_place slot.counter) (local_few (rested_name slot.counter))) (value_few view slot.counter slot.value)
 
   -- ---- comparisons
 

@@ -7,7 +7,7 @@ use Rattle.std.specs.List.{list_all}
 use Rattle.std.specs.Prelude.{nat_eq, nat_le, nat_lt, slice_get, unwrap_or, if◌then◌else◌}
 use Rattle.bl_tree.specs.declared.c.CExpr.{CExpr}
 use Rattle.bl_tree.specs.declared.scalar.Op.{Op}
-use Rattle.bl_tree.specs.declared.scalar.Op.TheVariants.{And, Eq, Ge, Le, Or}
+use Rattle.bl_tree.specs.declared.scalar.Op.TheVariants.{And, Eq, Ge, Le, Ne, Or}
 use Rattle.bl_tree.specs.declared.scalar.Scalar.{Scalar as ScalarType}
 use Rattle.bl_tree.specs.declared.scalar.Scalar.TheVariants.{Bool as OfBool, Nat}
 use Rattle.bl_tree.specs.declared.scalar.Width.TheVariants.{W8, W16, W32}
@@ -35,6 +35,7 @@ use Rattle.bl_emit_functions_laws_formed.proofs.OnSpelled.Acts.{one-fits}
 use Rattle.bl_emit_functions_laws_formed.proofs.OnSpelled.Shapes.{else-fits}
 use Rattle.bl_emit_functions_laws_formed.proofs.OnSpelled.Types.{all_append}
 use Rattle.bl_emit_pass.specs.Blocks.{
+  is_only,
   Sizes,
   View,
   aged_test,
@@ -53,6 +54,7 @@ use Rattle.bl_emit_pass.specs.Blocks.{
   in_tree,
   last_value,
   rested_at,
+  rested_by,
   rested_between,
   rested_in,
   some_test,
@@ -156,10 +158,18 @@ slot-at view slot h =
     (value-fits 2 view.sizes slot.counter slot.value (omega arith) (slot_value view.sizes slot h))
 
 slot-rested : (view : View) (slot : Slot) → slot_fits view.sizes slot ≡ true → expr_fits 3 (rested_at view slot) ≡ true
-slot-rested view slot h =
-    two-fits 2 3 nowhere Eq (c_read (rested_place slot.counter)) (counter_value view.sizes slot.counter slot.value) (omega arith) refl
-    (read-fits 2 nowhere (rested_place slot.counter) (rested-fits 2 slot.counter (omega arith) (slot_low view.sizes slot h)))
-    (value-fits 2 view.sizes slot.counter slot.value (omega arith) (slot_value view.sizes slot h))
+slot-rested view slot h = by (is_only view.sizes slot)
+  where
+    read : expr_fits 2 (c_read (rested_place slot.counter)) ≡ true
+    read = read-fits 2 nowhere (rested_place slot.counter) (rested-fits 2 slot.counter (omega arith) (slot_low view.sizes slot h))
+
+    by : (only : Bool) → expr_fits 3 (rested_by view slot only) ≡ true
+    by true =
+        two-fits 2 3 nowhere Ne (c_read (rested_place slot.counter)) (counter_value view.sizes slot.counter 0) (omega arith) refl read
+        (nothing-fits 2 view.sizes slot.counter (omega arith))
+    by false =
+        two-fits 2 3 nowhere Eq (c_read (rested_place slot.counter)) (counter_value view.sizes slot.counter slot.value) (omega arith) refl read
+        (value-fits 2 view.sizes slot.counter slot.value (omega arith) (slot_value view.sizes slot h))
 
 takes_type : (op : Op) (n : ℕ) → takes_two op (Nat W8) ≡ true → takes_two op (Nat W16) ≡ true → takes_two op (Nat W32) ≡ true →
     takes_two op (type_for n) ≡ true

@@ -145,7 +145,7 @@ module _ (show : GuardsShow) (structs : List StructDef) (units : List UnitDef) (
   chosen i unit scope frames store copies r rule code here midway there b due Q so =
       let a = activity_at w activities i in
       let asks = own.asks i unit rule midway.is_there there in
-      let shown = show (view_of a) (registered a) scope rule.node rule.asked r here midway.stands.registers asks in
+      let shown = show (view_of a) (registered a) scope rule.node rule.asked r here midway.stands.registers midway.within.rested asks in
       if_block scope here Q (guard_of (view_of a) rule.node rule.asked) code None b (shown ∙ ap (λ b. Some (number_of b)) due) so
 
 pub guards_choose : GuardsShow → GuardsCome

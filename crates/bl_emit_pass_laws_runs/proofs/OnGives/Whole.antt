@@ -321,6 +321,7 @@ module _ (structs : List StructDef) (units : List UnitDef) (entry : ℕ) (laws :
           (subst (λ values. OutputsHold structs here (outputs_of other) values args.outputs) (sym outputs_same) args.outputs_hold);
       over = not_ended;
       fits = fitting;
+      within = midway.frames_within;
     }
 
     pub gives : RunGives w activities i scope n arguments j other frames given here

@@ -44,12 +44,15 @@ use Rattle.bl_pass_laws_fits.specs.Fits.{PassesKeepTypes}
 use Rattle.bl_pass_laws_runs.specs.Frames.{Frames}
 use Rattle.bl_pass_laws.specs.Keys.{NodesHaveKeys}
 use Rattle.bl_emit_pass_laws.specs.Calls.Built.{Activities, activity_at, cleared, rank_by, site_at, slots_by, unit_number}
-use Rattle.bl_emit_pass_laws.specs.Calls.Calls.{PassStarts}
+use Rattle.bl_emit_pass_laws.specs.Calls.Calls.{FramesWithin, PassStarts}
 use Rattle.bl_emit_pass_laws.specs.Calls.Laws.{CalledAt, Midway, PartComes, PassKeeps, block_done}
 use Rattle.bl_emit_pass_laws.specs.Calls.Memories.{inner}
 use Rattle.bl_emit_pass_laws.specs.Calls.Standing.{PassStands}
 use Rattle.bl_emit_pass_laws_points.specs.Calling.{NotEnded, RunLeaves, RunOf, RunsCome, RunsGive, RunsLeave, TargetsSeen}
 use Rattle.bl_emit_pass_laws.specs.Cleared.{ClearingIsInside}
+use Rattle.bl_emit_pass_laws.specs.Registers.Laws.{RegistersWithin}
+use Rattle.bl_emit_pass_laws.specs.Within.{AllStayWithin}
+use Rattle.bl_emit_pass_laws.proofs.OnWithin.Passing.{frame_within, resumed_within}
 use Rattle.bl_emit_pass_laws_points.specs.Points.Laws.{BlocksChoose, ChangesStand, ResultTold, ends_body, is_return_node}
 use Rattle.bl_emit_pass_laws_points.specs.Points.Points.{BodiesEnd, PointsStand}
 use Rattle.bl_emit_pass_laws_points.proofs.OnPoints.ActNodes.{append_goes}
@@ -67,7 +70,7 @@ use Rattle.bl_ctree_laws_confluence.specs.Deeds.Nesting as nesting
 
 module _ (orderly : AcceptedIsOrderly) (callers : InstancesHaveCallers) (nests : ProgramsNest) (frames_apart : FramesApart)
     (keep : RegistersKeepApart) (clearing : ClearingIsInside) (choose : BlocksChoose) (stand : ChangesStand) (fitting : PassesKeepTypes)
-    (keys : NodesHaveKeys) (placed : StaysPlaced) (structs : List StructDef) (units : List UnitDef) (entry : ℕ)
+    (stay : AllStayWithin) (keys : NodesHaveKeys) (placed : StaysPlaced) (structs : List StructDef) (units : List UnitDef) (entry : ℕ)
     (lead : PlacesLead structs units entry) (write : WritesHold structs units entry) (end : BodiesEnd structs units entry)
     (machine : List InMachine) (activities : Activities) (gives : RunsGive structs units entry machine activities)
     (leaves : RunsLeave structs units entry machine activities) (seen : TargetsSeen (setting_of structs units entry) activities)
@@ -363,6 +366,11 @@ module _ (orderly : AcceptedIsOrderly) (callers : InstancesHaveCallers) (nests :
                   stands : PassStands w activities i unit scope new_frames last copies r memory
                   kept : Keeping after memory
 
+                within_after : FramesWithin w activities frames' × RegistersWithin (activity_at w activities j).sizes r'
+                within_after =
+                    (stay structs units entry machine activities).executes j 0 frames given (view_at w given j).now (resumed_registers frames j) frames'
+                    left r' midway.compiled midway.frames_within (resumed_within w activities j frames midway.frames_within) executed
+
                 mid_after : Midway structs units entry machine activities i unit scope new_frames left copies r after
                 mid_after = record {
                   compiled = midway.compiled;
@@ -375,6 +383,8 @@ module _ (orderly : AcceptedIsOrderly) (callers : InstancesHaveCallers) (nests :
                       (forgotten here) mid_resumed l at arguments j other run u is_number sees_resumed given not_ended_resumed copied
                       (resumed_registers frames j) starts_resumed) executed;
                   copies_fit = midway.copies_fit;
+                  frames_within = frame_within w activities j r'.counters frames' within_after.1.counters within_after.0;
+                  within = midway.within;
                 }
 
                 targeted : r'.over ≡ true → (target : Option Path) → arguments.target ≡ target → (last : Store) →
@@ -465,16 +475,16 @@ module _ (orderly : AcceptedIsOrderly) (callers : InstancesHaveCallers) (nests :
         resume_cut l at arguments j calls.other calls.run calls.number is given copied runs cut
 
 pub runs_come : AcceptedIsOrderly → InstancesHaveCallers → ProgramsNest → FramesApart → RegistersKeepApart → ClearingIsInside → BlocksChoose →
-    ChangesStand → PassesKeepTypes → NodesHaveKeys → StaysPlaced → (structs : List StructDef) (units : List UnitDef) (entry : ℕ) →
+    ChangesStand → PassesKeepTypes → AllStayWithin → NodesHaveKeys → StaysPlaced → (structs : List StructDef) (units : List UnitDef) (entry : ℕ) →
     PlacesLead structs units entry → WritesHold structs units entry → BodiesEnd structs units entry → RunsCome structs units entry
-runs_come orderly callers nests frames_apart keep clearing choose stand fitting keys placed structs units entry lead write end machine activities gives
-    leaves seen points = record {
+runs_come orderly callers nests frames_apart keep clearing choose stand fitting stay keys placed structs units entry lead write end machine activities
+    gives leaves seen points = record {
       acts = λ i unit scope frames store copies r rule u answer frames' left here midway there none called due sees performs.
-          turn_comes orderly callers nests frames_apart keep clearing choose stand fitting keys placed structs units entry lead write end machine
+          turn_comes orderly callers nests frames_apart keep clearing choose stand fitting stay keys placed structs units entry lead write end machine
           activities gives leaves seen i unit scope frames store copies r rule u here (points midway.compiled) midway there called due sees performs refl
           none;
       stops = λ i unit scope frames store copies r rule u here midway there none called due sees stops.
-          turn_stops orderly callers nests frames_apart keep clearing choose stand fitting keys placed structs units entry lead write end machine
+          turn_stops orderly callers nests frames_apart keep clearing choose stand fitting stay keys placed structs units entry lead write end machine
           activities gives leaves seen i unit scope frames store copies r rule u here (points midway.compiled) midway there called due sees stops refl
           none;
     }

@@ -43,6 +43,7 @@ use Rattle.bl_emit_pass_laws.specs.Calls.Memories.{MemoryHolds, Nests, inner}
 use Rattle.bl_emit_pass_laws.specs.Calls.Standing.{PlacesStand}
 use Rattle.bl_emit_pass_laws_points.specs.Calling.{NotEnded}
 use Rattle.bl_emit_pass_laws.specs.Cleared.{ClearingIsInside}
+use Rattle.bl_emit_pass_laws.proofs.OnWithin.Passing.{clear_within}
 use Rattle.bl_emit_pass_laws_points.specs.Points.Laws.{Remembering}
 use Rattle.bl_emit_pass_laws_points.proofs.OnPoints.Apart.{Beyond, first_further, further_twice, inner_is}
 use Rattle.bl_emit_pass_laws_points.proofs.OnPoints.Apart.{last_further, lies_further, nests_beyond, older_differs}
@@ -150,6 +151,8 @@ module _ (orderly : AcceptedIsOrderly) (callers : InstancesHaveCallers) (clearin
             (λ its. local_older scope name (remembered_at scope) (places.memory its).older));
         fits = midway.fits;
         copies_fit = midway.copies_fit;
+        frames_within = midway.frames_within;
+        within = midway.within;
       }
 
       pub local_keeps : PassKeeps site unit remembers scope here (set_at here local held)
@@ -281,6 +284,8 @@ module _ (orderly : AcceptedIsOrderly) (callers : InstancesHaveCallers) (clearin
               (frame_beside site unit remembers scope places active_site own) midway.stands callee_cleared;
           fits = midway.fits;
           copies_fit = midway.copies_fit;
+          frames_within = clear_within W activities j frames midway.frames_within;
+          within = midway.within;
         }
 
         pub cleared_keeps : PassKeeps site unit remembers scope here after

@@ -20,6 +20,7 @@ returns c =
       given = c.runs_give.ensures;
       left = c.runs_leave.ensures;
       pass = c.blocks_pass.ensures;
+      stay = c.passes_stay_within.ensures;
       placed = c.blocks_are_placed.ensures;
       points = c.points_come.ensures;
       prevs = c.prevs_agree.ensures;
