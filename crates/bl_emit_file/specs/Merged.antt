@@ -28,7 +28,7 @@ pub record IsOfMerged (program : Program) (file : Parts) : Type 0 where
   pub is : file ≡ written_file program machine
 
 -- there is a machine of the program with these structs, these units and this entry whose blocks are merged, and in the file the function of each
--- activity that has an instance has one `if` for each block of the activity, directly in its body
+-- activity that has an instance has as many `if`s directly in its body as the machine has blocks for it
 pub record HasMergedBlocks (structs : List StructDef) (units : List UnitDef) (entry : ℕ) (file : Parts) : Type 0 where
   pub machine : List Activity
   pub agrees : AreActivitiesOf units machine

@@ -27,7 +27,7 @@ pub record ShowsProgram (structs : List StructDef) (units : List UnitDef) (entry
   pub functions : FunctionsOwn structs units entry file
   -- and that struct has as many counters as the activity's width: the most places of it that can rest at once
   pub frames : EachFrameHasWidth structs units entry file
-  -- the body of that function is assignments, and then one `if` for each block that a machine with merged blocks has for the activity
+  -- the body of that function is assignments, and then as many `if`s as a machine with merged blocks has blocks for the activity
   pub blocks : HasMergedBlocks structs units entry file
   -- over all rows that fit its inputs the parallel meaning allows its trace, and no other
   pub trace : (rows : List (List ℤ)) (shows : Shown) → RowsFit (input_columns unit) rows →

@@ -1,9 +1,9 @@
-//! The C file of an accepted program. `c_file` makes it: it has a spelling, is well formed, has the columns of the program's entry and needs at most
-//! 1,000,000 cells; each activity that has an instance has one function, which alone names its counters, as many counters as its width, and one `if` for
-//! each of its blocks; over all rows that fit it has the one trace that the meaning of the program allows, and no other (`specs/Shows.antt`,
-//! `ShowsProgram`). It is what is written of a machine of the program in which no two neighbouring blocks could be one (`specs/Merged.antt`,
-//! `IsOfMerged`). The program has to be made of a source text (`FromText` of `bl_prevs`). A law, as the contract of a function that does nothing, puts
-//! those of the parts together (`specs/Laws.antt`, `ProgramsShow`).
+//! The C file of an accepted program. `c_file` makes it: it has a spelling, is well formed, has the columns of the program's entry and needs at
+//! most 1,000,000 cells; each activity that has an instance has one function, which alone names its counters, as many counters as its width, and
+//! as many `if`s as a machine with merged blocks has blocks for it; over all rows that fit it has the one trace that the meaning of the program
+//! allows, and no other (`specs/Shows.antt`, `ShowsProgram`). It is what is written of a machine of the program in which no two neighbouring
+//! blocks could be one (`specs/Merged.antt`, `IsOfMerged`). The program has to be made of a source text (`FromText` of `bl_prevs`). A law, as
+//! the contract of a function that does nothing, puts those of the parts together (`specs/Laws.antt`, `ProgramsShow`).
 #![tactic(auto)]
 
 mod counts;

@@ -1,5 +1,5 @@
 //! Laws of C functions that are made of functions with a result. None of these functions does anything: the contract is the
-//! law. Such a function copies its aggregate inputs first: the C that does so goes on, each variable has the value with
+//! law. Such a function copies its aggregate inputs before its statements: the C that does so goes on, each variable has the value with
 //! which the body begins, and nothing else has changed (`specs/Results.antt`, `InputsBegin`). A call of the C function traps
 //! exactly where the function does; else it returns the number of the function's result, and leaves all as it was that was
 //! there before (`ResultsCome`). The law asks what that of functions without a result asks: that the earlier functions do in

@@ -3,7 +3,7 @@
 //! (`FilesOwn`) each activity A that has an instance has exactly one function `a_A` and one struct `f_A` (`specs/Counters/Own.antt`,
 //! `EachHasOneFunctionAndFrame`), and a place that names a counter, a member `c` and digits, is `(*f).cN` in the function `a_A` whose `f`
 //! points to `struct f_A` (`CountersAreOwn`). So a counter of `struct f_A` is named in `a_A` alone (`CountersStandInOne`). The body of
-//! `a_A` is assignments, and then one `if` for each block that the machine has for A (`FilesHaveIfs`; `specs/Counters/Ifs.antt`,
+//! `a_A` is assignments, and then as many `if`s as the machine has blocks for A (`FilesHaveIfs`; `specs/Counters/Ifs.antt`,
 //! `HasIfForEach`).
 
 ghost use Rattle.bl_emit_laws.specs.Counters.Laws.{FilesHaveIfs, FilesOwn};
@@ -27,7 +27,7 @@ pub fn files_own(program: &Program)
     files_end(program);
 }
 
-/// In the body of the function of each activity stands one `if` for each block that the machine has for it.
+/// In the body of the function of each activity stand as many `if`s as the machine has blocks for it.
 pub fn files_have_ifs(program: &Program)
     ensures { FilesHaveIfs program.now }
 {

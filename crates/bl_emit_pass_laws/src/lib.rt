@@ -1,8 +1,9 @@
-//! What the C function of an activity does beside one pass of an instance by rules, as definitions: where memory has what an instance and
-//! all that it calls rest at and remember (`specs/Calls/Memories.antt`), how a running function stands in the middle of its pass
-//! (`specs/Calls/Standing.antt`), and what a call leaves (`specs/Calls/Calls.antt`). Laws of blocks in the order of their nodes. None of these
-//! functions does anything: the contract is the law. `bl_emit_pass_laws_points` has the blocks of single nodes, `bl_emit_pass_laws_runs` those
-//! of `run`s and the whole.
+//! What the C function of an activity does beside one pass of an instance by rules, as definitions: where memory has what an instance and all
+//! that it calls rest at and remember (`specs/Calls/Memories.antt`), how a running function stands in the middle of its pass
+//! (`specs/Calls/Standing.antt`), and what a call leaves (`specs/Calls/Calls.antt`). None of these functions does anything: the contract is the
+//! law. Registers in memory (`registers`, `own`), counters (`within`), blocks in the order of their nodes (`placed`, `passes`, `activities`),
+//! the functions that are known (`tables`), and what is kept (`remember`, `cleared`, `fits`). `bl_emit_pass_laws_points` has the blocks of
+//! single nodes, `bl_emit_pass_laws_runs` those of `run`s and the whole.
 #![tactic(auto)]
 
 pub mod activities;

@@ -3,7 +3,8 @@
 //! whether the body has ended (`specs/Registers/Registers.antt`, `RegistersHold`). Their places keep apart from one another, from variables
 //! and from copies, where the pointers of the function lead to what keeps apart (`RegistersKeepApart`). There the C of changes
 //! goes on, leaves memory that holds the changed registers, and leaves all numbers as they were that belong to no register
-//! (`specs/Registers/Laws.antt`, `ChangesCome`); and the C of a guard doesn't trap and has the value of what is asked (`GuardsShow`).
+//! (`specs/Registers/Laws.antt`, `ChangesCome`); and, where no counter held more than its
+//! greatest value as the tick began, the C of a guard doesn't trap and has the value of what is asked (`GuardsShow`).
 
 ghost use Rattle.bl_emit_pass_laws.specs.Registers.Laws.{ChangesCome, GuardsShow, RegistersKeepApart};
 

@@ -18,8 +18,8 @@ use Rattle.bl_tree.specs.declared.tree.Unit.{Unit as UnitDef}
 use Rattle.bl_words.specs.Jobs.{Word}
 
 -- the bytes are a C text of the program with these structs, these units and this entry. In the file that they spell each activity that has an
--- instance has one function, which alone names its counters, as many of these as its width, and in the body of that function one `if` for each block
--- that a machine of the program with merged blocks has for the activity
+-- instance has one function, which alone names its counters, as many of these as its width, and in the body of that function as many `if`s as a
+-- machine of the program with merged blocks has blocks for the activity
 pub record IsBuiltOfProgram (structs : List StructDef) (units : List UnitDef) (entry : ℕ) (text : List ℕ) : Type 0 where
   pub is : IsTextOfProgram structs units entry text
   pub functions : FunctionsOwn structs units entry (parts_of is.behaves.file)

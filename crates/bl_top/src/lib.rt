@@ -4,7 +4,7 @@
 //! source, in `specs/Build.antt`, `specs/Run.antt` and `specs/Drive.antt`, and for the others in `bl_commands`. The bytes
 //! that `build` writes have the one trace of the source's program, and what `run` shows is the text of it (`OneTrace` and
 //! `HasCourse` of `bl_commands`). In the file that those bytes spell each activity that has an instance has one function,
-//! which alone names its counters, as many counters as its width, and one `if` for each of its blocks (`IsBuiltOf`).
+//! which alone names its counters, as many counters as its width, and as many `if`s as a merged machine has blocks for it (`IsBuiltOf`).
 //! docs/THEOREM.md leads through it.
 //!
 //! Laws: `exec` of a text that was built of a source, and isn't too long, ends by the one trace of the source's program

@@ -44,14 +44,14 @@ ifs_in body = filter is_if body
 
 -- ---- bodies
 
--- a body is assignments, and then one `if` for each of these blocks, and nothing else
+-- a body is assignments, and then as many `if`s as there are blocks, and nothing else
 pub record HasIfForEach (blocks : List (List ℕ)) (body : List CStmt) : Type 0 where
   pub before : List CStmt
   pub settings : list_all is_setting before ≡ true
   pub is : body ≡ before ++ ifs_in body
   pub many : length (ifs_in body) ≡ length blocks
 
--- the machine has this part for an activity A, and the one function `a_A` of the file has in its body one `if` for each block of that
+-- the machine has this part for an activity A, and the one function `a_A` of the file has in its body as many `if`s as that has blocks
 pub record FunctionHasIfs (activity : UnitDef) (part : Option InMachine) (file : Parts) : Type 0 where
   pub one : InMachine
   pub is : part ≡ Some one

@@ -19,7 +19,7 @@ FilesOwn program =
     AreActivitiesOf program.units machine → slice_get program.units program.entry ≡ Some unit → WellFormed (written_file program machine) →
     FunctionsOwn program.structs program.units program.entry (written_file program machine)
 
--- and in the body of the function of each such activity stands one `if` for each block that the machine has for it
+-- and in the body of the function of each such activity stand as many `if`s as the machine has blocks for it
 abbrev pub FilesHaveIfs : Program → Type 0
 FilesHaveIfs program =
     (machine : List InMachine) (unit : UnitDef) → Keeps program.structs program.units program.entry → Passes program.units →

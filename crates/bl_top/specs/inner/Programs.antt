@@ -19,7 +19,7 @@ pub record IsOfText (program : Program) : Type 0 where
   pub has : HasProgram text program
 
 -- the C file is well formed and has the one trace of a program; each activity that has an instance has one function in it, which alone names its
--- counters, as many of these as its width, and in the body of that function one `if` for each of its blocks
+-- counters, as many of these as its width, and in the body of that function as many `if`s as a machine with merged blocks has blocks for it
 pub record IsFileOf (structs : List StructDef) (units : List UnitDef) (entry : ℕ) (file : CFile) : Type 0 where
   pub well_formed : WellFormed (parts_of file)
   pub one_trace : OneTrace structs units entry (behaviour_of (parts_of file))
