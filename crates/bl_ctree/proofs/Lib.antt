@@ -2,9 +2,10 @@ mod Bools
 pub mod Elements
 mod Forgetting
 pub mod ItemLemmas
+mod Leaving
 pub mod Listing
 mod Ordering
-mod Properness
+pub mod Proper
 mod Settling
 pub mod Stepping
 pub mod WakeLemmas

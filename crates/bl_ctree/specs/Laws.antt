@@ -1,12 +1,14 @@
 -- What holds of every program, tree and store.
 use Rattle.std.specs.Prelude.{ℕ, ℤ, Bool, true, List, [], ◌∷◌, ◌++◌, ◌≡◌, ◌↔◌, Some}
+use Rattle.bl_tree.specs.declared.tree.Stmt.{Stmt}
 use Rattle.bl_tree.specs.Static.{fields_precede}
 use Rattle.bl_ctree.specs.Actions.{Action, Effect, Silent, Acts, Asks, Copies, Gives, perform}
 use Rattle.bl_ctree.specs.Control.{Control, do_all, forget, is_settled, seq, woken}
 use Rattle.bl_ctree.specs.Instances.{Setting}
+use Rattle.bl_ctree.specs.Left.{Left, LeftOf, LeftTree, Stands, TestsFit}
+use Rattle.bl_ctree.specs.Means.{entry_items}
 use Rattle.bl_ctree.specs.Points.{Among, Point, points}
-use Rattle.bl_ctree.specs.Positions.{Item}
-use Rattle.bl_ctree.specs.Proper.{ItemsProper, Proper, ProperTree}
+use Rattle.bl_ctree.specs.Positions.{Item, Position, items_from}
 use Rattle.bl_ctree.specs.Reaches.{Reaches, ReachesInside}
 use Rattle.bl_ctree.specs.Steps.{Acting, IsStill, Moves, Step}
 use Rattle.bl_ctree.specs.Store.{Store}
@@ -97,33 +99,45 @@ abbrev pub PointsAct : Type 0
 PointsAct =
     (w : Setting) (c : Control) (store : Store) (d : Bool) (a : Action) (c' : Control) → Moves w 0 c d a c' → Acting w c store a
 
--- ---- proper trees
+-- ---- what is left
 
--- the tree of proper items that are to begin is proper
-abbrev pub ItemsBeginProper : Type 0
-ItemsBeginProper = (w : Setting) (i : ℕ) (items : List Item) → ItemsProper items → Proper w i (do_all items)
+-- the items of a block have no test at the end of a turn
+abbrev pub BlocksFit : Type 0
+BlocksFit = (position : Position) (k : ℕ) (body : List Stmt) → TestsFit (items_from position k body)
 
--- a proper tree before proper items is proper
-abbrev pub SeqIsProper : Type 0
-SeqIsProper = (w : Setting) (i : ℕ) (c : Control) (rest : List Item) → Proper w i c → ItemsProper rest → Proper w i (seq c rest)
+-- what begins is left of its items
+abbrev pub ItemsBeginLeft : Type 0
+ItemsBeginLeft = (w : Setting) (stood : Bool) (i : ℕ) (items : List Item) → TestsFit items → Left w stood i items (do_all items)
 
--- a step keeps a tree proper
-abbrev pub MovesKeepProper : Type 0
-MovesKeepProper = (w : Setting) (i : ℕ) (d : Bool) (a : Action) (c c' : Control) → Moves w i c d a c' → Proper w i c → Proper w i c'
+-- what is left of an item, before what follows the item, is left of the items
+abbrev pub SeqIsLeft : Type 0
+SeqIsLeft =
+    (w : Setting) (stood : Bool) (i : ℕ) (item : Item) (rest items : List Item) (c : Control) → Stands item rest items → TestsFit rest →
+    LeftOf w stood i item c → Left w stood i items (seq c rest)
 
--- a whole tree is proper inside a tick where it was before
-abbrev pub WakingKeepsProper : Type 0
-WakingKeepsProper = (w : Setting) (c : Control) → ProperTree w c → Proper w 0 (woken c)
+-- a step keeps what is left of items
+abbrev pub MovesKeepLeft : Type 0
+MovesKeepLeft =
+    (w : Setting) (stood : Bool) (i : ℕ) (items : List Item) (d : Bool) (a : Action) (c c' : Control) → Moves w i c d a c' →
+    Left w stood i items c → Left w stood i items c'
 
--- between ticks runs reach proper trees only
-abbrev pub ReachedIsProper : Type 0
-ReachedIsProper = (w : Setting) (rows : List (List ℤ)) (c : Control) (store : Store) → Reaches w rows c store → ProperTree w c
+-- waking keeps it, and then everything in it stood
+abbrev pub WakingKeepsLeft : Type 0
+WakingKeepsLeft = (w : Setting) (stood : Bool) (i : ℕ) (items : List Item) (c : Control) → Left w stood i items c → Left w true i items (woken c)
+
+-- a whole tree that is woken is left of the entry's body, and everything in it stood
+abbrev pub WokenTreeIsLeft : Type 0
+WokenTreeIsLeft = (w : Setting) (c : Control) → LeftTree w c → Left w true 0 (entry_items w) (woken c)
+
+-- between ticks runs reach only what is left of the entry's body
+abbrev pub ReachedIsLeft : Type 0
+ReachedIsLeft = (w : Setting) (rows : List (List ℤ)) (c : Control) (store : Store) → Reaches w rows c store → LeftTree w c
 
 -- and inside ticks
-abbrev pub ReachedInsideIsProper : Type 0
-ReachedInsideIsProper =
+abbrev pub ReachedInsideIsLeft : Type 0
+ReachedInsideIsLeft =
     (w : Setting) (rows : List (List ℤ)) (row : List ℤ) (actions : List Action) (c : Control) (store : Store) →
-    ReachesInside w rows row actions (Rests c store) → Proper w 0 c
+    ReachesInside w rows row actions (Rests c store) → Left w true 0 (entry_items w) c
 
 -- ---- between ticks
 

@@ -2,13 +2,13 @@ pub mod Actions
 pub mod Control
 pub mod Instances
 pub mod Laws
+pub mod Left
 pub mod Means
 pub mod Measure
 pub mod Nodes
 pub mod Pending
 pub mod Points
 pub mod Positions
-pub mod Proper
 pub mod Reaches
 pub mod Steps
 pub mod Store

@@ -1,8 +1,8 @@
 //! Laws of control trees. None of these functions does anything: the contract is the law.
 
-ghost use Rattle.bl_ctree.specs.Laws.{FrontsAreSteps, ItemsBeginProper, MaximalIsSteps, MovesAreListed, MovesKeepProper, PointsAct};
-ghost use Rattle.bl_ctree.specs.Laws.{PointsInOrder, PointsMove, ReachedInsideIsProper, ReachedIsProper, SeqIsProper, SettledIsStill, StepsAreListed};
-ghost use Rattle.bl_ctree.specs.Laws.{StepsFollow, StillIsUnlisted, WakingForgets, WakingKeepsProper};
+ghost use Rattle.bl_ctree.specs.Laws.{BlocksFit, FrontsAreSteps, ItemsBeginLeft, MaximalIsSteps, MovesAreListed, MovesKeepLeft, PointsAct};
+ghost use Rattle.bl_ctree.specs.Laws.{PointsInOrder, PointsMove, ReachedInsideIsLeft, ReachedIsLeft, SeqIsLeft, SettledIsStill, StepsAreListed};
+ghost use Rattle.bl_ctree.specs.Laws.{StepsFollow, StillIsUnlisted, WakingForgets, WakingKeepsLeft, WokenTreeIsLeft};
 
 /// The listed points of a tree are its steps: each may act, and no other.
 pub fn points_are_steps()
@@ -30,14 +30,17 @@ pub fn lists_of_steps()
     ensures maximal { MaximalIsSteps }
 {}
 
-/// Blocks and sequences begin as proper trees, and steps and waking keep them proper; so runs reach proper trees only.
-pub fn trees_stay_proper()
-    ensures items { ItemsBeginProper }
-    ensures seq { SeqIsProper }
-    ensures steps { MovesKeepProper }
-    ensures waking { WakingKeepsProper }
-    ensures reached { ReachedIsProper }
-    ensures inside { ReachedInsideIsProper }
+/// What begins is left of its items, and steps and waking keep what is left of them; so runs reach only what is left of the
+/// entry's body.
+pub fn trees_stay_left()
+    ensures blocks { BlocksFit }
+    ensures items { ItemsBeginLeft }
+    ensures seq { SeqIsLeft }
+    ensures steps { MovesKeepLeft }
+    ensures waking { WakingKeepsLeft }
+    ensures whole { WokenTreeIsLeft }
+    ensures reached { ReachedIsLeft }
+    ensures inside { ReachedInsideIsLeft }
 {}
 
 /// What stood in the tree when the last tick began doesn't tell in the next one.

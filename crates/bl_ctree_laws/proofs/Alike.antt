@@ -11,9 +11,9 @@ use Rattle.bl_nodes.specs.Laws.{plain_arm, plain_branch}
 use Rattle.bl_nodes.specs.Nodes.{are_instant, is_instant, some_instant, some_strong, strong_instant}
 use Rattle.bl_nodes.specs.Plain.{Label, Position, bodies_from, else_at, inside, label_at, passed_one, plain_block}
 use Rattle.bl_nodes.proofs.Instants.{blocks_are_instant, instant_is}
+use Rattle.bl_ctree.specs.Left.{TestsFit, no_item, a_begin, an_again}
 use Rattle.bl_ctree.specs.Pending.{items_may_end}
 use Rattle.bl_ctree.specs.Positions.{Item, Located, kind_of, place_of}
-use Rattle.bl_ctree.specs.Proper.{ItemsProper, no_item, a_begin, an_again}
 use Rattle.bl_ctree_laws.specs.Bridge.{again, label_of, plain_at, plain_items, plain_kind}
 use Rattle.bl_ctree_laws.proofs.PlainKinds.{of_kind, statement_is}
 
@@ -66,7 +66,7 @@ statement_ends s =
     kind_alike s.stmt (label_of s) (label_at s.position) (place_of s) (kind_of s)
     ∙ ap is_instant (sym (statement_is s.stmt s.position)) ∙ instant_is s.stmt s.position
 
-pub items_end : {items : List Item} → ItemsProper items → are_instant (plain_items items) ≡ items_may_end items
+pub items_end : {items : List Item} → TestsFit items → are_instant (plain_items items) ≡ items_may_end items
 items_end no_item = refl
 items_end (a_begin {s} {rest} p) = λ i. statement_ends s i && items_end p i
 items_end (an_again {s} {body} {e} {rest} is p) = λ i. test_ends i && items_end p i

@@ -18,28 +18,11 @@ use Rattle.bl_nodes.specs.Plain.{Plain, Await as AwaitOf, Cobegin as CobeginOf, 
 use Rattle.bl_ctree.specs.Actions.{Action, reads_of}
 use Rattle.bl_ctree.specs.Control as control
 use Rattle.bl_ctree.specs.Instances.{Setting}
+use Rattle.bl_ctree.specs.Left.{TestsFit, no_item, a_begin, an_again}
 use Rattle.bl_ctree.specs.Pending as pending
 use Rattle.bl_ctree.specs.Positions.{Item, Begin, Again, Located, kind_of, place_of}
-use Rattle.bl_ctree.specs.Proper.{
-  ItemsProper,
-  no_item,
-  a_begin,
-  an_again,
-  Proper,
-  a_nil,
-  a_wait,
-  a_test,
-  a_do,
-  a_turn,
-  a_seq,
-  a_par,
-  a_guard,
-  a_run,
-  BranchesProper,
-  no_more,
-  a_branch,
-}
 use Rattle.bl_ctree.specs.Store.{Location, home, overlap}
+use Rattle.bl_ctree.proofs.Proper.{Proper, a_nil, a_wait, a_test, a_do, a_turn, a_seq, a_par, a_guard, a_run, BranchesProper, no_more, a_branch, left_proper}
 use Rattle.bl_ctree_laws.specs.Bridge.{
   again,
   deed_of,
@@ -274,7 +257,7 @@ module _ (w : Setting) (i : ℕ) (at : Location) where
   item_soon (Begin s) = surface_is s
   item_soon (Again s) = again_soon (plain_at s) ∙ surface_is s
 
-  items_soon : {items : List Item} → ItemsProper items → soon_in over (plain_items items) ≡ pending.items_surface w i items at
+  items_soon : {items : List Item} → TestsFit items → soon_in over (plain_items items) ≡ pending.items_surface w i items at
   items_soon no_item = refl
   items_soon (a_begin {s} {rest} p) = λ j. item_soon (Begin s) j || (statement_ends s j && items_soon p j)
   items_soon (an_again {s} {rest = rest} e p) =
@@ -333,8 +316,8 @@ any_meeting {w} {i} {branches = branches} a p =
 pub answers_are_plain : AnswersArePlain
 answers_are_plain = record {
   ended = ended;
-  settled = λ w i c p. settled p;
-  ends = λ w i c p. ends p;
-  writes = λ w i c at p. writes at p;
-  meeting = λ w i c a p. meeting a p;
+  settled = λ w stood i items c left. settled (left_proper left);
+  ends = λ w stood i items c left. ends (left_proper left);
+  writes = λ w stood i items c at left. writes at (left_proper left);
+  meeting = λ w stood i items c a left. meeting a (left_proper left);
 }

@@ -1,4 +1,4 @@
--- Each step of the plain tree of a proper tree is one of the tree.
+-- Each step of the plain tree of what may be left of items is one of the tree.
 use Rattle.std.proofs.Common.{◌≡◌, ℕ, suc, Bool, true, false, List, [], ◌∷◌, refl, ap, sym, ◌∙◌, subst, Option}
 use Rattle.bl_tree.specs.declared.tree.Arm.{Arm, out-Arm}
 use Rattle.bl_tree.specs.declared.tree.Branch.{Branch, out-Branch}
@@ -16,22 +16,8 @@ use Rattle.bl_ctree.specs.Control.{Body, Check}
 use Rattle.bl_ctree.specs.Instances.{Setting}
 use Rattle.bl_ctree.specs.Pending as pending
 use Rattle.bl_ctree.specs.Positions.{Item, Begin, Again, Located, further, is_act, kind_of, place_of}
-use Rattle.bl_ctree.specs.Proper.{
-  Proper,
-  a_nil,
-  a_wait,
-  a_test,
-  a_do,
-  a_turn,
-  a_seq,
-  a_par,
-  a_guard,
-  a_run,
-  BranchesProper,
-  no_more,
-  a_branch,
-}
 use Rattle.bl_ctree.specs.Steps as located
+use Rattle.bl_ctree.proofs.Proper.{Proper, a_nil, a_wait, a_test, a_do, a_turn, a_seq, a_par, a_guard, a_run, BranchesProper, no_more, a_branch, left_proper}
 use Rattle.bl_ctree_laws.specs.Bridge.{again, deed_of, label_of, plain_items, plain_kind, plain_tree, plain_trees}
 use Rattle.bl_ctree_laws.specs.Laws.{AllArmed, Armed, LocatedStep, PlainStepsAreSteps, has_arm}
 use Rattle.bl_ctree_laws.specs.Pending.{Deed, any_meets, deed, meets}
@@ -322,4 +308,4 @@ mutual
       }
 
 pub plain_steps_are_steps : PlainStepsAreSteps
-plain_steps_are_steps w i c d a n c' p armed move = back p armed move
+plain_steps_are_steps w stood i items c d a n c' left armed move = back (left_proper left) armed move

@@ -1,4 +1,4 @@
--- Each step of a proper tree is one of its plain tree.
+-- Each step of what may be left of items is one of its plain tree.
 use Rattle.std.proofs.Common.{◌≡◌, ℕ, suc, Bool, false, List, [], ◌∷◌, map, refl, ap, sym, ◌∙◌, subst, Option}
 use Rattle.bl_tree.specs.declared.tree.Arm.{Arm, out-Arm}
 use Rattle.bl_tree.specs.declared.tree.Branch.{Branch, out-Branch}
@@ -16,8 +16,8 @@ use Rattle.bl_ctree.specs.Actions.{Action}
 use Rattle.bl_ctree.specs.Control as control
 use Rattle.bl_ctree.specs.Instances.{Setting}
 use Rattle.bl_ctree.specs.Positions.{Item, Begin, Again, Located, block_items, body_items, further, kind_of}
-use Rattle.bl_ctree.specs.Proper.{Proper, a_seq, a_par, a_guard, a_run, BranchesProper, a_branch}
 use Rattle.bl_ctree.specs.Steps as located
+use Rattle.bl_ctree.proofs.Proper.{Proper, a_seq, a_par, a_guard, a_run, BranchesProper, a_branch, left_proper}
 use Rattle.bl_ctree_laws.specs.Bridge.{
   again,
   deed_of,
@@ -207,4 +207,4 @@ mutual
       let m = one_steps move others in record { label = m.label; moves = later m.moves (meeting a inner ∙ free) }
 
 pub steps_are_plain : StepsArePlain
-steps_are_plain w i c d a c' p move = steps move p
+steps_are_plain w stood i items c d a c' left move = steps move (left_proper left)

@@ -4,8 +4,9 @@ use Rattle.bl_nodes.specs.Plain.{Block}
 use Rattle.bl_ctree.specs.Actions.{Action}
 use Rattle.bl_ctree.specs.Control as control
 use Rattle.bl_ctree.specs.Instances.{Setting}
-use Rattle.bl_ctree.specs.Laws.{MovesKeepProper, ReachedIsProper, WakingKeepsProper}
-use Rattle.bl_ctree.specs.Proper.{Proper, ProperTree}
+use Rattle.bl_ctree.specs.Laws as laws
+use Rattle.bl_ctree.specs.Left as located_left
+use Rattle.bl_ctree.specs.Positions.{Item}
 use Rattle.bl_ctree.specs.Reaches.{Reaches, after_tick, at_first}
 use Rattle.bl_ctree.specs.Store.{Store}
 use Rattle.bl_ctree.specs.Ticks as ticks
@@ -21,18 +22,19 @@ use Rattle.bl_ctree_laws.proofs.Waking.{waking_is_plain}
 tree_same : (c c' : control.Control) (store store' : Store) → ticks.Rests c store ≡ ticks.Rests c' store' → c ≡ c'
 tree_same c c' store store' e = cc
 
-module _ (kept : MovesKeepProper) (woken_proper : WakingKeepsProper) (proper : ReachedIsProper) where
-  after_steps : {w : Setting} {body : Block} {c : control.Control} {store : Store} {actions : List Action} {c' : control.Control} {store' : Store}
-      {end : ticks.End} → ticks.Steps w c store actions end → end ≡ ticks.Rests c' store' → Proper w 0 c → Left w true 0 body (plain_tree c) →
-      Left w true 0 body (plain_tree c')
-  after_steps {w} {body} {c' = c'} {store' = store'} (ticks.none {c = c} {store = store}) e p left =
+module _ (kept : laws.MovesKeepLeft) (begun : laws.WokenTreeIsLeft) (between : laws.ReachedIsLeft) where
+  after_steps : {w : Setting} {items : List Item} {body : Block} {c : control.Control} {store : Store} {actions : List Action} {c' : control.Control}
+      {store' : Store} {end : ticks.End} → ticks.Steps w c store actions end → end ≡ ticks.Rests c' store' → located_left.Left w true 0 items c →
+      Left w true 0 body (plain_tree c) → Left w true 0 body (plain_tree c')
+  after_steps {w} {body = body} {c' = c'} {store' = store'} (ticks.none {c = c} {store = store}) e p left =
       subst (λ c. Left w true 0 body (plain_tree c)) (tree_same c c' store store' e) left
   after_steps (ticks.traps t) e p left = absurd cc
-  after_steps {w} (ticks.step {c = c} {a = a} {c' = c'} s more) e p left =
-      after_steps more e (kept w 0 s.answer a c c' s.moves p) (keeps left (steps_are_plain w 0 c s.answer a c' p s.moves).moves)
+  after_steps {w} {items} (ticks.step {c = c} {a = a} {c' = c'} s more) e p left =
+      after_steps more e (kept w true 0 items s.answer a c c' s.moves p)
+      (keeps left (steps_are_plain w true 0 items c s.answer a c' p s.moves).moves)
 
   -- the woken tree of a whole one
-  pub woken_left : {w : Setting} {body : Block} (c : control.Control) → ProperTree w c → LeftTree w body (plain_tree c) →
+  pub woken_left : {w : Setting} {body : Block} (c : control.Control) → located_left.LeftTree w c → LeftTree w body (plain_tree c) →
       Left w true 0 body (plain_tree (control.woken c))
   woken_left {w} {body} c p left = subst (Left w true 0 body) (sym (waking_is_plain w c p)) (waking_keeps_left w body (plain_tree c) left)
 
@@ -40,29 +42,29 @@ module _ (kept : MovesKeepProper) (woken_proper : WakingKeepsProper) (proper : R
       LeftTree w (entry_block w) (plain_tree c)
   reached at_first = not_begun
   reached {w} (after_tick {before = rows} {c = c} {store} before tick paused is) =
-      let p = proper w rows c store before in
-      has_begun (after_steps tick.maximal.steps refl (woken_proper w c p) (woken_left c p (reached before)))
+      let p = between w rows c store before in
+      has_begun (after_steps tick.maximal.steps refl (begun w c p) (woken_left c p (reached before)))
 
   pub reached_is_left : ReachedIsLeft
   reached_is_left w rows c store r = reached r
 
   pub reached_inside_is_left : ReachedInsideIsLeft
   reached_inside_is_left w rows row actions c store r =
-      let p = proper w rows r.tree _ r.before in
-      after_steps r.steps refl (woken_proper w r.tree p) (woken_left r.tree p (reached r.before))
+      let p = between w rows r.tree _ r.before in
+      after_steps r.steps refl (begun w r.tree p) (woken_left r.tree p (reached r.before))
 
   pub lists_are_plain : ListsArePlain
-  lists_are_plain w c store actions end p list = go list p
+  lists_are_plain w stood items c store actions end p list = go list p
     where
-      go : {c : control.Control} {store : Store} {actions : List Action} {end : ticks.End} → ticks.Steps w c store actions end → Proper w 0 c →
-          PlainList w c store actions end
+      go : {c : control.Control} {store : Store} {actions : List Action} {end : ticks.End} → ticks.Steps w c store actions end →
+          located_left.Left w stood 0 items c → PlainList w c store actions end
       go ticks.none p = record { labels = _; steps = none; as_many = refl }
       go (ticks.traps {c = c} {a = a} t) p =
-          let m = steps_are_plain w 0 c t.answer a t.after p t.moves in
+          let m = steps_are_plain w stood 0 items c t.answer a t.after p t.moves in
           record { labels = _; steps = traps (record { answer = t.answer; deed = _; after = _; moves = m.moves; fails = t.fails }); as_many = refl }
       go (ticks.step {c = c} {a = a} {c' = c'} s more) p =
-          let m = steps_are_plain w 0 c s.answer a c' p s.moves in
-          let rest = go more (kept w 0 s.answer a c c' s.moves p) in
+          let m = steps_are_plain w stood 0 items c s.answer a c' p s.moves in
+          let rest = go more (kept w stood 0 items s.answer a c c' s.moves p) in
           record {
             labels = _;
             steps = step (record { answer = s.answer; deed = _; moves = m.moves; performs = s.performs }) rest.steps;
@@ -70,5 +72,5 @@ module _ (kept : MovesKeepProper) (woken_proper : WakingKeepsProper) (proper : R
           }
 
 pub still_is_plain : StillIsPlain
-still_is_plain w c p armed still d a n c' move =
-    let step = plain_steps_are_steps w 0 c d a n c' p armed move in still d step.action step.after step.moves
+still_is_plain w stood items c left armed still d a n c' move =
+    let step = plain_steps_are_steps w stood 0 items c d a n c' left armed move in still d step.action step.after step.moves

@@ -4,12 +4,14 @@ use Rattle.bl_tree.specs.declared.row.Last.TheVariants.{Ended as HasEnded}
 use Rattle.bl_ctree.specs.Actions.{Action}
 use Rattle.bl_ctree.specs.Control as control
 use Rattle.bl_ctree.specs.Instances.{Setting}
-use Rattle.bl_ctree.specs.Laws.{MovesKeepProper, ReachedInsideIsProper, ReachedIsProper, WakingKeepsProper}
-use Rattle.bl_ctree.specs.Means.{Allows, Shown, ends, goes_on, is_stuck, nothing_more, row_then, stays_open, traps}
-use Rattle.bl_ctree.specs.Proper.{Proper}
+use Rattle.bl_ctree.specs.Laws.{MovesKeepLeft, ReachedInsideIsLeft, ReachedIsLeft, WokenTreeIsLeft}
+use Rattle.bl_ctree.specs.Left.{Left}
+use Rattle.bl_ctree.specs.Means.{Allows, Shown, entry_items, ends, goes_on, is_stuck, nothing_more, row_then, stays_open, traps}
+use Rattle.bl_ctree.specs.Positions.{Item}
 use Rattle.bl_ctree.specs.Reaches.{Reaches, ReachesInside, after_tick, at_first}
 use Rattle.bl_ctree.specs.Store.{Store, outputs_row, woken_store}
 use Rattle.bl_ctree.specs.Ticks as ticks
+use Rattle.bl_ctree.proofs.Proper.{left_proper}
 use Rattle.bl_ctree_laws.specs.Bridge.{plain_tree}
 use Rattle.bl_ctree_laws.specs.Ends.{BranchesAreIndependent, IsOver, Maximal, Rests, Trapped}
 use Rattle.bl_ctree_laws.specs.Fitted.{Fitted}
@@ -26,11 +28,12 @@ tree_same : (c c' : Tree) (store store' : Store) → Rests c store ≡ Rests c' 
 tree_same c c' store store' e = cc
 
 -- what rests with one plain tree is one outcome
-resting_same : {w : Setting} (c c' : control.Control) → Proper w 0 c → Proper w 0 c' → plain_tree c ≡ plain_tree c' →
+resting_same : {w : Setting} {items : List Item} (c c' : control.Control) → Left w true 0 items c → Left w true 0 items c' →
+    plain_tree c ≡ plain_tree c' →
     ticks.resting_outcome (control.is_nil c) (control.is_settled c) ≡ ticks.resting_outcome (control.is_nil c') (control.is_settled c')
 resting_same c c' p p' e =
     let nil = sym (ended c) ∙ ap is_nil e ∙ ended c' in
-    let still = sym (settled p) ∙ ap is_settled e ∙ settled p' in
+    let still = sym (settled (left_proper p)) ∙ ap is_settled e ∙ settled (left_proper p') in
     λ i. ticks.resting_outcome (nil i) (still i)
 
 -- what is to hold of a program
@@ -81,12 +84,12 @@ stuck_waits e = absurd cc
 ended_waits : {A : Type 0} → ticks.Ended ≡ ticks.Paused → A
 ended_waits e = absurd cc
 
-module _ (kept : MovesKeepProper) (woken_proper : WakingKeepsProper) (proper : ReachedIsProper) (inside : ReachedInsideIsProper) where
+module _ (kept : MovesKeepLeft) (begun : WokenTreeIsLeft) (between : ReachedIsLeft) (inside : ReachedInsideIsLeft) where
   over : {w : Setting} {rows : List (List ℤ)} {row : List ℤ} {actions : List Action} (end : ticks.End) → Fitted w →
       ReachesInside w rows row actions end → ticks.IsOver w end → IsOver w (plain_end end)
   over ticks.Trapped typed r done = tt
   over {w} {rows} {row} {actions} (ticks.Rests c store) typed r done =
-      still_is_plain w c (inside w rows row actions c store r) (reached_is_armed w rows row actions c store typed r) done
+      still_is_plain w true (entry_items w) c (inside w rows row actions c store r) (reached_is_armed w rows row actions c store typed r) done
 
   within : {w : Setting} {rows : List (List ℤ)} {row : List ℤ} {c : control.Control} {store : Store} {end : ticks.End} → Reaches w rows c store →
       (t : ticks.Tick w row c store end) → ReachesInside w rows row t.actions end
@@ -95,8 +98,8 @@ module _ (kept : MovesKeepProper) (woken_proper : WakingKeepsProper) (proper : R
   plain_maximal : {w : Setting} {rows : List (List ℤ)} {row : List ℤ} {c : control.Control} {store : Store} {end : ticks.End} → Fitted w →
       Reaches w rows c store → ticks.Tick w row c store end → Maximal w (plain_tree (control.woken c)) (woken_store row store) (plain_end end)
   plain_maximal {w} {rows} {row} {c} {store} {end} typed r t =
-      let list = lists_are_plain kept woken_proper proper w (control.woken c) (woken_store row store) t.actions end
-      (woken_proper w c (proper w rows c store r)) t.maximal.steps in
+      let list = lists_are_plain kept begun between w true (entry_items w) (control.woken c) (woken_store row store) t.actions end
+      (begun w c (between w rows c store r)) t.maximal.steps in
       record { labels = list.labels; steps = list.steps; over = over end typed (within r t) t.maximal.over }
 
   outcome_same : {w : Setting} {rows rows' : List (List ℤ)} {row : List ℤ} {actions actions' : List Action} (end end' : ticks.End) →
@@ -113,11 +116,11 @@ module _ (kept : MovesKeepProper) (woken_proper : WakingKeepsProper) (proper : R
   woken_same : {w : Setting} {rows rows' : List (List ℤ)} {c c' : control.Control} {store store' : Store} → Reaches w rows c store →
       Reaches w rows' c' store' → plain_tree c ≡ plain_tree c' → plain_tree (control.woken c) ≡ plain_tree (control.woken c')
   woken_same {w} {rows} {rows'} {c} {c'} {store} {store'} r r' e =
-      waking_is_plain w c (proper w rows c store r) ∙ ap woken e ∙ sym (waking_is_plain w c' (proper w rows' c' store' r'))
+      waking_is_plain w c (between w rows c store r) ∙ ap woken e ∙ sym (waking_is_plain w c' (between w rows' c' store' r'))
 
   pub ticks_have_one_end : TicksHaveOneEnd
   ticks_have_one_end w rows rows' row c c' store end end' typed paces free r r' e one other =
-      let left = woken_left kept woken_proper proper c (proper w rows c store r) (reached kept woken_proper proper r) in
+      let left = woken_left kept begun between c (between w rows c store r) (reached kept begun between r) in
       let alike = subst (λ c. Maximal w c (woken_store row store) (plain_end end')) (sym (woken_same r r' e)) (plain_maximal typed r' other) in
       let same = ends_are_one w true (entry_block w) (plain_tree (control.woken c)) (woken_store row store) (plain_end end) (plain_end end') paces free left
       (plain_maximal typed r one) alike in

@@ -4,25 +4,10 @@ use Rattle.bl_tree.specs.declared.tree.Branch.{Branch, out-Branch}
 use Rattle.bl_nodes.specs.Plain.{Block, Then}
 use Rattle.bl_ctree.specs.Control as control
 use Rattle.bl_ctree.specs.Instances.{Setting}
+use Rattle.bl_ctree.specs.Left.{LeftTree, has_begun, not_begun}
+use Rattle.bl_ctree.specs.Means.{entry_items}
 use Rattle.bl_ctree.specs.Positions.{Item, Begin, Again, none_left}
-use Rattle.bl_ctree.specs.Proper.{
-  Proper,
-  a_nil,
-  a_wait,
-  a_test,
-  a_do,
-  a_turn,
-  a_seq,
-  a_par,
-  a_guard,
-  a_run,
-  BranchesProper,
-  no_more,
-  a_branch,
-  ProperTree,
-  not_begun,
-  has_begun,
-}
+use Rattle.bl_ctree.proofs.Proper.{Proper, a_nil, a_wait, a_test, a_do, a_turn, a_seq, a_par, a_guard, a_run, BranchesProper, no_more, a_branch, left_proper}
 use Rattle.bl_ctree_laws.specs.Bridge.{guarded, parallel, plain_at, plain_item, plain_items, plain_tree, plain_trees, running}
 use Rattle.bl_ctree_laws.specs.Laws.{WakingIsPlain}
 use Rattle.bl_ctree_laws.specs.Trees.{
@@ -126,9 +111,9 @@ mutual
   all_wake no_more = refl
   all_wake (a_branch {b = b} inner others) = λ i. beside (out-Branch b).weak (wakes inner i) (all_wake others i)
 
-tree_wakes : {w : Setting} {c : control.Control} → ProperTree w c → plain_tree (control.woken c) ≡ woken (plain_tree c)
-tree_wakes (not_begun {items} p) = begins_is items
-tree_wakes (has_begun p) = wakes p
+tree_wakes : {w : Setting} {c : control.Control} → LeftTree w c → plain_tree (control.woken c) ≡ woken (plain_tree c)
+tree_wakes {w} not_begun = begins_is (entry_items w)
+tree_wakes (has_begun left) = wakes (left_proper left)
 
 pub waking_is_plain : WakingIsPlain
-waking_is_plain w c p = tree_wakes p
+waking_is_plain w c left = tree_wakes left

@@ -7,9 +7,9 @@ use Rattle.bl_nodes.specs.Steps.{StepLabel}
 use Rattle.bl_ctree.specs.Actions.{Action}
 use Rattle.bl_ctree.specs.Control as control
 use Rattle.bl_ctree.specs.Instances.{Setting}
+use Rattle.bl_ctree.specs.Left.{Left, LeftTree}
 use Rattle.bl_ctree.specs.Pending as pending
-use Rattle.bl_ctree.specs.Positions.{Position, items_from, kind_of}
-use Rattle.bl_ctree.specs.Proper.{Proper, ProperTree}
+use Rattle.bl_ctree.specs.Positions.{Item, Position, items_from, kind_of}
 use Rattle.bl_ctree.specs.Steps as located
 use Rattle.bl_ctree.specs.Store.{Location}
 use Rattle.bl_ctree_laws.specs.Bridge.{deed_of, plain_at, plain_items, plain_tree}
@@ -22,18 +22,21 @@ pub record StatementsArePlain : Type 0 where
   pub statements : (s : Stmt) (position : Position) → plain s position ≡ plain_at (record { position = position; passed = 0; stmt = s })
   pub blocks : (body : List Stmt) (position : Position) → plain_block body position ≡ plain_items (items_from position 0 body)
 
--- what can be asked of a tree that stands in an instance is the same of its plain tree
+-- what can be asked of what may be left of items in an instance is the same of its plain tree
 pub record AnswersArePlain : Type 0 where
   pub ended : (c : control.Control) → is_nil (plain_tree c) ≡ control.is_nil c
-  pub settled : (w : Setting) (i : ℕ) (c : control.Control) → Proper w i c → is_settled (plain_tree c) ≡ control.is_settled c
-  pub ends : (w : Setting) (i : ℕ) (c : control.Control) → Proper w i c → may_end (plain_tree c) ≡ pending.may_end c
-  pub writes : (w : Setting) (i : ℕ) (c : control.Control) (at : Location) → Proper w i c →
+  pub settled : (w : Setting) (stood : Bool) (i : ℕ) (items : List Item) (c : control.Control) → Left w stood i items c →
+      is_settled (plain_tree c) ≡ control.is_settled c
+  pub ends : (w : Setting) (stood : Bool) (i : ℕ) (items : List Item) (c : control.Control) → Left w stood i items c →
+      may_end (plain_tree c) ≡ pending.may_end c
+  pub writes : (w : Setting) (stood : Bool) (i : ℕ) (items : List Item) (c : control.Control) (at : Location) → Left w stood i items c →
       may_write w i (plain_tree c) at ≡ pending.may_write w i c at
-  pub meeting : (w : Setting) (i : ℕ) (c : control.Control) (a : Action) → Proper w i c → meets w i (plain_tree c) (deed_of a) ≡ pending.meets w i c a
+  pub meeting : (w : Setting) (stood : Bool) (i : ℕ) (items : List Item) (c : control.Control) (a : Action) → Left w stood i items c →
+      meets w i (plain_tree c) (deed_of a) ≡ pending.meets w i c a
 
 -- and waking a whole tree wakes its plain tree
 abbrev pub WakingIsPlain : Type 0
-WakingIsPlain = (w : Setting) (c : control.Control) → ProperTree w c → plain_tree (control.woken c) ≡ woken (plain_tree c)
+WakingIsPlain = (w : Setting) (c : control.Control) → LeftTree w c → plain_tree (control.woken c) ≡ woken (plain_tree c)
 
 -- a step of the plain tree for a step of the tree
 pub record PlainStep (w : Setting) (i : ℕ) (c : control.Control) (d : Bool) (a : Action) (c' : control.Control) : Type 0 where
@@ -48,11 +51,11 @@ pub record LocatedStep (w : Setting) (i : ℕ) (c : control.Control) (d : Bool) 
   pub does : deed_of action ≡ a
   pub leads : plain_tree after ≡ c'
 
--- each step of a tree is one of its plain tree, with the same deed
+-- each step of what may be left of items is one of its plain tree, with the same deed
 abbrev pub StepsArePlain : Type 0
 StepsArePlain =
-    (w : Setting) (i : ℕ) (c : control.Control) (d : Bool) (a : Action) (c' : control.Control) → Proper w i c →
-    located.Moves w i c d a c' → PlainStep w i c d a c'
+    (w : Setting) (stood : Bool) (i : ℕ) (items : List Item) (c : control.Control) (d : Bool) (a : Action) (c' : control.Control) →
+    Left w stood i items c → located.Moves w i c d a c' → PlainStep w i c d a c'
 
 -- whether the statement is no `if` without an arm; no program has such an `if`
 abbrev pub has_arm : {A B C D : Type 0} → StmtKind-F A B C D → Bool
@@ -81,5 +84,5 @@ abbrev mutual
 -- and there are no others
 abbrev pub PlainStepsAreSteps : Type 0
 PlainStepsAreSteps =
-    (w : Setting) (i : ℕ) (c : control.Control) (d : Bool) (a : Deed) (n : StepLabel) (c' : Tree) → Proper w i c → Armed c →
-    Moves Unmet w i (plain_tree c) d a n c' → LocatedStep w i c d a c'
+    (w : Setting) (stood : Bool) (i : ℕ) (items : List Item) (c : control.Control) (d : Bool) (a : Deed) (n : StepLabel) (c' : Tree) →
+    Left w stood i items c → Armed c → Moves Unmet w i (plain_tree c) d a n c' → LocatedStep w i c d a c'

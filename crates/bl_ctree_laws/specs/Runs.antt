@@ -1,5 +1,5 @@
 -- What runs of a program reach, seen on plain trees.
-use Rattle.std.specs.Prelude.{ℕ, ℤ, true, List, length, ◌≡◌}
+use Rattle.std.specs.Prelude.{ℕ, ℤ, Bool, true, List, length, ◌≡◌}
 use Rattle.bl_tree.specs.declared.tree.StructDef.{StructDef}
 use Rattle.bl_tree.specs.declared.tree.Unit.{Unit as UnitDef}
 use Rattle.bl_nodes.specs.Plain.{Block}
@@ -7,8 +7,9 @@ use Rattle.bl_nodes.specs.Steps.{StepLabel}
 use Rattle.bl_ctree.specs.Actions.{Action}
 use Rattle.bl_ctree.specs.Control.{Control}
 use Rattle.bl_ctree.specs.Instances.{Setting, setting_of}
+use Rattle.bl_ctree.specs.Left as located_left
 use Rattle.bl_ctree.specs.Means.{Means, Shown, entry_items}
-use Rattle.bl_ctree.specs.Proper.{Proper}
+use Rattle.bl_ctree.specs.Positions.{Item}
 use Rattle.bl_ctree.specs.Reaches.{Reaches, ReachesInside}
 use Rattle.bl_ctree.specs.Steps as located
 use Rattle.bl_ctree.specs.Store.{Store}
@@ -47,15 +48,17 @@ pub record PlainList (w : Setting) (c : Control) (store : Store) (actions : List
   pub steps : Steps w (plain_tree c) store labels (plain_end end)
   pub as_many : length labels ≡ length actions
 
--- a list of steps of a tree is one of its plain tree
+-- a list of steps of what may be left of items is one of its plain tree
 abbrev pub ListsArePlain : Type 0
 ListsArePlain =
-    (w : Setting) (c : Control) (store : Store) (actions : List Action) (end : ticks.End) → Proper w 0 c →
-    ticks.Steps w c store actions end → PlainList w c store actions end
+    (w : Setting) (stood : Bool) (items : List Item) (c : Control) (store : Store) (actions : List Action) (end : ticks.End) →
+    located_left.Left w stood 0 items c → ticks.Steps w c store actions end → PlainList w c store actions end
 
 -- and where nothing may act in a tree nothing may in its plain tree
 abbrev pub StillIsPlain : Type 0
-StillIsPlain = (w : Setting) (c : Control) → Proper w 0 c → Armed c → located.IsStill w c → IsStill w (plain_tree c)
+StillIsPlain =
+    (w : Setting) (stood : Bool) (items : List Item) (c : Control) → located_left.Left w stood 0 items c → Armed c → located.IsStill w c →
+    IsStill w (plain_tree c)
 
 -- ---- ticks
 

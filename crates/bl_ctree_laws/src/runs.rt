@@ -3,14 +3,14 @@
 ghost use Rattle.bl_ctree_laws.specs.Fitted.{ReachedIsArmed};
 ghost use Rattle.bl_ctree_laws.specs.Runs.{ListsArePlain, ReachedInsideIsLeft, ReachedIsLeft, StillIsPlain, TicksHaveOneEnd, TracesAreOne};
 
-use bl_ctree::laws::trees_stay_proper;
+use bl_ctree::laws::trees_stay_left;
 
 /// The trees that runs reach may be left of the entry's body.
 pub fn reached_trees_are_left()
     ensures trees { ReachedIsLeft }
     ensures inside { ReachedInsideIsLeft }
 {
-    trees_stay_proper();
+    trees_stay_left();
 }
 
 /// Lists of steps within a tick are lists of steps of the plain trees, and where they can't go on those can't.
@@ -18,7 +18,7 @@ pub fn lists_are_plain()
     ensures lists { ListsArePlain }
     ensures still { StillIsPlain }
 {
-    trees_stay_proper();
+    trees_stay_left();
 }
 
 /// Where the bodies of a program's units are typed, each `if` that is to begin in a tree that runs reach has an arm.
@@ -31,12 +31,12 @@ pub fn reached_trees_are_armed()
 pub fn ticks_have_one_end()
     ensures { TicksHaveOneEnd }
 {
-    trees_stay_proper();
+    trees_stay_left();
 }
 
 /// There a program's meaning allows at most one trace over each list of rows.
 pub fn traces_are_one()
     ensures { TracesAreOne }
 {
-    trees_stay_proper();
+    trees_stay_left();
 }

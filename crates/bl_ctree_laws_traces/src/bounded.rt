@@ -8,7 +8,7 @@ ghost use Rattle.bl_ctree_laws_traces.specs.Bounded.Bounds.{AcceptedIsBounded, T
 ghost use Rattle.bl_ctree_laws_traces.specs.Bounded.Differ.{TicksDiffer};
 
 use crate::progress::{accepted_trees_are_live, programs_are_callable, steps_keep_live};
-use bl_ctree::laws::trees_stay_proper;
+use bl_ctree::laws::trees_stay_left;
 use bl_ctree_laws::bridge::statements_are_plain;
 use bl_ctree_laws::left::bodies_stay_left;
 use bl_ctree_laws::runs::{lists_are_plain, reached_trees_are_left};
@@ -35,7 +35,7 @@ pub fn ticks_differ()
 pub fn accepted_is_bounded()
     ensures { AcceptedIsBounded }
 {
-    trees_stay_proper();
+    trees_stay_left();
     statements_are_plain();
     lists_are_plain();
     reached_trees_are_left();

@@ -17,7 +17,7 @@ ghost use Rattle.bl_ctree_laws_traces.specs.Progress.Laws.{UnsettledCould, Wakin
 ghost use Rattle.bl_ctree_laws_traces.specs.Progress.Reached.{ReachedCould, ReachedInsideIsLive, ReachedIsLive};
 ghost use Rattle.bl_ctree_laws_traces.specs.Progress.Reading.{DeedsReadAtNodes, DeedsStandAtNodes, WritersTouch};
 
-use bl_ctree::laws::trees_stay_proper;
+use bl_ctree::laws::trees_stay_left;
 use bl_ctree_laws::bridge::{
     answers_are_plain, statements_are_plain, steps_are_plain, surfaces_write_soon, waking_is_plain,
 };
@@ -87,7 +87,7 @@ pub fn reached_trees_are_live()
     ensures inside { ReachedInsideIsLive }
     ensures could { ReachedCould }
 {
-    trees_stay_proper();
+    trees_stay_left();
     statements_are_plain();
     answers_are_plain();
     waking_is_plain();

@@ -14,7 +14,7 @@ ghost use Rattle.bl_ctree_laws_traces.specs.Ready.Touching.{WritersTouchOnTheWay
 use crate::progress::{
     accepted_trees_are_live, acts_or_waits, deeds_read_at_nodes, nodes_are_in_part, unsettled_could,
 };
-use bl_ctree::laws::trees_stay_proper;
+use bl_ctree::laws::trees_stay_left;
 use bl_ctree_laws::bridge::{answers_are_plain, statements_are_plain};
 use bl_ctree_laws::runs::{lists_are_plain, reached_trees_are_armed, reached_trees_are_left};
 use bl_ctree_laws_confluence::apart::{
@@ -94,7 +94,7 @@ pub fn accepted_programs_are_never_stuck()
     nodes_are_in_part();
     accepted_trees_are_live();
     accepted_programs_are_orderly();
-    trees_stay_proper();
+    trees_stay_left();
     reached_trees_are_armed();
     answers_are_plain();
     statements_are_plain();

@@ -13,7 +13,7 @@ ghost use Rattle.bl_machine_laws.specs.Passes.Ticks.{TicksArePasses};
 
 use crate::numbers::{turns_are_walks, turns_wait};
 use crate::waiting::{turns_lead_on, waits_in_part};
-use bl_ctree::laws::{lists_of_steps, trees_stay_proper};
+use bl_ctree::laws::{lists_of_steps, trees_stay_left};
 use bl_ctree_laws::bridge::{
     answers_are_plain, statements_are_plain, steps_are_plain, waking_is_plain,
 };
@@ -59,7 +59,7 @@ pub fn ticks_are_passes()
     steps_are_plain();
     acting_is_open();
     answers_are_plain();
-    trees_stay_proper();
+    trees_stay_left();
     reached_trees_are_armed();
     lists_of_steps();
     waking_is_plain();

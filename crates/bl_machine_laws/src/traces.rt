@@ -9,7 +9,7 @@ ghost use Rattle.bl_machine_laws.specs.Traces.Positions.{MachinesGiveOrders};
 ghost use Rattle.bl_machine_laws.specs.Traces.Runs.{MachinesHaveOneTrace, RunsAreMeant};
 
 use crate::passes::{graphs_give_orders, ticks_are_passes};
-use bl_ctree::laws::{lists_of_steps, trees_stay_proper};
+use bl_ctree::laws::{lists_of_steps, trees_stay_left};
 use bl_ctree_laws::bridge::{answers_are_plain, steps_are_plain, waking_is_plain};
 use bl_ctree_laws::runs::reached_trees_are_armed;
 use bl_ctree_laws::shrinking::acting_is_open;
@@ -36,7 +36,7 @@ pub fn runs_of_passes_are_meant()
     steps_are_plain();
     acting_is_open();
     answers_are_plain();
-    trees_stay_proper();
+    trees_stay_left();
     reached_trees_are_armed();
     lists_of_steps();
     waking_is_plain();

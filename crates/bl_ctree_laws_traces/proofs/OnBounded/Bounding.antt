@@ -36,7 +36,8 @@ use Rattle.bl_nodes.specs.Steps.{StepLabel, head_of}
 use Rattle.bl_graph.specs.Laws.{StaysWithin}
 use Rattle.bl_ctree.specs.Control as control
 use Rattle.bl_ctree.specs.Instances.{Setting, expanded, instances_below, runs_in, runs_of, setting_of, unit_at, unit_of}
-use Rattle.bl_ctree.specs.Laws.{ReachedIsProper, WakingKeepsProper}
+use Rattle.bl_ctree.specs.Laws.{ReachedIsLeft, WokenTreeIsLeft}
+use Rattle.bl_ctree.specs.Means.{entry_items}
 use Rattle.bl_ctree.specs.Measure.{instance_steps, statements_of, steps}
 use Rattle.bl_ctree.specs.Positions.{body_items}
 use Rattle.bl_ctree.specs.Reaches.{ReachesInside}
@@ -151,7 +152,7 @@ entry_is : StatementsArePlain → (w : Setting) (unit : UnitDef) → unit_at w 0
 entry_is plain w unit is =
     ap (λ found. plain_items (unwrap_or (option_map (λ unit. body_items unit.body) found) [])) is ∙ sym (plain.blocks unit.body [])
 
-module _ (proper : ReachedIsProper) (woken_proper : WakingKeepsProper) (statements : StatementsArePlain) (lists : ListsArePlain)
+module _ (between : ReachedIsLeft) (woken_left : WokenTreeIsLeft) (statements : StatementsArePlain) (lists : ListsArePlain)
     (left_inside : ReachedInsideIsLeft) (left_kept : StepsKeepLeft) (could : MayIsCould) (kept : StepsKeepLive) (live_inside : AcceptedTreesAreLive)
     (orderly : AcceptedIsOrderly) (callable : ProgramsAreCallable) (callers : InstancesHaveCallers) (within : (body : Block) → StaysWithin body)
     (differ : TicksDiffer) where
@@ -177,7 +178,8 @@ module _ (proper : ReachedIsProper) (woken_proper : WakingKeepsProper) (statemen
       subst (λ b. Left w true 0 b (plain_tree (control.woken r.tree))) body
       (left_inside w rows row [] (control.woken r.tree) (woken_store row r.store) begun) in
       let plain : PlainList w (control.woken r.tree) (woken_store row r.store) actions end =
-      lists w (control.woken r.tree) (woken_store row r.store) actions end (woken_proper w r.tree (proper w rows r.tree r.store r.before)) r.steps in
+      lists w true (entry_items w) (control.woken r.tree) (woken_store row r.store) actions end
+      (woken_left w r.tree (between w rows r.tree r.store r.before)) r.steps in
       let different : Differ plain.labels =
       differ w unit now.stood (plain_tree (control.woken r.tree)) (woken_store row r.store) plain.labels (plain_end end) pace call numbered at live
       plain.steps in

@@ -8,10 +8,11 @@ use Rattle.bl_graph.specs.Walks.{stay}
 use Rattle.bl_ctree.specs.Actions.{Action}
 use Rattle.bl_ctree.specs.Control as control
 use Rattle.bl_ctree.specs.Instances.{Setting, unit_at}
-use Rattle.bl_ctree.specs.Positions.{body_items}
-use Rattle.bl_ctree.specs.Laws.{MovesKeepProper, ReachedIsProper, WakingKeepsProper}
-use Rattle.bl_ctree.specs.Proper as proper_tree
-use Rattle.bl_ctree.specs.Proper.{Proper, ProperTree}
+use Rattle.bl_ctree.specs.Positions.{Item, body_items}
+use Rattle.bl_ctree.specs.Laws.{MovesKeepLeft, ReachedIsLeft, WokenTreeIsLeft}
+use Rattle.bl_ctree.specs.Left as left_tree
+use Rattle.bl_ctree.specs.Left.{Left, LeftTree}
+use Rattle.bl_ctree.specs.Means.{entry_items}
 use Rattle.bl_ctree.specs.Reaches.{Reaches, after_tick, at_first}
 use Rattle.bl_ctree.specs.Store.{Store}
 use Rattle.bl_ctree.specs.Ticks as ticks
@@ -56,17 +57,17 @@ entry_calls plain w all = by_unit (unit_at w 0) refl
     by_unit None is = tt
     by_unit (Some unit) is = subst (CallableAll w 0) (plain.blocks unit.body []) (all 0 unit is)
 
-module _ (kept : MovesKeepProper) (woken_proper : WakingKeepsProper) (proper : ReachedIsProper) (statements : StatementsArePlain)
+module _ (kept : MovesKeepLeft) (begun : WokenTreeIsLeft) (between : ReachedIsLeft) (statements : StatementsArePlain)
     (answers : AnswersArePlain) (waking : WakingIsPlain) (steps : StepsArePlain) (pass : InstantsPass) (could : MayIsCould) (shrink : EndsShrink) where
-  after_steps : (w : Setting) (stood : Bool) (body : Block) → Paces w → AllCallable w → {c : control.Control} {store : Store} {actions : List Action}
-      {c' : control.Control} {store' : Store} {end : ticks.End} → ticks.Steps w c store actions end → end ≡ ticks.Rests c' store' → Proper w 0 c →
-      Live w 0 (plain_tree c) (whole stood body) → Live w 0 (plain_tree c') (whole stood body)
+  after_steps : (w : Setting) (stood : Bool) (body : Block) → Paces w → AllCallable w → {items : List Item} {c : control.Control} {store : Store}
+      {actions : List Action} {c' : control.Control} {store' : Store} {end : ticks.End} → ticks.Steps w c store actions end →
+      end ≡ ticks.Rests c' store' → Left w true 0 items c → Live w 0 (plain_tree c) (whole stood body) → Live w 0 (plain_tree c') (whole stood body)
   after_steps w stood body pace all {c' = c'} {store' = store'} (ticks.none {c = c} {store = store}) e p live =
       subst (λ x. Live w 0 (plain_tree x) (whole stood body)) (tree_same c c' store store' e) live
   after_steps w stood body pace all (ticks.traps t) e p live = absurd cc
-  after_steps w stood body pace all (ticks.step {c = c} {a = a} {c' = c'} s more) e p live =
-      let plain = steps w 0 c s.answer a c' p s.moves in
-      after_steps w stood body pace all more e (kept w 0 s.answer a c c' s.moves p)
+  after_steps w stood body pace all {items} (ticks.step {c = c} {a = a} {c' = c'} s more) e p live =
+      let plain = steps w true 0 items c s.answer a c' p s.moves in
+      after_steps w stood body pace all more e (kept w true 0 items s.answer a c c' s.moves p)
       (steps_keep_live pass shrink w 0 stood body (plain_tree c) s.answer _ plain.label (plain_tree c') pace all live
       (could w 0 (plain_tree c) s.answer _ plain.label (plain_tree c') plain.moves))
 
@@ -76,7 +77,7 @@ module _ (kept : MovesKeepProper) (woken_proper : WakingKeepsProper) (proper : R
   woken_tree w body calls _ (rests stood c settled live) =
       record { stood = true; lives = waking_keeps_live pass w 0 stood body c settled live }
 
-  woken_live : (w : Setting) (c : control.Control) → AllCallable w → ProperTree w c → LiveTree w (entry_block w) (plain_tree c) →
+  woken_live : (w : Setting) (c : control.Control) → AllCallable w → LeftTree w c → LiveTree w (entry_block w) (plain_tree c) →
       LiveNow w (entry_block w) (plain_tree (control.woken c))
   woken_live w c all p live =
       subst (LiveNow w (entry_block w)) (sym (waking w c p)) (woken_tree w (entry_block w) (entry_calls statements w all) (plain_tree c) live)
@@ -86,13 +87,13 @@ module _ (kept : MovesKeepProper) (woken_proper : WakingKeepsProper) (proper : R
       Paces w → AllCallable w → Reaches w rows c store → LiveTree w (entry_block w) (plain_tree c) →
       ticks.Steps w (control.woken c) store' actions (ticks.Rests c' end) → LiveNow w (entry_block w) (plain_tree c')
   inside w rows c store store' actions c' end pace all before live list =
-      let p = proper w rows c store before in
+      let p = between w rows c store before in
       let now = woken_live w c all p live in
-      record { stood = now.stood; lives = after_steps w now.stood (entry_block w) pace all list refl (woken_proper w c p) now.lives }
+      record { stood = now.stood; lives = after_steps w now.stood (entry_block w) pace all list refl (begun w c p) now.lives }
 
-  settled_plain : (w : Setting) (c : control.Control) → ProperTree w c → is_settled (plain_tree c) ≡ control.is_settled c
-  settled_plain w c (proper_tree.not_begun items) = refl
-  settled_plain w c (proper_tree.has_begun p) = answers.settled w 0 c p
+  settled_plain : (w : Setting) (c : control.Control) → LeftTree w c → is_settled (plain_tree c) ≡ control.is_settled c
+  settled_plain w c left_tree.not_begun = refl
+  settled_plain w c (left_tree.has_begun {stood} left) = answers.settled w stood 0 (entry_items w) c left
 
   pub reached : (w : Setting) → Paces w → AllCallable w → {rows : List (List ℤ)} {c : control.Control} {store : Store} → Reaches w rows c store →
       LiveTree w (entry_block w) (plain_tree c)
@@ -100,7 +101,7 @@ module _ (kept : MovesKeepProper) (woken_proper : WakingKeepsProper) (proper : R
   reached w pace all (after_tick {before = rows} {row} {c} {store} {c' = c'} {store' = store'} before tick paused is) =
       let now = inside w rows c store _ tick.actions c' store' pace all before (reached w pace all before) tick.maximal.steps in
       rests now.stood (plain_tree c')
-      (settled_plain w c' (proper w _ c' store' (after_tick before tick paused is)) ∙ paused_settled (control.is_nil c') (control.is_settled c') paused)
+      (settled_plain w c' (between w _ c' store' (after_tick before tick paused is)) ∙ paused_settled (control.is_nil c') (control.is_settled c') paused)
       now.lives
 
   pub reached_is_live : ReachedIsLive

@@ -30,7 +30,8 @@ use Rattle.bl_nodes.specs.Steps.{StepLabel, head_of}
 use Rattle.bl_graph.specs.Edges.{In}
 use Rattle.bl_ctree.specs.Control as control
 use Rattle.bl_ctree.specs.Instances.{Setting, setting_of, unit_at}
-use Rattle.bl_ctree.specs.Laws.{ReachedInsideIsProper}
+use Rattle.bl_ctree.specs.Laws as laws
+use Rattle.bl_ctree.specs.Means.{entry_items}
 use Rattle.bl_ctree.specs.Positions.{body_items}
 use Rattle.bl_ctree_laws.specs.Bridge.{plain_items, plain_tree}
 use Rattle.bl_ctree_laws.specs.Fitted.{ReachedIsArmed}
@@ -138,9 +139,9 @@ module _ (part : NodesAreInPart) (live : AcceptedTreesAreLive) (orderly : Accept
       lowest structs units entry rank 0 at.unit at.stood (plain_tree c) d a n c' rising (orderly structs units entry keeps passes).outputs at.is at.lives
       (calls structs units entry keeps rows row actions c store reaches) move
 
-  pub accepted_never_stuck : UnsettledMay → UnsettledCould → ReachedInsideIsProper → ReachedIsArmed → AnswersArePlain → StillIsPlain →
+  pub accepted_never_stuck : UnsettledMay → UnsettledCould → laws.ReachedInsideIsLeft → ReachedIsArmed → AnswersArePlain → StillIsPlain →
       AcceptedNeverStuck
-  accepted_never_stuck may could proper armed answers still structs units entry rank keeps passes rising rows row actions c store reaches is_still =
+  accepted_never_stuck may could left armed answers still structs units entry rank keeps passes rising rows row actions c store reaches is_still =
       by_settled (control.is_settled c) refl
     where
       W : Setting
@@ -154,9 +155,9 @@ module _ (part : NodesAreInPart) (live : AcceptedTreesAreLive) (orderly : Accept
           (could W 0 now.stood (entry_block W) (plain_tree c) now.lives e) in
           let one = may structs units entry rank 0 at.unit at.stood (plain_tree c) rising ordered.outputs at.is at.lives
           (calls structs units entry keeps rows row actions c store reaches) e in
-          still W c (proper W rows row actions c store reaches) (armed W rows row actions c store ordered.fitted reaches) is_still one.answer one.deed
-          one.label one.after one.moves
+          still W true (entry_items W) c (left W rows row actions c store reaches) (armed W rows row actions c store ordered.fitted reaches) is_still
+          one.answer one.deed one.label one.after one.moves
 
       by_settled : (b : Bool) → control.is_settled c ≡ b → control.is_settled c ≡ true
       by_settled true is = is
-      by_settled false is = absurd (moving (answers.settled W 0 c (proper W rows row actions c store reaches) ∙ is))
+      by_settled false is = absurd (moving (answers.settled W true 0 (entry_items W) c (left W rows row actions c store reaches) ∙ is))

@@ -14,9 +14,10 @@ use Rattle.bl_ctree.specs.Actions.{Action}
 use Rattle.bl_ctree.specs.Control as control
 use Rattle.bl_ctree.specs.Control.{Control}
 use Rattle.bl_ctree.specs.Instances.{Setting, setting_of, unit_at}
-use Rattle.bl_ctree.specs.Laws.{ReachedInsideIsProper, ReachedIsProper, StepsFollow}
+use Rattle.bl_ctree.specs.Laws.{ReachedInsideIsLeft, ReachedIsLeft, StepsFollow}
+use Rattle.bl_ctree.specs.Left.{Left}
+use Rattle.bl_ctree.specs.Means.{entry_items}
 use Rattle.bl_ctree.specs.Positions.{body_items}
-use Rattle.bl_ctree.specs.Proper.{Proper}
 use Rattle.bl_ctree.specs.Reaches.{ReachesInside}
 use Rattle.bl_ctree.specs.Steps as located
 use Rattle.bl_ctree.specs.Store.{Store, woken_store}
@@ -80,7 +81,7 @@ map_last f (x ∷ xs) y = ap (λ zs. f x ∷ zs) (map_last f xs y)
 
 -- ---- steps of the program's tree
 
-module _ (lowest : ReachedLowestMayAct) (complete : PlainStepsAreSteps) (proper : ReachedInsideIsProper) (armed : ReachedIsArmed) (follow : StepsFollow)
+module _ (lowest : ReachedLowestMayAct) (complete : PlainStepsAreSteps) (inside : ReachedInsideIsLeft) (armed : ReachedIsArmed) (follow : StepsFollow)
     (structs : List StructDef) (units : List UnitDef) (entry : ℕ) (rank : ℕ → Node → ℕ) (keeps : Keeps structs units entry) (passes : Passes units)
     (orders : Orders (setting_of structs units entry) rank) (fitted : Fitted (setting_of structs units entry)) (rows : List (List ℤ)) (row : List ℤ) where
   abbrev W : Setting
@@ -92,7 +93,7 @@ module _ (lowest : ReachedLowestMayAct) (complete : PlainStepsAreSteps) (proper 
       LocatedStep W 0 c d a c'
   step_there c store taken reaches t eq d a n c' move low =
       ⊎_elim
-      (λ free. complete W 0 c d a n c' (proper W rows row taken c store reaches) (armed W rows row taken c store fitted reaches) free)
+      (λ free. complete W true 0 (entry_items W) c d a n c' (inside W rows row taken c store reaches) (armed W rows row taken c store fitted reaches) free)
       (λ lower. absurd (subst (λ (x : Tree). Lowest W rank 0 x n) (sym eq) low lower.could.answer lower.could.deed lower.could.label lower.could.after
       lower.could.moves lower.lower))
       (lowest structs units entry rank keeps passes orders.rising rows row taken c store reaches d a n c'
@@ -171,9 +172,9 @@ module _ (lowest : ReachedLowestMayAct) (complete : PlainStepsAreSteps) (proper 
 
   module _ (sound : StepsArePlain) (could : MayIsCould) (moving : MovingIsUnsettled) (answers : AnswersArePlain) where
     -- where nothing is left to do nothing may act
-    still : (c : Control) → Proper W 0 c → is_settled (plain_tree c) ≡ true → located.IsStill W c
-    still c is_proper settled d a c' move =
-        let plain = sound W 0 c d a c' is_proper move in
+    still : (c : Control) → Left W true 0 (entry_items W) c → is_settled (plain_tree c) ≡ true → located.IsStill W c
+    still c is_left settled d a c' move =
+        let plain = sound W true 0 (entry_items W) c d a c' is_left move in
         differ (is_settled (plain_tree c)) settled
         (moving W 0 (plain_tree c) d (deed_of a) plain.label (plain_tree c')
         (could W 0 (plain_tree c) d (deed_of a) plain.label (plain_tree c') plain.moves))
@@ -183,22 +184,22 @@ module _ (lowest : ReachedLowestMayAct) (complete : PlainStepsAreSteps) (proper 
         TickPasses W rank row c store
     pass_there c store reaches eq pass =
         let all = locate (control.woken c) (woken_store row store) [] reaches eq pass.steps in
-        let is_proper = proper W rows row all.taken all.after pass.left all.reaches in
+        let is_left = inside W rows row all.taken all.after pass.left all.reaches in
         let settled : is_settled (plain_tree all.after) ≡ true = ap is_settled all.is ∙ pass_settles pass.passes in
         record {
           pass = pass;
           actions = all.actions;
           after = all.after;
           is = all.is;
-          maximal = record { steps = all.steps; over = still all.after is_proper settled };
+          maximal = record { steps = all.steps; over = still all.after is_left settled };
           deeds = all.deeds;
-          settled = sym (answers.settled W 0 all.after is_proper) ∙ settled;
+          settled = sym (answers.settled W true 0 (entry_items W) all.after is_left) ∙ settled;
         }
 
 -- ---- ticks
 
 module _ (lowest : ReachedLowestMayAct) (complete : PlainStepsAreSteps) (sound : StepsArePlain) (could : MayIsCould) (moving : MovingIsUnsettled)
-    (answers : AnswersArePlain) (inside : ReachedInsideIsProper) (between : ReachedIsProper) (armed : ReachedIsArmed) (follow : StepsFollow)
+    (answers : AnswersArePlain) (inside : ReachedInsideIsLeft) (between : ReachedIsLeft) (armed : ReachedIsArmed) (follow : StepsFollow)
     (waking : WakingIsPlain) (plain : StatementsArePlain) (part : NodesAreInPart) (unsettled : UnsettledCould) (live : AcceptedTreesAreLive)
     (callable : ProgramsAreCallable) (orderly : AcceptedIsOrderly) (have : InstancesHavePasses) where
   pub ticks_are_passes : TicksArePasses

@@ -12,10 +12,10 @@ use Rattle.bl_nodes.specs.Nodes.{Node}
 use Rattle.bl_ctree.specs.Control as control
 use Rattle.bl_ctree.specs.Control.{Control}
 use Rattle.bl_ctree.specs.Instances.{Setting, setting_of}
-use Rattle.bl_ctree.specs.Laws.{ReachedInsideIsProper, ReachedIsProper, StepsFollow}
+use Rattle.bl_ctree.specs.Laws.{ReachedInsideIsLeft, ReachedIsLeft, StepsFollow}
+use Rattle.bl_ctree.specs.Left.{Left}
 use Rattle.bl_ctree.specs.Means as means
 use Rattle.bl_ctree.specs.Means.{Allows, Shown, entry_items, shown}
-use Rattle.bl_ctree.specs.Proper.{Proper}
 use Rattle.bl_ctree.specs.Reaches.{Reaches, ReachesInside, after_tick, at_first}
 use Rattle.bl_ctree.specs.Steps as located
 use Rattle.bl_ctree.specs.Store.{Store, first_store, outputs_row, woken_store}
@@ -58,16 +58,16 @@ traces_same a b e =
 -- ---- runs
 
 module _ (lowest : ReachedLowestMayAct) (complete : PlainStepsAreSteps) (sound : StepsArePlain) (could : MayIsCould) (moving : MovingIsUnsettled)
-    (answers : AnswersArePlain) (inside : ReachedInsideIsProper) (between : ReachedIsProper) (armed : ReachedIsArmed) (follow : StepsFollow)
+    (answers : AnswersArePlain) (inside : ReachedInsideIsLeft) (between : ReachedIsLeft) (armed : ReachedIsArmed) (follow : StepsFollow)
     (waking : WakingIsPlain) (orderly : AcceptedIsOrderly) (have : TicksArePasses) (structs : List StructDef) (units : List UnitDef) (entry : ℕ)
     (rank : ℕ → Node → ℕ) (keeps : Keeps structs units entry) (passes : Passes units) (orders : Orders (setting_of structs units entry) rank) where
   abbrev W : Setting
   W = setting_of structs units entry
 
   -- where nothing is left to do nothing may act
-  still : (c : Control) → Proper W 0 c → is_settled (plain_tree c) ≡ true → located.IsStill W c
-  still c is_proper settled d a c' move =
-      let plain = sound W 0 c d a c' is_proper move in
+  still : (c : Control) → Left W true 0 (entry_items W) c → is_settled (plain_tree c) ≡ true → located.IsStill W c
+  still c is_left settled d a c' move =
+      let plain = sound W true 0 (entry_items W) c d a c' is_left move in
       differ (is_settled (plain_tree c)) settled
       (moving W 0 (plain_tree c) d (deed_of a) plain.label (plain_tree c')
       (could W 0 (plain_tree c) d (deed_of a) plain.label (plain_tree c') plain.moves))
@@ -89,13 +89,13 @@ module _ (lowest : ReachedLowestMayAct) (complete : PlainStepsAreSteps) (sound :
       let same : plain_tree (control.woken c) ≡ woken t = waking W c (between W before c store reached) ∙ ap woken eq in
       let all = locate lowest complete inside armed follow structs units entry rank keeps passes orders (orderly structs units entry keeps passes).fitted
       before row (control.woken c) (woken_store row store) [] (begins before row c store reached) same pass.steps in
-      let is_proper : Proper W 0 all.after = inside W before row all.taken all.after pass.left all.reaches in
+      let is_left : Left W true 0 (entry_items W) all.after = inside W before row all.taken all.after pass.left all.reaches in
       let settled : is_settled (plain_tree all.after) ≡ true = ap is_settled all.is ∙ pass_settles pass.passes in
       record {
         after = all.after;
         is = all.is;
-        tick = record { actions = all.actions; maximal = record { steps = all.steps; over = still all.after is_proper settled } };
-        settled = sym (answers.settled W 0 all.after is_proper) ∙ settled;
+        tick = record { actions = all.actions; maximal = record { steps = all.steps; over = still all.after is_left settled } };
+        settled = sym (answers.settled W true 0 (entry_items W) all.after is_left) ∙ settled;
       }
 
   -- and the one that a trap ends
@@ -189,8 +189,8 @@ module _ (lowest : ReachedLowestMayAct) (complete : PlainStepsAreSteps) (sound :
       }
 
 pub runs_are_meant : ReachedLowestMayAct → PlainStepsAreSteps → StepsArePlain → MayIsCould → MovingIsUnsettled → AnswersArePlain →
-    ReachedInsideIsProper →
-    ReachedIsProper → ReachedIsArmed → StepsFollow → WakingIsPlain → AcceptedIsOrderly → TicksArePasses → AcceptedTracesAreOne → RunsAreMeant
+    ReachedInsideIsLeft → ReachedIsLeft → ReachedIsArmed → StepsFollow → WakingIsPlain → AcceptedIsOrderly → TicksArePasses → AcceptedTracesAreOne →
+    RunsAreMeant
 runs_are_meant lowest complete sound could moving answers inside between armed follow waking orderly have at_most = record {
   meant = λ structs units entry rank keeps passes orders rows trace run.
       meant lowest complete sound could moving answers inside between armed follow waking orderly have structs units entry rank keeps passes orders

@@ -3,5 +3,4 @@ use Rattle.bl_ctree_laws.proofs.runs.lists_are_plain.Goals as goal
 
 pub returns : goal.returns
 returns c =
-    let proper = c.trees_stay_proper.ensures in
-    record { lists = lists_are_plain proper.steps proper.waking proper.reached; still = still_is_plain }
+    let stay = c.trees_stay_left.ensures in record { lists = lists_are_plain stay.steps stay.whole stay.reached; still = still_is_plain }

@@ -3,8 +3,8 @@ use Rattle.bl_ctree_laws.proofs.runs.reached_trees_are_left.Goals as goal
 
 pub returns : goal.returns
 returns c =
-    let proper = c.trees_stay_proper.ensures in
+    let stay = c.trees_stay_left.ensures in
     record {
-      trees = reached_is_left proper.steps proper.waking proper.reached;
-      inside = reached_inside_is_left proper.steps proper.waking proper.reached;
+      trees = reached_is_left stay.steps stay.whole stay.reached;
+      inside = reached_inside_is_left stay.steps stay.whole stay.reached;
     }

@@ -3,7 +3,7 @@ use Rattle.bl_ctree_laws_traces.proofs.progress.reached_trees_are_live.Goals as 
 
 pub returns : goal.returns
 returns c =
-    let proper = c.trees_stay_proper.ensures in
+    let stay = c.trees_stay_left.ensures in
     let plain = c.statements_are_plain.ensures in
     let answers = c.answers_are_plain.ensures in
     let waking = c.waking_is_plain.ensures in
@@ -12,7 +12,7 @@ returns c =
     let could = c.acting_is_open.ensures.could in
     let shrink = c.steps_shrink.ensures.ends in
     record {
-      trees = reached_is_live proper.steps proper.waking proper.reached plain answers waking steps pass could shrink;
-      inside = reached_inside_is_live proper.steps proper.waking proper.reached plain answers waking steps pass could shrink;
-      could = reached_could proper.steps proper.waking proper.reached plain answers waking steps pass could shrink;
+      trees = reached_is_live stay.steps stay.whole stay.reached plain answers waking steps pass could shrink;
+      inside = reached_inside_is_live stay.steps stay.whole stay.reached plain answers waking steps pass could shrink;
+      could = reached_could stay.steps stay.whole stay.reached plain answers waking steps pass could shrink;
     }

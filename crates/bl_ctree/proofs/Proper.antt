@@ -1,5 +1,5 @@
--- Proper trees: each node fits its statement, and the equalities on sequences are taken. Trees that runs reach are proper.
-use Rattle.std.specs.Prelude.{ℕ, Bool, false, List, [], ◌∷◌, Option, Some, ◌≡◌}
+-- Proper trees: each node fits its statement, and the equalities on sequences are taken. What may be left of items is a proper tree.
+use Rattle.std.proofs.Common.{◌≡◌, ℕ, Bool, false, List, [], ◌∷◌, Option, Some, refl}
 use Rattle.bl_tree.specs.declared.tree.Branch.{Branch, out-Branch}
 use Rattle.bl_tree.specs.declared.tree.Expr.{Expr}
 use Rattle.bl_tree.specs.declared.tree.Guard.{Guard as GuardKind}
@@ -7,16 +7,35 @@ use Rattle.bl_tree.specs.declared.tree.Path.{Path}
 use Rattle.bl_tree.specs.declared.tree.Stmt.{Stmt}
 use Rattle.bl_tree.specs.declared.tree.StmtKind.TheOpen.{StmtKind-F}
 use Rattle.bl_tree.specs.declared.tree.Unit.{Unit as UnitDef}
-use Rattle.bl_ctree.specs.Control.{Control, Branches, Nil, Wait, Test, Idle, Do, Turn, Seq, Par, Guard, Run, no_branch, branch, Phase, is_nil}
+use Rattle.bl_ctree.specs.Control.{Control, Branches, Nil, Wait, Test, Do, Turn, Seq, Par, Guard, Run, no_branch, branch, Phase, is_nil}
 use Rattle.bl_ctree.specs.Instances.{Setting, callee_of, unit_at}
-use Rattle.bl_ctree.specs.Positions.{Item, Begin, Again, Located, kind_of, none_left, place_of}
-
--- each test at the end of a turn is that of a `repeat .. until`
-pub data ItemsProper : List Item → Type 0 where
-  no_item : ItemsProper []
-  a_begin : {s : Located} {rest : List Item} → ItemsProper rest → ItemsProper (Begin s ∷ rest)
-  an_again : {s : Located} {body : List Stmt} {e : Expr} {rest : List Item} →
-      kind_of s ≡ StmtKind-F.Until body e → ItemsProper rest → ItemsProper (Again s ∷ rest)
+use Rattle.bl_ctree.specs.Left.{
+  Left,
+  LeftEach,
+  LeftOf,
+  TestsFit,
+  ended,
+  no_branch_left,
+  nothing,
+  of_again,
+  of_arm,
+  of_else,
+  of_further,
+  of_guard,
+  of_last,
+  of_one,
+  of_par,
+  of_repeat,
+  of_run,
+  of_until,
+  of_while,
+  one_branch_left,
+  paused,
+  tested,
+  to_begin,
+  to_turn,
+}
+use Rattle.bl_ctree.specs.Positions.{Item, Located, kind_of, none_left, place_of}
 
 mutual
   -- a tree that stands in the instance. There is no Idle in it, since that is only a whole tree
@@ -28,7 +47,7 @@ mutual
     a_turn : {i : ℕ} {s : Located} {body : List Stmt} {e : Expr} → kind_of s ≡ StmtKind-F.Until body e → Proper w i (Turn s)
     -- something has still to end, and something follows it
     a_seq : {i : ℕ} {c : Control} {rest : List Item} →
-        is_nil c ≡ false → none_left rest ≡ false → Proper w i c → ItemsProper rest → Proper w i (Seq c rest)
+        is_nil c ≡ false → none_left rest ≡ false → Proper w i c → TestsFit rest → Proper w i (Seq c rest)
     a_par : {i : ℕ} {s : Located} {stood : Bool} {written : List Branch} {branches : Branches} →
         kind_of s ≡ StmtKind-F.Cobegin written → BranchesProper w i written branches → Proper w i (Par s stood branches)
     a_guard : {i : ℕ} {s : Located} {phase : Phase} {stood : Bool} {c : Control} {guard : GuardKind} {e : Expr} {body : List Stmt} →
@@ -45,7 +64,30 @@ mutual
     a_branch : {i : ℕ} {b : Branch} {c : Control} {written : List Branch} {others : Branches} →
         Proper w i c → BranchesProper w i written others → BranchesProper w i (b ∷ written) (branch (out-Branch b).weak c others)
 
--- a whole tree: before the first tick or later
-pub data ProperTree (w : Setting) : Control → Type 0 where
-  not_begun : {items : List Item} → ItemsProper items → ProperTree w (Idle items)
-  has_begun : {c : Control} → Proper w 0 c → ProperTree w c
+mutual
+  pub left_proper : {w : Setting} {stood : Bool} {i : ℕ} {items : List Item} {c : Control} → Left w stood i items c → Proper w i c
+  left_proper nothing = a_nil
+  left_proper (of_last stands of) = of_proper of
+  left_proper (of_one stands fit of busy) = a_seq busy refl (of_proper of) fit
+
+  of_proper : {w : Setting} {stood : Bool} {i : ℕ} {item : Item} {c : Control} → LeftOf w stood i item c → Proper w i c
+  of_proper to_begin = a_do
+  of_proper (to_turn e) = a_turn e
+  of_proper ended = a_nil
+  of_proper (paused e) = a_wait e
+  of_proper (tested e) = a_test e
+  of_proper (of_arm e left) = left_proper left
+  of_proper (of_further e of) = of_proper of
+  of_proper (of_else e left) = left_proper left
+  of_proper (of_repeat e left) = left_proper left
+  of_proper (of_until e left) = left_proper left
+  of_proper (of_while e left) = left_proper left
+  of_proper (of_again e of) = of_proper of
+  of_proper (of_par e around each) = a_par e (each_proper each)
+  of_proper (of_guard e around check left) = a_guard e (left_proper left)
+  of_proper (of_run e at is around check left) = a_run e at is (left_proper left)
+
+  pub each_proper : {w : Setting} {stood : Bool} {i : ℕ} {s : Located} {k : ℕ} {written : List Branch} {branches : Branches} →
+      LeftEach w stood i s k written branches → BranchesProper w i written branches
+  each_proper no_branch_left = no_more
+  each_proper (one_branch_left left each) = a_branch (left_proper left) (each_proper each)
