@@ -1,11 +1,12 @@
-//! Counts that stand one after another, with the sums of blocks of them. `total` is the sum of all, and `find` tells in which of
-//! them a number falls (`specs/Counts.antt`, `Falls`): both go over the blocks, and over the counts of one of them. `set` adds up
-//! one block again.
+//! Counts that stand one after another, with the sum of all and the sums of blocks of them. `total` is the sum of all, and
+//! `find` tells in which of them a number falls (`specs/Counts.antt`, `Falls`): it goes over the sums of blocks, and then over
+//! counts from the block in which the number falls, or from behind the last block that has a sum. `set` adds up one block again.
+//! How many blocks have sums is bounded from above alone (`HasSums`): the contracts hold for fewer, which only take longer.
 #![tactic(auto)]
 
 ghost use Rattle.std.specs.Prelude.{◌≡◌, ◌+◌, ◌≤◌, IfOk, IfSome, length, take};
 ghost use Rattle.std.specs.List.{sum};
-ghost use Rattle.bl_counts.specs.Counts.{Falls, HasSums};
+ghost use Rattle.bl_counts.specs.Counts.{Falls, HasSums, HasTotal};
 
 use bl_tree::{List, NoMemory};
 use std::alloc::Global;
@@ -18,19 +19,21 @@ const BLOCK: usize = 64;
 #[derive(Drop)]
 pub struct Counts {
     each: List<usize>,
-    /// The sum of each block that is whole; none where it is too large.
+    /// The sums of the first blocks, each of which is whole; none where one is too large.
     blocks: List<Option<usize>>,
+    /// The sum of all; none where it is too large, or was so before a change.
+    total: Option<usize>,
 }
 
 impl Model for Counts {
     ghost use Rattle.std.specs.Prelude.{ℕ, List};
-    ghost use Rattle.bl_counts.specs.Counts.{HasSums};
+    ghost use Rattle.bl_counts.specs.Counts.{HasSums, HasTotal};
 
     ghost Value = { List ℕ };
 
     ghost view = { λ counts. counts.each };
 
-    ghost invariant = { λ counts. HasSums counts.blocks counts.each };
+    ghost invariant = { λ counts. HasSums counts.blocks counts.each × HasTotal counts.total counts.each };
 }
 
 /// A number within one of some counts.
@@ -88,6 +91,14 @@ fn find_from(each: &[usize], from: usize, beyond: usize) -> Option<InCount>
     None
 }
 
+/// A sum in which a count that was old is now n; none where it is too large.
+fn changed(sum: usize, old: usize, n: usize) -> Option<usize>
+    requires { old ≤ sum }
+    ensures { IfSome result (λ after. after + old ≡ sum + n) }
+{
+    (sum - old).checked_add(n)
+}
+
 impl Counts {
     ghost use Rattle.std.specs.Prelude.{◌<◌, slice_set};
 
@@ -96,13 +107,30 @@ impl Counts {
         ensures { IfOk result (λ made. made ≡ each) }
     {
         let blocks = blocks_of(alloc, &each)?;
-        Ok(Counts { each, blocks })
+        let total = sum_between(&each, 0, each.len());
+        Ok(Counts {
+            each,
+            blocks,
+            total,
+        })
+    }
+
+    /// The sum of all once the count with number k is n; none where it isn't known.
+    fn total_with(&self, k: usize, n: usize) -> Option<usize>
+        requires { k < length self.now }
+        ensures { HasTotal result (slice_set self.now k n) }
+    {
+        match self.total {
+            None => None,
+            Some(total) => changed(total, self.each[k], n),
+        }
     }
 
     pub fn set(&mut self, k: usize, n: usize)
         requires { k < length self.old }
         ensures { self.new ≡ slice_set self.old k n }
     {
+        self.total = self.total_with(k, n);
         self.each.set(k, n);
         let b = k / BLOCK;
         if b < self.blocks.len() {
@@ -114,6 +142,16 @@ impl Counts {
 
     /// Fails only where the sum is too large for memory.
     pub fn total(&self) -> Result<usize, NoMemory>
+        ensures { IfOk result (λ total. total ≡ sum self.now) }
+    {
+        match self.total {
+            Some(total) => Ok(total),
+            None => self.added(),
+        }
+    }
+
+    /// The sum of the blocks and of what stands behind them.
+    fn added(&self) -> Result<usize, NoMemory>
         ensures { IfOk result (λ total. total ≡ sum self.now) }
     {
         let mut total: usize = 0;

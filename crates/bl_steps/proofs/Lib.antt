@@ -7,4 +7,5 @@ pub mod OutputLemmas
 pub mod OwnLemmas
 pub mod SpineLemmas
 pub mod TreeLemmas
+pub mod WakingLemmas
 pub mod WriterLemmas

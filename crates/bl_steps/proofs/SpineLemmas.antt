@@ -117,7 +117,7 @@ module _ (k : ℕ) (b : Seen) where
   stays_on i (Run s callee Check stood c) d is = refl
   stays_on i (Run s callee Body stood c) d is = refl
 
-seq_stays : (c : Control) (item : Item) (rest : List Item) → is_nil c ≡ false → Seq c (item ∷ rest) ≡ seq c (item ∷ rest)
+pub seq_stays : (c : Control) (item : Item) (rest : List Item) → is_nil c ≡ false → Seq c (item ∷ rest) ≡ seq c (item ∷ rest)
 seq_stays Nil item rest is = absurd cc
 seq_stays (Wait s) item rest is = refl
 seq_stays (Test s) item rest is = refl

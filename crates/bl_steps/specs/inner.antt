@@ -1,3 +1,4 @@
 pub mod Spines
 pub mod Spots
+pub mod Wakings
 pub mod Writers

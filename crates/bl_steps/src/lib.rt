@@ -8,7 +8,8 @@
 //!
 //! `count` keeps what it finds of the branches of the outermost `cobegin` that has begun (`bl_listing`, `src/spine.rt`).
 //! As long as these act, `act` puts the tree of the one that acts in the place of the old one and lists its points alone
-//! (`src/listed.rt`); all else, as the end of that `cobegin`, is listed and copied whole.
+//! (`src/listed.rt`); all else, as the end of that `cobegin`, is listed and copied whole. `wake` changes the tree where it
+//! lies if nothing begins in it then (`src/waking.rt`), and the store if all its values are numbers.
 #![tactic(auto)]
 
 mod action;
@@ -22,6 +23,7 @@ mod points;
 mod spine;
 mod start;
 pub mod tree;
+mod waking;
 mod writers;
 
 pub use action::{Action, Step};

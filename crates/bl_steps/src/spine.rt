@@ -27,7 +27,7 @@ fn is_nothing(then: &Then) -> bool
 }
 
 /// Whether no item is left.
-fn is_over(rest: &Rest) -> bool
+pub fn is_over(rest: &Rest) -> bool
     ensures { result ≡ none_left (items_of rest.now) }
 {
     if rest.next < rest.body.len() {

@@ -17,6 +17,7 @@ use crate::listed::{Kept, Next, change, listed};
 use crate::points::points;
 use crate::spine;
 use crate::start::idle;
+use crate::waking::{is_light, wake};
 use bl_ctree::node::Node;
 use bl_ctree::settle::{is_nil, is_settled};
 use bl_ctree::waking::woken;
@@ -45,7 +46,7 @@ pub struct Tree<'a> {
 }
 
 impl<'a> Tree<'a> {
-    ghost use Rattle.std.specs.Prelude.{◌≡◌, ◌<◌, ◌^◌, [], length, map, option_map, slice_get, Some, IfOk, IfSome, OnOk, OnErr};
+    ghost use Rattle.std.specs.Prelude.{◌≡◌, ◌<◌, ◌^◌, [], true, length, map, option_map, slice_get, None, Some, IfOk, IfSome, OnOk, OnErr};
     ghost use Rattle.bl_ctree.specs.Actions.{Asks};
     ghost use Rattle.bl_ctree.specs.Control.{Idle, is_nil, is_settled, woken};
     ghost use Rattle.bl_ctree.specs.Instances.{instances_of, setting_of};
@@ -58,6 +59,7 @@ impl<'a> Tree<'a> {
     ghost use Rattle.bl_listing.specs.Spots.{spot_below, spot_of};
     ghost use Rattle.bl_steps.specs.inner.Spines.{FitsAny, FitsListed, led, with_fork};
     ghost use Rattle.bl_steps.specs.inner.Spots.{after_by, unread};
+    ghost use Rattle.bl_steps.specs.inner.Wakings.{is_light};
 
     /// The program before its first tick. Fails only for want of memory, as all that follows.
     pub fn start(alloc: Global, program: &'a Program) -> Result<Tree<'a>, NoMemory>
@@ -87,11 +89,39 @@ impl<'a> Tree<'a> {
             (state self.new ≡ record { control = woken (state self.old).control; store = woken_store row.now (state self.old).store }) }
         ensures memory { OnErr result (state self.new ≡ state self.old) }
     {
-        let node = woken(self.alloc, &self.node)?;
-        let frames = ticks::woken(self.alloc, self.frames.as_slice(), row)?;
-        self.node = node;
         self.listing = None;
-        self.frames = frames;
+        if is_light(&self.node) {
+            self.wake_here(row)
+        } else {
+            self.wake_anew(row)
+        }
+    }
+
+    /// The same of a tree that is woken where it lies.
+    fn wake_here(&mut self, row: &Row) -> Result<(), NoMemory>
+        requires light { is_light (state self.old).control ≡ true }
+        requires unlisted { self.old.listing ≡ None }
+        ensures setting { setting self.new ≡ setting self.old }
+        ensures state { OnOk result
+            (state self.new ≡ record { control = woken (state self.old).control; store = woken_store row.now (state self.old).store }) }
+        ensures memory { OnErr result (state self.new ≡ state self.old) }
+    {
+        ticks::wake(self.alloc, &mut self.frames, row)?;
+        wake(&mut self.node);
+        Ok(())
+    }
+
+    /// The same of any tree, which becomes a new one.
+    fn wake_anew(&mut self, row: &Row) -> Result<(), NoMemory>
+        requires unlisted { self.old.listing ≡ None }
+        ensures setting { setting self.new ≡ setting self.old }
+        ensures state { OnOk result
+            (state self.new ≡ record { control = woken (state self.old).control; store = woken_store row.now (state self.old).store }) }
+        ensures memory { OnErr result (state self.new ≡ state self.old) }
+    {
+        let node = woken(self.alloc, &self.node)?;
+        ticks::wake(self.alloc, &mut self.frames, row)?;
+        self.node = node;
         Ok(())
     }
 

@@ -1,3 +1,4 @@
+pub mod AgeLemmas
 pub mod ActLemmas
 pub mod AgreeLemmas
 pub mod CalleeLemmas

@@ -6,7 +6,7 @@ use Rattle.bl_store.specs.Agree.{Same}
 use Rattle.bl_store.specs.Seen.{Sight}
 use Rattle.bl_store.specs.declared.view.View.{View as ViewNode}
 
--- the view has as many values now and as many before
+-- the view has so many values now and so many before
 pub record IsRoom (count : ℕ) (v : ViewNode) : Type 0 where
   pub now : length v.now.list ≡ count
   pub before : length v.before.list ≡ count

@@ -1,3 +1,4 @@
+pub mod Ageing
 pub mod Agree
 pub mod Callees
 pub mod Deeds

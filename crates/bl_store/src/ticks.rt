@@ -1,15 +1,16 @@
 //! The store at the start of a run and of a tick, and the row of outputs.
 
-ghost use Rattle.std.specs.Prelude.{◌≡◌, ◌+◌, pos, map, IfOk, option_map, unwrap_or, length};
+ghost use Rattle.std.specs.Prelude.{◌≡◌, ◌+◌, true, pos, map, IfOk, OnErr, OnOk, option_map, unwrap_or, length};
 ghost use Rattle.bl_ctree.specs.Instances.{unit_at};
 ghost use Rattle.bl_ctree.specs.Store.{aged, first_store, frame_at_first, number_or_zero, outputs_row, woken_store, zero_result, zeros};
+ghost use Rattle.bl_store.specs.Ageing.{are_numbers, are_plain, as_number, is_number, is_plain};
 ghost use Rattle.bl_store.specs.Own.{now_there};
 ghost use Rattle.bl_store.specs.Seen.{frame_of, setting_in, store_of};
 
 use crate::callee::unit_at;
 use crate::frame::{Frame, now_at};
 use crate::setting::Setting;
-use crate::writing::set_inputs;
+use crate::writing::{set_element, set_inputs};
 use bl_ctree::instance::Instance;
 use bl_eval::{copy, zero_value};
 use bl_tree::slices::element;
@@ -121,13 +122,99 @@ fn numbers(alloc: Global, row: &Row) -> Result<List<Value>, NoMemory>
     Ok(made)
 }
 
-/// The store at the start of a tick over the row.
-pub fn woken(alloc: Global, frames: &[Frame], row: &Row) -> Result<Vec<Frame>, NoMemory>
-    ensures { IfOk result (λ made. store_of made.items ≡ woken_store row.now (store_of frames.now)) }
+fn is_number(value: &Value) -> bool
+    ensures { result ≡ is_number value.now }
 {
-    let mut made = all_aged(alloc, frames)?.into_vec();
-    set_inputs(&mut made, 0, numbers(alloc, row)?);
-    Ok(made)
+    match value {
+        Value::Number(_) => true,
+        Value::Parts(_) => false,
+    }
+}
+
+fn are_numbers(values: &[Value]) -> bool
+    ensures { result ≡ are_numbers values.now }
+{
+    for value in values {
+        if !is_number(value) {
+            return false;
+        }
+    }
+    true
+}
+
+/// Whether the values before can become those now without memory.
+fn is_plain(frame: &Frame) -> bool
+    ensures { result ≡ is_plain (frame_of frame.entry.now) }
+{
+    frame.before.len() == frame.now.len() && are_numbers(frame.now.as_slice())
+}
+
+fn are_plain(frames: &[Frame]) -> bool
+    ensures { result ≡ are_plain (store_of frames.now) }
+{
+    for frame in frames {
+        if !is_plain(frame) {
+            return false;
+        }
+    }
+    true
+}
+
+fn as_number(value: &Value) -> Value
+    ensures { result ≡ as_number value.now }
+{
+    Value::Number(number(value))
+}
+
+/// The values become the numbers of others, of which there are as many.
+fn renumber(values: &mut Vec<Value>, others: &[Value])
+    requires { length values.old.items ≡ length others.now }
+    ensures { values.new.items ≡ map as_number others.now }
+{
+    for k in 0..others.len() {
+        set_element(values, k, as_number(&others[k]));
+    }
+}
+
+/// The values before become those now, which are numbers.
+fn age(frame: &mut Frame)
+    requires { is_plain (frame_of frame.old) ≡ true }
+    ensures { frame_of frame.new ≡ aged (frame_of frame.old) }
+{
+    renumber(&mut frame.before, frame.now.as_slice());
+}
+
+fn age_all(frames: &mut Vec<Frame>)
+    requires { are_plain (store_of frames.old.items) ≡ true }
+    ensures { store_of frames.new.items ≡ map aged (store_of frames.old.items) }
+{
+    for k in 0..frames.len() {
+        age(&mut frames[k]);
+    }
+}
+
+/// The values before become those now, where they lie if that takes no memory.
+fn grow_old(alloc: Global, frames: &mut Vec<Frame>) -> Result<(), NoMemory>
+    ensures aged { OnOk result (store_of frames.new.items ≡ map aged (store_of frames.old.items)) }
+    ensures memory { OnErr result (frames.new.items ≡ frames.old.items) }
+{
+    if are_plain(frames.as_slice()) {
+        age_all(frames);
+    } else {
+        *frames = all_aged(alloc, frames.as_slice())?.into_vec();
+    }
+    Ok(())
+}
+
+/// The store becomes that at the start of a tick over the row. After want of memory it is as before.
+pub fn wake(alloc: Global, frames: &mut Vec<Frame>, row: &Row) -> Result<(), NoMemory>
+    ensures woken { OnOk result (store_of frames.new.items ≡ woken_store row.now (store_of frames.old.items)) }
+    ensures memory { OnErr result (frames.new.items ≡ frames.old.items) }
+{
+    let inputs = numbers(alloc, row)?;
+    grow_old(alloc, frames)?;
+    set_inputs(frames, 0, inputs);
+    Ok(())
 }
 
 fn number(value: &Value) -> i128

@@ -5,7 +5,7 @@ use bl_tree::{List, NoMemory};
 use std::alloc::Global;
 use std::mem;
 
-/// Views at hand, at most one of each unit. Whatever they show of variables, what is seen is the same.
+/// Views at hand, at most one of each unit. Whatever they show, what `look` shows of the variables that are asked for is the same.
 #[derive(Drop)]
 pub struct Views {
     by_unit: List<Option<View>>,
