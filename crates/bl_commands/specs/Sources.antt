@@ -1,19 +1,19 @@
 -- What is known of the source of a job: its tree, its program, and what is written for it.
-use Rattle.std.specs.Prelude.{◌≡◌, ℕ, List, Option, IfSome}
+use Rattle.std.specs.Prelude.{◌≡◌, ℕ, List, Option}
 use Rattle.bl_cmeaning_laws_places.specs.Behaviour.{Behaviour}
 use Rattle.bl_cmeaning_laws_places.specs.Bytes.{Behaves}
 use Rattle.bl_commands.specs.Traces.{HasCourse, OneTrace}
 use Rattle.bl_program.specs.Programs.{typed_of}
 use Rattle.bl_raw.specs.declared.raw.Raw.{Raw}
 use Rattle.bl_rules.specs.Accepted.{HasProgram, HasTree}
-use Rattle.bl_stream.specs.Streams.{Course}
+use Rattle.bl_stream.specs.Streams.{AreLeft, Course}
 use Rattle.bl_tree.specs.declared.program.Program.{Program}
 use Rattle.bl_tree.specs.declared.tree.StructDef.{StructDef}
 use Rattle.bl_tree.specs.declared.tree.Unit.{Unit as UnitDef}
 
 -- the text of a source, or a C text: what was left of its file, where that is told
 abbrev pub IsSource : Option (List ℕ) → List ℕ → Type 0
-IsSource left text = IfSome left (λ bytes. bytes ≡ text)
+IsSource = AreLeft
 
 -- no rule fails for a source, and this is its tree
 pub record IsTreeOf (left : Option (List ℕ)) (raw : Raw) : Type 0 where

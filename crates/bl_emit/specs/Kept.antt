@@ -4,7 +4,9 @@ use Rattle.bl_emit_pass.specs.Programs.{Parts, Written}
 use Rattle.bl_emit.specs.declared.runs.RunAt.{RunAt as Kept}
 use Rattle.bl_emit.specs.declared.activity.Parts.{Parts as KeptParts}
 use Rattle.bl_emit.specs.declared.activity.Told.{Told as KeptTold}
+use Rattle.bl_emit.specs.declared.shared.Shared.{Shared as KeptShared}
 use Rattle.bl_emit.specs.Activities.{Told}
+use Rattle.bl_emit.specs.Programs.{SharedRules}
 use Rattle.bl_pass_listed.specs.Told.{rule_in}
 use Rattle.std.specs.Prelude.{map}
 use Rattle.bl_emit.specs.declared.program.Written.{Written as KeptFile}
@@ -32,3 +34,7 @@ told_in told = record {
   sizes = told.sizes.now;
   remember = told.remember.now;
 }
+
+-- the rules of an activity by the numbers in C
+abbrev pub shared_in : KeptShared → SharedRules
+shared_in made = record { rules = map rule_in made.rules; sizes = made.sizes }

@@ -14,6 +14,7 @@ mod parts;
 mod program;
 mod registers;
 mod runs;
+mod shared;
 mod ticks;
 mod units;
 

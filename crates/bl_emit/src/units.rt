@@ -7,12 +7,10 @@ ghost use Rattle.bl_emit.specs.Kept.{parts_in};
 ghost use Rattle.bl_emit.specs.Programs.{next_told, parts_told, told_of, unit_told, units_told};
 
 use crate::activity::{Parts, Told, activity_parts};
-use bl_block::nodes_of;
+use crate::shared::shared_rules;
 use bl_emit_acts::parts::joined;
 use bl_emit_functions::{function, memory};
-use bl_emit_tables::sizes_of;
 use bl_machine::Activity;
-use bl_pass_listed::rules;
 use bl_tree::slices::element;
 use bl_tree::tree::{StructDef, Unit, UnitKind};
 use bl_tree::{List, NoMemory};
@@ -40,16 +38,14 @@ fn machine_parts(
     ensures { IfOk result (λ made. parts_in made
         ≡ where_needed needed (parts_told (told_of structs.now earlier.now remember.now unit.now one.now))) }
 {
-    let order = nodes_of(alloc, &one.blocks)?;
-    let rules = rules(alloc, &unit.body, &order, &one.slots)?;
-    let sizes = sizes_of(alloc, &one.slots)?;
+    let shared = shared_rules(alloc, unit, one)?;
     let told = Told {
         structs,
         earlier,
         unit,
         blocks: &one.blocks,
-        rules: &rules,
-        sizes: &sizes,
+        rules: &shared.rules,
+        sizes: &shared.sizes,
         remember,
     };
     activity_parts(alloc, &told, needed)

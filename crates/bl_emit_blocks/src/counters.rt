@@ -30,14 +30,21 @@ fn width_for(n: u32) -> Width
     }
 }
 
+/// The greatest value that a counter can hold, which is how many values it has beside 0.
+fn greatest_value(view: &View, k: u32) -> u32
+    ensures { result ≡ blocks.greatest_value (view_in view.entry.now).sizes k }
+{
+    match element(view.sizes, k as usize) {
+        Some(n) => *n,
+        None => 0,
+    }
+}
+
 /// The width of a counter's type.
 pub fn width_of(view: &View, k: u32) -> Width
     ensures { Nat result ≡ blocks.counter_type (view_in view.entry.now).sizes k }
 {
-    match element(view.sizes, k as usize) {
-        Some(n) => width_for(*n),
-        None => width_for(0),
-    }
+    width_for(greatest_value(view, k))
 }
 
 /// A value of a counter.
@@ -53,16 +60,6 @@ pub fn at_slot(alloc: Global, view: &View, slot: Slot) -> Result<CExpr, NoMemory
 {
     let at = read(counter(alloc, slot.counter)?);
     two(alloc, Op::Eq, at, value_of(view, slot.counter, slot.value))
-}
-
-/// The greatest value that a counter has.
-fn greatest_value(view: &View, k: u32) -> u32
-    ensures { result ≡ blocks.greatest_value (view_in view.entry.now).sizes k }
-{
-    match element(view.sizes, k as usize) {
-        Some(n) => *n,
-        None => 0,
-    }
 }
 
 /// Whether the number is the only one that its counter has.

@@ -126,8 +126,8 @@ module _ (program : Program) (machine : List InMachine) (laws : Laws program) (k
     by_rules : (rows : List (List ℤ)) → RowsFit (input_columns unit) rows →
         RunByRules structs units entry (rank_by W activities) (slots_by W activities) (cleared W) unit rows (λ i c. 0)
     by_rules rows fit =
-        laws.runs structs units entry machine activities unit rows (λ i c. 0) compiled (entry_is structs units entry unit there)
-        (laws.rows structs units entry unit rows known.keeps there fit) refl
+        laws.runs structs units entry machine activities unit rows compiled (entry_is structs units entry unit there)
+        (laws.rows structs units entry unit rows known.keeps there fit)
 
     traced : (rows : List (List ℤ)) (seen : Shown) → RowsFit (input_columns unit) rows →
         Means structs units entry rows seen ↔ (seen ≡ shown (c_trace file rows))

@@ -58,7 +58,7 @@ step_reads step = or_nothing step.index
 
 -- ---- in expressions and statements
 
--- whether an expression reads a variable
+-- whether an expression reads a variable that the function holds
 abbrev pub reads_in : CExpr → Bool
 reads_in = fold-CExpr _ _ _ _ _ _ _ arg_reads kind_reads call_reads expr_reads index_reads place_reads step_reads
 
@@ -106,7 +106,7 @@ stmt_kind_reads (CStmtKind-F.Return e) = reads_in_option e
 abbrev pub stmt_reads : CStmt-F Bool Bool → Bool
 stmt_reads stmt = stmt.what
 
--- whether a statement reads a variable
+-- whether a statement does
 abbrev pub reads_in_stmt : CStmt → Bool
 reads_in_stmt = fold-CStmt Bool Bool stmt_kind_reads stmt_reads
 

@@ -8,16 +8,19 @@ use Rattle.bl_tree.specs.declared.program.Program.{Program}
 use Rattle.bl_tree.specs.declared.tree.StructDef.{StructDef}
 use Rattle.bl_tree.specs.declared.tree.Unit.{Unit as UnitDef}
 use Rattle.bl_tree.specs.Program.{Keeps}
+use Rattle.bl_tree.specs.Reduce.{joined}
 use Rattle.bl_tree.specs.Typing.{is_activity}
 use Rattle.bl_cause.specs.Activities.{EachTwo, activities}
 use Rattle.bl_ctext.specs.Spellable.{has_any}
 use Rattle.bl_effects.specs.Rules.{Passes}
 use Rattle.bl_limits.specs.Rules.{Passes as KeepsLimits}
+use Rattle.bl_nodes.specs.Plain.{plain_body}
 use Rattle.bl_machine.specs.declared.machine.Activity.{Activity as InMachine}
 use Rattle.bl_machine.specs.Blocks.{up_to}
 use Rattle.bl_machine.specs.Machines.{IsActivityOf}
 use Rattle.bl_machine_laws.specs.Rests.{ActivitiesCount}
 use Rattle.bl_emit_functions_laws_formed.specs.Formed.{IsNumbered}
+use Rattle.bl_pass_listed_laws.proofs.Shared.{shared_many}
 use Rattle.bl_emit_pass.specs.Activities.{Activity, counter_member, frame_member, frame_struct, runs_in_body}
 use Rattle.bl_emit_pass.specs.Programs.{activity_of, needed_units, parts_of_function, parts_of_next}
 use Rattle.bl_emit_pass.specs.Shared.{IsSharedActivityOf}
@@ -99,7 +102,8 @@ module _ (structs : List StructDef) (units : List UnitDef) (entry : ℕ) (keeps 
             can = subst (λ before. CanSpell structs units k (activity_of structs before remember unit one)) before
                 (spell k unit one remember keeps modest);
             rests = frame_some (activity_of structs earlier remember unit one)
-                (counted structs units entry unit one keeps passes (index_there units k unit there) active own);
+                (subst (λ many. 0 < many) (sym (shared_many (joined one.blocks) (plain_body unit.body) one.slots))
+                (counted structs units entry unit one keeps passes (index_there units k unit there) active own));
           }
 
       -- what is listed of a unit and those behind it, an activity or a function

@@ -12,6 +12,7 @@ use bl_measures::laws::units_add_up;
 use bl_measures_laws::laws::units_use_earlier_ones;
 use bl_pass_laws::numbers::trees_stay_placed;
 use bl_pass_laws::spots::spots_differ;
+use bl_pass_listed_laws::rules_are_listed;
 use bl_prevs_laws::scalar::prevs_are_scalar;
 use bl_tree::Program;
 
@@ -28,6 +29,7 @@ pub fn all_form(program: &Program)
     needed_small(program);
     needed_numbered(program);
     spots_differ();
+    rules_are_listed();
     trees_stay_placed();
     nodes_copied();
     runs_copied();

@@ -90,7 +90,7 @@ some_test tests = in_tree (c_truth false) Or (length tests) tests
 abbrev pub at_slot : View → Slot → CExpr
 at_slot view slot = c_two Eq (c_read (counter_place slot.counter)) (counter_value view.sizes slot.counter slot.value)
 
--- the greatest value that a counter has
+-- the greatest value that a counter can hold: values of a counter count from 1, so it is how many there are
 abbrev pub greatest_value : Sizes → ℕ → ℕ
 greatest_value sizes k = unwrap_or (slice_get sizes k) 0
 
@@ -98,12 +98,13 @@ greatest_value sizes k = unwrap_or (slice_get sizes k) 0
 abbrev pub is_only : Sizes → Slot → Bool
 is_only sizes slot = nat_eq slot.value 1 && nat_le (greatest_value sizes slot.counter) 1
 
--- whether what the counter held when the tick began isn't 0, or is the value
+-- whether what the counter held when the tick began isn't 0, where only that is to be asked, and else whether it was the value
 abbrev pub rested_by : View → Slot → Bool → CExpr
 rested_by view slot true = c_two Ne (c_read (rested_place slot.counter)) (counter_value view.sizes slot.counter 0)
 rested_by view slot false = c_two Eq (c_read (rested_place slot.counter)) (counter_value view.sizes slot.counter slot.value)
 
--- whether it rested at the number when the tick began. A counter with one value had that where it wasn't 0, which leaves a compiler no other case
+-- whether it rested at the number when the tick began. Of a counter with one value it is asked whether it held anything: a C compiler sees then that
+-- there is no third case
 abbrev pub rested_at : View → Slot → CExpr
 rested_at view slot = rested_by view slot (is_only view.sizes slot)
 

@@ -30,7 +30,8 @@ use Rattle.bl_emit_structs.specs.Structs.{structs_of}
 use Rattle.bl_nodes.specs.Plain.{plain_body}
 use Rattle.bl_machine.specs.declared.machine.Activity.{Activity as InMachine}
 use Rattle.bl_machine.specs.Blocks.{up_to}
-use Rattle.bl_pass.specs.Numbered.{sizes_of, slots_of}
+use Rattle.bl_pass.specs.Numbered.{slots_of}
+use Rattle.bl_pass_listed.specs.Shared.{shared, shared_sizes}
 use Rattle.bl_emit_pass.specs.Activities.{Activity, activity_function, frame_struct, pointer_param, remembered_struct, remembers_any, scalar_local}
 use Rattle.bl_emit_pass.specs.Activities.{struct_member}
 use Rattle.bl_emit_pass.specs.Names.{frame_name}
@@ -91,7 +92,7 @@ abbrev pub parts_of_activity : Activity → Parts
 parts_of_activity a =
     record { structs = frame_struct a ∷ remembered_struct a; funcs = activity_function a ∷ []; remember = remembers_any a ∷ [] }
 
--- an activity of a machine
+-- an activity of a machine, of which a last resting place may share the number 0 with the beginning
 abbrev pub activity_of : List StructDef → List UnitDef → List Bool → UnitDef → InMachine → Activity
 activity_of structs earlier remember unit one = record {
   structs = structs;
@@ -99,8 +100,8 @@ activity_of structs earlier remember unit one = record {
   unit = unit;
   order = joined one.blocks;
   blocks = one.blocks;
-  slots = slots_of (plain_body unit.body) one.slots;
-  sizes = sizes_of one.slots;
+  slots = slots_of (plain_body unit.body) (shared (joined one.blocks) (plain_body unit.body) one.slots);
+  sizes = shared_sizes (joined one.blocks) (plain_body unit.body) one.slots;
   remember = remember;
 }
 

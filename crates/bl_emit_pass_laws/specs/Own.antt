@@ -25,10 +25,9 @@ pub record BuiltAt (structs : List StructDef) (units : List UnitDef) (machine : 
   pub is_there : slice_get units k ≡ Some unit
   pub activity : is_activity unit.kind ≡ true
 
--- a number is one of the values that its counter has beside 0
+-- a number is one of a counter, whose values go up to its greatest one
 pub record PlaceCounts (sizes : Sizes) (slot : Slot) : Type 0 where
   pub counter : slot.counter < length sizes
-  pub low : 0 < slot.value
   pub high : slot.value ≤ unwrap_or (slice_get sizes slot.counter) 0
 
 -- so is the number of each resting place

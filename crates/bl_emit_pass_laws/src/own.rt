@@ -8,12 +8,14 @@ ghost use Rattle.bl_emit_pass_laws.specs.Own.{AskedAreOwn, ChangesAreOwn, Copies
 
 use bl_pass_laws::numbers::trees_stay_placed;
 use bl_pass_laws::spots::spots_differ;
+use bl_pass_listed_laws::rules_are_listed;
 
 /// The number of each resting place is a value of one of the counters.
 pub fn places_count()
     ensures { PlacesCount }
 {
     spots_differ();
+    rules_are_listed();
 }
 
 /// Counters that are copied are counters.
@@ -21,6 +23,7 @@ pub fn copies_are_counters()
     ensures { CopiesAreCounters }
 {
     spots_differ();
+    rules_are_listed();
 }
 
 /// The registers have copies of the counters that C copies.
@@ -33,6 +36,7 @@ pub fn changes_are_own()
     ensures { ChangesAreOwn }
 {
     spots_differ();
+    rules_are_listed();
 }
 
 /// All that a rule asks is told by registers.
@@ -40,6 +44,7 @@ pub fn asked_are_own()
     ensures { AskedAreOwn }
 {
     spots_differ();
+    rules_are_listed();
 }
 
 /// The numbers of registers are small.
@@ -47,5 +52,6 @@ pub fn registers_are_few()
     ensures { RegistersAreFew }
 {
     spots_differ();
+    rules_are_listed();
     trees_stay_placed();
 }

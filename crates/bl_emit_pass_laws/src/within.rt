@@ -7,6 +7,7 @@ ghost use Rattle.bl_emit_pass_laws.specs.Within.{AllStayWithin};
 
 use bl_ctree_laws_confluence::deeds::accepted_programs_are_orderly;
 use bl_pass_laws::spots::spots_differ;
+use bl_pass_listed_laws::rules_are_listed;
 
 /// Passes leave counters within their greatest values.
 pub fn passes_stay_within()
@@ -14,4 +15,5 @@ pub fn passes_stay_within()
 {
     accepted_programs_are_orderly();
     spots_differ();
+    rules_are_listed();
 }

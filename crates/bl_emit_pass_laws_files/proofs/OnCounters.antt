@@ -1,20 +1,16 @@
 -- Each activity of a program has a counter, and asks for its own alone.
-use Rattle.std.proofs.Common.{◌≡◌, ℕ, zero, suc, ◌<◌, arith, true, List, [], ◌∷◌, Contains, length, Some, sym, ap, ◌∙◌, subst}
+use Rattle.std.proofs.Common.{◌≡◌, ℕ, zero, suc, ◌<◌, arith, List, [], ◌∷◌, Contains, length, Some, sym, ◌∙◌, subst}
 use Rattle.std.proofs.lemmas.Option.{same_Some}
 use Rattle.std.specs.Prelude.{slice_get}
-use Rattle.bl_tree.specs.declared.tree.StructDef.{StructDef}
-use Rattle.bl_tree.specs.declared.tree.Unit.{Unit as UnitDef}
-use Rattle.bl_tree.specs.Program.{Keeps}
+use Rattle.bl_tree.specs.Reduce.{joined}
 use Rattle.bl_tree.specs.Typing.{is_activity}
+use Rattle.bl_nodes.specs.Plain.{plain_body}
 use Rattle.bl_cause.specs.Activities.{activities as activities_of, graph_position}
 use Rattle.bl_cause.proofs.PairLemmas.{each_at, filtered_at}
-use Rattle.bl_effects.specs.Rules.{Passes}
-use Rattle.bl_machine.specs.declared.machine.Activity.{Activity as InMachine}
-use Rattle.bl_machine.specs.Machines.{AreActivitiesOf, IsActivityOf}
+use Rattle.bl_machine.specs.Machines.{IsActivityOf}
 use Rattle.bl_machine_laws.specs.Rests.{ActivitiesCount}
-use Rattle.bl_emit_pass_laws.specs.Calls.Built.{Activities, AreBuilt}
-use Rattle.bl_emit_pass_laws.specs.Own.{BuiltAt, CopiesAreCounters}
-use Rattle.bl_emit_pass_laws_files.specs.Begins.{CountersSuffice}
+use Rattle.bl_pass_listed_laws.proofs.Shared.{shared_many}
+use Rattle.bl_emit_pass_laws.specs.Own.{CopiesAreCounters}
 use Rattle.bl_emit_pass_laws_files.specs.Counters.{AllSuffice}
 
 index_there : {A : Type 0} (xs : List A) (k : ℕ) (x : A) → slice_get xs k ≡ Some x → Contains xs x
@@ -33,7 +29,8 @@ counters_suffice counted copies structs units entry machine activities keeps pas
     let same : own.0 ≡ parts.one = same_Some own.0 parts.one (sym own.1 ∙ parts.is) in
     record {
       some = subst (λ sizes. 0 < length sizes) (sym parts.sizes)
-          (counted structs units entry unit parts.one keeps passes (index_there units k unit there) active (subst (IsActivityOf unit) same own.2));
+          (subst (λ many. 0 < many) (sym (shared_many (joined parts.one.blocks) (plain_body unit.body) parts.one.slots))
+          (counted structs units entry unit parts.one keeps passes (index_there units k unit there) active (subst (IsActivityOf unit) same own.2)));
       asked = λ c reads.
           copies structs units machine activities k unit c
           (record { agrees = agrees; built = built; is_there = there; activity = active }) reads;

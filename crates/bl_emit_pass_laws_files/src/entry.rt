@@ -1,6 +1,7 @@
 //! Runs of the entry by the numbers that are in C. There is no code here. A law, as the contract of a function that does nothing
 //! (`specs/Entry.antt`): over all rows that fit there is a run each tick of which is one pass by rules over the entry, where nodes and
-//! resting places have the numbers that their C has; it shows the only trace that the meaning of the program allows (`EntryRuns`).
+//! resting places have the numbers that their C has, the value 0 where a last place goes home; it shows the only trace that the meaning of
+//! the program allows (`EntryRuns`).
 
 ghost use Rattle.bl_emit_pass_laws_files.specs.Entry.{EntryRuns};
 
@@ -9,6 +10,8 @@ use bl_emit_pass_laws::cleared::clearing_is_inside;
 use bl_pass_laws::keys::nodes_have_keys;
 use bl_pass_laws_runs::machines::machines_are_given;
 use bl_pass_laws_runs::runs::runs_go_by_rules;
+use bl_pass_laws_runs::shared::shared_runs_go;
+use bl_pass_listed_laws::rules_are_listed;
 
 /// Over rows that fit there is a run by rules, with the numbers that are in C.
 pub fn entry_runs()
@@ -19,4 +22,6 @@ pub fn entry_runs()
     nodes_have_keys();
     machines_are_given();
     runs_go_by_rules();
+    rules_are_listed();
+    shared_runs_go();
 }

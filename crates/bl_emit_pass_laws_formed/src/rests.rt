@@ -5,12 +5,14 @@
 ghost use Rattle.bl_emit_pass_laws_formed.specs.Rests.{RulesStand};
 
 use bl_pass_laws::slots::{numbers_are_laid, typed_have_branches};
+use bl_pass_laws::spots::spots_differ;
 use bl_tree::Program;
 
 /// The numbers in the rules of a typed program's activities fit their counters' types.
 pub fn rules_stand(_program: &Program)
     ensures { RulesStand _program.now.structs _program.now.units _program.now.entry }
 {
+    spots_differ();
     numbers_are_laid();
     typed_have_branches();
 }

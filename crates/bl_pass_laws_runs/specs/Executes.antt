@@ -1,5 +1,5 @@
 -- What the text of one call does: a pass by rules over a store, node by node in the order of their numbers.
-use Rattle.std.specs.Prelude.{◌≡◌, ◌<◌, ℕ, suc, Bool, true, false, List, Contains, Option, Some, None, ⊤}
+use Rattle.std.specs.Prelude.{◌≡◌, ◌<◌, ℕ, suc, Bool, true, false, List, Contains, Some, None, ⊤}
 use Rattle.std.specs.Prelude.{nat_eq, option_map, slice_get, slice_set, unwrap_or}
 use Rattle.std.specs.List.{list_any}
 use Rattle.bl_tree.specs.declared.place.Place.{Place}
@@ -74,6 +74,12 @@ begun_registers rank i unit = started (λ k. 0) (entry_flag (rank i) (plain_body
 abbrev pub resumed_registers : Frames → ℕ → Registers
 resumed_registers frames i = started (frames i) (λ k. false)
 
+-- with which of them a pass of an instance that isn't told to begin starts: where all its counters hold 0 its body begins, and where its first one
+-- doesn't it goes on
+pub data Starts (rank : ℕ → Node → ℕ) (i : ℕ) (unit : UnitDef) (frames : Frames) : Registers → Type 0 where
+  begins : ((c : ℕ) → frames i c ≡ 0) → Starts rank i unit frames (begun_registers rank i unit)
+  goes_on : (frames i 0 ≡ 0 → ⊥) → Starts rank i unit frames (resumed_registers frames i)
+
 -- ---- copies
 
 -- the copies hold what the variables were of which the node asks that
@@ -137,17 +143,17 @@ mutual
         Executes w rank slots clear callee 0 (clear callee frames) given (view_at w given callee).now (begun_registers rank callee unit) frames' left
         r' → r'.over ≡ false →
         Performs w rank slots clear i (EnterAt l at arguments) frames store true (with_at callee r'.counters frames') left
-    -- it goes on, which its first counter tells: the answer tells whether the body of what it calls has ended
+    -- it goes on, as the counters of what it calls tell: the answer tells whether the body of that has ended
     resumes : {i : ℕ} {l : Label} {at : Place} {arguments : Arguments} {frames : Frames} {store given : Store} {frames' : Frames} {left : Store}
-        {r' : Registers} {callee : ℕ} → callee_of w i at ≡ Some callee → (frames callee 0 ≡ 0 → ⊥) →
-        Does w (deed i at (Copies callee arguments.inputs)) store true given →
-        Executes w rank slots clear callee 0 frames given (view_at w given callee).now (resumed_registers frames callee) frames' left r' →
+        {r r' : Registers} {callee : ℕ} {unit : UnitDef} → callee_of w i at ≡ Some callee → unit_at w callee ≡ Some unit →
+        Starts rank callee unit frames r → Does w (deed i at (Copies callee arguments.inputs)) store true given →
+        Executes w rank slots clear callee 0 frames given (view_at w given callee).now r frames' left r' →
         r'.over ≡ false → Performs w rank slots clear i (ResumeAt l at arguments) frames store false (with_at callee r'.counters frames') left
     -- where it has, the target gets the result
     returns : {i : ℕ} {l : Label} {at : Place} {arguments : Arguments} {frames : Frames} {store given : Store} {frames' : Frames}
-        {ended left : Store} {r' : Registers} {callee : ℕ} → callee_of w i at ≡ Some callee → (frames callee 0 ≡ 0 → ⊥) →
-        Does w (deed i at (Copies callee arguments.inputs)) store true given →
-        Executes w rank slots clear callee 0 frames given (view_at w given callee).now (resumed_registers frames callee) frames' ended r' →
+        {ended left : Store} {r r' : Registers} {callee : ℕ} {unit : UnitDef} → callee_of w i at ≡ Some callee → unit_at w callee ≡ Some unit →
+        Starts rank callee unit frames r → Does w (deed i at (Copies callee arguments.inputs)) store true given →
+        Executes w rank slots clear callee 0 frames given (view_at w given callee).now r frames' ended r' →
         r'.over ≡ true → Does w (deed i at (Gives callee arguments.target)) ended true left →
         Performs w rank slots clear i (ResumeAt l at arguments) frames store true (with_at callee r'.counters frames') left
 
@@ -184,7 +190,8 @@ mutual
         callee_of w i at ≡ Some callee → unit_at w callee ≡ Some unit → Does w (deed i at (Copies callee arguments.inputs)) store true given →
         IsCut w rank slots clear callee 0 (clear callee frames) given (view_at w given callee).now (begun_registers rank callee unit) →
         Stops w rank slots clear i (EnterAt l at arguments) frames store
-    resumed_stops : {i : ℕ} {l : Label} {at : Place} {arguments : Arguments} {frames : Frames} {store given : Store} {callee : ℕ} →
-        callee_of w i at ≡ Some callee → (frames callee 0 ≡ 0 → ⊥) → Does w (deed i at (Copies callee arguments.inputs)) store true given →
-        IsCut w rank slots clear callee 0 frames given (view_at w given callee).now (resumed_registers frames callee) →
+    resumed_stops : {i : ℕ} {l : Label} {at : Place} {arguments : Arguments} {frames : Frames} {store given : Store} {r : Registers} {callee : ℕ}
+        {unit : UnitDef} → callee_of w i at ≡ Some callee → unit_at w callee ≡ Some unit → Starts rank callee unit frames r →
+        Does w (deed i at (Copies callee arguments.inputs)) store true given →
+        IsCut w rank slots clear callee 0 frames given (view_at w given callee).now r →
         Stops w rank slots clear i (ResumeAt l at arguments) frames store

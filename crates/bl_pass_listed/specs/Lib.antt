@@ -1,4 +1,5 @@
 pub mod Callees
 pub mod Listed
+pub mod Shared
 pub mod Told
 pub mod inner

@@ -1,6 +1,7 @@
 pub mod Agreeing
 pub mod Places
 pub mod Parts
+pub mod Shared
 pub mod Standing
 pub mod Walked
 pub mod Written

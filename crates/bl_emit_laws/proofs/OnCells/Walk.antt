@@ -14,7 +14,7 @@ use Rattle.bl_tree.specs.declared.text.Text.{Text}
 use Rattle.bl_tree.specs.declared.tree.StructDef.{StructDef}
 use Rattle.bl_tree.specs.declared.tree.Unit.{Unit as UnitDef}
 use Rattle.bl_tree.specs.Program.{Keeps}
-use Rattle.bl_tree.specs.Reduce.{greatest, total}
+use Rattle.bl_tree.specs.Reduce.{greatest, joined, total}
 use Rattle.bl_tree.specs.Typing.{is_activity}
 use Rattle.bl_tree.specs.Words.{are_distinct, is_among}
 use Rattle.bl_eval.proofs.PassLemmas.{and_left}
@@ -25,7 +25,7 @@ use Rattle.bl_machine.specs.declared.machine.Activity.{Activity as InMachine}
 use Rattle.bl_machine.specs.Layout.{width_in}
 use Rattle.bl_machine.specs.Machines.{IsActivityOf}
 use Rattle.bl_nodes.specs.Plain.{plain_body}
-use Rattle.bl_pass.specs.Numbered.{sizes_of}
+use Rattle.bl_pass_listed.specs.Shared.{shared_sizes}
 use Rattle.bl_cmeaning.specs.Sizes.{Sizes, chain_cells, chains_after, size_of_member, size_of_struct, sizes_after}
 use Rattle.bl_cmeaning.specs.Tables.{Table, entry_or, with_entry}
 use Rattle.bl_emit_structs_laws.specs.Names.{names_of}
@@ -105,7 +105,8 @@ module _ (structs : List StructDef) (units : List UnitDef) (entry : ℕ) (keeps 
     (down : (k j : ℕ) (unit : UnitDef) → slice_get units k ≡ Some unit → list_any (nat_eq j) (needs_of unit) ≡ true →
     cells_at structs units j ≤ cells_at structs units k)
     (last : List CStruct) (last_named : (s : CStruct) → Contains last s → first_byte s.name ≡ 98)
-    (counters : (unit : UnitDef) (one : InMachine) → IsSharedActivityOf unit one → length (sizes_of one.slots) ≤ width_in (plain_body unit.body))
+    (counters : (unit : UnitDef) (one : InMachine) → IsSharedActivityOf unit one →
+    length (shared_sizes (joined one.blocks) (plain_body unit.body) one.slots) ≤ width_in (plain_body unit.body))
     (callees : (k : ℕ) (unit : UnitDef) (one : InMachine) (remember : List Bool) → slice_get units k ≡ Some unit → is_activity unit.kind ≡ true →
     slice_get (needed_units units entry) k ≡ Some true → IsActivityOf unit one → IsSharedActivityOf unit one → (u : ℕ) (callee : UnitDef) →
     Contains (runs_of unit) u → slice_get units u ≡ Some callee →

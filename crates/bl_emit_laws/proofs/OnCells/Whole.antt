@@ -35,7 +35,7 @@ use Rattle.bl_tree.specs.declared.tree.StructDef.{StructDef}
 use Rattle.bl_tree.specs.declared.tree.Unit.{Unit as UnitDef}
 use Rattle.bl_tree.specs.declared.tree.Var.{Var}
 use Rattle.bl_tree.specs.Program.{Keeps, is_entry, parameters_of}
-use Rattle.bl_tree.specs.Reduce.{greatest}
+use Rattle.bl_tree.specs.Reduce.{greatest, joined}
 use Rattle.bl_tree.specs.Types.{scalar_in}
 use Rattle.bl_tree.specs.Typing.{inputs_of, is_activity, outputs_of}
 use Rattle.bl_tree.specs.Words.{are_distinct}
@@ -53,7 +53,8 @@ use Rattle.bl_measures.specs.Laws.{CellsAdd}
 use Rattle.bl_measures.specs.Runs.{runs_of}
 use Rattle.bl_measures.specs.Units.{cells_at}
 use Rattle.bl_measures_laws.specs.Laws.{UnitsUseEarlierOnes}
-use Rattle.bl_pass.specs.Numbered.{sizes_of}
+use Rattle.bl_pass_listed.specs.Shared.{shared_sizes}
+use Rattle.bl_pass_listed_laws.proofs.Shared.{shared_many}
 use Rattle.bl_pass.specs.Rules.{Rule, rules}
 use Rattle.bl_cmeaning.specs.Parts.{parts_from as file_from}
 use Rattle.bl_cmeaning.specs.Sizes.{Sizes, cells_needed, chain_cells, chains_after, deepest_chain, size_of_struct, sizes_after}
@@ -312,8 +313,11 @@ module _ (program : Program)
       cells_at structs units j ≤ cells_at structs units k
   cells_down k j u at among = less_calls structs units entry k j u keeps earlier add at among
 
-  few_counters : (u : UnitDef) (one : InMachine) → IsSharedActivityOf u one → length (sizes_of one.slots) ≤ width_in (plain_body u.body)
-  few_counters u one single = sizes_few (plain_body u.body) one.slots single.slots
+  few_counters : (u : UnitDef) (one : InMachine) → IsSharedActivityOf u one →
+      length (shared_sizes (joined one.blocks) (plain_body u.body) one.slots) ≤ width_in (plain_body u.body)
+  few_counters u one single =
+      subst (λ many. many ≤ width_in (plain_body u.body)) (sym (shared_many (joined one.blocks) (plain_body u.body) one.slots))
+      (sizes_few (plain_body u.body) one.slots single.slots)
 
   callees : (k : ℕ) (u : UnitDef) (one : InMachine) (remember : List Bool) → slice_get units k ≡ Some u → is_activity u.kind ≡ true →
       slice_get (needed_units units entry) k ≡ Some true → IsActivityOf u one → IsSharedActivityOf u one → (c : ℕ) (callee : UnitDef) →

@@ -8,7 +8,7 @@ use Rattle.bl_tree.specs.declared.tree.Unit.{Unit as UnitDef}
 use Rattle.bl_tree.specs.declared.tree.UnitKind.{UnitKind}
 use Rattle.bl_tree.specs.declared.tree.UnitKind.TheVariants.{Function, Activity as ActivityKind}
 use Rattle.bl_tree.specs.Program.{Keeps}
-use Rattle.bl_tree.specs.Reduce.{greatest, total}
+use Rattle.bl_tree.specs.Reduce.{greatest, joined, total}
 use Rattle.bl_tree.specs.Typing.{is_activity}
 use Rattle.bl_cause.specs.Activities.{EachTwo, activities}
 use Rattle.bl_effects.specs.Rules.{Passes}
@@ -40,8 +40,13 @@ use Rattle.bl_emit_pass_laws_bodies.specs.Lists.{ActivityForms, AllForm, UnitFor
 use Rattle.bl_emit_pass_laws_formed.specs.Machines.{IsModest, MachinesDiffer, MachinesSpell}
 use Rattle.bl_emit_pass_laws_formed.specs.Needed.{NeededNumbered, NeededSmall}
 use Rattle.bl_emit_pass_laws.proofs.OnOwn.Members.{contains_at}
+use Rattle.bl_emit_pass_laws.proofs.OnOwn.Listing.{Listing, shared_listing}
 use Rattle.bl_emit_pass_laws.proofs.OnOwn.Owning.{asks_on, changes_on, copied_below}
 use Rattle.bl_emit_laws.proofs.OnForms.Copying.{copies-suffice}
+use Rattle.bl_machine.specs.declared.slots.Slot.{Slot}
+use Rattle.bl_pass_listed.specs.Shared.{shared}
+use Rattle.bl_pass_listed_laws.specs.Laws.{RulesAreListed}
+use Rattle.bl_pass_listed_laws.proofs.Shared.{shared_many}
 use Rattle.bl_emit_laws.specs.Forms.{UnitsForm}
 
 get_behind : {A : Type 0} (xs : List A) (y : A) (ys : List A) → slice_get (xs ++ y ∷ ys) (length xs) ≡ Some y
@@ -71,6 +76,7 @@ pub record Promised (structs : List StructDef) (units : List UnitDef) (entry : �
   pub small : NeededSmall structs units entry
   pub numbered : NeededNumbered structs units entry
   pub spots : SpotsDiffer
+  pub listed : RulesAreListed
   pub nodes : (slots : Slots) (body : Block) → map (λ (rule : Rule). rule.node) (rules slots body) ≡ nodes_in body
   pub copied : NodesCopied
   pub runs : RunsCopied
@@ -114,13 +120,21 @@ module _ (structs : List StructDef) (units : List UnitDef) (entry : ℕ) (laws :
           places_small (places_in (plain_body unit.body)) (statements_of unit) (cells_at structs units k)
           (laws.nodes_counted k unit keeps there).places (statements_less k unit there) modest.cells
 
+      -- the numbers of its places
+      abbrev numbers : List Slot
+      numbers = shared (joined one.blocks) (plain_body unit.body) one.slots
+
+      listing : Listing a.sizes a.slots (plain_body a.unit.body) numbers
+      listing = shared_listing laws.spots laws.listed (joined one.blocks) unit.body one.slots own.counters
+
       owns : OwnsRules a
       owns = record {
-        asks = λ rule has. asks_on a one.slots laws.spots refl refl own.counters few_places rule has;
-        so = λ rule has. (changes_on a one.slots laws.spots refl refl own.counters rule has).0;
-        otherwise = λ rule has. (changes_on a one.slots laws.spots refl refl own.counters rule has).1;
-        some = laws.counted structs units entry unit one keeps passes (contains_at units k unit there) active own;
-        read = λ c on. copied_below a one.slots laws.spots refl refl own.counters c on;
+        asks = λ rule has. asks_on a numbers laws.spots refl listing few_places rule has;
+        so = λ rule has. (changes_on a numbers laws.spots refl listing rule has).0;
+        otherwise = λ rule has. (changes_on a numbers laws.spots refl listing rule has).1;
+        some = subst (λ many. 0 < many) (sym (shared_many (joined one.blocks) (plain_body unit.body) one.slots))
+            (laws.counted structs units entry unit one keeps passes (contains_at units k unit there) active own);
+        read = λ c on. copied_below a numbers laws.spots refl listing c on;
       }
 
       forms : ActivityForms structs units k a

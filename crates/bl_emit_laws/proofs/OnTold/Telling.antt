@@ -16,11 +16,13 @@ use Rattle.bl_tree.specs.Reduce.{joined}
 use Rattle.bl_nodes.specs.Nodes.{ActAt, CheckAt, EnterAt, Node, ResumeAt, TestAt}
 use Rattle.bl_nodes.specs.Plain.{Block, Done, Then, plain_body}
 use Rattle.bl_machine.specs.declared.machine.Activity.{Activity as InMachine}
+use Rattle.bl_machine.specs.declared.slots.Slot.{Slot}
 use Rattle.bl_machine.specs.Blocks.{up_to}
 use Rattle.bl_pass.specs.Numbered.{slots_of}
 use Rattle.bl_pass.specs.Rules as nodes
 use Rattle.bl_pass.specs.Rules.{Ended, Ends, Finishes, Flagged, Flags, Forgets, Frees, Holds, Marks, Rested, RestedIn}
 use Rattle.bl_pass_listed.specs.Callees.{callees_in, number_in}
+use Rattle.bl_pass_listed.specs.Shared.{shared}
 use Rattle.bl_pass_listed.specs.Told.{Rule, all_told, task_at, told_asked, told_change}
 use Rattle.bl_pass_listed_laws.specs.Laws.{RulesAreListed, entries, first_number}
 use Rattle.bl_emit_functions.specs.Functions.{params_from, struct_of}
@@ -139,14 +141,17 @@ module _ (law : RulesAreListed) (bodies : BodiesAreNumbered) (alike : BlocksAlik
   abbrev calls : List ℕ
   calls = callees_in (plain_body unit.body)
 
+  abbrev slots : List Slot
+  slots = shared (joined one.blocks) (plain_body unit.body) one.slots
+
   abbrev rules : List nodes.Rule
-  rules = nodes.rules (slots_of (plain_body unit.body) one.slots) (plain_body unit.body)
+  rules = nodes.rules (slots_of (plain_body unit.body) slots) (plain_body unit.body)
 
   told_is : all_told number calls rules ≡ t.rules
-  told_is = law.told unit.body (joined one.blocks) one.slots
+  told_is = law.told unit.body (joined one.blocks) slots
 
   each : length calls ≡ length rules
-  each = law.each unit.body one.slots
+  each = law.each unit.body slots
 
   runs_so : runs_told t.rules ≡ runs_in_body a
   runs_so = sym (runs_are number calls rules ∙ ap runs_told told_is)
@@ -172,7 +177,7 @@ module _ (law : RulesAreListed) (bodies : BodiesAreNumbered) (alike : BlocksAlik
   entry_so : entry_told t.sizes t.rules ≡ entry_code (view_of a) (plain_body unit.body)
   entry_so =
       first_is t.sizes t.rules
-      ∙ (ap (map (entry_at t.sizes)) (sym (law.begins unit.body (joined one.blocks) one.slots))
+      ∙ (ap (map (entry_at t.sizes)) (sym (law.begins unit.body (joined one.blocks) slots))
       ∙ sym (entries_are (view_of a) (plain_body unit.body)))
 
   views : Alike (view_told t) (view_of a)
@@ -188,7 +193,7 @@ module _ (law : RulesAreListed) (bodies : BodiesAreNumbered) (alike : BlocksAlik
       ++ (map (c_copied (view_of a).site) (copied_told unit) ++ blocks_code (map (numbered_turn (view_told t)) t.rules) t.blocks))) counters_so entry_so
       ∙ ap (λ (turns : List Turn). map rested_code (filter (is_read_by rules) (up_to (length t.sizes)))
       ++ (entry_code (view_of a) (plain_body unit.body) ++ (map (c_copied (view_of a).site) (copied_told unit) ++ blocks_code turns t.blocks)))
-      (turns_so ∙ sym (bodies (view_of a) unit.body (joined one.blocks) one.slots refl))
+      (turns_so ∙ sym (bodies (view_of a) unit.body (joined one.blocks) slots refl))
 
   locals_so : locals_told t ≡ (activity_function a).locals
   locals_so =

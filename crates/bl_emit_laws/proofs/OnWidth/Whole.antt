@@ -6,6 +6,7 @@ use Rattle.bl_tree.specs.declared.program.Program.{Program}
 use Rattle.bl_tree.specs.declared.tree.Stmt.{Stmt}
 use Rattle.bl_tree.specs.declared.tree.Unit.{Unit as UnitDef}
 use Rattle.bl_tree.specs.Program.{is_entry}
+use Rattle.bl_tree.specs.Reduce.{joined}
 use Rattle.bl_tree.specs.Typing.{is_activity}
 use Rattle.bl_effects.specs.Surface.{width}
 use Rattle.bl_nodes.specs.Plain.{plain_body}
@@ -16,6 +17,7 @@ use Rattle.bl_ctree_laws_confluence.specs.Deeds.Orderly.{AcceptedIsOrderly}
 use Rattle.bl_machine.specs.declared.machine.Activity.{Activity as InMachine}
 use Rattle.bl_machine.specs.Layout.{counters_in}
 use Rattle.bl_machine_laws.specs.Numbers.Width.{TakesItsWidth}
+use Rattle.bl_pass_listed_laws.proofs.Shared.{shared_many}
 use Rattle.bl_emit_pass.specs.Activities.{frame_struct}
 use Rattle.bl_emit_pass.specs.Names.{frame_name}
 use Rattle.bl_emit_pass.specs.Shared.{IsSharedActivityOf}
@@ -63,7 +65,7 @@ module _ (program : Program) (orderly : AcceptedIsOrderly) (wide : (body : List 
 
     many : length (activities k).sizes ≡ width unit.body
     many =
-        ap length made.sizes
+        ap length made.sizes ∙ shared_many (joined made.one.blocks) (plain_body unit.body) made.one.slots
         ∙ sizes_wide made.one.slots (counters_in (plain_body unit.body) 0) (width unit.body) own.slots (wide unit.body).below (wide unit.body).each
 
     small : (c : ℕ) → c < length (activities k).sizes → c < 2 ^ 64

@@ -14,8 +14,9 @@ use Rattle.bl_ctree.specs.Instances.{Setting}
 use Rattle.bl_ctree.specs.Store.{depth_at}
 use Rattle.bl_machine.specs.declared.machine.Activity.{Activity as InMachine}
 use Rattle.bl_machine.specs.Uses.{Slots}
-use Rattle.bl_pass.specs.Numbered.{sizes_of, slots_of}
+use Rattle.bl_pass.specs.Numbered.{slots_of}
 use Rattle.bl_pass.specs.Rules.{Change, Marks, Rule}
+use Rattle.bl_pass_listed.specs.Shared.{shared, shared_sizes}
 use Rattle.bl_pass_laws_runs.specs.Frames.{Frames}
 use Rattle.bl_emit_pass.specs.Activities.{Activity, is_flagged, remembers_any, rules_at, view_of}
 use Rattle.bl_emit_pass_laws.specs.Registers.Registers.{Registered}
@@ -51,8 +52,8 @@ pub record MadeOf (unit : UnitDef) (a : Activity) (machine : Option InMachine) :
   pub is : machine ≡ Some one
   pub order : a.order ≡ joined one.blocks
   pub blocks : a.blocks ≡ one.blocks
-  pub slots : a.slots ≡ slots_of (plain_body unit.body) one.slots
-  pub sizes : a.sizes ≡ sizes_of one.slots
+  pub slots : a.slots ≡ slots_of (plain_body unit.body) (shared (joined one.blocks) (plain_body unit.body) one.slots)
+  pub sizes : a.sizes ≡ shared_sizes (joined one.blocks) (plain_body unit.body) one.slots
 
 -- each activity of the program is made of its unit, the units before it, and its part of the machine
 pub record AreBuilt (structs : List StructDef) (units : List UnitDef) (machine : List InMachine) (activities : Activities) : Type 0 where

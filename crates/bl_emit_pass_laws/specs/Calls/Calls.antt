@@ -1,7 +1,6 @@
 -- Calls of the C functions of activities: what they are given, and what they leave.
 use Rattle.std.specs.Prelude.{
   ◌≡◌,
-  ◌⊎◌,
   ◌≤◌,
   ℕ,
   pos,
@@ -39,7 +38,7 @@ use Rattle.bl_emit_acts_laws.specs.Shows.{ArgsHold}
 use Rattle.bl_emit_pass.specs.Activities.{remembers_any}
 use Rattle.bl_emit_pass.specs.Blocks.{greatest_value}
 use Rattle.bl_pass.specs.Registers.{Registers, with_at}
-use Rattle.bl_pass_laws_runs.specs.Executes.{Executes, IsCut, begun_registers, resumed_registers}
+use Rattle.bl_pass_laws_runs.specs.Executes.{Executes, IsCut, Starts}
 use Rattle.bl_pass_laws_runs.specs.Frames.{Frames}
 use Rattle.bl_emit_pass_laws.specs.Calls.Built.{Activities, activity_at, cleared, rank_by, slots_by, unit_number}
 use Rattle.bl_emit_pass_laws.specs.Calls.Memories.{MemoryHolds}
@@ -103,11 +102,9 @@ pub record CallBegins (w : Setting) (activities : Activities) (i : ℕ) (unit : 
   pub fits : StoreFits w store
   pub within : FramesWithin w activities frames
 
--- an instance is begun, and all its counters hold 0; or it goes on, and the first doesn't
+-- the registers with which a pass of an instance starts, by the numbers that are in C
 abbrev pub PassStarts : Setting → Activities → ℕ → UnitDef → Frames → Registers → Type 0
-PassStarts w activities i unit frames r =
-    ((r ≡ begun_registers (rank_by w activities) i unit) × ((c : ℕ) → frames i c ≡ 0))
-    ⊎ ((r ≡ resumed_registers frames i) × (frames i 0 ≡ 0 → ⊥))
+PassStarts w activities i unit frames r = Starts (rank_by w activities) i unit frames r
 
 -- ---- what a call leaves
 

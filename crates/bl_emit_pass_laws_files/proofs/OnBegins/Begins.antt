@@ -1,5 +1,5 @@
 -- The function of an activity begins as a pass begins.
-use Rattle.std.proofs.Common.{◌≡◌, inl, inr, ℕ, zero, suc, ◌+◌, ◌<◌, pos, arith, Bool, true}
+use Rattle.std.proofs.Common.{◌≡◌, ℕ, zero, suc, ◌+◌, ◌<◌, pos, arith, Bool, true}
 use Rattle.std.proofs.Common.{false, not, ◌&&◌, ◌||◌}
 use Rattle.std.proofs.Common.{List, [], ◌∷◌, ◌++◌, length, map, Option, Some, refl, sym, ap, ◌∙◌, subst}
 use Rattle.std.proofs.lemmas.Bool.{lt-ltb, ltb-true}
@@ -40,6 +40,7 @@ use Rattle.bl_machine.specs.Blocks.{up_to}
 use Rattle.bl_machine.specs.declared.machine.Activity.{Activity as InMachine}
 use Rattle.bl_pass.specs.Registers.{Registers}
 use Rattle.bl_pass.specs.Rules.{Finishes, rules}
+use Rattle.bl_pass_laws_runs.specs.Executes as executes
 use Rattle.bl_pass_laws_runs.specs.Executes.{begun_registers, resumed_registers}
 use Rattle.bl_pass_laws.specs.Turns.Laws.{entry_flag}
 use Rattle.bl_pass_laws_runs.specs.Frames.{Frames}
@@ -309,18 +310,18 @@ module _ (structs : List StructDef) (units : List UnitDef) (entry_at : ℕ) (ord
     same_resumed goes Over its = ap number_of over_third
 
     same : Same r
-    same = by starts
+    same = by r starts
       where
-        by : PassStarts w activities i unit frames r → Same r
-        by (inl (is, zeros)) = subst Same (sym is) (same_begun zeros)
-        by (inr (is, goes)) = subst Same (sym is) (same_resumed goes)
+        by : (r : Registers) → PassStarts w activities i unit frames r → Same r
+        by r (executes.begins zeros) = same_begun zeros
+        by r (executes.goes_on goes) = same_resumed goes
 
     not_over : r.over ≡ false
-    not_over = by starts
+    not_over = by r starts
       where
-        by : PassStarts w activities i unit frames r → r.over ≡ false
-        by (inl (is, zeros)) = ap (λ (r : Registers). r.over) is
-        by (inr (is, goes)) = ap (λ (r : Registers). r.over) is
+        by : (r : Registers) → PassStarts w activities i unit frames r → r.over ≡ false
+        by r (executes.begins zeros) = refl
+        by r (executes.goes_on goes) = refl
 
     module _ (m after : Memory) (stands : Mid third m) (left : BegunWith site scope m now Copied after) where
       after_older : (root : Root) (way : List Part) → is_older (depth + 1) root ≡ true → after root way ≡ begun root way

@@ -1,5 +1,5 @@
 -- The laws of a whole program.
-use Rattle.std.proofs.Common.{◌≡◌, ℕ, ◌+◌, ◌*◌, ◌<◌, ◌≤◌, ◌^◌, Bool, List}
+use Rattle.std.proofs.Common.{◌≡◌, ℕ, ◌*◌, ◌<◌, ◌≤◌, ◌^◌, List}
 use Rattle.std.proofs.Common.{Some, map, take, length, refl, sym, subst, arith}
 use Rattle.std.specs.Prelude.{slice_get}
 use Rattle.bl_tree.specs.declared.tree.StructDef.{StructDef}
@@ -17,6 +17,8 @@ use Rattle.bl_measures.specs.Statements.{statements_of}
 use Rattle.bl_measures.specs.Units.{cells_at, cells_with, variables_of}
 use Rattle.bl_measures_laws.specs.Laws.{UnitsUseEarlierOnes}
 use Rattle.bl_pass.specs.Numbered.{sizes_of}
+use Rattle.bl_pass_listed.specs.Shared.{shared_sizes}
+use Rattle.bl_pass_listed_laws.proofs.Shared.{shared_many}
 use Rattle.bl_nodes.specs.Nodes.{nodes_in}
 use Rattle.bl_nodes.specs.Plain.{plain_body}
 use Rattle.bl_emit_functions_laws_formed.specs.Formed.{IsNumbered}
@@ -68,12 +70,17 @@ module _ (structs : List StructDef) (units : List UnitDef) (entry : ℕ) (uses :
         (nodes_small (length (nodes_in (plain_body unit.body))) (statements_of unit) (cells_at structs units k) few.nodes
         (statements_less k unit keeps modest.there) modest.cells)
 
-    counters : (k : ℕ) (unit : UnitDef) (one : InMachine) → Keeps structs units entry → IsModest structs units k unit one →
+    own_counters : (k : ℕ) (unit : UnitDef) (one : InMachine) → Keeps structs units entry → IsModest structs units k unit one →
         length (sizes_of one.slots) ≤ 2 ^ 64
-    counters k unit one keeps modest =
+    own_counters k unit one keeps modest =
         let few : IsFew unit = counted k unit keeps modest.there in
         counters_small (length (sizes_of one.slots)) (places_in (plain_body unit.body)) (statements_of unit) (cells_at structs units k)
         (sizes_few (plain_body unit.body) one.slots modest.shared.slots) few.places (statements_less k unit keeps modest.there) modest.cells
+
+    counters : (k : ℕ) (unit : UnitDef) (one : InMachine) → Keeps structs units entry → IsModest structs units k unit one →
+        length (shared_sizes (joined one.blocks) (plain_body unit.body) one.slots) ≤ 2 ^ 64
+    counters k unit one keeps modest =
+        subst (λ many. many ≤ 2 ^ 64) (sym (shared_many (joined one.blocks) (plain_body unit.body) one.slots)) (own_counters k unit one keeps modest)
 
     pub spell : RulesFit structs units entry → RulesStand structs units entry → MachinesSpell structs units entry
     spell fit stand k unit one remember keeps modest =
@@ -88,10 +95,10 @@ module _ (structs : List StructDef) (units : List UnitDef) (entry : ℕ) (uses :
           counters = counters k unit one keeps modest;
           numbers = (numbers k unit one keeps modest).few;
           rules = fit k (activity_of structs (take k units) remember unit one) keeps refl refl modest.there
-              (stand k unit one.slots keeps modest.there modest.of_unit.counters
+              (stand k unit (joined one.blocks) one.slots keeps modest.there modest.of_unit.counters
               (places_small (length one.slots) (places_in (plain_body unit.body)) (statements_of unit) (cells_at structs units k)
               modest.of_unit.counters.one_each few.places (statements_less k unit keeps modest.there) modest.cells)
-              (counters k unit one keeps modest));
+              (own_counters k unit one keeps modest));
         }
 
     pub differ : NumbersFollow → MachinesDiffer structs units entry

@@ -246,8 +246,8 @@ module _ (w : Setting) (activities : Activities) (i : ℕ) (frames : Frames) (st
       (frames' ≡ frames) × (done_by w (deed_at i n) store ≡ Some (record { answer = answer; store = left }))
   act_performs n answer frames' left act (executes.does point did) = (refl, did)
   act_performs n answer frames' left act (executes.enters called there copied executed over) = absurd act
-  act_performs n answer frames' left act (executes.resumes called rested copied executed over) = absurd act
-  act_performs n answer frames' left act (executes.returns called rested copied executed over gives) = absurd act
+  act_performs n answer frames' left act (executes.resumes called of starts copied executed over) = absurd act
+  act_performs n answer frames' left act (executes.returns called of starts copied executed over gives) = absurd act
 
   pub act_stops : (n : Node) → IsActNode n → Stops w (rank_by w activities) (slots_by w activities) (cleared w) i n frames store →
       done_by w (deed_at i n) store ≡ None
@@ -255,7 +255,7 @@ module _ (w : Setting) (activities : Activities) (i : ℕ) (frames : Frames) (st
   act_stops n act (executes.inputs_stop called did) = absurd act
   act_stops n act (executes.copies_stop called did) = absurd act
   act_stops n act (executes.begun_stops called there copied cut) = absurd act
-  act_stops n act (executes.resumed_stops called rested copied cut) = absurd act
+  act_stops n act (executes.resumed_stops called of starts copied cut) = absurd act
 
 pub and_first : (a b : Bool) → (a && b) ≡ true → a ≡ true
 and_first true b h = refl

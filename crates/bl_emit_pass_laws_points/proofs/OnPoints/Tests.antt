@@ -171,8 +171,8 @@ module _ (w : Setting) (activities : Activities) (i : ℕ) (frames : Frames) (st
       (frames' ≡ frames) × (done_by w (deed_at i n) store ≡ Some (record { answer = answer; store = left }))
   test_performs n answer frames' left test (executes.does point did) = (refl, did)
   test_performs n answer frames' left test (executes.enters called there copied executed over) = absurd test
-  test_performs n answer frames' left test (executes.resumes called rested copied executed over) = absurd test
-  test_performs n answer frames' left test (executes.returns called rested copied executed over gives) = absurd test
+  test_performs n answer frames' left test (executes.resumes called of starts copied executed over) = absurd test
+  test_performs n answer frames' left test (executes.returns called of starts copied executed over gives) = absurd test
 
   test_stops : (n : Node) → IsTest n → Stops w (rank_by w activities) (slots_by w activities) (cleared w) i n frames store →
       done_by w (deed_at i n) store ≡ None
@@ -180,7 +180,7 @@ module _ (w : Setting) (activities : Activities) (i : ℕ) (frames : Frames) (st
   test_stops n test (executes.inputs_stop called did) = absurd test
   test_stops n test (executes.copies_stop called did) = absurd test
   test_stops n test (executes.begun_stops called there copied cut) = absurd test
-  test_stops n test (executes.resumed_stops called rested copied cut) = absurd test
+  test_stops n test (executes.resumed_stops called of starts copied cut) = absurd test
 
 -- what is left where a test has answered
 as_left : (w : Setting) (activities : Activities) (i : ℕ) (unit : UnitDef) (scope : Scope) (r : Registers) (rule : Rule) (here : Memory)

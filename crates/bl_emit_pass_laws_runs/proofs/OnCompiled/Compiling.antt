@@ -20,6 +20,7 @@ use Rattle.bl_machine.specs.Blocks.{up_to}
 use Rattle.bl_machine.specs.Layout.{places_in}
 use Rattle.bl_machine.specs.Machines.{AreActivitiesOf, IsActivityOf}
 use Rattle.bl_pass.specs.Numbered.{sizes_of}
+use Rattle.bl_pass_listed_laws.proofs.Shared.{shared_many}
 use Rattle.bl_emit_functions_laws_formed.specs.Numbered.{UnitsCounted}
 use Rattle.bl_emit_pass_laws.specs.Registers.Registers.{FewRegisters}
 use Rattle.bl_emit_pass_laws.specs.Calls.Built.{Activities, AreBuilt, registered}
@@ -67,8 +68,9 @@ module _ (structs : List StructDef) (units : List UnitDef) (entry : ℕ) (counte
         let alone = each_at IsSharedActivityOf (activities_among units) machine (graph_position units k) unit plain among in
         let is_plain = subst (IsSharedActivityOf unit) (some_is alone.0 made.one (sym alone.1 ∙ made.is)) alone.2 in
         subst (λ (sizes : List ℕ). length sizes ≤ 2 ^ 64) (sym made.sizes)
+        (subst (λ many. many ≤ 2 ^ 64) (sym (shared_many (joined made.one.blocks) (plain_body unit.body) made.one.slots))
         (counters_few (length (sizes_of made.one.slots)) (places_in (plain_body unit.body)) (statements_of unit)
-        (sizes_few (plain_body unit.body) made.one.slots is_plain.slots) (nodes k unit keeps there).places (countable k unit there).statements)
+        (sizes_few (plain_body unit.body) made.one.slots is_plain.slots) (nodes k unit keeps there).places (countable k unit there).statements))
 
     registers : (k : ℕ) (unit : UnitDef) → slice_get units k ≡ Some unit → is_activity unit.kind ≡ true → FewRegisters (registered (activities k))
     registers k unit there active =

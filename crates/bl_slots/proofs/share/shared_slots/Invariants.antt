@@ -1,0 +1,6 @@
+use Rattle.std.proofs.Common.{◌≡◌, ◌++◌, drop, map}
+use Rattle.bl_pass_listed.specs.Shared.{shared_slot}
+use Rattle.bl_slots.proofs.share.shared_slots.Given as goal
+
+abbrev pub invariant-loop-slot : goal.invariant-loop-slot
+invariant-loop-slot l = l.made ++ map (shared_slot l.value) (drop l.slot-index l.slots) ≡ map (shared_slot l.value) l.slots
