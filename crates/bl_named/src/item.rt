@@ -15,36 +15,63 @@ pub enum Item {
     Unit,
 }
 
-#[derive(Drop)]
 pub struct NamedField {
     pub name: Name,
     pub ty: NamedType,
 }
 
-#[derive(Drop)]
+impl Drop for NamedField {
+    fn drop(self) {
+        let NamedField { name: _, ty: _ } = self;
+    }
+}
+
 pub struct NamedStruct {
     pub name: Name,
     pub fields: List<NamedField>,
 }
 
+impl Drop for NamedStruct {
+    fn drop(self) {
+        let NamedStruct { name: _, fields: _ } = self;
+    }
+}
+
 /// A `const` of the file or of a block. Without a type it has that of its value.
-#[derive(Drop)]
 pub struct NamedConstant {
     pub name: Name,
     pub ty: Option<NamedType>,
     pub value: NamedExpr,
 }
 
+impl Drop for NamedConstant {
+    fn drop(self) {
+        let NamedConstant {
+            name: _,
+            ty: _,
+            value: _,
+        } = self;
+    }
+}
+
 /// A parameter, a `var` or a `let`. Without a type it has that of its initial value.
-#[derive(Drop)]
 pub struct NamedVar {
     pub name: Name,
     pub ty: Option<NamedType>,
     pub role: Role,
 }
 
+impl Drop for NamedVar {
+    fn drop(self) {
+        let NamedVar {
+            name: _,
+            ty: _,
+            role: _,
+        } = self;
+    }
+}
+
 /// A function or an activity.
-#[derive(Drop)]
 pub struct NamedUnit {
     /// Whether it has the mark `@[EntryPoint]`.
     pub entry: bool,
@@ -56,4 +83,19 @@ pub struct NamedUnit {
     pub outputs: u32,
     pub result: Option<NamedType>,
     pub body: List<NamedStmt>,
+}
+
+impl Drop for NamedUnit {
+    fn drop(self) {
+        let NamedUnit {
+            entry: _,
+            kind: _,
+            name: _,
+            vars: _,
+            inputs: _,
+            outputs: _,
+            result: _,
+            body: _,
+        } = self;
+    }
 }

@@ -5,13 +5,21 @@ use bl_tree::{Box, Place, Scalar};
 
 /// A type as it is written.
 #[cycle(named_types)]
-#[derive(Drop)]
 pub enum NamedType {
     Scalar(Scalar),
     /// A position in the program's structs.
     Struct(u32),
     /// How many elements, and their type.
     Array(NamedLength, Box<NamedType>),
+}
+
+impl Drop for NamedType {
+    #[cycle(named_types)]
+    fn drop(self) {
+        match self {
+            NamedType::Scalar(_) | NamedType::Struct(_) | NamedType::Array(_, _) => {}
+        }
+    }
 }
 
 /// The length of an array type.

@@ -6,26 +6,40 @@ use crate::types::RawType;
 use bl_tree::List;
 use bl_tree::tree::UnitKind;
 
-#[derive(Drop)]
 pub struct RawField {
     pub name: Name,
     pub ty: RawType,
 }
 
-#[derive(Drop)]
+impl Drop for RawField {
+    fn drop(self) {
+        let RawField { name: _, ty: _ } = self;
+    }
+}
+
 pub struct RawStruct {
     pub name: Name,
     pub fields: List<RawField>,
 }
 
-#[derive(Drop)]
+impl Drop for RawStruct {
+    fn drop(self) {
+        let RawStruct { name: _, fields: _ } = self;
+    }
+}
+
 pub struct RawParam {
     pub name: Name,
     pub ty: RawType,
 }
 
+impl Drop for RawParam {
+    fn drop(self) {
+        let RawParam { name: _, ty: _ } = self;
+    }
+}
+
 /// A function or an activity.
-#[derive(Drop)]
 pub struct RawUnit {
     /// Whether it has the mark `@[EntryPoint]`.
     pub entry: bool,
@@ -37,10 +51,31 @@ pub struct RawUnit {
     pub body: List<RawStmt>,
 }
 
+impl Drop for RawUnit {
+    fn drop(self) {
+        let RawUnit {
+            entry: _,
+            kind: _,
+            name: _,
+            inputs: _,
+            outputs: _,
+            result: _,
+            body: _,
+        } = self;
+    }
+}
+
 /// What the file declares.
-#[derive(Drop)]
 pub enum RawItem {
     Struct(RawStruct),
     Constant(RawConstant),
     Unit(RawUnit),
+}
+
+impl Drop for RawItem {
+    fn drop(self) {
+        match self {
+            RawItem::Struct(_) | RawItem::Constant(_) | RawItem::Unit(_) => {}
+        }
+    }
 }

@@ -1,6 +1,7 @@
 //! Source programs as they are written: trees whose names are texts with their places (docs/LANGUAGE.md, "Raw trees").
 //! There are types alone, and the definition of what such a tree keeps (`specs/Keeps.antt`, `RawKeeps`), which
 //! `bl_parse_laws` shows of each tree that a text spells.
+//! The trees have a `drop` of their own, as those of `bl_tree` have.
 #![tactic(auto)]
 
 pub mod expr;

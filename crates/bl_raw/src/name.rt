@@ -3,8 +3,13 @@
 use bl_tree::{Place, Text};
 
 /// A name where it is declared or used.
-#[derive(Drop)]
 pub struct Name {
     pub text: Text,
     pub place: Place,
+}
+
+impl Drop for Name {
+    fn drop(self) {
+        let Name { text: _, place: _ } = self;
+    }
 }

@@ -5,7 +5,6 @@ use bl_tree::{Box, Place, Scalar};
 
 /// A type as it is written.
 #[cycle(raw_types)]
-#[derive(Drop)]
 pub enum RawType {
     Scalar(Scalar),
     /// The struct of this name.
@@ -14,12 +13,28 @@ pub enum RawType {
     Array(RawLength, Box<RawType>),
 }
 
+impl Drop for RawType {
+    #[cycle(raw_types)]
+    fn drop(self) {
+        match self {
+            RawType::Scalar(_) | RawType::Struct(_) | RawType::Array(_, _) => {}
+        }
+    }
+}
+
 /// The length of an array type.
-#[derive(Drop)]
 pub enum RawLength {
     Number(RawNumber),
     /// The constant of this name.
     Constant(Name),
+}
+
+impl Drop for RawLength {
+    fn drop(self) {
+        match self {
+            RawLength::Number(_) | RawLength::Constant(_) => {}
+        }
+    }
 }
 
 /// A number without sign, where a greater value than 2^64 is kept as 2^64.

@@ -7,9 +7,14 @@ use std::marker::Model;
 use std::ops::{Deref, DerefMut};
 
 /// An owned value that contracts see as the value itself.
-#[derive(Drop)]
 pub struct Box<T> {
     inner: std::boxed::Box<T>,
+}
+
+impl<T: Drop> Drop for Box<T> {
+    fn drop(self) {
+        let Box { inner: _ } = self;
+    }
 }
 
 impl<T> Model for Box<T> {

@@ -8,6 +8,9 @@
 //! same effects. What a statement reads and writes and whether it may end in the tick in which it begins are defined
 //! here too (`specs/Effects.antt`, `specs/Instant.antt`), and so are the first of several failures (`specs/Rules.antt`)
 //! and the columns of a unit (`specs/Ports.antt`).
+//!
+//! `List`, `Box`, `Text` and the trees have a `drop` of their own, which is called where a value ends. A derived one is
+//! written out in each function there, with all variants, and proved in each anew.
 #![tactic(auto)]
 
 mod boxed;

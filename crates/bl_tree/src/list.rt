@@ -7,9 +7,14 @@ use std::marker::Model;
 use std::ops::DerefSlice;
 
 /// A growing list that contracts see as its elements in order, and never as pointers and capacities.
-#[derive(Drop)]
 pub struct List<T> {
     elements: Vec<T>,
+}
+
+impl<T: Drop> Drop for List<T> {
+    fn drop(self) {
+        let List { elements: _ } = self;
+    }
 }
 
 impl<T> Model for List<T> {

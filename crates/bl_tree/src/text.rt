@@ -17,9 +17,14 @@ enum Held {
 }
 
 /// Text that contracts see as its bytes.
-#[derive(Drop)]
 pub struct Text {
     held: Held,
+}
+
+impl Drop for Text {
+    fn drop(self) {
+        let Text { held: _ } = self;
+    }
 }
 
 impl Model for Text {

@@ -7,7 +7,6 @@ use crate::{Box, List, Text};
 
 /// A type of the source language.
 #[cycle(types)]
-#[derive(Drop)]
 pub enum Ty {
     Scalar(Scalar),
     /// The struct at this position.
@@ -16,7 +15,15 @@ pub enum Ty {
     Array(u32, Box<Ty>),
 }
 
-#[derive(Drop)]
+impl Drop for Ty {
+    #[cycle(types)]
+    fn drop(self) {
+        match self {
+            Ty::Scalar(_) | Ty::Struct(_) | Ty::Array(_, _) => {}
+        }
+    }
+}
+
 pub struct StructDef {
     pub name: Text,
     /// That of the name.
@@ -24,10 +31,25 @@ pub struct StructDef {
     pub fields: List<Field>,
 }
 
-#[derive(Drop)]
+impl Drop for StructDef {
+    fn drop(self) {
+        let StructDef {
+            name: _,
+            place: _,
+            fields: _,
+        } = self;
+    }
+}
+
 pub struct Field {
     pub name: Text,
     pub ty: Ty,
+}
+
+impl Drop for Field {
+    fn drop(self) {
+        let Field { name: _, ty: _ } = self;
+    }
 }
 
 #[derive(Clone, Copy, PartialEq, Eq, Debug)]
@@ -47,7 +69,6 @@ pub enum Role {
     Fixed,
 }
 
-#[derive(Drop)]
 pub struct Var {
     pub name: Text,
     /// That of the name.
@@ -56,8 +77,18 @@ pub struct Var {
     pub role: Role,
 }
 
+impl Drop for Var {
+    fn drop(self) {
+        let Var {
+            name: _,
+            place: _,
+            ty: _,
+            role: _,
+        } = self;
+    }
+}
+
 /// A function or an activity.
-#[derive(Drop)]
 pub struct Unit {
     pub name: Text,
     /// That of the name.
@@ -73,17 +104,39 @@ pub struct Unit {
     pub body: List<Stmt>,
 }
 
+impl Drop for Unit {
+    fn drop(self) {
+        let Unit {
+            name: _,
+            place: _,
+            kind: _,
+            vars: _,
+            inputs: _,
+            outputs: _,
+            result: _,
+            body: _,
+        } = self;
+    }
+}
+
 /// A step from a place into it: to a field of a struct, or to an element of an array.
 #[cycle(expressions)]
-#[derive(Drop)]
 pub enum Part {
     Field(u32),
     Index(Expr),
 }
 
+impl Drop for Part {
+    #[cycle(expressions)]
+    fn drop(self) {
+        match self {
+            Part::Field(_) | Part::Index(_) => {}
+        }
+    }
+}
+
 /// A variable with the parts that lead into it.
 #[cycle(expressions)]
-#[derive(Drop)]
 pub struct Path {
     /// From the first token to the last.
     pub place: Place,
@@ -93,15 +146,32 @@ pub struct Path {
     pub ty: Ty,
 }
 
+impl Drop for Path {
+    #[cycle(expressions)]
+    fn drop(self) {
+        let Path {
+            place: _,
+            root: _,
+            parts: _,
+            ty: _,
+        } = self;
+    }
+}
+
 #[cycle(expressions)]
-#[derive(Drop)]
 pub struct Expr {
     pub place: Place,
     pub what: ExprKind,
 }
 
+impl Drop for Expr {
+    #[cycle(expressions)]
+    fn drop(self) {
+        let Expr { place: _, what: _ } = self;
+    }
+}
+
 #[cycle(expressions)]
-#[derive(Drop)]
 pub enum ExprKind {
     /// A number of its type; `true` is 1 and `false` is 0.
     Literal(i128, Scalar),
@@ -116,21 +186,48 @@ pub enum ExprKind {
     Call(u32, List<Expr>),
 }
 
+impl Drop for ExprKind {
+    #[cycle(expressions)]
+    fn drop(self) {
+        match self {
+            ExprKind::Literal(_, _)
+            | ExprKind::Read(_)
+            | ExprKind::Prev(_)
+            | ExprKind::One(_, _)
+            | ExprKind::Two(_, _, _)
+            | ExprKind::Cast(_, _)
+            | ExprKind::Call(_, _) => {}
+        }
+    }
+}
+
 /// One test of an `if` and what is done where it is true.
 #[cycle(statements)]
-#[derive(Drop)]
 pub struct Arm {
     pub test: Expr,
     pub body: List<Stmt>,
 }
 
+impl Drop for Arm {
+    #[cycle(statements)]
+    fn drop(self) {
+        let Arm { test: _, body: _ } = self;
+    }
+}
+
 /// A branch of a `cobegin`.
 #[cycle(statements)]
-#[derive(Drop)]
 pub struct Branch {
     /// Whether the `cobegin` may end before it has.
     pub weak: bool,
     pub body: List<Stmt>,
+}
+
+impl Drop for Branch {
+    #[cycle(statements)]
+    fn drop(self) {
+        let Branch { weak: _, body: _ } = self;
+    }
 }
 
 /// What a `when` does where its condition is true.
@@ -141,15 +238,20 @@ pub enum Guard {
 }
 
 #[cycle(statements)]
-#[derive(Drop)]
 pub struct Stmt {
     /// From its first token to its last, also of a declaration, whose name's place is that of its variable.
     pub place: Place,
     pub what: StmtKind,
 }
 
+impl Drop for Stmt {
+    #[cycle(statements)]
+    fn drop(self) {
+        let Stmt { place: _, what: _ } = self;
+    }
+}
+
 #[cycle(statements)]
-#[derive(Drop)]
 pub enum StmtKind {
     /// A variable and its initial value.
     Declare(u32, Option<Expr>),
@@ -168,4 +270,24 @@ pub enum StmtKind {
     Until(List<Stmt>, Expr),
     While(Expr, List<Stmt>),
     Return(Option<Expr>),
+}
+
+impl Drop for StmtKind {
+    #[cycle(statements)]
+    fn drop(self) {
+        match self {
+            StmtKind::Declare(_, _)
+            | StmtKind::Assign(_, _)
+            | StmtKind::Call(_, _, _)
+            | StmtKind::Await(_)
+            | StmtKind::Run(_, _, _, _)
+            | StmtKind::If(_, _)
+            | StmtKind::Cobegin(_)
+            | StmtKind::When(_, _, _)
+            | StmtKind::Repeat(_)
+            | StmtKind::Until(_, _)
+            | StmtKind::While(_, _)
+            | StmtKind::Return(_) => {}
+        }
+    }
 }
