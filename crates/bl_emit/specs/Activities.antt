@@ -133,7 +133,7 @@ locals_by earlier unit sizes rules counters copied runs =
 abbrev pub locals_told : Told → List CLocal
 locals_told a = locals_by a.earlier a.unit a.sizes a.rules (counters_told a.sizes a.rules) (copied_told a.unit) (runs_told a.rules)
 
--- the node with the number waits where the instance rests nowhere: it is begun
+-- the node with the number waits where the first counter holds 0: the instance is begun, or rests where it goes home
 abbrev pub entry_at : Sizes → ℕ → CStmt
 entry_at sizes number = c_set (flag_place number) (c_two Eq (c_read (counter_place 0)) (counter_value sizes 0 0))
 

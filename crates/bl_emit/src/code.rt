@@ -40,7 +40,7 @@ fn all_rested(alloc: Global, counters: &[u32]) -> Result<List<CStmt>, NoMemory>
     Ok(made)
 }
 
-/// The node with the number waits where the instance rests nowhere.
+/// The node with the number waits where the first counter holds 0.
 fn entered(alloc: Global, sizes: &[u32], number: u32) -> Result<CStmt, NoMemory>
     ensures { IfOk result (λ s. s ≡ entry_at sizes.now number) }
 {
@@ -50,7 +50,7 @@ fn entered(alloc: Global, sizes: &[u32], number: u32) -> Result<CStmt, NoMemory>
     set(alloc, at, equal(alloc, read(counter), none)?)
 }
 
-/// Appends that the node of the rule waits where the instance rests nowhere.
+/// Appends that the node of the rule waits where the first counter holds 0.
 fn add_entered(
     alloc: Global,
     sizes: &[u32],
@@ -68,7 +68,7 @@ fn add_entered(
     }
 }
 
-/// Appends that the entry waits where the instance rests nowhere.
+/// Appends that the entry waits where the first counter holds 0.
 #[tactic(auto, using(crate::proofs::RuleLemmas::entry_is))]
 fn add_entry(
     alloc: Global,

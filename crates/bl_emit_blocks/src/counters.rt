@@ -62,7 +62,7 @@ pub fn at_slot(alloc: Global, view: &View, slot: Slot) -> Result<CExpr, NoMemory
     two(alloc, Op::Eq, at, value_of(view, slot.counter, slot.value))
 }
 
-/// Whether the number is the only one that its counter has.
+/// Whether the value is the only one beside 0 that its counter has.
 fn is_only(view: &View, slot: Slot) -> bool
     ensures { result ≡ blocks.is_only (view_in view.entry.now).sizes slot }
 {

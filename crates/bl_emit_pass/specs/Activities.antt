@@ -238,7 +238,7 @@ activity_locals a =
 abbrev pub rested_code : ℕ → CStmt
 rested_code k = c_set (rested_place k) (c_read (counter_place k))
 
--- the entry waits where the instance rests nowhere: it is begun
+-- the entry waits where the first counter holds 0: the instance is begun, or rests where it goes home
 abbrev pub entry_code : View → Block → List CStmt
 entry_code view Done = []
 entry_code view (Then s rest) =

@@ -90,11 +90,11 @@ some_test tests = in_tree (c_truth false) Or (length tests) tests
 abbrev pub at_slot : View → Slot → CExpr
 at_slot view slot = c_two Eq (c_read (counter_place slot.counter)) (counter_value view.sizes slot.counter slot.value)
 
--- the greatest value that a counter can hold: values of a counter count from 1, so it is how many there are
+-- the greatest value that a counter can hold, which is how many values it has beside 0
 abbrev pub greatest_value : Sizes → ℕ → ℕ
 greatest_value sizes k = unwrap_or (slice_get sizes k) 0
 
--- whether the number is the only one that its counter has
+-- whether the value is the only one beside 0 that its counter has
 abbrev pub is_only : Sizes → Slot → Bool
 is_only sizes slot = nat_eq slot.value 1 && nat_le (greatest_value sizes slot.counter) 1
 
@@ -103,8 +103,8 @@ abbrev pub rested_by : View → Slot → Bool → CExpr
 rested_by view slot true = c_two Ne (c_read (rested_place slot.counter)) (counter_value view.sizes slot.counter 0)
 rested_by view slot false = c_two Eq (c_read (rested_place slot.counter)) (counter_value view.sizes slot.counter slot.value)
 
--- whether it rested at the number when the tick began. Of a counter with one value it is asked whether it held anything: a C compiler sees then that
--- there is no third case
+-- whether it rested at the number when the tick began. Of the one value beside 0 of a counter it is asked whether it wasn't 0: a C compiler sees then
+-- that there is no third case
 abbrev pub rested_at : View → Slot → CExpr
 rested_at view slot = rested_by view slot (is_only view.sizes slot)
 

@@ -143,7 +143,7 @@ mutual
         Executes w rank slots clear callee 0 (clear callee frames) given (view_at w given callee).now (begun_registers rank callee unit) frames' left
         r' → r'.over ≡ false →
         Performs w rank slots clear i (EnterAt l at arguments) frames store true (with_at callee r'.counters frames') left
-    -- it goes on, as the counters of what it calls tell: the answer tells whether the body of that has ended
+    -- it goes on: what it calls goes on or begins anew, as its counters tell, and the answer tells whether the body of that has ended
     resumes : {i : ℕ} {l : Label} {at : Place} {arguments : Arguments} {frames : Frames} {store given : Store} {frames' : Frames} {left : Store}
         {r r' : Registers} {callee : ℕ} {unit : UnitDef} → callee_of w i at ≡ Some callee → unit_at w callee ≡ Some unit →
         Starts rank callee unit frames r → Does w (deed i at (Copies callee arguments.inputs)) store true given →

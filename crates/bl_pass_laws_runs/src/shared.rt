@@ -1,7 +1,7 @@
 //! Resting places that share the value 0 of their counter with the beginning. There is no code here. The law, as the contract of a
 //! function that does nothing (`specs/Shared/Laws.antt`): where the only counter of an instance has a value for an `await true` that
-//! leads to the beginning, and no rule asks for more than one resting place (`specs/Shared/Homes.antt`), that value may be 0, and a
-//! run by rules shows the same (`SharedRunsGo`).
+//! leads to the beginning and comes before it, no other node asks for that value, and no rule asks for more than one resting place
+//! (`specs/Shared/Homes.antt`), that value may be 0, and a run by rules shows the same (`SharedRunsGo`).
 
 ghost use Rattle.bl_pass_laws_runs.specs.Shared.Laws.{SharedRunsGo};
 

@@ -1,6 +1,6 @@
 -- Where a resting place of an activity shares the number 0 with its beginning.
--- An instance whose last resting place waits for a condition that is always true, and then goes on at the first node, does in the next tick what a begun one
--- does. So its counter may hold 0 there.
+-- An instance whose last resting place waits for the literal true, and then goes on at the first node, does in the next tick what a begun one does. So
+-- its counter may hold 0 there.
 use Rattle.std.specs.Prelude.{ℕ, ◌-◌, pos, Bool, true, false, ◌&&◌, ◌||◌, not, List, [], ◌∷◌, map, nat_eq, nat_le, nat_lt, Option, Some, None}
 use Rattle.std.specs.Prelude.{if◌then◌else◌}
 use Rattle.std.specs.List.{list_all}
@@ -58,8 +58,8 @@ abbrev pub home_rule : ℕ → ℕ → List Rule → Option ℕ
 home_rule first n [] = None
 home_rule first n (rule ∷ rest) = if leads_home first n rule then Some rule.number else home_rule first n rest
 
--- whether what is asked has nothing to do with resting at home; a check of a `when` has, for it may forget where the instance rested, and so may the
--- end of a `cobegin`
+-- whether what is asked has nothing to do with resting at home. A check of a `when` has, for it may forget where the instance rested, and so has the
+-- end of a `cobegin`, which asks what counters hold
 abbrev pub keeps_off : ℕ → Asked → Bool
 keeps_off n Flagged = true
 keeps_off n (Rested slot) = not (is_home n slot)

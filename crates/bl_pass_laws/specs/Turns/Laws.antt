@@ -86,7 +86,7 @@ abbrev pub entry_flag : (Node → ℕ) → Block → ℕ → Bool
 entry_flag number Done k = false
 entry_flag number (Then s rest) k = nat_eq k (number (entry s))
 
--- between ticks the first counter holds 0 exactly where the instance isn't running
+-- between ticks the first counter of an instance that is running doesn't hold 0
 abbrev pub FirstCounterTells : Type 0
 FirstCounterTells =
     (w : Setting) (i : ℕ) (slots : Slots) (unit : UnitDef) (stood : Bool) (c : Tree) → Live w i c (whole stood (plain_body unit.body)) →
