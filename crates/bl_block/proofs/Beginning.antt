@@ -8,9 +8,9 @@ use Rattle.bl_tree.specs.declared.tree.Branch.{Branch}
 use Rattle.bl_tree.specs.declared.tree.Stmt.{Stmt, fold-roll-Stmt, out-Stmt}
 use Rattle.bl_tree.specs.declared.tree.StmtKind.{StmtKind, fold-roll-StmtKind, out-StmtKind}
 use Rattle.bl_tree.specs.declared.tree.StmtKind.TheOpen.{StmtKind-F}
-use Rattle.bl_nodes.specs.Laws.{MadeOfParts, stmt}
-use Rattle.bl_nodes.specs.Nodes.{Node, entry, nodes_in, nodes_of}
-use Rattle.bl_nodes.specs.Plain.{Block, Plain, Position, plain, plain_body}
+use Rattle.bl_graph_nodes.specs.Laws.{MadeOfParts, stmt}
+use Rattle.bl_graph_nodes.specs.Nodes.{Node, entry, nodes_in, nodes_of}
+use Rattle.bl_graph_nodes.specs.Plain.{Block, Plain, Position, plain, plain_body}
 use Rattle.bl_graph.specs.Edges.{Entry}
 
 -- the node at which the statement begins stands first

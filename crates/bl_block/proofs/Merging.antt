@@ -27,9 +27,9 @@ use Rattle.bl_tree.specs.declared.program.Program.{Program}
 use Rattle.bl_tree.specs.declared.tree.Unit.{Unit as UnitDef}
 use Rattle.bl_tree.specs.Reduce.{joined}
 use Rattle.bl_cause.specs.Activities.{AreGraphs, EachTwo, IsGraphOf, activities}
-use Rattle.bl_nodes.specs.Laws.{EachOnce, MadeOfParts, NodesDiffer}
-use Rattle.bl_nodes.specs.Nodes.{nodes_in}
-use Rattle.bl_nodes.specs.Plain.{Block, plain_body}
+use Rattle.bl_graph_nodes.specs.Laws.{EachOnce, MadeOfParts, NodesDiffer}
+use Rattle.bl_graph_nodes.specs.Nodes.{nodes_in}
+use Rattle.bl_graph_nodes.specs.Plain.{Block, plain_body}
 use Rattle.bl_graph.specs.Graph.{IsTickGraph}
 use Rattle.bl_graph.specs.Laws.{StaysWithin}
 use Rattle.bl_machine.specs.Blocks.{Ordered, up_to}

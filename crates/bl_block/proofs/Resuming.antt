@@ -26,8 +26,8 @@ use Rattle.std.proofs.Common.{
   arith,
 }
 use Rattle.std.specs.Prelude.{Contains, slice_get, ⊤}
-use Rattle.bl_nodes.specs.Laws.{EachOnce}
-use Rattle.bl_nodes.specs.Nodes.{
+use Rattle.bl_graph_nodes.specs.Laws.{EachOnce}
+use Rattle.bl_graph_nodes.specs.Nodes.{
   CheckAt,
   DepthEndAt,
   DepthJoinAt,
@@ -47,7 +47,7 @@ use Rattle.bl_nodes.specs.Nodes.{
   nodes_of,
   where_so,
 }
-use Rattle.bl_nodes.specs.Plain.{
+use Rattle.bl_graph_nodes.specs.Plain.{
   Act,
   Again,
   Await,

@@ -26,8 +26,8 @@ use Rattle.std.specs.Prelude.{Contains, nat_eq, option_map, slice_get}
 use Rattle.std.proofs.lemmas.Option.{same_Some, slice_get-get_or, slice_get-map, slice_get_within}
 use Rattle.bl_tree.specs.declared.graph.Edge.{Edge as GraphEdge}
 use Rattle.bl_tree.specs.declared.graph.Node.{Node as GraphNode}
-use Rattle.bl_nodes.specs.Laws.{EachOnce}
-use Rattle.bl_nodes.specs.Nodes.{
+use Rattle.bl_graph_nodes.specs.Laws.{EachOnce}
+use Rattle.bl_graph_nodes.specs.Nodes.{
   ActAt,
   CheckAt,
   DepthEndAt,
@@ -45,9 +45,9 @@ use Rattle.bl_nodes.specs.Nodes.{
   kind_of_node,
   nodes_in,
 }
-use Rattle.bl_nodes.specs.Plain.{Block}
+use Rattle.bl_graph_nodes.specs.Plain.{Block}
 use Rattle.bl_graph.specs.Edges.{EdgeAll}
-use Rattle.bl_graph.specs.Graph.{Between, IsTickGraph, edge_between, shown}
+use Rattle.bl_graph.specs.Graph.{EdgeBetween, IsTickGraph, edge_between, graph_node}
 use Rattle.bl_graph.specs.Laws.{StaysWithin}
 use Rattle.bl_machine.specs.Blocks.{CouldFollow, goes_straight as straight_node, is_join as join_node}
 use Rattle.bl_block.specs.declared.ways.Way.TheVariants as way
@@ -91,9 +91,9 @@ join_shown (DepthJoinAt l at) = refl
 
 module _ (body : Block) (nodes : List GraphNode) (edges : List GraphEdge) (graph : IsTickGraph body nodes edges)
     (once : EachOnce (nodes_in body)) (begins : Begins body) (within : (block : Block) → StaysWithin block) where
-  shown_at : (i : ℕ) (n : Node) → slice_get (nodes_in body) i ≡ Some n → slice_get nodes i ≡ Some (shown n)
+  shown_at : (i : ℕ) (n : Node) → slice_get (nodes_in body) i ≡ Some n → slice_get nodes i ≡ Some (graph_node n)
   shown_at i n is =
-      ap (λ xs. slice_get xs i) graph.in_order ∙ slice_get-map shown (nodes_in body) i ∙ ap (option_map shown) is
+      ap (λ xs. slice_get xs i) graph.in_order ∙ slice_get-map graph_node (nodes_in body) i ∙ ap (option_map graph_node) is
 
   straight_at : (i : ℕ) (n : Node) → slice_get (nodes_in body) i ≡ Some n → goes_straight nodes i ≡ straight_node n
   straight_at i n is = ap (some_kind straight_kind) (shown_at i n is) ∙ straight_shown n
@@ -102,7 +102,7 @@ module _ (body : Block) (nodes : List GraphNode) (edges : List GraphEdge) (graph
   join_at i n is = ap (some_kind join_kind) (shown_at i n is) ∙ join_shown n
 
   below : (i : ℕ) (n : Node) → slice_get (nodes_in body) i ≡ Some n → i < length nodes
-  below i n is = slice_get_within nodes i (shown n) (shown_at i n is)
+  below i n is = slice_get_within nodes i (graph_node n) (shown_at i n is)
 
   -- where a node of the body stands
   record Stands (n : Node) : Type 0 where
@@ -133,7 +133,7 @@ module _ (body : Block) (nodes : List GraphNode) (edges : List GraphEdge) (graph
 
   -- an edge that leads on, by the numbers of its nodes
   record Onward (i k : ℕ) : Type 0 where
-    pub edge : Between (nodes_in body) (EdgeAll body) i k
+    pub edge : EdgeBetween (nodes_in body) (EdgeAll body) i k
     pub straight : goes_straight nodes i ≡ true
     pub no_join : is_join nodes k ≡ false
 
@@ -155,7 +155,7 @@ module _ (body : Block) (nodes : List GraphNode) (edges : List GraphEdge) (graph
       arrow_of (leads_on nodes) (λ edge. edge.from) (λ edge. edge.to) edges (edge_between i k false) (edge_of n m i k one two edge)
       (both_hold (goes_straight nodes i) (not (is_join nodes k)) (straight_at i n one ∙ straight) (ap not (join_at k m two ∙ no_join)))
 
-  backward : (j k : ℕ) → Back j k → Between (nodes_in body) (EdgeAll body) k j
+  backward : (j k : ℕ) → Back j k → EdgeBetween (nodes_in body) (EdgeAll body) k j
   backward j k back =
       let it = found (λ edge. not edge.by_data) (λ edge. edge.to) (λ edge. edge.from) edges j k back in
       (graph.control k j).0 (subst (Contains edges) (edge_is it.edge k j it.ends it.begins (not_false it.edge.by_data it.passes)) it.there)
@@ -174,7 +174,7 @@ module _ (body : Block) (nodes : List GraphNode) (edges : List GraphEdge) (graph
 
   module _ (i j : ℕ) (starts : nat_eq j 0 ≡ false) (on : On i j) (only_on : (k : ℕ) → On i k → k ≡ j)
       (only_back : (k : ℕ) → Back j k → k ≡ i) where
-    from_arrows : Between (nodes_in body) (CouldFollow body) i j
+    from_arrows : EdgeBetween (nodes_in body) (CouldFollow body) i j
     from_arrows =
         let it = onward i j on in
         let n : Node = it.edge.first in
@@ -214,7 +214,7 @@ module _ (body : Block) (nodes : List GraphNode) (edges : List GraphEdge) (graph
             let place = stands k ends.0 in
             same_node k n place.place i place.there one (only_back place.place (back_of k m place.place j place.there two edge))
 
-  pub passing_follows : (i j : ℕ) → follows (ways_of nodes edges) i j ≡ true → Between (nodes_in body) (CouldFollow body) i j
+  pub passing_follows : (i j : ℕ) → follows (ways_of nodes edges) i j ≡ true → EdgeBetween (nodes_in body) (CouldFollow body) i j
   passing_follows i j passes =
       let first = both (not (nat_eq j 0) && one_at (ways_of nodes edges).on i j) (one_at (ways_of nodes edges).from j i) passes in
       let front = both (not (nat_eq j 0)) (one_at (ways_of nodes edges).on i j) first.0 in
@@ -224,7 +224,7 @@ module _ (body : Block) (nodes : List GraphNode) (edges : List GraphEdge) (graph
 
   -- ---- what could follow passes
 
-  pub following_passes : (i j : ℕ) → Between (nodes_in body) (CouldFollow body) i j → follows (ways_of nodes edges) i j ≡ true
+  pub following_passes : (i j : ℕ) → EdgeBetween (nodes_in body) (CouldFollow body) i j → follows (ways_of nodes edges) i j ≡ true
   following_passes i j between =
       both_hold (not (nat_eq j 0) && one_at (ways_of nodes edges).on i j) (one_at (ways_of nodes edges).from j i)
       (both_hold (not (nat_eq j 0)) (one_at (ways_of nodes edges).on i j) (ap not later) on) back

@@ -3,17 +3,17 @@ use Rattle.std.specs.Prelude.{◌≡◌, ℕ, suc, ◌-◌, List, [], ◌∷◌,
 use Rattle.bl_tree.specs.declared.tree.Unit.{Unit as UnitDef}
 use Rattle.bl_tree.specs.Reduce.{joined}
 use Rattle.bl_cause.specs.Activities.{activities}
-use Rattle.bl_graph.specs.Graph.{Between}
+use Rattle.bl_graph.specs.Graph.{EdgeBetween}
 use Rattle.bl_machine.specs.Blocks.{CouldFollow}
 use Rattle.bl_machine.specs.declared.machine.Activity.{Activity}
-use Rattle.bl_nodes.specs.Nodes.{nodes_in}
-use Rattle.bl_nodes.specs.Plain.{Block, plain_body}
+use Rattle.bl_graph_nodes.specs.Nodes.{nodes_in}
+use Rattle.bl_graph_nodes.specs.Plain.{Block, plain_body}
 
 -- no two neighbours could be one
 abbrev pub NothingLeft : Block → List (List ℕ) → Type 0
 NothingLeft body blocks =
     (k : ℕ) (one two : List ℕ) (i j : ℕ) → slice_get blocks k ≡ Some one → slice_get blocks (suc k) ≡ Some two →
-    slice_get one (length one - 1) ≡ Some i → slice_get two 0 ≡ Some j → Between (nodes_in body) (CouldFollow body) i j → ⊥
+    slice_get one (length one - 1) ≡ Some i → slice_get two 0 ≡ Some j → EdgeBetween (nodes_in body) (CouldFollow body) i j → ⊥
 
 -- the same nodes in the same order, the same numbers, and nothing left to merge
 pub record IsMergedFrom (unit : UnitDef) (from to : Activity) : Type 0 where

@@ -6,7 +6,7 @@ use Rattle.bl_tree.specs.declared.program.Program.{Program}
 use Rattle.bl_tree.specs.declared.row.Trace.{Trace}
 use Rattle.bl_tree.specs.declared.tree.Unit.{Unit as UnitDef}
 use Rattle.bl_tree.specs.Reduce.{joined}
-use Rattle.bl_nodes.specs.Nodes.{Node}
+use Rattle.bl_graph_nodes.specs.Nodes.{Node}
 use Rattle.bl_cause.specs.Activities.{activities}
 use Rattle.bl_machine.specs.declared.machine.Activity.{Activity}
 use Rattle.bl_machine_laws.specs.Traces.Positions.{GoBy}

@@ -2,11 +2,11 @@
 use Rattle.std.specs.Prelude.{ℕ, ℤ, List, ◌↔◌}
 use Rattle.bl_tree.specs.declared.program.Program.{Program}
 use Rattle.bl_tree.specs.declared.row.Trace.{Trace}
-use Rattle.bl_nodes.specs.Nodes.{Node}
+use Rattle.bl_graph_nodes.specs.Nodes.{Node}
 use Rattle.bl_ctree.specs.Instances.{Setting, setting_of}
 use Rattle.bl_machine.specs.declared.machine.Activity.{Activity}
 use Rattle.bl_machine_laws.specs.Traces.Positions.{GoBy}
-use Rattle.bl_machine_laws.specs.Traces.Runs.{Runs}
+use Rattle.bl_machine_laws.specs.Traces.Runs.{RunsByPasses}
 use Rattle.bl_block.specs.Merged.{AreMergedFrom}
 
 -- the instances of the program, and its units
@@ -17,7 +17,7 @@ setting program = setting_of program.structs program.units program.entry
 pub record ShowsTrace (program : Program) (machine : List Activity) (rows : List (List ℤ)) (trace : Trace) : Type 0 where
   pub rank : ℕ → Node → ℕ
   pub go_by : GoBy (setting program) machine rank
-  pub runs : Runs program.structs program.units program.entry rank rows trace
+  pub runs : RunsByPasses program.structs program.units program.entry rank rows trace
 
 -- a pass goes by the same numbers through a machine and through one merged from it, and so both show the same traces
 pub record MergedShowTheSame : Type 0 where

@@ -38,9 +38,9 @@ use Rattle.std.proofs.Math.Seq.{drop-cons}
 use Rattle.std.proofs.lemmas.List.{drop_all}
 use Rattle.bl_tree.specs.declared.text.Text.{Text}
 use Rattle.bl_tree.specs.Reduce.{joined, total}
-use Rattle.bl_cmeaning.specs.Cost.{Costs, cost_of_calls}
-use Rattle.bl_cmeaning.specs.Course.{turn_limit}
-use Rattle.bl_cmeaning.specs.Tables.{entry_or, with_entry}
+use Rattle.bl_ctext_semantics.specs.Cost.{Costs, cost_of_calls}
+use Rattle.bl_ctext_semantics.specs.Course.{turn_limit}
+use Rattle.bl_ctext_semantics.specs.Tables.{entry_or, with_entry}
 use Rattle.bl_bound.specs.declared.cost.Cost.{Cost}
 use Rattle.bl_bound.specs.declared.cost.Cost.TheVariants.{Number, Over}
 use Rattle.bl_bound.specs.inner.Capped.{amount, capped}

@@ -44,11 +44,11 @@ use Rattle.bl_tree.specs.declared.c.CStmt.{CStmt, fold-roll-CStmt}
 use Rattle.bl_tree.specs.declared.c.CStmtKind.{fold-roll-CStmtKind}
 use Rattle.bl_tree.specs.declared.c.CStmtKind.TheOpen.{CStmtKind-F}
 use Rattle.bl_tree.specs.Reduce.{total}
-use Rattle.bl_cmeaning.specs.Calls.{calls_in, calls_in_call, calls_in_place, calls_or_none}
-use Rattle.bl_cmeaning.specs.Cost.{Costs, block_cost, cost_of_calls, cost_of_function, cost_of_stmt, costs, costs_after}
-use Rattle.bl_cmeaning.specs.Course.{turn_limit}
-use Rattle.bl_cmeaning.specs.Tables.{Table, with_entry}
-use Rattle.bl_cmeaning.proofs.Induction.{Optional, StmtCases, induct_stmt, stmt}
+use Rattle.bl_ctext_semantics.specs.Calls.{calls_in, calls_in_call, calls_in_place, calls_or_none}
+use Rattle.bl_ctext_semantics.specs.Cost.{Costs, block_cost, cost_of_calls, cost_of_function, cost_of_stmt, costs, costs_after}
+use Rattle.bl_ctext_semantics.specs.Course.{turn_limit}
+use Rattle.bl_ctext_semantics.specs.Tables.{Table, with_entry}
+use Rattle.bl_ctext_semantics.proofs.Induction.{Optional, StmtCases, induct_stmt, stmt}
 use Rattle.bl_bound.specs.declared.cost.Cost.{Cost}
 use Rattle.bl_bound.specs.declared.cost.Cost.TheVariants.{Number, Over}
 use Rattle.bl_bound.specs.inner.Capped.{amount, amounts, capped}

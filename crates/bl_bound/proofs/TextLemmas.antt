@@ -3,8 +3,8 @@ use Rattle.std.proofs.Common.{◌≡◌, ℕ, suc, ◌+◌, ◌<◌, ◌≤◌, 
 use Rattle.std.proofs.Common.{refl, ap, sym, subst, ◌∙◌, append_assoc}
 use Rattle.std.proofs.lemmas.List.{append-nil, drop_all, get_or_default}
 use Rattle.bl_tree.specs.declared.c.CFunc.{CFunc}
-use Rattle.bl_cmeaning.specs.Cost.{Costs, cost_of_function, costs_after}
-use Rattle.bl_cmeaning.specs.Tables.{no_entries, with_entry}
+use Rattle.bl_ctext_semantics.specs.Cost.{Costs, cost_of_function, costs_after}
+use Rattle.bl_ctext_semantics.specs.Tables.{no_entries, with_entry}
 use Rattle.bl_bound.specs.declared.cost.Cost.{Cost}
 use Rattle.bl_bound.specs.Told.{told, told_costs}
 use Rattle.bl_bound.specs.Text.{bound_text, costs_text, line_text}

@@ -3,7 +3,7 @@ use Rattle.std.specs.Prelude.{ℕ, List, [], ◌∷◌, ◌++◌, map, codes, de
 use Rattle.bl_tree.specs.declared.c.CFunc.{CFunc}
 use Rattle.bl_tree.specs.declared.text.Text.{Text}
 use Rattle.bl_tree.specs.Reduce.{joined}
-use Rattle.bl_cmeaning.specs.Cost.{costs}
+use Rattle.bl_ctext_semantics.specs.Cost.{costs}
 use Rattle.bl_bound.specs.declared.cost.Cost.{Cost}
 use Rattle.bl_bound.specs.declared.cost.Cost.TheVariants.{Number, Over}
 use Rattle.bl_bound.specs.Told.{told}

@@ -1,7 +1,7 @@
 -- What is told of how many statements the functions of a file can execute.
 use Rattle.std.specs.Prelude.{ℕ, ◌^◌, List, map, nat_lt, if◌then◌else◌}
 use Rattle.bl_tree.specs.declared.c.CFunc.{CFunc}
-use Rattle.bl_cmeaning.specs.Cost.{costs}
+use Rattle.bl_ctext_semantics.specs.Cost.{costs}
 use Rattle.bl_bound.specs.declared.cost.Cost.{Cost}
 use Rattle.bl_bound.specs.declared.cost.Cost.TheVariants.{Number, Over}
 

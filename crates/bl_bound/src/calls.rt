@@ -2,13 +2,13 @@
 
 ghost use Rattle.std.specs.Prelude.{◌≡◌, map};
 ghost use Rattle.bl_tree.specs.Reduce.{joined};
-ghost use Rattle.bl_cmeaning.specs.Calls.{calls_in, calls_in_arg, calls_in_call, calls_in_place, calls_in_step};
-ghost use Rattle.bl_cmeaning.specs.Cost.{cost_of_calls};
-ghost use Rattle.bl_cmeaning.specs.Tables.{entry_or};
+ghost use Rattle.bl_ctext_semantics.specs.Calls.{calls_in, calls_in_arg, calls_in_call, calls_in_place, calls_in_step};
+ghost use Rattle.bl_ctext_semantics.specs.Cost.{cost_of_calls};
+ghost use Rattle.bl_ctext_semantics.specs.Tables.{entry_or};
 ghost use Rattle.bl_bound.specs.inner.Capped.{amount, capped, costs_in};
 
 use crate::cost::Cost;
-use bl_cmeaning::maps::find;
+use bl_ctext_semantics::maps::find;
 use bl_tree::c::{CArg, CCall, CExpr, CExprKind, CPlace, CStep};
 use std::collections::HashMap;
 

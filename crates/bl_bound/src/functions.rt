@@ -1,15 +1,15 @@
 //! The costs of functions, each over those before it.
 
 ghost use Rattle.std.specs.Prelude.{◌≡◌, IfOk};
-ghost use Rattle.bl_cmeaning.specs.Cost.{cost_of_function};
+ghost use Rattle.bl_ctext_semantics.specs.Cost.{cost_of_function};
 ghost use Rattle.bl_bound.specs.inner.Capped.{costs_in};
 ghost use Rattle.bl_bound.specs.Told.{told, told_costs};
 
 use crate::calls::Known;
 use crate::cost::Cost;
 use crate::statements::of_block;
-use bl_cmeaning::maps::add;
 use bl_ctext::CFile;
+use bl_ctext_semantics::maps::add;
 use bl_tree::c::CFunc;
 use bl_tree::{List, NoMemory};
 use std::alloc::Global;

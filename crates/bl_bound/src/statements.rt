@@ -1,7 +1,7 @@
 //! The costs of statements and blocks.
 
 ghost use Rattle.std.specs.Prelude.{◌≡◌, map, option_map};
-ghost use Rattle.bl_cmeaning.specs.Cost.{block_cost, cost_of_stmt, other_cost};
+ghost use Rattle.bl_ctext_semantics.specs.Cost.{block_cost, cost_of_stmt, other_cost};
 ghost use Rattle.bl_bound.specs.inner.Capped.{amount, capped, costs_in};
 
 use crate::calls::{Known, in_call, in_expr, in_place};

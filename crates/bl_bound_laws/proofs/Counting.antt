@@ -3,11 +3,11 @@ use Rattle.std.proofs.Common.{◌≡◌, ℕ, ◌≤◌, ℤ, List, [], ◌∷�
 use Rattle.std.specs.Prelude.{All, Option, Some, None}
 use Rattle.std.proofs.lemmas.List.Elements.{All-nil, All-cons}
 use Rattle.bl_ctext.specs.declared.file.CFile.{CFile}
-use Rattle.bl_cmeaning.specs.Faults.{WellFormed}
-use Rattle.bl_cmeaning.specs.Laws.{WithinBound}
-use Rattle.bl_cmeaning.specs.Parts.{Parts, parts_of}
-use Rattle.bl_cmeaning.specs.Trace.{Reply, ended, row, trapped}
-use Rattle.bl_cmeaning_laws_places.specs.Behaviour.{Behaviour, behaviour_of}
+use Rattle.bl_ctext_semantics.specs.Faults.{WellFormed}
+use Rattle.bl_ctext_semantics.specs.Laws.{WithinBound}
+use Rattle.bl_ctext_semantics.specs.Parts.{Parts, parts_of}
+use Rattle.bl_ctext_semantics.specs.Trace.{Reply, ended, row, trapped}
+use Rattle.bl_ctext_semantics_laws_places.specs.Behaviour.{Behaviour, behaviour_of}
 use Rattle.bl_bound_laws.specs.Bounded.{IsBounded}
 use Rattle.bl_bound_laws.specs.Counts.{Ticking, counts_after, counts_from, counts_if}
 

@@ -1,6 +1,6 @@
 -- How many statements the ticks of a C text execute at most.
 use Rattle.std.specs.Prelude.{◌≤◌, ℤ, List, All}
-use Rattle.bl_cmeaning_laws_places.specs.Behaviour.{Behaviour}
+use Rattle.bl_ctext_semantics_laws_places.specs.Behaviour.{Behaviour}
 use Rattle.bl_bound_laws.specs.Counts.{counts_after}
 
 -- no tick executes more statements than the bound, which is the cost of `bl_tick`: whatever the cells have and whatever comes in, a tick

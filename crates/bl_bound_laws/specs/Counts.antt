@@ -1,11 +1,11 @@
 -- How many statements the ticks of a run execute.
 use Rattle.std.specs.Prelude.{ℕ, ℤ, List, [], ◌∷◌, Option, Some, None}
-use Rattle.bl_cmeaning.specs.Parts.{Parts}
-use Rattle.bl_cmeaning.specs.Trace.{Reply, Tick, ended, row, start_c, tick_c, trapped}
+use Rattle.bl_ctext_semantics.specs.Parts.{Parts}
+use Rattle.bl_ctext_semantics.specs.Trace.{Reply, TickOfFile, ended, row, start_c, tick_c, trapped}
 
 -- what one tick does, by the numbers of the cells before it and a row of inputs
 abbrev pub Ticking : Type 0
-Ticking = List ℤ → List ℤ → Tick
+Ticking = List ℤ → List ℤ → TickOfFile
 
 -- what comes after a tick that the run goes on from
 abbrev pub counts_if : Reply → List ℕ → List ℕ
@@ -17,7 +17,7 @@ counts_if trapped rest = []
 abbrev pub counts_from : Ticking → List (List ℤ) → List ℤ → List ℕ
 counts_from tick [] cells = []
 counts_from tick (ins ∷ rest) cells =
-    let t : Tick = tick cells ins in
+    let t : TickOfFile = tick cells ins in
     t.count ∷ counts_if t.reply (counts_from tick rest t.cells)
 
 -- where the start has trapped the first tick traps, and executes nothing

@@ -5,16 +5,16 @@
 
 ghost use Rattle.std.specs.Prelude.{◌≤◌, ℕ, ℤ, List, All};
 ghost use Rattle.bl_ctext.specs.SpellsC.{SpellsC};
-ghost use Rattle.bl_cmeaning.specs.Cost.{bound};
-ghost use Rattle.bl_cmeaning.specs.Parts.{parts_of};
-ghost use Rattle.bl_cmeaning_laws_places.specs.Behaviour.{Behaviour, behaviour_of};
-ghost use Rattle.bl_cmeaning_laws_places.specs.Bytes.{Behaves};
+ghost use Rattle.bl_ctext_semantics.specs.Cost.{bound};
+ghost use Rattle.bl_ctext_semantics.specs.Parts.{parts_of};
+ghost use Rattle.bl_ctext_semantics_laws_places.specs.Behaviour.{Behaviour, behaviour_of};
+ghost use Rattle.bl_ctext_semantics_laws_places.specs.Bytes.{Behaves};
 ghost use Rattle.bl_bound_laws.specs.Bounded.{IsBounded};
 ghost use Rattle.bl_bound_laws.specs.Counts.{counts_of};
 
-use bl_cmeaning::laws::within_bound;
-use bl_cmeaning_laws_places::bytes::bytes_behave_as_their_file;
 use bl_ctext::CFile;
+use bl_ctext_semantics::laws::within_bound;
+use bl_ctext_semantics_laws_places::bytes::bytes_behave_as_their_file;
 
 /// No tick of a run executes more statements than the file's bound, over all rows.
 pub fn runs_are_bounded(_file: &CFile)

@@ -38,12 +38,12 @@ use Rattle.bl_tree.proofs.FirstLemmas.{alike_first, alike_passes}
 use Rattle.bl_tree.specs.Rules.{IsCause, Passes}
 use Rattle.bl_tree.specs.Typing.{is_activity}
 use Rattle.bl_graph.specs.Graph.{IsTickGraph, edge_between}
-use Rattle.bl_nodes.specs.Plain.{Block}
+use Rattle.bl_graph_nodes.specs.Plain.{Block}
 use Rattle.bl_cause.specs.Activities.{AreGraphs, EachTwo, IsGraphOf, activities}
 use Rattle.bl_cause.specs.Fails.{BeginsWalk, FailsCycle, FailsTwice}
 use Rattle.bl_cause.specs.inner.Graphs.{AnyFails, GraphsFail}
 use Rattle.bl_cause.specs.Rules.{Fails, FailsInActivity}
-use Rattle.bl_cause.specs.Walks.{ClosedWalk, Walk, controls}
+use Rattle.bl_cause.specs.Walks.{ClosedWalk, EdgeWalk, controls}
 use Rattle.bl_cause.proofs.ListLemmas.{filter_keeps, filter_there, filter_true}
 use Rattle.bl_cause.proofs.PairLemmas.{each_first, each_more, each_second, filtered_more, filtered_same}
 
@@ -67,7 +67,7 @@ module _ (body : Block) (nodes others : List Node) (edges further : List Edge) (
 
 -- among more edges a walk stays one
 module _ (edges further : List Edge) (more : (edge : Edge) → Contains edges edge → Contains further edge) where
-  walk_among : (first last : ℕ) (walk : List Edge) → Walk edges first walk last → Walk further first walk last
+  walk_among : (first last : ℕ) (walk : List Edge) → EdgeWalk edges first walk last → EdgeWalk further first walk last
   walk_among first last [] w = w
   walk_among first last (edge ∷ walk) w = (more edge w.0, w.1, walk_among edge.to last walk w.2)
 

@@ -47,13 +47,13 @@ use Rattle.bl_tree.specs.declared.graph.Edge.{Edge}
 use Rattle.bl_cause.specs.declared.finishing.Frame.{Frame}
 use Rattle.bl_cause.specs.inner.Lists.{In, Rows, RowsWithin, Within, edges_from, unseen}
 use Rattle.bl_cause.specs.inner.Orders.{
-  Keeps,
   Looked,
   Nested,
   Open,
   Reaches,
+  SearchInvariant,
+  SearchState,
   Sorted,
-  State,
   advanced,
   at_edge,
   entered,
@@ -65,7 +65,7 @@ use Rattle.bl_cause.proofs.StepLemmas.{none_seen, row_from, row_there, seen_case
 use Rattle.bl_cause.proofs.WalkLemmas.{reaches_edge, reaches_itself, reaches_then}
 
 -- the state with a frame put on top
-abbrev pub with_frame : State → Frame → State
+abbrev pub with_frame : SearchState → Frame → SearchState
 with_frame s frame = record { seen = s.seen; stack = s.stack ++ frame ∷ []; order = s.order }
 
 -- the frame with one more edge looked at
@@ -103,10 +103,10 @@ module _ (edges : List Edge) (rows : List (List Edge)) where
 
   -- ---- a node is entered
 
-  pub keeps_entered : (s : State) (node : ℕ) → node < length s.seen → Keeps edges rows s →
-      ((outer : ℕ) → Open outer (reverse s.stack) → Reaches edges outer node) → Keeps edges rows (entered node s)
+  pub keeps_entered : (s : SearchState) (node : ℕ) → node < length s.seen → SearchInvariant edges rows s →
+      ((outer : ℕ) → Open outer (reverse s.stack) → Reaches edges outer node) → SearchInvariant edges rows (entered node s)
   keeps_entered s node lt h reach =
-      elim (get_or s.seen node false) as (λ b. get_or s.seen node false ≡ b → Keeps edges rows (entered_unless b node s)) [
+      elim (get_or s.seen node false) as (λ b. get_or s.seen node false ≡ b → SearchInvariant edges rows (entered_unless b node s)) [
         | true ↦ λ is. h
         | false ↦ λ is. record {
           nested = subst (Nested edges rows (set s.seen node true)) (sym (reverse_push s.stack (fresh node)))
@@ -133,8 +133,8 @@ module _ (edges : List Edge) (rows : List (List Edge)) where
   -- ---- a frame is advanced
 
   -- every node is open or done that an edge of a node ends at of which all edges were looked at
-  keeps_done : (s : State) (frame : Frame) → Keeps edges rows (with_frame s frame) → get_or rows frame.node [] ≡ edges_from edges frame.node →
-      length (get_or rows frame.node []) ≤ frame.next → Keeps edges rows (at_edge frame None s)
+  keeps_done : (s : SearchState) (frame : Frame) → SearchInvariant edges rows (with_frame s frame) → get_or rows frame.node [] ≡ edges_from edges frame.node →
+      length (get_or rows frame.node []) ≤ frame.next → SearchInvariant edges rows (at_edge frame None s)
   keeps_done s frame h row le =
       let nested : Nested edges rows s.seen (frame ∷ reverse s.stack) = subst (Nested edges rows s.seen) (reverse_push s.stack frame) h.nested in
       let held : (node : ℕ) → get_or s.seen node false ≡ true → In node (reverse s.order) ⊎ Open node (frame ∷ reverse s.stack) =
@@ -183,12 +183,12 @@ module _ (edges : List Edge) (rows : List (List Edge)) where
           subst (λ it. get_or seen it.to false ≡ true) inside.2 (h inside.0 edge (omega (arith, lt, le)) lt)
 
   -- the next edge is looked at: its end was seen before, or is entered
-  keeps_looks : (s : State) (frame : Frame) (edge : Edge) → Keeps edges rows (with_frame s frame) →
+  keeps_looks : (s : SearchState) (frame : Frame) (edge : Edge) → SearchInvariant edges rows (with_frame s frame) →
       get_or rows frame.node [] ≡ edges_from edges frame.node →
-      slice_get (get_or rows frame.node []) frame.next ≡ Some edge → edge.to < length s.seen → Keeps edges rows (at_edge frame (Some edge) s)
+      slice_get (get_or rows frame.node []) frame.next ≡ Some edge → edge.to < length s.seen → SearchInvariant edges rows (at_edge frame (Some edge) s)
   keeps_looks s frame edge h row is lt =
       elim (get_or s.seen edge.to false) as (λ b. get_or s.seen edge.to false ≡ b →
-      Keeps edges rows (entered_unless b edge.to (with_frame s (next_of frame)))) [
+      SearchInvariant edges rows (entered_unless b edge.to (with_frame s (next_of frame)))) [
         | true ↦ λ yes. record {
           nested = subst (Nested edges rows s.seen) (sym (reverse_push s.stack (next_of frame)))
               (nested.0, looked_next s.seen frame edge is yes nested.1, nested.2);
@@ -250,43 +250,43 @@ module _ (edges : List Edge) (rows : List (List Edge)) where
       leads : Reaches edges frame.node edge.to
       leads = subst (λ n. Reaches edges n edge.to) (row_from edges frame.node edge inside) (reaches_edge edges edge (row_there edges frame.node edge inside))
 
-  pub keeps_advanced : (s : State) (frame : Frame) → Keeps edges rows (with_frame s frame) → get_or rows frame.node [] ≡ edges_from edges frame.node →
-      Within (length s.seen) (get_or rows frame.node []) → Keeps edges rows (advanced frame (get_or rows frame.node []) s)
+  pub keeps_advanced : (s : SearchState) (frame : Frame) → SearchInvariant edges rows (with_frame s frame) → get_or rows frame.node [] ≡ edges_from edges frame.node →
+      Within (length s.seen) (get_or rows frame.node []) → SearchInvariant edges rows (advanced frame (get_or rows frame.node []) s)
   keeps_advanced s frame h row within =
       ⊎_elim
       (λ (some : (x : Edge) × (frame.next < length (get_or rows frame.node [])) × (slice_get (get_or rows frame.node []) frame.next ≡ Some x) ×
       (get_or (get_or rows frame.node []) frame.next x ≡ x)).
       let end = within frame.next some.0 some.1 in
-      subst (λ found. Keeps edges rows (at_edge frame found s)) (sym some.2)
+      subst (λ found. SearchInvariant edges rows (at_edge frame found s)) (sym some.2)
       (keeps_looks s frame some.0 h row some.2 (subst (λ it. it.to < length s.seen) some.3 end.1)))
       (λ (none : (length (get_or rows frame.node []) ≤ frame.next) × (slice_get (get_or rows frame.node []) frame.next ≡ None)).
-      subst (λ found. Keeps edges rows (at_edge frame found s)) (sym none.1) (keeps_done s frame h row none.0))
+      subst (λ found. SearchInvariant edges rows (at_edge frame found s)) (sym none.1) (keeps_done s frame h row none.0))
       (slice_get_cases (get_or rows frame.node []) frame.next).1
 
 -- ---- what stays as it is
 
-entered_length : (node : ℕ) (s : State) → length (entered node s).seen ≡ length s.seen
+entered_length : (node : ℕ) (s : SearchState) → length (entered node s).seen ≡ length s.seen
 entered_length node s = by (get_or s.seen node false)
   where
     by : (b : Bool) → length (entered_unless b node s).seen ≡ length s.seen
     by true = refl
     by false = length-set s.seen node true
 
-pub advanced_length : (frame : Frame) (row : List Edge) (s : State) → length (advanced frame row s).seen ≡ length s.seen
+pub advanced_length : (frame : Frame) (row : List Edge) (s : SearchState) → length (advanced frame row s).seen ≡ length s.seen
 advanced_length frame row s = by (slice_get row frame.next)
   where
     by : (found : Option Edge) → length (at_edge frame found s).seen ≡ length s.seen
     by None = refl
     by (Some edge) = entered_length edge.to (with_frame s (next_of frame))
 
-entered_seen : (node : ℕ) (s : State) (at : ℕ) → get_or s.seen at false ≡ true → get_or (entered node s).seen at false ≡ true
+entered_seen : (node : ℕ) (s : SearchState) (at : ℕ) → get_or s.seen at false ≡ true → get_or (entered node s).seen at false ≡ true
 entered_seen node s at good = by (get_or s.seen node false)
   where
     by : (b : Bool) → get_or (entered_unless b node s).seen at false ≡ true
     by true = good
     by false = seen_kept s.seen node at good
 
-pub advanced_seen : (frame : Frame) (row : List Edge) (s : State) (at : ℕ) → get_or s.seen at false ≡ true →
+pub advanced_seen : (frame : Frame) (row : List Edge) (s : SearchState) (at : ℕ) → get_or s.seen at false ≡ true →
     get_or (advanced frame row s).seen at false ≡ true
 advanced_seen frame row s at good = by (slice_get row frame.next)
   where
@@ -302,14 +302,14 @@ frames_push : (count : ℕ) (stack : List Frame) (frame : Frame) → FramesWithi
     FramesWithin count (stack ++ frame ∷ [])
 frames_push count stack frame all lt = All-push (λ frame. frame.node < count) stack frame all lt
 
-entered_frames : (count node : ℕ) (s : State) → node < count → FramesWithin count s.stack → FramesWithin count (entered node s).stack
+entered_frames : (count node : ℕ) (s : SearchState) → node < count → FramesWithin count s.stack → FramesWithin count (entered node s).stack
 entered_frames count node s lt all = by (get_or s.seen node false)
   where
     by : (b : Bool) → FramesWithin count (entered_unless b node s).stack
     by true = all
     by false = frames_push count s.stack (fresh node) all lt
 
-pub advanced_frames : (count : ℕ) (frame : Frame) (row : List Edge) (s : State) → Within count row → frame.node < count → FramesWithin count s.stack →
+pub advanced_frames : (count : ℕ) (frame : Frame) (row : List Edge) (s : SearchState) → Within count row → frame.node < count → FramesWithin count s.stack →
     FramesWithin count (advanced frame row s).stack
 advanced_frames count frame row s within lt all = by (slice_get row frame.next) refl
   where
@@ -320,14 +320,14 @@ advanced_frames count frame row s within lt all = by (slice_get row frame.next) 
         let to : edge.to < count = subst (λ it. it.to < count) (get_or_from_slice_get row frame.next edge edge is) end.1 in
         entered_frames count edge.to (with_frame s (next_of frame)) to (frames_push count s.stack (next_of frame) all lt)
 
-entered_order : (node : ℕ) (s : State) → (entered node s).order ≡ s.order
+entered_order : (node : ℕ) (s : SearchState) → (entered node s).order ≡ s.order
 entered_order node s = by (get_or s.seen node false)
   where
     by : (b : Bool) → (entered_unless b node s).order ≡ s.order
     by true = refl
     by false = refl
 
-pub advanced_order : (count : ℕ) (frame : Frame) (row : List Edge) (s : State) → frame.node < count → All (λ node. node < count) s.order →
+pub advanced_order : (count : ℕ) (frame : Frame) (row : List Edge) (s : SearchState) → frame.node < count → All (λ node. node < count) s.order →
     All (λ node. node < count) (advanced frame row s).order
 advanced_order count frame row s lt all = by (slice_get row frame.next)
   where
@@ -346,7 +346,7 @@ abbrev pub left_of : List (List Edge) → Frame → ℕ
 left_of rows frame = 1 + (length (get_or rows frame.node []) - frame.next)
 
 -- what a search has still to do
-abbrev pub work : List (List Edge) → State → ℕ
+abbrev pub work : List (List Edge) → SearchState → ℕ
 work rows s = unseen s.seen * (2 + total rows) + sum_by (left_of rows) s.stack
 
 row_in_total : (rows : List (List Edge)) (node : ℕ) → length (get_or rows node []) ≤ total rows
@@ -358,10 +358,10 @@ row_in_total (row ∷ rows) (suc node) = let rest = row_in_total rows node in le
 times_less : (u v m : ℕ) → u + 1 ≡ v → u * m + m ≡ v * m
 times_less u v m is = let e = ap (λ n. n * m) is in omega (arith, e)
 
-advanced_done : (rows : List (List Edge)) (frame : Frame) (s : State) → work rows (at_edge frame None s) < work rows (with_frame s frame)
+advanced_done : (rows : List (List Edge)) (frame : Frame) (s : SearchState) → work rows (at_edge frame None s) < work rows (with_frame s frame)
 advanced_done rows frame s = let one = sum_by_push (left_of rows) s.stack frame in omega (arith, one)
 
-advanced_looks : (rows : List (List Edge)) (frame : Frame) (s : State) (edge : Edge) → frame.next < length (get_or rows frame.node []) →
+advanced_looks : (rows : List (List Edge)) (frame : Frame) (s : SearchState) (edge : Edge) → frame.next < length (get_or rows frame.node []) →
     edge.to < length s.seen → work rows (at_edge frame (Some edge) s) < work rows (with_frame s frame)
 advanced_looks rows frame s edge more lt =
     elim (get_or s.seen edge.to false) as (λ b. get_or s.seen edge.to false ≡ b →
@@ -387,7 +387,7 @@ advanced_looks rows frame s edge more lt =
         w ≡ x + (1 + p) → a + z < b + w
     less_work a b t p q r x y z w fall less row two three one = omega arith
 
-pub advanced_work : (rows : List (List Edge)) (frame : Frame) (s : State) → Within (length s.seen) (get_or rows frame.node []) →
+pub advanced_work : (rows : List (List Edge)) (frame : Frame) (s : SearchState) → Within (length s.seen) (get_or rows frame.node []) →
     work rows (advanced frame (get_or rows frame.node []) s) < work rows (with_frame s frame)
 advanced_work rows frame s within = by (slice_get (get_or rows frame.node []) frame.next) refl
   where
@@ -406,7 +406,7 @@ pub unseen_none : (count : ℕ) → unseen (replicate count false) ≡ count
 unseen_none count = let e = sum_by-replicate (λ one. cond one 0 1) count false in omega (arith, e)
 
 pub keeps_first : (edges : List Edge) (rows : List (List Edge)) (count : ℕ) →
-    Keeps edges rows (record { seen = replicate count false; stack = []; order = [] })
+    SearchInvariant edges rows (record { seen = replicate count false; stack = []; order = [] })
 keeps_first edges rows count = record {
   nested = tt;
   sorted = tt;
@@ -415,7 +415,7 @@ keeps_first edges rows count = record {
 }
 
 -- without frames a node that was seen is done
-pub all_done : (edges : List Edge) (rows : List (List Edge)) (s : State) → s.stack ≡ [] → Keeps edges rows s → (node : ℕ) →
+pub all_done : (edges : List Edge) (rows : List (List Edge)) (s : SearchState) → s.stack ≡ [] → SearchInvariant edges rows s → (node : ℕ) →
     get_or s.seen node false ≡ true → In node (reverse s.order)
 all_done edges rows s empty h node met =
     ⊎_elim (λ (done : In node (reverse s.order)). done)
@@ -425,14 +425,14 @@ all_done edges rows s empty h node met =
 -- ---- one frame after another
 
 -- what is kept while a search goes on from a state
-pub record Going (rows : List (List Edge)) (before s : State) : Type 0 where
+pub record Going (rows : List (List Edge)) (before s : SearchState) : Type 0 where
   pub length_stays : length s.seen ≡ length before.seen
   pub frames : FramesWithin (length before.seen) s.stack
   pub order : All (λ node. node < length before.seen) s.order
   pub seen : (node : ℕ) → get_or before.seen node false ≡ true → get_or s.seen node false ≡ true
-  pub keeps : (edges : List Edge) → Rows (edges_from edges) (length before.seen) rows → Keeps edges rows before → Keeps edges rows s
+  pub keeps : (edges : List Edge) → Rows (edges_from edges) (length before.seen) rows → SearchInvariant edges rows before → SearchInvariant edges rows s
 
-pub going_first : (rows : List (List Edge)) (s : State) → FramesWithin (length s.seen) s.stack → All (λ node. node < length s.seen) s.order →
+pub going_first : (rows : List (List Edge)) (s : SearchState) → FramesWithin (length s.seen) s.stack → All (λ node. node < length s.seen) s.order →
     Going rows s s
 going_first rows s frames order = record {
   length_stays = refl;
@@ -443,18 +443,18 @@ going_first rows s frames order = record {
 }
 
 -- the state with the top frame taken off
-abbrev pub popped : State → List Frame → State
+abbrev pub popped : SearchState → List Frame → SearchState
 popped s rest = record { seen = s.seen; stack = rest; order = s.order }
 
-whole_again : (s : State) (rest : List Frame) (frame : Frame) → s.stack ≡ rest ++ frame ∷ [] → s ≡ with_frame (popped s rest) frame
+whole_again : (s : SearchState) (rest : List Frame) (frame : Frame) → s.stack ≡ rest ++ frame ∷ [] → s ≡ with_frame (popped s rest) frame
 whole_again s rest frame is i = record { seen = s.seen; stack = is i; order = s.order }
 
-pub frame_within : (rows : List (List Edge)) (before s : State) (rest : List Frame) (frame : Frame) → s.stack ≡ rest ++ frame ∷ [] →
+pub frame_within : (rows : List (List Edge)) (before s : SearchState) (rest : List Frame) (frame : Frame) → s.stack ≡ rest ++ frame ∷ [] →
     Going rows before s →
     frame.node < length before.seen
 frame_within rows before s rest frame is h = (All-pop (λ frame. frame.node < length before.seen) s.stack rest (Some frame) is h.frames).1
 
-pub going_next : (rows : List (List Edge)) (before s next : State) (rest : List Frame) (frame : Frame) (row : List Edge) →
+pub going_next : (rows : List (List Edge)) (before s next : SearchState) (rest : List Frame) (frame : Frame) (row : List Edge) →
     RowsWithin (length before.seen) rows →
     s.stack ≡ rest ++ frame ∷ [] → row ≡ get_or rows frame.node [] → next ≡ advanced frame row (popped s rest) → Going rows before s →
     Going rows before next
@@ -466,7 +466,7 @@ going_next rows before s next rest frame row within is same advance h = subst (G
       order = advanced_order (length before.seen) frame (get_or rows frame.node []) (popped s rest) lt h.order;
       seen = λ node met. advanced_seen frame (get_or rows frame.node []) (popped s rest) node (h.seen node met);
       keeps = λ edges all keep.
-          keeps_advanced edges rows (popped s rest) frame (subst (Keeps edges rows) (whole_again s rest frame is) (h.keeps edges all keep))
+          keeps_advanced edges rows (popped s rest) frame (subst (SearchInvariant edges rows) (whole_again s rest frame is) (h.keeps edges all keep))
           (all.row frame.node lt) (subst (λ n. Within n (get_or rows frame.node [])) (sym h.length_stays) here);
     })
   where
@@ -476,7 +476,7 @@ going_next rows before s next rest frame row within is same advance h = subst (G
     here : Within (length before.seen) (get_or rows frame.node [])
     here = row_within (length before.seen) rows frame.node within lt
 
-pub going_less : (rows : List (List Edge)) (before s next : State) (rest : List Frame) (frame : Frame) (row : List Edge) →
+pub going_less : (rows : List (List Edge)) (before s next : SearchState) (rest : List Frame) (frame : Frame) (row : List Edge) →
     RowsWithin (length before.seen) rows →
     s.stack ≡ rest ++ frame ∷ [] → row ≡ get_or rows frame.node [] → next ≡ advanced frame row (popped s rest) → Going rows before s →
     work rows next < work rows s
@@ -491,12 +491,12 @@ going_less rows before s next rest frame row within is same advance h =
 -- ---- one node after another
 
 -- what is kept when the search was done from so many nodes
-pub record Searched (rows : List (List Edge)) (k : ℕ) (s : State) : Type 0 where
+pub record Searched (rows : List (List Edge)) (k : ℕ) (s : SearchState) : Type 0 where
   pub length_stays : length s.seen ≡ length rows
   pub empty : s.stack ≡ []
   pub nodes : All (λ node. node < length rows) s.order
   pub seen : (node : ℕ) → node < k → get_or s.seen node false ≡ true
-  pub keeps : (edges : List Edge) → Rows (edges_from edges) (length rows) rows → Keeps edges rows s
+  pub keeps : (edges : List Edge) → Rows (edges_from edges) (length rows) rows → SearchInvariant edges rows s
 
 pub searched_first : (rows : List (List Edge)) → Searched rows 0 (record { seen = replicate (length rows) false; stack = []; order = [] })
 searched_first rows = record {
@@ -508,7 +508,7 @@ searched_first rows = record {
 }
 
 -- a node was entered
-pub entered_going : (rows : List (List Edge)) (k : ℕ) (s next : State) → k < length rows → next ≡ entered k s → Searched rows k s →
+pub entered_going : (rows : List (List Edge)) (k : ℕ) (s next : SearchState) → k < length rows → next ≡ entered k s → Searched rows k s →
     (length next.seen ≡ length rows) × FramesWithin (length next.seen) next.stack × All (λ node. node < length next.seen) next.order
 entered_going rows k s next lt is h = subst (λ it. (length it.seen ≡ length rows) × FramesWithin (length it.seen) it.stack × All (λ node.
     node < length it.seen) it.order) (sym is) (
@@ -522,18 +522,18 @@ entered_going rows k s next lt is h = subst (λ it. (length it.seen ≡ length r
     same : length (entered k s).seen ≡ length rows
     same = entered_length k s ∙ h.length_stays
 
-entered_new : (node : ℕ) (s : State) → node < length s.seen → get_or (entered node s).seen node false ≡ true
+entered_new : (node : ℕ) (s : SearchState) → node < length s.seen → get_or (entered node s).seen node false ≡ true
 entered_new node s lt = by (get_or s.seen node false) refl
   where
     by : (b : Bool) → get_or s.seen node false ≡ b → get_or (entered_unless b node s).seen node false ≡ true
     by true is = is
     by false is = seen_new s.seen node lt
 
-pub searched_next : (rows : List (List Edge)) (k : ℕ) (s next last : State) → k < length rows → next ≡ entered k s →
+pub searched_next : (rows : List (List Edge)) (k : ℕ) (s next last : SearchState) → k < length rows → next ≡ entered k s →
     length last.seen ≡ length next.seen →
     last.stack ≡ [] → All (λ node. node < length last.seen) last.order →
     ((node : ℕ) → get_or next.seen node false ≡ true → get_or last.seen node false ≡ true) →
-    ((edges : List Edge) → Rows (edges_from edges) (length next.seen) rows → Keeps edges rows next → Keeps edges rows last) → Searched rows k s →
+    ((edges : List Edge) → Rows (edges_from edges) (length next.seen) rows → SearchInvariant edges rows next → SearchInvariant edges rows last) → Searched rows k s →
     Searched rows (k + 1) last
 searched_next rows k s next last lt is stays empty order seen keeps h = record {
   length_stays = same;
@@ -548,7 +548,7 @@ searched_next rows k s next last lt is stays empty order seen keeps h = record {
       (cases_lt node k);
   keeps = λ edges all.
       keeps edges (subst (λ n. Rows (edges_from edges) n rows) (sym whole) all)
-      (subst (Keeps edges rows) (sym is)
+      (subst (SearchInvariant edges rows) (sym is)
       (keeps_entered edges rows s k inside (h.keeps edges all)
       (λ outer open'. absurd (subst (λ stack. Open outer (reverse stack)) h.empty open'))));
 }
@@ -569,9 +569,9 @@ pub record Done (edges : List Edge) (count : ℕ) (order : List ℕ) : Type 0 wh
   pub all : (node : ℕ) → node < count → In node (reverse order)
   pub few : length order ≤ count
 
-pub order_done : (edges : List Edge) (count : ℕ) (rows view : List (List Edge)) (s : State) → Rows (edges_from edges) count rows → view ≡ rows →
+pub order_done : (edges : List Edge) (count : ℕ) (rows view : List (List Edge)) (s : SearchState) → Rows (edges_from edges) count rows → view ≡ rows →
     length s.seen ≡ length view → s.stack ≡ [] → ((node : ℕ) → node < length view → get_or s.seen node false ≡ true) →
-    ((edges : List Edge) → Rows (edges_from edges) (length view) view → Keeps edges view s) → Done edges count s.order
+    ((edges : List Edge) → Rows (edges_from edges) (length view) view → SearchInvariant edges view s) → Done edges count s.order
 order_done edges count rows view s all same stays empty seen keeps = record {
   sorted = keep.sorted;
   all = λ node lt. all_done edges view s empty keep node (seen node (omega (arith, lt, size)));
@@ -581,7 +581,7 @@ order_done edges count rows view s all same stays empty seen keeps = record {
     size : length view ≡ count
     size = ap length same ∙ all.one_each
 
-    keep : Keeps edges view s
+    keep : SearchInvariant edges view s
     keep = keeps edges (subst (λ n. Rows (edges_from edges) n view) (sym size) (subst (Rows (edges_from edges) count) (sym same) all))
 
 pub all_reverse : (count : ℕ) (xs : List ℕ) → All (λ node. node < count) xs → All (λ node. node < count) (reverse xs)

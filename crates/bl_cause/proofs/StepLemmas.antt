@@ -55,7 +55,7 @@ use Rattle.std.proofs.lemmas.List.Sums.{sum_by-set}
 use Rattle.bl_tree.specs.declared.graph.Edge.{Edge}
 use Rattle.bl_cause.specs.declared.way_back.Reached.{Reached}
 use Rattle.bl_cause.specs.declared.way_back.Step.{Step}
-use Rattle.bl_cause.specs.Walks.{ClosedWalk, Walk}
+use Rattle.bl_cause.specs.Walks.{ClosedWalk, EdgeWalk}
 use Rattle.bl_cause.specs.inner.Lists.{Rows, RowsWithin, Within, edges_from, unseen}
 use Rattle.bl_cause.specs.inner.Steps.{Closed, Earlier, Ends, Leaves, Sees, Tree, gone, gone_along, gone_unless}
 use Rattle.bl_cause.proofs.ListLemmas.{contains_cons, contains_head, contains_none, contains_tail, filter_keeps, filter_there, filter_true, reverse_push}
@@ -453,7 +453,7 @@ closed_done edges seen steps at le sees h x there from =
 
 -- ---- what it means for closed walks
 
-ends_follow : (edges : List Edge) (steps : List Step) → Closed edges steps → (first last : ℕ) (walk : List Edge) → Walk edges first walk last →
+ends_follow : (edges : List Edge) (steps : List Step) → Closed edges steps → (first last : ℕ) (walk : List Edge) → EdgeWalk edges first walk last →
     Ends first steps → Ends last steps
 ends_follow edges steps closed first last [] w h = subst (λ n. Ends n steps) w h
 ends_follow edges steps closed first last (edge ∷ walk) w h =
@@ -563,13 +563,13 @@ no_end_more node steps k d lt none other h =
 pub back_more : (edges : List Edge) (first : Edge) (steps : List Step) (at last : ℕ) (walk longer : List Edge) (d e : Step) → 0 < at →
     at < length steps →
     Earlier steps → Tree edges first steps → longer ≡ walk ++ (get_or steps at e).edge ∷ [] →
-    Walk edges (get_or steps at d).edge.to (reverse walk) last → Walk edges (get_or steps (get_or steps at e).before d).edge.to (reverse longer) last
+    EdgeWalk edges (get_or steps at d).edge.to (reverse walk) last → EdgeWalk edges (get_or steps (get_or steps at e).before d).edge.to (reverse longer) last
 back_more edges first steps at last walk longer d e pos lt earlier tree more h =
-    subst (λ it. Walk edges (get_or steps (get_or steps at e).before d).edge.to it last) (sym turned) (
+    subst (λ it. EdgeWalk edges (get_or steps (get_or steps at e).before d).edge.to it last) (sym turned) (
       tree.there at e pos lt,
       (tree.follows at e pos lt ∙ ap (λ s. s.edge.to) (get_or_default steps (get_or steps at e).before e d (let b = earlier at e pos lt in
           omega (arith, b, lt)))),
-      subst (λ s. Walk edges s.edge.to (reverse walk) last) (get_or_default steps at d e lt) h,
+      subst (λ s. EdgeWalk edges s.edge.to (reverse walk) last) (get_or_default steps at d e lt) h,
     )
   where
     turned : reverse longer ≡ (get_or steps at e).edge ∷ reverse walk

@@ -28,16 +28,16 @@ use Rattle.bl_tree.specs.declared.graph.Graph.{Graph}
 use Rattle.bl_tree.specs.declared.graph.Node.{Node}
 use Rattle.bl_cause.specs.Fails.{BeginsWalk, FailsCycle, FailsTwice, Never, place_at, places_of}
 use Rattle.bl_cause.specs.Ranks.{Ranks}
-use Rattle.bl_cause.specs.Walks.{ClosedWalk, Walk, controls}
+use Rattle.bl_cause.specs.Walks.{ClosedWalk, EdgeWalk, controls}
 use Rattle.bl_cause.specs.inner.Numbers.{NeverFall}
 use Rattle.bl_cause.specs.inner.Orders.{Reaches}
 use Rattle.bl_cause.proofs.ListLemmas.{contains_cons, contains_head, contains_none, contains_tail, filter_keeps, filter_there, filter_true}
 
 module _ (edges : List Edge) where
   -- a walk goes on where another ends
-  pub walk_append : (first middle last : ℕ) (one other : List Edge) → Walk edges first one middle → Walk edges middle other last →
-      Walk edges first (one ++ other) last
-  walk_append first middle last [] other a b = subst (λ node. Walk edges node other last) (sym a) b
+  pub walk_append : (first middle last : ℕ) (one other : List Edge) → EdgeWalk edges first one middle → EdgeWalk edges middle other last →
+      EdgeWalk edges first (one ++ other) last
+  walk_append first middle last [] other a b = subst (λ node. EdgeWalk edges node other last) (sym a) b
   walk_append first middle last (edge ∷ one) other a b = (a.0, a.1, walk_append edge.to middle last one other a.2 b)
 
   pub reaches_itself : (node : ℕ) → Reaches edges node node
@@ -54,7 +54,7 @@ module _ (edges : List Edge) where
   closed_from edge there back = (back.0, (there, back.1))
 
   -- each edge of a walk is one of the edges, and the walk leads to it and from it
-  pub passes : (first last : ℕ) (walk : List Edge) → Walk edges first walk last → (edge : Edge) → Contains walk edge →
+  pub passes : (first last : ℕ) (walk : List Edge) → EdgeWalk edges first walk last → (edge : Edge) → Contains walk edge →
       Contains edges edge × Reaches edges first edge.from × Reaches edges edge.to last
   passes first last [] w edge h = absurd (contains_none edge h)
   passes first last (head ∷ walk) w edge h =
@@ -81,7 +81,7 @@ module _ (edges : List Edge) where
 
   -- ---- numbers
 
-  pub walk_rises : (ranks : List ℕ) → Ranks edges ranks → (first last : ℕ) (walk : List Edge) → Walk edges first walk last →
+  pub walk_rises : (ranks : List ℕ) → Ranks edges ranks → (first last : ℕ) (walk : List Edge) → EdgeWalk edges first walk last →
       slice_index ranks first ≤ slice_index ranks last
   walk_rises ranks rise first last [] w = let e = ap (slice_index ranks) w in omega arith
   walk_rises ranks rise first last (edge ∷ walk) w =
@@ -97,7 +97,7 @@ module _ (edges : List Edge) where
       let rest = walk_rises ranks rise edge.to edge.from walk w.1 in
       omega arith
 
-  pub walk_never_falls : (numbers : List ℕ) → NeverFall edges numbers → (first last : ℕ) (walk : List Edge) → Walk edges first walk last →
+  pub walk_never_falls : (numbers : List ℕ) → NeverFall edges numbers → (first last : ℕ) (walk : List Edge) → EdgeWalk edges first walk last →
       slice_index numbers first ≤ slice_index numbers last
   walk_never_falls numbers keep first last [] w = let e = ap (slice_index numbers) w in omega arith
   walk_never_falls numbers keep first last (edge ∷ walk) w =
@@ -135,8 +135,8 @@ data_in (head ∷ walk) =
 is_control : (edges : List Edge) (edge : Edge) → Contains edges edge → edge.by_data ≡ false → Contains (controls edges) edge
 is_control edges edge there is = filter_keeps (λ edge. not edge.by_data) edges edge there (ap not is)
 
-walk_by_controls : (edges : List Edge) (first last : ℕ) (walk : List Edge) → Walk edges first walk last →
-    ((edge : Edge) → Contains walk edge → edge.by_data ≡ false) → Walk (controls edges) first walk last
+walk_by_controls : (edges : List Edge) (first last : ℕ) (walk : List Edge) → EdgeWalk edges first walk last →
+    ((edge : Edge) → Contains walk edge → edge.by_data ≡ false) → EdgeWalk (controls edges) first walk last
 walk_by_controls edges first last [] w none = w
 walk_by_controls edges first last (head ∷ walk) w none = (
   is_control edges head w.0 (none head (contains_head head walk)),
@@ -188,7 +188,7 @@ never_twice_never_cycle graph twice cycle walk closed =
     (not_false edge.by_data (filter_true (λ it. not it.by_data) graph.edges edge w.0)) w)
     (λ edge rest kind w. none_begins graph.nodes graph.edges true cycle edge rest kind w) walk closed
 
-walk_of_controls : (edges : List Edge) (first last : ℕ) (walk : List Edge) → Walk (controls edges) first walk last → Walk edges first walk last
+walk_of_controls : (edges : List Edge) (first last : ℕ) (walk : List Edge) → EdgeWalk (controls edges) first walk last → EdgeWalk edges first walk last
 walk_of_controls edges first last [] w = w
 walk_of_controls edges first last (head ∷ walk) w = (control_is edges head w.0, w.1, walk_of_controls edges head.to last walk w.2)
 

@@ -4,7 +4,7 @@ use Rattle.bl_tree.specs.declared.graph.Graph.{Graph}
 use Rattle.bl_tree.specs.declared.tree.Unit.{Unit as UnitDef}
 use Rattle.bl_tree.specs.Typing.{is_activity}
 use Rattle.bl_graph.specs.Graph.{IsTickGraph}
-use Rattle.bl_nodes.specs.Plain.{plain_body}
+use Rattle.bl_graph_nodes.specs.Plain.{plain_body}
 use Rattle.bl_cause.specs.declared.order.Order.{Order}
 use Rattle.bl_cause.specs.Ranks.{Ranks}
 

@@ -3,14 +3,14 @@ use Rattle.std.specs.Prelude.{◌≡◌, ℕ, not, List, [], ◌∷◌, Contains
 use Rattle.bl_tree.specs.declared.graph.Edge.{Edge}
 
 -- the edges of the walk lead from the first node to the last: each is one of these edges, and begins where the one before it ends
-abbrev pub Walk : List Edge → ℕ → List Edge → ℕ → Type 0
-Walk edges first [] last = first ≡ last
-Walk edges first (edge ∷ rest) last = Contains edges edge × (edge.from ≡ first) × Walk edges edge.to rest last
+abbrev pub EdgeWalk : List Edge → ℕ → List Edge → ℕ → Type 0
+EdgeWalk edges first [] last = first ≡ last
+EdgeWalk edges first (edge ∷ rest) last = Contains edges edge × (edge.from ≡ first) × EdgeWalk edges edge.to rest last
 
 -- a walk of one edge or more that ends where it begins; an edge from a node to itself is one
 abbrev pub ClosedWalk : List Edge → List Edge → Type 0
 ClosedWalk edges [] = ⊥
-ClosedWalk edges (edge ∷ rest) = Contains edges edge × Walk edges edge.to rest edge.from
+ClosedWalk edges (edge ∷ rest) = Contains edges edge × EdgeWalk edges edge.to rest edge.from
 
 -- the control edges among these: those that aren't by data
 abbrev pub controls : List Edge → List Edge

@@ -4,7 +4,7 @@ ghost use Rattle.std.specs.Prelude.{◌≡◌, ◌+◌, ◌<◌, ◌≤◌, ◌^
 ghost use Rattle.std.specs.Prelude.{length, replicate, slice_index_or, IfOk, OnOk};
 ghost use Rattle.bl_cause.specs.inner.Found.{InGraphs};
 ghost use Rattle.bl_cause.specs.inner.Lists.{In, RowsWithin, Within};
-ghost use Rattle.bl_cause.specs.inner.Orders.{Keeps, KeepsOn, Sorted, advanced, at_edge, entered, state_of};
+ghost use Rattle.bl_cause.specs.inner.Orders.{SearchInvariant, SearchKeepsInvariant, Sorted, advanced, at_edge, entered, state_of};
 
 use crate::edges::leaving;
 use bl_tree::graph::Edge;
@@ -53,7 +53,7 @@ fn from_all(alloc: Global, rows: &[List<Edge>]) -> Result<Search, NoMemory>
     ensures empty { IfOk result (λ search. search.stack.items ≡ []) }
     ensures nodes { IfOk result (λ search. All (λ node. node < length rows.now) search.order) }
     ensures seen { IfOk result (λ search. (node : ℕ) → node < length rows.now → slice_index_or search.seen node false ≡ true) }
-    ensures keeps { IfOk result (λ search. InGraphs rows.now (λ edges. Keeps edges rows.now (state_of search))) }
+    ensures keeps { IfOk result (λ search. InGraphs rows.now (λ edges. SearchInvariant edges rows.now (state_of search))) }
 {
     let mut search = Search::new(alloc, rows.len())?;
     for node in 0..rows.len() {
@@ -97,7 +97,7 @@ impl Search {
         ensures empty { OnOk result (self.new.stack.items ≡ []) }
         ensures order { OnOk result (All (λ node. node < length self.new.seen) self.new.order) }
         ensures seen { OnOk result ((node : ℕ) → slice_index_or self.old.seen node false ≡ true → slice_index_or self.new.seen node false ≡ true) }
-        ensures keeps { OnOk result (KeepsOn (length self.old.seen) rows.now (state_of self.old) (state_of self.new)) }
+        ensures keeps { OnOk result (SearchKeepsInvariant (length self.old.seen) rows.now (state_of self.old) (state_of self.new)) }
     {
         while let Some(frame) = self.stack.pop() {
             self.advance(&rows[frame.node as usize], frame)?;

@@ -31,12 +31,12 @@ use Rattle.bl_tree.specs.declared.graph.Edge.{Edge as GraphEdge}
 use Rattle.bl_tree.specs.declared.graph.Node.{Node as GraphNode}
 use Rattle.bl_tree.specs.Graph.{JoinsNodes}
 use Rattle.bl_tree.specs.declared.tree.Stmt.{Stmt}
-use Rattle.bl_nodes.specs.Laws.{EachOnce, NodesDiffer}
-use Rattle.bl_nodes.specs.Nodes.{Node, nodes_in}
-use Rattle.bl_nodes.specs.Plain.{Block, plain_body}
+use Rattle.bl_graph_nodes.specs.Laws.{EachOnce, NodesDiffer}
+use Rattle.bl_graph_nodes.specs.Nodes.{Node, nodes_in}
+use Rattle.bl_graph_nodes.specs.Plain.{Block, plain_body}
 use Rattle.bl_graph.specs.DataEdges.{DataEdge}
 use Rattle.bl_graph.specs.Edges.{EdgeAll}
-use Rattle.bl_graph.specs.Graph.{Between, IsTickGraph, edge_between, shown}
+use Rattle.bl_graph.specs.Graph.{EdgeBetween, IsTickGraph, edge_between, graph_node}
 use Rattle.bl_graph.specs.Laws.{EdgesAreListed, FlowsAreListed, StaysWithin}
 use Rattle.bl_graph.specs.Listed.{Pair, edges_in, flows_in, pair}
 use Rattle.bl_cause_laws.specs.Orders.{BodiesHaveGraphs}
@@ -62,7 +62,7 @@ module _ (nodes : List Node) (E : Node → Node → Type 0) (by_data : Bool) whe
       ∷ placed rest (λ q there. each q (tail_is_there p rest q there))
 
   between_placed : (p : Pair) (one : Placed nodes E p) (e : GraphEdge) → edge_between one.from one.to by_data ≡ e →
-      Between nodes E e.from e.to
+      EdgeBetween nodes E e.from e.to
   between_placed p one e is = record {
     first = p.from;
     second = p.to;
@@ -79,7 +79,7 @@ module _ (nodes : List Node) (E : Node → Node → Type 0) (by_data : Bool) whe
         | inr later ↦ of_kind rest (λ q there. each q (tail_is_there p rest q there)) e later
       ]
 
-  sound : (pairs : List Pair) (each : Each pairs) (e : GraphEdge) → Contains (placed pairs each) e → Between nodes E e.from e.to
+  sound : (pairs : List Pair) (each : Each pairs) (e : GraphEdge) → Contains (placed pairs each) e → EdgeBetween nodes E e.from e.to
   sound [] each e there = absurd (nothing_there e there)
   sound (p ∷ rest) each e there =
       elim (either _ _ e there) [
@@ -140,33 +140,33 @@ module _ (differ : NodesDiffer) (within : (body : Block) → StaysWithin body) (
   abbrev data_edges : List GraphEdge
   data_edges = placed Nodes (DataEdge B) true (flows_in B) each_flow
 
-  is_control : (i j : ℕ) → Contains (control_edges ++ data_edges) (edge_between i j false) ↔ Between Nodes (EdgeAll B) i j
+  is_control : (i j : ℕ) → Contains (control_edges ++ data_edges) (edge_between i j false) ↔ EdgeBetween Nodes (EdgeAll B) i j
   is_control i j = (forth, back)
     where
-      forth : Contains (control_edges ++ data_edges) (edge_between i j false) → Between Nodes (EdgeAll B) i j
+      forth : Contains (control_edges ++ data_edges) (edge_between i j false) → EdgeBetween Nodes (EdgeAll B) i j
       forth there =
           elim (Contains-append_cases control_edges data_edges (edge_between i j false) there) [
             | inl one ↦ sound Nodes (EdgeAll B) false (edges_in B) each_edge (edge_between i j false) one
             | inr other ↦ absurd (cc (of_kind Nodes (DataEdge B) true (flows_in B) each_flow (edge_between i j false) other))
           ]
 
-      back : Between Nodes (EdgeAll B) i j → Contains (control_edges ++ data_edges) (edge_between i j false)
+      back : EdgeBetween Nodes (EdgeAll B) i j → Contains (control_edges ++ data_edges) (edge_between i j false)
       back b =
           Contains-append_left control_edges data_edges (edge_between i j false)
           (complete Nodes (EdgeAll B) false once (edges_in B) each_edge (pair b.first b.second) i j
           ((edges body [] b.first b.second).1 b.edge) b.is_first b.is_second)
 
-  is_data : (i j : ℕ) → Contains (control_edges ++ data_edges) (edge_between i j true) ↔ Between Nodes (DataEdge B) i j
+  is_data : (i j : ℕ) → Contains (control_edges ++ data_edges) (edge_between i j true) ↔ EdgeBetween Nodes (DataEdge B) i j
   is_data i j = (forth, back)
     where
-      forth : Contains (control_edges ++ data_edges) (edge_between i j true) → Between Nodes (DataEdge B) i j
+      forth : Contains (control_edges ++ data_edges) (edge_between i j true) → EdgeBetween Nodes (DataEdge B) i j
       forth there =
           elim (Contains-append_cases control_edges data_edges (edge_between i j true) there) [
             | inl one ↦ absurd (cc (of_kind Nodes (EdgeAll B) false (edges_in B) each_edge (edge_between i j true) one))
             | inr other ↦ sound Nodes (DataEdge B) true (flows_in B) each_flow (edge_between i j true) other
           ]
 
-      back : Between Nodes (DataEdge B) i j → Contains (control_edges ++ data_edges) (edge_between i j true)
+      back : EdgeBetween Nodes (DataEdge B) i j → Contains (control_edges ++ data_edges) (edge_between i j true)
       back b =
           Contains-append_right control_edges data_edges (edge_between i j true)
           (complete Nodes (DataEdge B) true once (flows_in B) each_flow (pair b.first b.second) i j
@@ -186,9 +186,9 @@ both_true false b e f = absurd cc
 
 -- both ends of each edge of a tick graph are positions of nodes
 module _ (body : Block) (nodes : List GraphNode) (edges : List GraphEdge) (is : IsTickGraph body nodes edges) where
-  inside : (E : Node → Node → Type 0) (i j : ℕ) → Between (nodes_in body) E i j → (i < length nodes) × (j < length nodes)
+  inside : (E : Node → Node → Type 0) (i j : ℕ) → EdgeBetween (nodes_in body) E i j → (i < length nodes) × (j < length nodes)
   inside E i j b =
-      let many : length nodes ≡ length (nodes_in body) = ap length is.in_order ∙ length-map (nodes_in body) shown in
+      let many : length nodes ≡ length (nodes_in body) = ap length is.in_order ∙ length-map (nodes_in body) graph_node in
       let first : i < length (nodes_in body) = slice_get_within (nodes_in body) i b.first b.is_first in
       let second : j < length (nodes_in body) = slice_get_within (nodes_in body) j b.second b.is_second in (omega arith, omega arith)
 
@@ -206,16 +206,16 @@ module _ (body : Block) (nodes : List GraphNode) (edges : List GraphEdge) (is : 
 pub bodies_have_graphs : NodesDiffer → ((body : Block) → StaysWithin body) → EdgesAreListed → FlowsAreListed → BodiesHaveGraphs
 bodies_have_graphs differ within edges flows body =
     let all : List GraphEdge = control_edges differ within edges flows body ++ data_edges differ within edges flows body in
-    let is : IsTickGraph (plain_body body) (map shown (nodes_in (plain_body body))) all = record {
+    let is : IsTickGraph (plain_body body) (map graph_node (nodes_in (plain_body body))) all = record {
       in_order = refl;
       control = is_control differ within edges flows body;
       by_data = is_data differ within edges flows body;
     } in
     record {
       graph = record {
-        nodes = map shown (nodes_in (plain_body body));
+        nodes = map graph_node (nodes_in (plain_body body));
         edges = all;
-        joins_nodes = joins (plain_body body) (map shown (nodes_in (plain_body body))) all is;
+        joins_nodes = joins (plain_body body) (map graph_node (nodes_in (plain_body body))) all is;
       };
       is_graph = is;
     }

@@ -30,7 +30,7 @@ use Rattle.std.proofs.Common.{
 }
 use Rattle.std.specs.Prelude.{Contains, if◌then◌else◌, nat_eq, slice_index}
 use Rattle.bl_tree.specs.declared.graph.Edge.{Edge}
-use Rattle.bl_cause.specs.Walks.{ClosedWalk, Walk}
+use Rattle.bl_cause.specs.Walks.{ClosedWalk, EdgeWalk}
 use Rattle.bl_cause_laws.specs.Orders.{UnwalkedHaveRanks}
 use Rattle.bl_cause_laws.proofs.Elements.{either, head_is_there, nothing_there, tail_is_there}
 
@@ -106,16 +106,16 @@ leads_on (e ∷ edges) d there x so =
 
 -- ---- walks
 
-more_walk : (e : Edge) (edges : List Edge) (x : ℕ) (walk : List Edge) (y : ℕ) → Walk edges x walk y → Walk (e ∷ edges) x walk y
+more_walk : (e : Edge) (edges : List Edge) (x : ℕ) (walk : List Edge) (y : ℕ) → EdgeWalk edges x walk y → EdgeWalk (e ∷ edges) x walk y
 more_walk e edges x [] y w = w
 more_walk e edges x (d ∷ walk) y w = (tail_is_there e edges d w.0, w.1, more_walk e edges d.to walk y w.2)
 
-walk_then : (edges : List Edge) (x : ℕ) (one : List Edge) (y : ℕ) (other : List Edge) (z : ℕ) → Walk edges x one y → Walk edges y other z →
-    Walk edges x (one ++ other) z
-walk_then edges x [] y other z w v = subst (λ x. Walk edges x other z) (sym w) v
+walk_then : (edges : List Edge) (x : ℕ) (one : List Edge) (y : ℕ) (other : List Edge) (z : ℕ) → EdgeWalk edges x one y → EdgeWalk edges y other z →
+    EdgeWalk edges x (one ++ other) z
+walk_then edges x [] y other z w v = subst (λ x. EdgeWalk edges x other z) (sym w) v
 walk_then edges x (d ∷ one) y other z w v = (w.0, w.1, walk_then edges d.to one y other z w.2 v)
 
-walk_there : (edges : List Edge) (x y : ℕ) → leads edges x y ≡ true → (walk : List Edge) × Walk edges x walk y
+walk_there : (edges : List Edge) (x y : ℕ) → leads edges x y ≡ true → (walk : List Edge) × EdgeWalk edges x walk y
 walk_there [] x y so = ([], eqb-true x y so)
 walk_there (e ∷ edges) x y so =
     elim (or_either (leads edges x y) (leads edges x e.from && leads edges e.to y) so) [

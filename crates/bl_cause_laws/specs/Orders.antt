@@ -3,7 +3,7 @@ use Rattle.std.specs.Prelude.{ℕ, List}
 use Rattle.bl_tree.specs.declared.graph.Edge.{Edge}
 use Rattle.bl_tree.specs.declared.graph.Graph.{Graph}
 use Rattle.bl_tree.specs.declared.tree.Stmt.{Stmt}
-use Rattle.bl_nodes.specs.Plain.{plain_body}
+use Rattle.bl_graph_nodes.specs.Plain.{plain_body}
 use Rattle.bl_graph.specs.Graph.{IsTickGraph}
 use Rattle.bl_cause.specs.Ranks.{Ranks}
 use Rattle.bl_cause.specs.Walks.{ClosedWalk}

@@ -7,7 +7,7 @@
 ghost use Rattle.bl_cause_laws.specs.Orders.{BodiesHaveGraphs, UnwalkedHaveRanks};
 
 use bl_graph::{edges_are_listed, flows_are_listed, graphs_stay_within};
-use bl_nodes::nodes_differ;
+use bl_graph_nodes::nodes_differ;
 
 /// Each body has a tick graph.
 pub fn bodies_have_graphs()

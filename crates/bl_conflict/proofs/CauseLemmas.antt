@@ -29,7 +29,7 @@ use Rattle.bl_tree.specs.declared.rule.Rule.TheVariants as rule
 use Rattle.bl_tree.specs.declared.tree.Unit.{Unit as UnitDef}
 use Rattle.bl_tree.specs.declared.tree.Var.{Var}
 use Rattle.bl_tree.specs.Instant.{is_instant_block}
-use Rattle.bl_tree.specs.Rules.{Among, IsCause, Refuses, first_of, further_places}
+use Rattle.bl_tree.specs.Rules.{FailsAmong, IsCause, Refuses, first_of, further_places}
 use Rattle.bl_tree.specs.Static.{overlaps}
 use Rattle.bl_tree.specs.Typing.{is_activity}
 use Rattle.bl_tree.proofs.FirstLemmas.{In, alike_first, alike_passes, contains_in, first_fails, in_contains, is_cause, none_passes}
@@ -228,14 +228,14 @@ module _ (units : List UnitDef) where
       (in_append failure conflicts (aliases ++ loops) rest)) (in_append failure pauses (conflicts ++ (aliases ++ loops)) h)
 
   -- the four rules fail as some failure says, and no failure says more
-  to : (r : Rule) (p : Place) (a : List Place) → Among (failures units) r p a → Fails units r p a
+  to : (r : Rule) (p : Place) (a : List Place) → FailsAmong (failures units) r p a → Fails units r p a
   to r p a among =
       subst (λ rule. Fails units rule p a) (sym among.of_rule)
       (subst (λ place. Fails units among.failure.rule place a) (sym among.at_place)
       (subst (λ places. Fails units among.failure.rule among.failure.at places) (sym among.further)
       (all_from among.failure (contains_in among.failure (failures units) among.is_there))))
 
-  from : (r : Rule) (p : Place) (a : List Place) → Fails units r p a → Among (failures units) r p a
+  from : (r : Rule) (p : Place) (a : List Place) → Fails units r p a → FailsAmong (failures units) r p a
   from rule.Pause p a fails =
       let failure = of_pause fails.unit.place in
       record {
@@ -281,11 +281,11 @@ module _ (units : List UnitDef) where
 
   -- where nothing is found, none of the four fails
   pub passes : first_of None (failures units) ≡ None → Passes units
-  passes is = alike_passes (Among (failures units)) (Fails units) to from (none_passes (failures units) is)
+  passes is = alike_passes (FailsAmong (failures units)) (Fails units) to from (none_passes (failures units) is)
 
   -- what is found is the first that fails
   pub cause : (found : Failure) (told : Refusal) → first_of None (failures units) ≡ Some found → Refuses found told → IsCause (Fails units) told
   cause found told is tells =
       is_cause (Fails units) found told
-      (alike_first (Among (failures units)) (Fails units) to from found.rule found.at (further_places found.further) (first_fails (failures units) found is))
+      (alike_first (FailsAmong (failures units)) (Fails units) to from found.rule found.at (further_places found.further) (first_fails (failures units) found is))
       tells

@@ -13,34 +13,34 @@ use Rattle.bl_tree.specs.declared.tree.Unit.{Unit as UnitDef}
 use Rattle.bl_tree.specs.Typing.{is_activity}
 use Rattle.bl_tree.specs.declared.rule.Failure.{Failure}
 use Rattle.bl_tree.specs.Reduce.{all_of, any_of}
-use Rattle.bl_tree.specs.Instant.{Ends, arm_instant, branch_ends, branches_instant, instant, is_instant_block, kind_instant, stmt_instant}
+use Rattle.bl_tree.specs.Instant.{BranchInstant, arm_instant, branch_ends, branches_instant, instant, is_instant_block, kind_instant, stmt_instant}
 use Rattle.bl_effects.specs.Rules.{block_ends, loop_instants, loops_in}
 use Rattle.bl_tree.specs.Rules.{first_of, lesser}
 use Rattle.bl_conflict.specs.inner.Failures.{loops_of_arm, loops_of_branch, of_pause, pause_of}
 use Rattle.bl_conflict.proofs.LoopLemmas.{arm_out as loops_of_arm_out, branch_out as loops_of_branch_out, done as loops_done, loops_at}
 
 abbrev instant_of_arm : Arm → Bool
-instant_of_arm = fold-Arm Bool Bool Ends Bool kind_instant arm_instant branch_ends stmt_instant
+instant_of_arm = fold-Arm Bool Bool BranchInstant Bool kind_instant arm_instant branch_ends stmt_instant
 
-abbrev ends_of_branch : Branch → Ends
-ends_of_branch = fold-Branch Bool Bool Ends Bool kind_instant arm_instant branch_ends stmt_instant
+abbrev ends_of_branch : Branch → BranchInstant
+ends_of_branch = fold-Branch Bool Bool BranchInstant Bool kind_instant arm_instant branch_ends stmt_instant
 
 arm_out : (arm : Arm) → instant_of_arm arm ≡ all_of (map instant (out-Arm arm).body)
-arm_out arm = fold_out-Arm Bool Bool Ends Bool kind_instant arm_instant branch_ends stmt_instant arm
+arm_out arm = fold_out-Arm Bool Bool BranchInstant Bool kind_instant arm_instant branch_ends stmt_instant arm
 
 branch_out : (branch : Branch) → ends_of_branch branch ≡ record { weak = (out-Branch branch).weak; instant = all_of (map instant (out-Branch branch).body) }
-branch_out branch = fold_out-Branch Bool Bool Ends Bool kind_instant arm_instant branch_ends stmt_instant branch
+branch_out branch = fold_out-Branch Bool Bool BranchInstant Bool kind_instant arm_instant branch_ends stmt_instant branch
 
 abbrev kind : StmtKind → Bool
-kind = fold-StmtKind Bool Bool Ends Bool kind_instant arm_instant branch_ends stmt_instant
+kind = fold-StmtKind Bool Bool BranchInstant Bool kind_instant arm_instant branch_ends stmt_instant
 
-abbrev done : StmtKind-F StmtKind Arm Branch Stmt → StmtKind-F Bool Bool Ends Bool
-done = map-StmtKind StmtKind Arm Branch Stmt Bool Bool Ends Bool kind instant_of_arm ends_of_branch instant
+abbrev done : StmtKind-F StmtKind Arm Branch Stmt → StmtKind-F Bool Bool BranchInstant Bool
+done = map-StmtKind StmtKind Arm Branch Stmt Bool Bool BranchInstant Bool kind instant_of_arm ends_of_branch instant
 
 instant_at : (s : Stmt) (layer : StmtKind-F StmtKind Arm Branch Stmt) → out-StmtKind (out-Stmt s).what ≡ layer → instant s ≡ kind_instant (done layer)
 instant_at s layer is =
-    fold_out-Stmt Bool Bool Ends Bool kind_instant arm_instant branch_ends stmt_instant s
-    ∙ fold_out-StmtKind Bool Bool Ends Bool kind_instant arm_instant branch_ends stmt_instant (out-Stmt s).what
+    fold_out-Stmt Bool Bool BranchInstant Bool kind_instant arm_instant branch_ends stmt_instant s
+    ∙ fold_out-StmtKind Bool Bool BranchInstant Bool kind_instant arm_instant branch_ends stmt_instant (out-Stmt s).what
     ∙ ap (λ layer. kind_instant (done layer)) is
 
 layer_of : (place : Place) (layer : StmtKind-F StmtKind Arm Branch Stmt) → out-StmtKind (out-Stmt (stmt place layer)).what ≡ layer

@@ -1,6 +1,6 @@
 -- What is expected behind parts that are open, where one is opened or closed.
 use Rattle.std.proofs.Common.{◌≡◌, List, [], ◌∷◌, ◌++◌, sym, ap, ◌∙◌, append_assoc, append-nil}
-use Rattle.bl_csyntax.specs.Grammar.{Wanted}
+use Rattle.bl_cparse_syntax.specs.Grammar.{Wanted}
 use Rattle.bl_cparse.specs.inner.Awaiting.{unwound}
 
 -- one more, which is closed first

@@ -29,17 +29,17 @@ use Rattle.bl_ctext.specs.Spelling.{constant_word, width_digits}
 use Rattle.bl_grammar.specs.declared.symbol.Symbol.TheVariants.{Terminal}
 use Rattle.bl_grammar.specs.Derivations.Derives.{terminal}
 use Rattle.bl_grammar.proofs.Predictive.{not_both, or_left, or_right, expansion, fold_in, join}
-use Rattle.bl_csyntax.specs.declared.grammar.Digits.TheVariants.{Elements, Int, Negated, Unsigned}
-use Rattle.bl_csyntax.specs.declared.grammar.Group.TheVariants.{PlainLiterals, IndexFunctions}
-use Rattle.bl_csyntax.specs.declared.grammar.Part.TheVariants.{Expr, Simple, Constant, Inside, Negative, NameUse, Steps, Index, Args, ArgRest, Arg, Place}
-use Rattle.bl_csyntax.specs.Pieces.{is_same, first_of}
-use Rattle.bl_csyntax.specs.Classes.{Class, is_number, matches}
-use Rattle.bl_csyntax.specs.Classes.Class.{exactly, one_of, a_name, number}
-use Rattle.bl_csyntax.specs.Grammar.{
+use Rattle.bl_cparse_syntax.specs.declared.grammar.Digits.TheVariants.{Elements, Int, Negated, Unsigned}
+use Rattle.bl_cparse_syntax.specs.declared.grammar.Group.TheVariants.{PlainLiterals, IndexFunctions}
+use Rattle.bl_cparse_syntax.specs.declared.grammar.Part.TheVariants.{Expr, Simple, Constant, Inside, Negative, NameUse, Steps, Index, Args, ArgRest, Arg, Place}
+use Rattle.bl_cparse_syntax.specs.Pieces.{is_same, first_of}
+use Rattle.bl_cparse_syntax.specs.Classes.{Class, is_number, matches}
+use Rattle.bl_cparse_syntax.specs.Classes.Class.{exactly, one_of, a_name, number}
+use Rattle.bl_cparse_syntax.specs.Grammar.{
   Wanted,
   Production,
   Produces,
-  Derives,
+  CDerives,
   IsAmong,
   productions,
   placed,
@@ -52,12 +52,12 @@ use Rattle.bl_csyntax.specs.Grammar.{
   inside,
   constant,
 }
-use Rattle.bl_csyntax.specs.Grammar.IsAmong.{here, later}
-use Rattle.bl_csyntax.specs.Tables.{has, starts, absent}
-use Rattle.bl_csyntax.specs.Expects.{Expects}
-use Rattle.bl_csyntax.specs.Follow.{constant_starts, after_place, avoided}
-use Rattle.bl_csyntax_laws.proofs.Pieces.{name_is}
-use Rattle.bl_csyntax.proofs.ClassLemmas.{exactly_is}
+use Rattle.bl_cparse_syntax.specs.Grammar.IsAmong.{here, later}
+use Rattle.bl_cparse_syntax.specs.Tables.{has, starts, absent}
+use Rattle.bl_cparse_syntax.specs.Expects.{Expects}
+use Rattle.bl_cparse_syntax.specs.Follow.{constant_starts, after_place, avoided}
+use Rattle.bl_cparse_syntax_laws.proofs.Pieces.{name_is}
+use Rattle.bl_cparse_syntax.proofs.ClassLemmas.{exactly_is}
 use Rattle.bl_cparse.specs.inner.Reading.{sign, name_of, prelude_function, operator, index_function, elements, part, signed_starts, literal_starts}
 use Rattle.bl_cparse.proofs.ReadLemmas.{seated, opened, begun, omitted, next, passed, retold, other_next}
 
@@ -88,7 +88,7 @@ least_plain W32 = refl
 least_plain W64 = refl
 
 never_first : {class : Class} {rest : List Wanted} {ts : List Token} → matches class (first_of ts) ≡ false →
-    Derives (Terminal class ∷ rest) ts [] → ⊥
+    CDerives (Terminal class ∷ rest) ts [] → ⊥
 never_first off (terminal m r) = not_both _ m off
 
 last_off : (a b : Bool) → a || b ≡ false → b ≡ false
@@ -137,13 +137,13 @@ constant_first {room} {rest} {ts} e = let o = opened e in by_one o.production o.
     by_one p (later (later (later (later (later (later (later (later is)))))))) own e = elim is [ ]
 
 as_steps : {room : ℕ} {rest : List Wanted} {ts : List Token} → matches (exactly (codes "(")) (first_of ts) ≡ false →
-    Derives (part NameUse room ∷ rest) ts [] → Derives (part Steps room ∷ rest) ts []
+    CDerives (part NameUse room ∷ rest) ts [] → CDerives (part Steps room ∷ rest) ts []
 as_steps {room} {rest} {ts} off d = let x = expansion Produces matches d in
     by_one x.made.production x.made.is_one x.made.name x.made.is_turn
-    (subst (λ (w : List Wanted). Derives (w ++ rest) ts []) x.made.made (join Produces matches x.first x.rest))
+    (subst (λ (w : List Wanted). CDerives (w ++ rest) ts []) x.made.made (join Produces matches x.first x.rest))
   where
     by_one : (p : Production) → IsAmong p (productions NameUse) → (own : Token) → is_turn_name own ≡ true →
-        Derives (map (placed room own) p.shapes ++ rest) ts [] → Derives (part Steps room ∷ rest) ts []
+        CDerives (map (placed room own) p.shapes ++ rest) ts [] → CDerives (part Steps room ∷ rest) ts []
     by_one p here own is d = absurd (never_first off d)
     by_one p (later here) own is d = fold_in Produces matches _
         (record {

@@ -41,17 +41,17 @@ use Rattle.bl_ctext.specs.inner.Cut.{are_tokens}
 use Rattle.bl_ctext.specs.Spelling.{struct_tokens, func_tokens, tokens_of}
 use Rattle.bl_ctext.specs.Spellable.{has_any, is_spellable, most_open, spells_func, spells_struct}
 use Rattle.bl_ctext.proofs.Bytes.{both}
-use Rattle.bl_csyntax.specs.Pieces.{pieces}
+use Rattle.bl_cparse_syntax.specs.Pieces.{pieces}
 use Rattle.bl_ctext.specs.declared.file.CFile.{CFile}
-use Rattle.bl_csyntax.specs.Rules.{Passes, FailsFirst}
-use Rattle.bl_csyntax_laws.proofs.Depths.{text_kept}
-use Rattle.bl_csyntax_laws.proofs.Passing.{spells_some, spelled_passing}
-use Rattle.bl_csyntax_laws.proofs.Spaced.{spaced}
-use Rattle.bl_csyntax.specs.declared.grammar.Part.TheVariants.{File, Struct, Structs, Func, Funcs}
-use Rattle.bl_csyntax.specs.Grammar as grammar
-use Rattle.bl_csyntax.specs.Expects.{Expects}
-use Rattle.bl_csyntax.proofs.Expecting.{expects_text}
-use Rattle.bl_csyntax.proofs.Once.{no_failure}
+use Rattle.bl_cparse_syntax.specs.Rules.{Passes, FailsFirst}
+use Rattle.bl_cparse_syntax_laws.proofs.Depths.{text_kept}
+use Rattle.bl_cparse_syntax_laws.proofs.Passing.{spells_some, spelled_passing}
+use Rattle.bl_cparse_syntax_laws.proofs.Spaced.{spaced}
+use Rattle.bl_cparse_syntax.specs.declared.grammar.Part.TheVariants.{File, Struct, Structs, Func, Funcs}
+use Rattle.bl_cparse_syntax.specs.Grammar as grammar
+use Rattle.bl_cparse_syntax.specs.Expects.{Expects}
+use Rattle.bl_cparse_syntax.proofs.Expecting.{expects_text}
+use Rattle.bl_cparse_syntax.proofs.Once.{no_failure}
 use Rattle.bl_cparse.specs.declared.refusal.CRefusal.{CRefusal}
 use Rattle.bl_cparse.specs.declared.refusal.CRefusal.TheVariants.{NotSubset, NoMemory}
 use Rattle.bl_cparse.specs.Places.{SpellsNone, RefusesNone, RefusesAt}

@@ -3,9 +3,9 @@ use Rattle.std.proofs.Common.{◌≡◌, ℕ, ◌-◌, Bool, true, false, List, 
 use Rattle.bl_ctext.specs.Token.{Token}
 use Rattle.bl_ctext.specs.Names.{is_among, is_name, is_struct_name, is_function_name, is_turn_name}
 use Rattle.bl_grammar.specs.declared.symbol.Symbol.TheVariants.{Terminal}
-use Rattle.bl_csyntax.specs.declared.grammar.Digits.TheVariants.{Elements}
-use Rattle.bl_csyntax.specs.declared.grammar.Group.TheVariants.{StructWords, FunctionWords}
-use Rattle.bl_csyntax.specs.declared.grammar.Part.TheVariants.{
+use Rattle.bl_cparse_syntax.specs.declared.grammar.Digits.TheVariants.{Elements}
+use Rattle.bl_cparse_syntax.specs.declared.grammar.Group.TheVariants.{StructWords, FunctionWords}
+use Rattle.bl_cparse_syntax.specs.declared.grammar.Part.TheVariants.{
   File,
   Structs,
   Struct,
@@ -27,17 +27,17 @@ use Rattle.bl_csyntax.specs.declared.grammar.Part.TheVariants.{
   Local,
   Stmts,
 }
-use Rattle.bl_csyntax.specs.Pieces.{is_same, first_of}
-use Rattle.bl_csyntax.specs.Classes.{Class, is_number, matches}
-use Rattle.bl_csyntax.specs.Classes.Class.{exactly, one_of, a_name, number}
-use Rattle.bl_csyntax.specs.Grammar.{Wanted, Production, IsAmong, productions, plain, word, name, digits, the}
-use Rattle.bl_csyntax.specs.Grammar.IsAmong.{here, later}
-use Rattle.bl_csyntax.specs.Tables.{has, starts, absent}
-use Rattle.bl_csyntax.specs.Expects.{Expects}
-use Rattle.bl_csyntax.proofs.Expecting.{expects_nothing}
-use Rattle.bl_csyntax.proofs.ClassLemmas.{exactly_is}
+use Rattle.bl_cparse_syntax.specs.Pieces.{is_same, first_of}
+use Rattle.bl_cparse_syntax.specs.Classes.{Class, is_number, matches}
+use Rattle.bl_cparse_syntax.specs.Classes.Class.{exactly, one_of, a_name, number}
+use Rattle.bl_cparse_syntax.specs.Grammar.{Wanted, Production, IsAmong, productions, plain, word, name, digits, the}
+use Rattle.bl_cparse_syntax.specs.Grammar.IsAmong.{here, later}
+use Rattle.bl_cparse_syntax.specs.Tables.{has, starts, absent}
+use Rattle.bl_cparse_syntax.specs.Expects.{Expects}
+use Rattle.bl_cparse_syntax.proofs.Expecting.{expects_nothing}
+use Rattle.bl_cparse_syntax.proofs.ClassLemmas.{exactly_is}
 use Rattle.bl_cparse.specs.inner.Reading.{sign, name_of, scalar_type, part, local_starts}
-use Rattle.bl_csyntax_laws.proofs.Pieces.{name_is, struct_word, function_word}
+use Rattle.bl_cparse_syntax_laws.proofs.Pieces.{name_is, struct_word, function_word}
 use Rattle.bl_cparse.proofs.TokenLemmas.{name_struct, name_function}
 use Rattle.bl_cparse.proofs.ReadLemmas.{seated, opened, begun, omitted, next, passed, other_next}
 

@@ -48,13 +48,13 @@ use Rattle.bl_tree.specs.declared.scalar.Width.TheVariants.{W8, W16, W32, W64}
 use Rattle.bl_ctext.specs.Token.{Token}
 use Rattle.bl_ctext.specs.Spelling.{negatives}
 use Rattle.bl_ctext.proofs.Bytes.{and-fst, and-snd, either}
-use Rattle.bl_csyntax.specs.declared.grammar.Digits.{Digits}
-use Rattle.bl_csyntax.specs.Classes.{least, bound, are_digits, is_number, matches}
-use Rattle.bl_csyntax.specs.Classes.Class.{number}
-use Rattle.bl_csyntax.specs.Pieces.{is_same}
-use Rattle.bl_csyntax.proofs.ClassLemmas.{is_same-self}
+use Rattle.bl_cparse_syntax.specs.declared.grammar.Digits.{Digits}
+use Rattle.bl_cparse_syntax.specs.Classes.{least, bound, are_digits, is_number, matches}
+use Rattle.bl_cparse_syntax.specs.Classes.Class.{number}
+use Rattle.bl_cparse_syntax.specs.Pieces.{is_same}
+use Rattle.bl_cparse_syntax.proofs.ClassLemmas.{is_same-self}
 use Rattle.bl_grammar.proofs.Predictive.{not_both}
-use Rattle.bl_csyntax_laws.proofs.Pieces.{bound_le}
+use Rattle.bl_cparse_syntax_laws.proofs.Pieces.{bound_le}
 
 digits_own : IsNumeralModel (λ (ds : List ℕ). all_ascii_digits ds ≡ true) (digits_value 10)
 digits_own = numerals_by_value (λ (ds : List ℕ). all_ascii_digits ds ≡ true) tells_all_ascii_digits

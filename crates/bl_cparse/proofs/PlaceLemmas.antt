@@ -23,7 +23,7 @@ use Rattle.std.proofs.Common.{
 }
 use Rattle.std.proofs.str.Laws.{order}
 use Rattle.bl_ctext.specs.Prelude.{prelude}
-use Rattle.bl_cparse.specs.Places.{Leaves}
+use Rattle.bl_cparse.specs.Places.{LeavesPreludeAt}
 
 -- a text that agrees with another as long as that one is begins with it
 agrees : (p text : List ℕ) → length p ≤ length text → ((k : ℕ) → k < length p → get_or text k 0 ≡ get_or p k 0) →
@@ -47,7 +47,7 @@ ends_before p text n other inside within same =
 
 pub leaves : (p text : List ℕ) (n : ℕ) → p ≡ prelude → ((rest : List ℕ) → text ≢ prelude ++ rest) → n ≤ length text → n ≤ length p →
     ((k : ℕ) → k < n → get_or text k 0 ≡ get_or p k 0) →
-    (n < length text → n < length p → get_or text n 0 ≢ get_or p n 0) → Leaves text n
+    (n < length text → n < length p → get_or text n 0 ≢ get_or p n 0) → LeavesPreludeAt text n
 leaves p text n e other inside within same differs =
     let all : (k : ℕ) → k < n → get_or text k 0 ≡ get_or prelude k 0 =
     subst (λ (q : List ℕ). (k : ℕ) → k < n → get_or text k 0 ≡ get_or q k 0) e same in

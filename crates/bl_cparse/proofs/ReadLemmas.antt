@@ -30,18 +30,18 @@ use Rattle.bl_ctext.specs.Spellable.{has_any}
 use Rattle.bl_grammar.specs.declared.symbol.Symbol.TheVariants.{Terminal, Nonterminal}
 use Rattle.bl_grammar.specs.Derivations.Derives.{terminal}
 use Rattle.bl_grammar.proofs.Predictive.{same_some, no_some, not_both, expansion, good_expand, join}
-use Rattle.bl_csyntax.specs.declared.grammar.Part.{Part}
-use Rattle.bl_csyntax.specs.Pieces.{first_of}
-use Rattle.bl_csyntax.specs.Classes.{Class, matches}
-use Rattle.bl_csyntax.specs.Classes.Class.{exactly}
-use Rattle.bl_csyntax.specs.Grammar.{Shape, Wanted, Production, Produces, IsAmong, productions, named, placed}
-use Rattle.bl_csyntax.specs.Tables.{has, firsts, starts, absent, decided, pick, turn_of, wanted_of}
-use Rattle.bl_csyntax.specs.Stack.{tables}
-use Rattle.bl_csyntax.specs.Expects.{Expects}
-use Rattle.bl_csyntax.proofs.Right.{chosen_of, unpicked}
-use Rattle.bl_csyntax.proofs.ClassLemmas.{exactly_is}
-use Rattle.bl_csyntax.proofs.Predictive.{predictive}
-use Rattle.bl_csyntax.proofs.Expecting.{expects_production, expects_absent, expects_token}
+use Rattle.bl_cparse_syntax.specs.declared.grammar.Part.{Part}
+use Rattle.bl_cparse_syntax.specs.Pieces.{first_of}
+use Rattle.bl_cparse_syntax.specs.Classes.{Class, matches}
+use Rattle.bl_cparse_syntax.specs.Classes.Class.{exactly}
+use Rattle.bl_cparse_syntax.specs.Grammar.{Shape, Wanted, Production, Produces, IsAmong, productions, named, placed}
+use Rattle.bl_cparse_syntax.specs.Tables.{has, firsts, starts, absent, decided, pick, turn_of, wanted_of}
+use Rattle.bl_cparse_syntax.specs.Stack.{tables}
+use Rattle.bl_cparse_syntax.specs.Expects.{Expects}
+use Rattle.bl_cparse_syntax.proofs.Right.{chosen_of, unpicked}
+use Rattle.bl_cparse_syntax.proofs.ClassLemmas.{exactly_is}
+use Rattle.bl_cparse_syntax.proofs.Predictive.{predictive}
+use Rattle.bl_cparse_syntax.proofs.Expecting.{expects_production, expects_absent, expects_token}
 use Rattle.bl_cparse.specs.declared.refusal.CRefusal.{CRefusal}
 use Rattle.bl_cparse.specs.inner.Reading.{sign, part}
 use Rattle.bl_cparse.specs.Places.{WantsMemory}

@@ -33,9 +33,9 @@ use Rattle.bl_ctext.specs.Token.{Token, is_blank, is_double_sign, is_word_byte}
 use Rattle.std.specs.Prelude.{◌&&◌}
 use Rattle.bl_ctext.specs.Token.{put_before}
 use Rattle.bl_ctext.proofs.Bytes.{joined-not_blank, or-snd}
-use Rattle.bl_csyntax.specs.Pieces.{cut_off, pieces, left_of, first_of}
-use Rattle.bl_csyntax.proofs.Ranges.{drop_more}
-use Rattle.bl_csyntax.proofs.PieceLemmas.{first_left}
+use Rattle.bl_cparse_syntax.specs.Pieces.{cut_off, pieces, left_of, first_of}
+use Rattle.bl_cparse_syntax.proofs.Ranges.{drop_more}
+use Rattle.bl_cparse_syntax.proofs.PieceLemmas.{first_left}
 use Rattle.bl_cparse.specs.HasPlaces.{TextSpot, blanks, next, past}
 
 -- how many of the bytes are no blanks

@@ -4,8 +4,8 @@ use Rattle.std.specs.Prelude.{Result, Ok, Err, IfOk, MatchResult}
 use Rattle.bl_ctext.specs.Token.{Token}
 use Rattle.bl_ctext.specs.Names.{is_among, is_name, is_turn_name}
 use Rattle.bl_grammar.proofs.Predictive.{not_both}
-use Rattle.bl_csyntax.specs.declared.grammar.Part.{Part}
-use Rattle.bl_csyntax.specs.declared.grammar.Part.TheVariants.{
+use Rattle.bl_cparse_syntax.specs.declared.grammar.Part.{Part}
+use Rattle.bl_cparse_syntax.specs.declared.grammar.Part.TheVariants.{
   Stmts,
   Stmt,
   Else,
@@ -22,16 +22,16 @@ use Rattle.bl_csyntax.specs.declared.grammar.Part.TheVariants.{
   Steps,
   Args,
 }
-use Rattle.bl_csyntax.specs.declared.grammar.Part.TheVariants as APart
-use Rattle.bl_csyntax.specs.Pieces.{is_same, first_of}
-use Rattle.bl_csyntax.specs.Classes.{is_number, matches}
-use Rattle.bl_csyntax.specs.Classes.Class.{exactly}
-use Rattle.bl_csyntax.specs.Grammar.{Wanted, Production, IsAmong, productions, plain, needing, word, name, the, inside}
-use Rattle.bl_csyntax.specs.Grammar.IsAmong.{here, later}
-use Rattle.bl_csyntax.specs.Tables.{has, starts, absent}
-use Rattle.bl_csyntax.specs.Expects.{Expects}
-use Rattle.bl_csyntax.proofs.ClassLemmas.{exactly_is}
-use Rattle.bl_csyntax_laws.proofs.Pieces.{name_is}
+use Rattle.bl_cparse_syntax.specs.declared.grammar.Part.TheVariants as APart
+use Rattle.bl_cparse_syntax.specs.Pieces.{is_same, first_of}
+use Rattle.bl_cparse_syntax.specs.Classes.{is_number, matches}
+use Rattle.bl_cparse_syntax.specs.Classes.Class.{exactly}
+use Rattle.bl_cparse_syntax.specs.Grammar.{Wanted, Production, IsAmong, productions, plain, needing, word, name, the, inside}
+use Rattle.bl_cparse_syntax.specs.Grammar.IsAmong.{here, later}
+use Rattle.bl_cparse_syntax.specs.Tables.{has, starts, absent}
+use Rattle.bl_cparse_syntax.specs.Expects.{Expects}
+use Rattle.bl_cparse_syntax.proofs.ClassLemmas.{exactly_is}
+use Rattle.bl_cparse_syntax_laws.proofs.Pieces.{name_is}
 use Rattle.bl_cparse.specs.declared.refusal.CRefusal.{CRefusal}
 use Rattle.bl_cparse.specs.inner.Reading.{sign, name_of, prelude_function, part, behind_turn, other_starts, GoesOnAPlace}
 use Rattle.bl_cparse.specs.Places.{WantsMemory}

@@ -12,9 +12,9 @@ use Rattle.bl_ctext.specs.Names.{is_name, is_struct_name, is_function_name, is_c
 use Rattle.bl_ctext.specs.Spellable.{has_any}
 use Rattle.bl_ctext.proofs.Bytes.{and-fst, and-snd, both, either}
 use Rattle.bl_ctext.proofs.Words.{turn_name-token, decimal-token}
-use Rattle.bl_csyntax.specs.Pieces.{is_same}
-use Rattle.bl_csyntax.proofs.ClassLemmas.{among_all}
-use Rattle.bl_csyntax.proofs.SameLemmas.{is_same-same}
+use Rattle.bl_cparse_syntax.specs.Pieces.{is_same}
+use Rattle.bl_cparse_syntax.proofs.ClassLemmas.{among_all}
+use Rattle.bl_cparse_syntax.proofs.SameLemmas.{is_same-same}
 
 token_any : (t : Token) → is_token t ≡ true → has_any t ≡ true
 token_any [] h = cc

@@ -30,7 +30,7 @@ use Rattle.std.proofs.Math.Seq.{map-set_same}
 use Rattle.std.proofs.lemmas.Bool.{eqb-true}
 use Rattle.std.proofs.lemmas.List.{take_more_set}
 use Rattle.bl_ctext.specs.Spelling.{comma_before}
-use Rattle.bl_cparse.specs.HasPlaces.{TextSpot, Walk, past, in_turn, in_list}
+use Rattle.bl_cparse.specs.HasPlaces.{TextSpot, PlaceWalk, past, in_turn, in_list}
 
 first_is : {A : Type 0} (a b : A) (us vs : List A) → a ∷ us ≡ b ∷ vs → a ≡ b
 first_is a b us vs e = cc
@@ -41,7 +41,7 @@ rest_is a b us vs e = cc
 pair_is : {A : Type 0} (r : A × TextSpot) (a : A) (s : TextSpot) → r.0 ≡ a → r.1 ≡ s → r ≡ (a, s)
 pair_is r a s e h = ap (λ x. (x, r.1)) e ∙ ap (λ y. (a, y)) h
 
-pub turn_more : {A : Type 0} (f : A → Walk A) (xs : List A) (x : A) (from between behind : TextSpot) →
+pub turn_more : {A : Type 0} (f : A → PlaceWalk A) (xs : List A) (x : A) (from between behind : TextSpot) →
     in_turn (map f xs) from ≡ (xs, between) → f x between ≡ (x, behind) →
     in_turn (map f (xs ++ x ∷ [])) from ≡ (xs ++ x ∷ [], behind)
 turn_more f [] x from between behind h k = ap (λ r. (r.0 ∷ [], r.1)) (ap (f x) (ap (λ r. r.1) h) ∙ k)
@@ -51,7 +51,7 @@ turn_more f (y ∷ xs) x from between behind h k =
     ap (λ r. ((f y from).0 ∷ r.0, r.1)) (turn_more f xs x (f y from).1 between behind rest k) ∙ ap (λ z. (z ∷ (xs ++ x ∷ []), behind)) first
 
 -- behind a part there is a comma before the next
-list_on : {A : Type 0} (f : A → Walk A) (first : Bool) (y : A) (xs : List A) (x : A) (from between behind : TextSpot) →
+list_on : {A : Type 0} (f : A → PlaceWalk A) (first : Bool) (y : A) (xs : List A) (x : A) (from between behind : TextSpot) →
     in_list first (map f (y ∷ xs)) from ≡ (y ∷ xs, between) →
     f x (past (comma_before false) between) ≡ (x, behind) → in_list first (map f ((y ∷ xs) ++ x ∷ [])) from ≡ ((y ∷ xs) ++ x ∷ [], behind)
 list_on f first y [] x from between behind h k =
@@ -65,7 +65,7 @@ list_on f first y (z ∷ xs) x from between behind h k =
     let rest : in_list false (map f (z ∷ xs)) walked.1 ≡ (z ∷ xs, between) = pair_is _ _ _ (rest_is _ _ _ _ (ap (λ r. r.0) h)) (ap (λ r. r.1) h) in
     ap (λ r. (walked.0 ∷ r.0, r.1)) (list_on f false z xs x walked.1 between behind rest k) ∙ ap (λ w. (w ∷ ((z ∷ xs) ++ x ∷ []), behind)) same
 
-pub list_more : {A : Type 0} (f : A → Walk A) (first : Bool) (xs : List A) (x : A) (from between behind : TextSpot) →
+pub list_more : {A : Type 0} (f : A → PlaceWalk A) (first : Bool) (xs : List A) (x : A) (from between behind : TextSpot) →
     (first ≡ true → xs ≡ []) → (xs ≡ [] → first ≡ true) →
     in_list true (map f xs) from ≡ (xs, between) → f x (past (comma_before first) between) ≡ (x, behind) →
     in_list true (map f (xs ++ x ∷ [])) from ≡ (xs ++ x ∷ [], behind)
@@ -78,7 +78,7 @@ list_more f true (y ∷ xs) x from between behind none empty h k = absurd (no_co
 list_more f false (y ∷ xs) x from between behind none empty h k = list_on f true y xs x from between behind h k
 
 -- the same where the part stands in a list, behind those that have their places
-pub turn_set : {A : Type 0} (f : A → Walk A) (xs : List A) (k : ℕ) (x : A) (from between behind : TextSpot) → k < length xs →
+pub turn_set : {A : Type 0} (f : A → PlaceWalk A) (xs : List A) (k : ℕ) (x : A) (from between behind : TextSpot) → k < length xs →
     in_turn (map f (take k xs)) from ≡ (take k xs, between) →
     f x between ≡ (x, behind) → in_turn (map f (take (k + 1) (slice_set xs k x))) from ≡ (take (k + 1) (slice_set xs k x), behind)
 turn_set f xs k x from between behind within h step =
@@ -93,7 +93,7 @@ taken_none xs zero within h = refl
 taken_none [] (suc k) within h = elim within [ ]
 taken_none (x ∷ xs) (suc k) within h = cc
 
-pub list_set : {A : Type 0} (f : A → Walk A) (xs : List A) (k : ℕ) (x : A) (from between behind : TextSpot) → k < length xs →
+pub list_set : {A : Type 0} (f : A → PlaceWalk A) (xs : List A) (k : ℕ) (x : A) (from between behind : TextSpot) → k < length xs →
     in_list true (map f (take k xs)) from ≡ (take k xs, between) →
     f x (past (comma_before (nat_eq k 0)) between) ≡ (x, behind) →
     in_list true (map f (take (k + 1) (slice_set xs k x))) from ≡ (take (k + 1) (slice_set xs k x), behind)

@@ -8,13 +8,13 @@ use Rattle.bl_ctext.specs.Token.{Token}
 use Rattle.bl_ctext.specs.Names.{is_among}
 use Rattle.bl_ctext.specs.Spelling.{scalar_word, constant_word, width_digits}
 use Rattle.bl_ctext.specs.Spellable.{has_any, is_c_scalar}
-use Rattle.bl_csyntax.specs.declared.grammar.Group.TheVariants.{ScalarTypes, Operators, PlainLiterals}
-use Rattle.bl_csyntax.specs.Pieces.{is_same}
-use Rattle.bl_csyntax.specs.Classes.{matches}
-use Rattle.bl_csyntax.specs.Classes.Class.{exactly, one_of}
-use Rattle.bl_csyntax.specs.Tables.{has}
-use Rattle.bl_csyntax.proofs.ClassLemmas.{exactly_is}
-use Rattle.bl_csyntax.specs.Follow.{constant_starts}
+use Rattle.bl_cparse_syntax.specs.declared.grammar.Group.TheVariants.{ScalarTypes, Operators, PlainLiterals}
+use Rattle.bl_cparse_syntax.specs.Pieces.{is_same}
+use Rattle.bl_cparse_syntax.specs.Classes.{matches}
+use Rattle.bl_cparse_syntax.specs.Classes.Class.{exactly, one_of}
+use Rattle.bl_cparse_syntax.specs.Tables.{has}
+use Rattle.bl_cparse_syntax.proofs.ClassLemmas.{exactly_is}
+use Rattle.bl_cparse_syntax.specs.Follow.{constant_starts}
 use Rattle.bl_cparse.specs.inner.Reading.{by_width, exactly_one, signed_starts, unsigned_starts, literal_starts, local_starts}
 
 -- the word that a piece is

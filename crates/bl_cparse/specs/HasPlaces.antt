@@ -55,7 +55,7 @@ use Rattle.bl_ctext.specs.Spelling.{
 }
 use Rattle.bl_ctext.specs.Prelude.{prelude}
 use Rattle.bl_ctext.specs.declared.file.CFile.{CFile}
-use Rattle.bl_csyntax.specs.Pieces.{pieces, first_of}
+use Rattle.bl_cparse_syntax.specs.Pieces.{pieces, first_of}
 
 -- where a walk stands: behind the pieces of the text before this offset
 pub record TextSpot : Type 0 where
@@ -88,39 +88,39 @@ abbrev pub span : TextSpot → TextSpot → Place
 span s behind = record { start = start_of s; end = behind.at }
 
 -- a walk over a part: the part with its places set, and what stands behind it
-abbrev pub Walk : Type 0 → Type 0
-Walk A = TextSpot → A × TextSpot
+abbrev pub PlaceWalk : Type 0 → Type 0
+PlaceWalk A = TextSpot → A × TextSpot
 
 -- what is made of the part, and the same behind the tokens that follow it
 abbrev pub made : {A B : Type 0} → (A → B) → List Token → A × TextSpot → B × TextSpot
 made f tokens walked = (f walked.0, past tokens walked.1)
 
 -- a walk behind a part, and what is made of both
-abbrev pub and_then : {A B C : Type 0} → (A → B → C) → A × TextSpot → Walk B → C × TextSpot
+abbrev pub and_then : {A B C : Type 0} → (A → B → C) → A × TextSpot → PlaceWalk B → C × TextSpot
 and_then f walked walk = (f walked.0 (walk walked.1).0, (walk walked.1).1)
 
 -- parts one after another
-abbrev pub in_turn : {A : Type 0} → List (Walk A) → Walk (List A)
+abbrev pub in_turn : {A : Type 0} → List (PlaceWalk A) → PlaceWalk (List A)
 in_turn [] s = ([], s)
 in_turn (walk ∷ walks) s = and_then (λ x xs. x ∷ xs) (walk s) (in_turn walks)
 
 -- parts with a comma before each, but none before the first of all
-abbrev pub in_list : {A : Type 0} → Bool → List (Walk A) → Walk (List A)
+abbrev pub in_list : {A : Type 0} → Bool → List (PlaceWalk A) → PlaceWalk (List A)
 in_list first [] s = ([], s)
 in_list first (walk ∷ walks) s = and_then (λ x xs. x ∷ xs) (walk (past (comma_before first) s)) (in_list false walks)
 
 -- a part, or nothing
-abbrev pub if_there : {A : Type 0} → Option (Walk A) → Walk (Option A)
+abbrev pub if_there : {A : Type 0} → Option (PlaceWalk A) → PlaceWalk (Option A)
 if_there None s = (None, s)
 if_there (Some walk) s = made Some [] (walk s)
 
 -- one step of the fold for each part: a walk over it, where those over its own parts are known
-abbrev pub arg_step : CArg-F (Walk CArg) (Walk CExprKind) (Walk CCall) (Walk CExpr) (Walk CIndex) (Walk CPlace) (Walk CStep) → Walk CArg
+abbrev pub arg_step : CArg-F (PlaceWalk CArg) (PlaceWalk CExprKind) (PlaceWalk CCall) (PlaceWalk CExpr) (PlaceWalk CIndex) (PlaceWalk CPlace) (PlaceWalk CStep) → PlaceWalk CArg
 arg_step (CArg-F.Value value) s = made (λ e. roll-CArg (CArg-F.Value e)) [] (value s)
 arg_step (CArg-F.Address at) s = made (λ p. roll-CArg (CArg-F.Address p)) [] (at (past (codes "&" ∷ []) s))
 
 -- the walk over an expression's form
-abbrev pub kind_step : CExprKind-F (Walk CArg) (Walk CExprKind) (Walk CCall) (Walk CExpr) (Walk CIndex) (Walk CPlace) (Walk CStep) → Walk CExprKind
+abbrev pub kind_step : CExprKind-F (PlaceWalk CArg) (PlaceWalk CExprKind) (PlaceWalk CCall) (PlaceWalk CExpr) (PlaceWalk CIndex) (PlaceWalk CPlace) (PlaceWalk CStep) → PlaceWalk CExprKind
 kind_step (CExprKind-F.Literal scalar n) s = (roll-CExprKind (CExprKind-F.Literal scalar n), past (literal_tokens scalar n) s)
 kind_step (CExprKind-F.Read at) s = made (λ p. roll-CExprKind (CExprKind-F.Read p)) [] (at s)
 kind_step (CExprKind-F.Call call) s = made (λ c. roll-CExprKind (CExprKind-F.Call c)) [] (call s)
@@ -130,7 +130,7 @@ kind_step (CExprKind-F.Two o left right) s =
     (and_then (λ l r. roll-CExprKind (CExprKind-F.Two o l r)) (made (λ e. e) (operator_sign o ∷ []) (left (past (codes "(" ∷ []) s))) right)
 
 -- the walk over a call: its name, then its arguments with their commas
-abbrev pub call_step : CCall-F (Walk CArg) (Walk CExprKind) (Walk CCall) (Walk CExpr) (Walk CIndex) (Walk CPlace) (Walk CStep) → Walk CCall
+abbrev pub call_step : CCall-F (PlaceWalk CArg) (PlaceWalk CExprKind) (PlaceWalk CCall) (PlaceWalk CExpr) (PlaceWalk CIndex) (PlaceWalk CPlace) (PlaceWalk CStep) → PlaceWalk CCall
 call_step c s = made (λ args. roll-CCall (record { name = c.name; args = args })) (codes ")" ∷ [])
     (in_list true c.args (past (c.name ∷ codes "(" ∷ []) s))
 
@@ -139,59 +139,59 @@ abbrev pub expr_from : TextSpot → CExprKind × TextSpot → CExpr × TextSpot
 expr_from s walked = (roll-CExpr (record { place = span s walked.1; what = walked.0 }), walked.1)
 
 -- the walk over an expression, which sets its place
-abbrev pub expr_step : CExpr-F (Walk CArg) (Walk CExprKind) (Walk CCall) (Walk CExpr) (Walk CIndex) (Walk CPlace) (Walk CStep) → Walk CExpr
+abbrev pub expr_step : CExpr-F (PlaceWalk CArg) (PlaceWalk CExprKind) (PlaceWalk CCall) (PlaceWalk CExpr) (PlaceWalk CIndex) (PlaceWalk CPlace) (PlaceWalk CStep) → PlaceWalk CExpr
 expr_step e s = expr_from s (e.what s)
 
 -- the walk over an index and its brackets
-abbrev pub index_step : CIndex-F (Walk CArg) (Walk CExprKind) (Walk CCall) (Walk CExpr) (Walk CIndex) (Walk CPlace) (Walk CStep) → Walk CIndex
+abbrev pub index_step : CIndex-F (PlaceWalk CArg) (PlaceWalk CExprKind) (PlaceWalk CCall) (PlaceWalk CExpr) (PlaceWalk CIndex) (PlaceWalk CPlace) (PlaceWalk CStep) → PlaceWalk CIndex
 index_step i s =
     made (λ e. roll-CIndex (record { signed = i.signed; at = e; length = i.length }))
     (codes "," ∷ decimal i.length ∷ codes ")" ∷ codes "]" ∷ []) (i.at (past (index_front i.signed) s))
 
 -- the walk over a place: its root, then its steps
-abbrev pub place_step : CPlace-F (Walk CArg) (Walk CExprKind) (Walk CCall) (Walk CExpr) (Walk CIndex) (Walk CPlace) (Walk CStep) → Walk CPlace
+abbrev pub place_step : CPlace-F (PlaceWalk CArg) (PlaceWalk CExprKind) (PlaceWalk CCall) (PlaceWalk CExpr) (PlaceWalk CIndex) (PlaceWalk CPlace) (PlaceWalk CStep) → PlaceWalk CPlace
 place_step p s = made (λ steps. roll-CPlace (record { through = p.through; name = p.name; steps = steps })) []
     (in_turn p.steps (past (root_tokens p.through p.name) s))
 
 -- the walk over a step: the member, then its index where there is one
-abbrev pub step_step : CStep-F (Walk CArg) (Walk CExprKind) (Walk CCall) (Walk CExpr) (Walk CIndex) (Walk CPlace) (Walk CStep) → Walk CStep
+abbrev pub step_step : CStep-F (PlaceWalk CArg) (PlaceWalk CExprKind) (PlaceWalk CCall) (PlaceWalk CExpr) (PlaceWalk CIndex) (PlaceWalk CPlace) (PlaceWalk CStep) → PlaceWalk CStep
 step_step t s = made (λ index. roll-CStep (record { member = t.member; index = index })) [] (if_there t.index (past (codes "." ∷ t.member ∷ []) s))
 
 -- the walk over an expression
-abbrev pub expr_walk : CExpr → Walk CExpr
+abbrev pub expr_walk : CExpr → PlaceWalk CExpr
 expr_walk = fold-CExpr _ _ _ _ _ _ _ arg_step kind_step call_step expr_step index_step place_step step_step
 
 -- the walk over an expression's form
-abbrev pub kind_walk : CExprKind → Walk CExprKind
+abbrev pub kind_walk : CExprKind → PlaceWalk CExprKind
 kind_walk = fold-CExprKind _ _ _ _ _ _ _ arg_step kind_step call_step expr_step index_step place_step step_step
 
 -- the walk over a place
-abbrev pub place_walk : CPlace → Walk CPlace
+abbrev pub place_walk : CPlace → PlaceWalk CPlace
 place_walk = fold-CPlace _ _ _ _ _ _ _ arg_step kind_step call_step expr_step index_step place_step step_step
 
 -- the walk over a step of a place
-abbrev pub step_walk : CStep → Walk CStep
+abbrev pub step_walk : CStep → PlaceWalk CStep
 step_walk = fold-CStep _ _ _ _ _ _ _ arg_step kind_step call_step expr_step index_step place_step step_step
 
 -- the walk over an index
-abbrev pub index_walk : CIndex → Walk CIndex
+abbrev pub index_walk : CIndex → PlaceWalk CIndex
 index_walk = fold-CIndex _ _ _ _ _ _ _ arg_step kind_step call_step expr_step index_step place_step step_step
 
 -- the walk over a call
-abbrev pub call_walk : CCall → Walk CCall
+abbrev pub call_walk : CCall → PlaceWalk CCall
 call_walk = fold-CCall _ _ _ _ _ _ _ arg_step kind_step call_step expr_step index_step place_step step_step
 
 -- the walk over an argument
-abbrev pub arg_walk : CArg → Walk CArg
+abbrev pub arg_walk : CArg → PlaceWalk CArg
 arg_walk = fold-CArg _ _ _ _ _ _ _ arg_step kind_step call_step expr_step index_step place_step step_step
 
 -- the walk over an `else` that may be absent
-abbrev pub else_walk : Option (List (Walk CStmt)) → Walk (Option (List CStmt))
+abbrev pub else_walk : Option (List (PlaceWalk CStmt)) → PlaceWalk (Option (List CStmt))
 else_walk None s = (None, s)
 else_walk (Some parts) s = made Some (codes "}" ∷ []) (in_turn parts (past (codes "else" ∷ codes "{" ∷ []) s))
 
 -- one step of the fold for statements
-abbrev pub stmt_kind_step : CStmtKind-F (Walk CStmtKind) (Walk CStmt) → Walk CStmtKind
+abbrev pub stmt_kind_step : CStmtKind-F (PlaceWalk CStmtKind) (PlaceWalk CStmt) → PlaceWalk CStmtKind
 stmt_kind_step (CStmtKind-F.Set at value) s =
     made (λ k. k) (codes ";" ∷ [])
     (and_then (λ p e. roll-CStmtKind (CStmtKind-F.Set p e)) (made (λ p. p) (codes "=" ∷ []) (place_walk at s)) (expr_walk value))
@@ -216,19 +216,19 @@ abbrev pub stmt_from : TextSpot → CStmtKind × TextSpot → CStmt × TextSpot
 stmt_from s walked = (roll-CStmt (record { place = span s walked.1; what = walked.0 }), walked.1)
 
 -- the walk over a statement, which sets its place
-abbrev pub stmt_step : CStmt-F (Walk CStmtKind) (Walk CStmt) → Walk CStmt
+abbrev pub stmt_step : CStmt-F (PlaceWalk CStmtKind) (PlaceWalk CStmt) → PlaceWalk CStmt
 stmt_step stmt s = stmt_from s (stmt.what s)
 
 -- the walk over a statement
-abbrev pub stmt_walk : CStmt → Walk CStmt
+abbrev pub stmt_walk : CStmt → PlaceWalk CStmt
 stmt_walk = fold-CStmt _ _ stmt_kind_step stmt_step
 
 -- the walk over a statement's form
-abbrev pub stmt_kind_walk : CStmtKind → Walk CStmtKind
+abbrev pub stmt_kind_walk : CStmtKind → PlaceWalk CStmtKind
 stmt_kind_walk = fold-CStmtKind _ _ stmt_kind_step stmt_step
 
 -- a struct
-abbrev pub struct_walk : CStruct → Walk CStruct
+abbrev pub struct_walk : CStruct → PlaceWalk CStruct
 struct_walk x s = (record { place = span s (past (struct_tokens x) s); name = x.name; members = x.members }, past (struct_tokens x) s)
 
 -- a function up to its statements
@@ -241,11 +241,11 @@ func_from f s walked =
     (record { place = span s walked.1; fixed = f.fixed; result = f.result; name = f.name; params = f.params; locals = f.locals; body = walked.0 }, walked.1)
 
 -- the walk over a function, which sets its place
-abbrev pub func_walk : CFunc → Walk CFunc
+abbrev pub func_walk : CFunc → PlaceWalk CFunc
 func_walk f s = func_from f s (made (λ body. body) (codes "}" ∷ []) (in_turn (map stmt_walk f.body) (past (head_tokens f) s)))
 
 -- the structs and then the functions
-abbrev pub file_walk : CFile → Walk (List CStruct × List CFunc)
+abbrev pub file_walk : CFile → PlaceWalk (List CStruct × List CFunc)
 file_walk file s = and_then (λ structs funcs. (structs, funcs)) (in_turn (map struct_walk file.structs) s) (in_turn (map func_walk file.funcs))
 
 -- the parts of the file have their places already: a walk from behind the prelude on changes nothing

@@ -3,12 +3,12 @@ use Rattle.std.specs.Prelude.{◌≡◌, ◌≢◌, ℕ, ◌<◌, ◌≤◌, ⊤
 use Rattle.bl_ctext.specs.Prelude.{prelude}
 use Rattle.bl_ctext.specs.SpellsC.{SpellsC}
 use Rattle.bl_ctext.specs.declared.file.CFile.{CFile}
-use Rattle.bl_csyntax.specs.Rules.{FailsFirst}
+use Rattle.bl_cparse_syntax.specs.Rules.{FailsFirst}
 use Rattle.bl_cparse.specs.declared.refusal.CRefusal.{CRefusal}
 use Rattle.bl_cparse.specs.declared.refusal.CRefusal.TheVariants.{NotSubset, NoMemory}
 
 -- inside the prelude the text first differs from it at this offset, or ends there
-pub record Leaves (text : List ℕ) (at : ℕ) : Type 0 where
+pub record LeavesPreludeAt (text : List ℕ) (at : ℕ) : Type 0 where
   pub within : at < length prelude
   pub inside : at ≤ length text
   pub same : (k : ℕ) → k < at → slice_index text k ≡ slice_index prelude k
@@ -16,7 +16,7 @@ pub record Leaves (text : List ℕ) (at : ℕ) : Type 0 where
 
 -- the refusal names that offset
 abbrev pub LeavesPrelude : List ℕ → CRefusal → Type 0
-LeavesPrelude text (NotSubset at) = Leaves text at
+LeavesPrelude text (NotSubset at) = LeavesPreludeAt text at
 LeavesPrelude text NoMemory = ⊥
 
 -- the bytes spell no file

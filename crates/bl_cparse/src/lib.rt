@@ -3,7 +3,7 @@
 //! (`specs/Places.antt`, `RefusesNone`), and tells where that shows (`LeavesPrelude`, `RefusesAt`); want of memory
 //! aside. `parse` asks for at most 67,108,864 bytes, which is the longest text that `exec` takes.
 //!
-//! The recogniser of `bl_csyntax` goes over the text first and tells a failure. Then each function of `parser` reads
+//! The recogniser of `bl_cparse_syntax` goes over the text first and tells a failure. Then each function of `parser` reads
 //! one part of the grammar from the front of what is left, and keeps what is open on a stack of its own. `placing` sets
 //! the places in one walk over the file and the text.
 #![tactic(auto)]

@@ -5,15 +5,15 @@ ghost use Rattle.std.specs.Prelude.{OnOk, MatchResult};
 ghost use Rattle.bl_grammar.specs.declared.symbol.Symbol.{Symbol};
 ghost use Rattle.bl_ctext.specs.Token.{is_word};
 ghost use Rattle.bl_ctext.specs.Spellable.{has_any};
-ghost use Rattle.bl_csyntax.specs.Pieces.{pieces, first_of, is_same};
-ghost use Rattle.bl_csyntax.specs.Classes.{Class, matches};
-ghost use Rattle.bl_csyntax.specs.Grammar.{Wanted};
-ghost use Rattle.bl_csyntax.specs.Expects.{Expects};
+ghost use Rattle.bl_cparse_syntax.specs.Pieces.{pieces, first_of, is_same};
+ghost use Rattle.bl_cparse_syntax.specs.Classes.{Class, matches};
+ghost use Rattle.bl_cparse_syntax.specs.Grammar.{Wanted};
+ghost use Rattle.bl_cparse_syntax.specs.Expects.{Expects};
 ghost use Rattle.bl_cparse.specs.inner.Reading.{sign};
 ghost use Rattle.bl_cparse.specs.Places.{WantsMemory};
 
 use crate::refusal::CRefusal;
-use bl_csyntax::piece::next_piece;
+use bl_cparse_syntax::piece::next_piece;
 use bl_tree::Text;
 use std::alloc::{AllocError, Global};
 use std::marker::Model;
@@ -30,8 +30,8 @@ pub struct Reader<'a> {
 
 impl<'a> Model for Reader<'a> {
     ghost use Rattle.std.specs.Prelude.{ℕ, List};
-    ghost use Rattle.bl_csyntax.specs.Pieces.{left_of};
-    ghost use Rattle.bl_csyntax.specs.inner.Seen.{IsAt};
+    ghost use Rattle.bl_cparse_syntax.specs.Pieces.{left_of};
+    ghost use Rattle.bl_cparse_syntax.specs.inner.Seen.{IsAt};
 
     ghost Value = { List (List ℕ) };
 

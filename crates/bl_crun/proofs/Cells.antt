@@ -29,22 +29,22 @@ use Rattle.bl_tree.specs.declared.text.Text.{Text}
 use Rattle.bl_tree.specs.declared.scalar.Scalar.{Scalar}
 use Rattle.bl_tree.specs.declared.c.CType.{CType}
 use Rattle.bl_tree.specs.declared.c.CType.TheVariants.{Scalar as OfScalar, Struct as OfStruct}
-use Rattle.bl_cmeaning.specs.Cells.{Cell, Inner, cells_at, cells_of, inner_of, memory_of, numbers_of}
-use Rattle.bl_cmeaning.specs.Faults.{WellFormed, faults_in, function_faults_after, interface_structs, last_place, struct_faults_after, struct_table}
-use Rattle.bl_cmeaning.specs.Memory.{Part, member, element, Root, state_object, input_object, output_object, variable, Location, Memory, CValue}
-use Rattle.bl_cmeaning.specs.Memory.{left_after, number_in, number_or, same_part, same_root, scalar, set_at, value_at, with_part}
-use Rattle.bl_cmeaning.specs.Parts.{Parts}
-use Rattle.bl_cmeaning.specs.Sizes.{sizes}
-use Rattle.bl_cmeaning.specs.Tables.{no_entries}
-use Rattle.bl_cmeaning.proofs.EndLemmas.{nil-left, nil-right}
-use Rattle.bl_cmeaning_laws.specs.Fitting.{ValueSpot, scalars, whole, walk}
-use Rattle.bl_cmeaning_laws.proofs.Lists.{all-append, and-both, and-left, and-right}
-use Rattle.bl_cinterface.specs.Ports.{inputs_start, outputs_start}
-use Rattle.bl_cmeaning_laws.specs.Laws.{behind_objects, input_at, output_at}
-use Rattle.bl_cmeaning_laws.proofs.Inners.{Led, LedType, led-all}
-use Rattle.bl_cmeaning_laws.proofs.Faultless.{unless-nil}
-use Rattle.bl_cmeaning_laws.proofs.Layouts.{entries-all, inner-file, lists_of, shaped-file}
-use Rattle.bl_cmeaning_laws.proofs.Ways.{Shaped, left-is, walk-append, way_offset}
+use Rattle.bl_ctext_semantics.specs.Cells.{Cell, Inner, cells_at, cells_of, inner_of, memory_of, numbers_of}
+use Rattle.bl_ctext_semantics.specs.Faults.{WellFormed, faults_in, function_faults_after, interface_structs, last_place, struct_faults_after, struct_table}
+use Rattle.bl_ctext_semantics.specs.Memory.{Projection, member, element, Root, state_object, input_object, output_object, variable, Location, Memory, CValue}
+use Rattle.bl_ctext_semantics.specs.Memory.{left_after, number_in, number_or, same_part, same_root, scalar, set_at, value_at, with_part}
+use Rattle.bl_ctext_semantics.specs.Parts.{Parts}
+use Rattle.bl_ctext_semantics.specs.Sizes.{sizes}
+use Rattle.bl_ctext_semantics.specs.Tables.{no_entries}
+use Rattle.bl_ctext_semantics.proofs.EndLemmas.{nil-left, nil-right}
+use Rattle.bl_ctext_semantics_laws.specs.Fitting.{ValueSpot, scalars, whole, walk}
+use Rattle.bl_ctext_semantics_laws.proofs.Lists.{all-append, and-both, and-left, and-right}
+use Rattle.bl_crun_ports.specs.Ports.{inputs_start, outputs_start}
+use Rattle.bl_ctext_semantics_laws.specs.Laws.{behind_objects, input_at, output_at}
+use Rattle.bl_ctext_semantics_laws.proofs.Inners.{Led, LedType, led-all}
+use Rattle.bl_ctext_semantics_laws.proofs.Faultless.{unless-nil}
+use Rattle.bl_ctext_semantics_laws.proofs.Layouts.{entries-all, inner-file, lists_of, shaped-file}
+use Rattle.bl_ctext_semantics_laws.proofs.Ways.{Shaped, left-is, walk-append, way_offset}
 
 -- ---- cells that keep their numbers
 
@@ -53,11 +53,11 @@ abbrev pub spared : Location → Cell → Bool
 spared l c = not (same_root l.root c.location.root) || is_none (left_after l.parts c.location.parts)
 
 -- a scalar's number is its own part
-number-kept : (o : Option (List Part)) (n old : ℤ) → is_none o ≡ true → number_or o (scalar n) old ≡ old
+number-kept : (o : Option (List Projection)) (n old : ℤ) → is_none o ≡ true → number_or o (scalar n) old ≡ old
 number-kept None n old h = refl
 number-kept (Some rest) n old h = cc
 
-way-kept : (value : CValue) (same : Bool) (parts way : List Part) (n : ℤ) → (not same || is_none (left_after parts way)) ≡ true →
+way-kept : (value : CValue) (same : Bool) (parts way : List Projection) (n : ℤ) → (not same || is_none (left_after parts way)) ≡ true →
     (if same then with_part value parts (scalar n) else value) way ≡ value way
 way-kept value false parts way n h = refl
 way-kept value true parts way n h = number-kept (left_after parts way) n (value way) h
@@ -69,7 +69,7 @@ set-spares memory l n c h =
     ∙ way-kept (memory c.location.root) (same_root l.root c.location.root) l.parts c.location.parts n h
     ∙ ap (memory c.location.root) (sym (append-nil c.location.parts))
 
-same-part : (p : Part) → same_part p p ≡ true
+same-part : (p : Projection) → same_part p p ≡ true
 same-part (member m) = (bytes_eq-Decides m m).1 refl
 same-part (element k) = grind (arith, common_steps)
 
@@ -83,7 +83,7 @@ chosen-true : {A : Type 0} (b : Bool) (x y : A) → b ≡ true → (if b then x 
 chosen-true true x y h = refl
 chosen-true false x y h = cc
 
-nothing-left : (parts : List Part) → left_after parts parts ≡ Some []
+nothing-left : (parts : List Projection) → left_after parts parts ≡ Some []
 nothing-left [] = refl
 nothing-left (p ∷ ps) = chosen-true (same_part p p) (left_after ps ps) None (same-part p) ∙ nothing-left ps
 
@@ -198,11 +198,11 @@ module _ (file : Parts) (formed : WellFormed file) where
   abbrev Typed : CType → Type 0
   Typed = LedType (sizes file.structs) (lists_of file.structs) (struct_table file.structs) shaped (scalars file.structs) (inner-file file formed)
 
-  abbrev Offset : ValueSpot → List Part → ℕ
+  abbrev Offset : ValueSpot → List Projection → ℕ
   Offset spot parts = way_offset (sizes file.structs) (lists_of file.structs) (struct_table file.structs) (Some spot) parts
 
   -- behind a scalar there is nothing
-  scalar-end : (kind other : Scalar) (rest : List Part) →
+  scalar-end : (kind other : Scalar) (rest : List Projection) →
       walk (struct_table file.structs) (Some (whole (OfScalar kind))) rest ≡ Some (whole (OfScalar other)) → rest ≡ []
   scalar-end kind other [] h = refl
   scalar-end kind other (q ∷ []) h = cc
@@ -214,7 +214,7 @@ module _ (file : Parts) (formed : WellFormed file) where
       (Offset spot i.parts ≡ Offset spot j.parts → ⊥) → is_none (left_after i.parts j.parts) ≡ true
   none-left spot i j a b differ = chosen (left_after i.parts j.parts) refl
     where
-      chosen : (o : Option (List Part)) → left_after i.parts j.parts ≡ o → is_none o ≡ true
+      chosen : (o : Option (List Projection)) → left_after i.parts j.parts ≡ o → is_none o ≡ true
       chosen None is = refl
       chosen (Some rest) is =
           let way : j.parts ≡ i.parts ++ rest =

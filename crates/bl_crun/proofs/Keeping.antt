@@ -24,33 +24,33 @@ use Rattle.std.proofs.Common.{
 }
 use Rattle.std.proofs.Common.{ap, sym, subst, ◌∙◌, arith}
 use Rattle.std.specs.Prelude.{codes, is_some, min}
-use Rattle.bl_bytecode.specs.Code.{Code}
+use Rattle.bl_crun_bytecode.specs.Code.{Code}
 use Rattle.bl_tree.specs.Ports.{in_ranges, row_fits, types_of}
-use Rattle.bl_cmeaning_laws.specs.Flat.{Left, with_args}
-use Rattle.bl_cmeaning_laws.specs.Laws.{StartsAgree, TicksAgree, behind_objects, entered_flat, input_at, output_at}
-use Rattle.bl_bytecode_machine.specs.Shown.{Shown}
-use Rattle.bl_bytecode_machine.specs.Steps.{holding}
-use Rattle.bl_cmeaning.specs.Cells.{cells_of, inputs_of, outputs_of}
-use Rattle.bl_cmeaning.specs.Parts.{Parts}
-use Rattle.bl_cmeaning.specs.Sizes.{cells_needed}
-use Rattle.bl_cmeaning.specs.Trace.{reply_of, start_cells, starts}
-use Rattle.bl_cinterface.specs.Layout.{kinds_of}
-use Rattle.bl_cinterface.specs.Ports.{PortsStand, inputs_start, outputs_start}
+use Rattle.bl_ctext_semantics_laws.specs.Flat.{FlatAnswer, with_args}
+use Rattle.bl_ctext_semantics_laws.specs.Laws.{StartsAgree, TicksAgree, behind_objects, entered_flat, input_at, output_at}
+use Rattle.bl_crun_bytecode_vm.specs.Shown.{VmView}
+use Rattle.bl_crun_bytecode_vm.specs.Steps.{holding}
+use Rattle.bl_ctext_semantics.specs.Cells.{cells_of, inputs_of, outputs_of}
+use Rattle.bl_ctext_semantics.specs.Parts.{Parts}
+use Rattle.bl_ctext_semantics.specs.Sizes.{cells_needed}
+use Rattle.bl_ctext_semantics.specs.Trace.{reply_of, start_cells, starts}
+use Rattle.bl_crun_ports.specs.Layout.{kinds_of}
+use Rattle.bl_crun_ports.specs.Ports.{PortsStand, inputs_start, outputs_start}
 use Rattle.std.proofs.lemmas.List.{length-map}
-use Rattle.bl_crun.specs.Cause.{Runs}
+use Rattle.bl_crun.specs.Cause.{IsRunnable}
 use Rattle.bl_crun.specs.declared.call.Called.{Called}
 use Rattle.bl_crun.specs.declared.prepared.Prepared.{Prepared}
 use Rattle.bl_crun.specs.Done.{CellsKeep, first_cells}
 use Rattle.bl_crun.specs.inner.CallsDone.{CallDone, Comes, IsStart, IsTick}
-use Rattle.bl_crun.specs.Prepared.{PreparedKeeps, numbers_in}
+use Rattle.bl_crun.specs.Prepared.{PreparedInvariant, numbers_in}
 use Rattle.bl_crun.specs.inner.Ticked.{Ticked}
 use Rattle.bl_crun.proofs.Calls.{file-comes, steps_of}
 use Rattle.bl_crun.proofs.Cells.{cells-long, input-start, output-start}
 use Rattle.bl_crun.proofs.Ticks.{inputs-within, outputs-within, start-is, tick-is}
 
 -- another machine with as much room
-pub kept : (file : Parts) (p : Prepared) (m : Shown) → PreparedKeeps file p → m.numbers ≡ p.machine.numbers → m.calls ≡ p.machine.calls →
-    CellsKeep file m.state.cells → PreparedKeeps file (record p { machine = m })
+pub kept : (file : Parts) (p : Prepared) (m : VmView) → PreparedInvariant file p → m.numbers ≡ p.machine.numbers → m.calls ≡ p.machine.calls →
+    CellsKeep file m.state.cells → PreparedInvariant file (record p { machine = m })
 kept file p m k n c cells = record {
   runs = k.runs;
   code = k.code;
@@ -67,40 +67,40 @@ kept file p m k n c cells = record {
   cells = cells;
 }
 
-first-numbers : (file : Parts) (p : Prepared) (m : Shown) → PreparedKeeps file p → numbers_in (record p { machine = m }) ≡ first_cells file m.state.cells
+first-numbers : (file : Parts) (p : Prepared) (m : VmView) → PreparedInvariant file p → numbers_in (record p { machine = m }) ≡ first_cells file m.state.cells
 first-numbers file p m k = ap (λ ts. take (length ts) m.state.cells) k.kinds
 
 -- ---- what is prepared at first
 
 -- the numbers of cells fit 32 bits
-pub inputs-fit : (file : Parts) → Runs file → inputs_start file.structs < 4294967296
+pub inputs-fit : (file : Parts) → IsRunnable file → inputs_start file.structs < 4294967296
 inputs-fit file runs = let e = input-start file runs.formed in let s = runs.small in omega arith
 
-pub outputs-fit : (file : Parts) → Runs file → outputs_start file.structs < 4294967296
+pub outputs-fit : (file : Parts) → IsRunnable file → outputs_start file.structs < 4294967296
 outputs-fit file runs = let e = output-start file runs.formed in let s = runs.small in omega arith
 
-pub kinds-base : (file : Parts) → Runs file → length (kinds_of file) ≡ behind_objects file
+pub kinds-base : (file : Parts) → IsRunnable file → length (kinds_of file) ≡ behind_objects file
 kinds-base file runs = length-map (cells_of file) (λ c. c.kind) ∙ cells-long file runs.formed
 
-pub kinds-fit : (file : Parts) → Runs file → length (kinds_of file) < 4294967296
+pub kinds-fit : (file : Parts) → IsRunnable file → length (kinds_of file) < 4294967296
 kinds-fit file runs = let e = kinds-base file runs in let s = runs.small in omega arith
 
 -- ---- the start
 
-abbrev pub Start : Parts → Prepared → Left ℤ
+abbrev pub Start : Parts → Prepared → FlatAnswer ℤ
 Start file p = entered_flat file (codes "bl_init") (pos 0 ∷ []) p.machine.state.cells
 
-pub start-comes : (file : Parts) (p : Prepared) → PreparedKeeps file p →
+pub start-comes : (file : Parts) (p : Prepared) → PreparedInvariant file p →
     Comes (steps_of file (codes "bl_init") (pos 0 ∷ []) p.machine.state.cells) p.code.items p.init p.base (pos 0 ∷ []) p.machine (Start file p)
 start-comes file p k = file-comes file (codes "bl_init") (pos 0 ∷ []) p.machine p.code.items p.init p.base k.code k.init k.base k.numbers k.calls
 
-module _ (file : Parts) (p : Prepared) (k : PreparedKeeps file p) (agrees : StartsAgree file)
+module _ (file : Parts) (p : Prepared) (k : PreparedInvariant file p) (agrees : StartsAgree file)
     (cleared : p.machine.state.cells ≡ replicate (cells_needed file) (pos 0))
-    (called : Called) (after : Shown) (done : CallDone (entered_flat file (codes "bl_init") (pos 0 ∷ []) p.machine.state.cells) p.machine called after) where
+    (called : Called) (after : VmView) (done : CallDone (entered_flat file (codes "bl_init") (pos 0 ∷ []) p.machine.state.cells) p.machine called after) where
   started : IsStart file (Start file p)
   started = start-is file k.runs agrees p.machine.state.cells cleared
 
-  pub start-keeps : PreparedKeeps file (record p { machine = after })
+  pub start-keeps : PreparedInvariant file (record p { machine = after })
   start-keeps = kept file p after k done.numbers done.calls (subst (CellsKeep file) (sym done.cells) started.keeps)
 
   pub start-ready : is_some called.answer ≡ starts file
@@ -115,17 +115,17 @@ abbrev pub Args : Prepared → List ℤ
 Args p = pos 0 ∷ pos p.input_at ∷ pos p.output_at ∷ []
 
 -- the machine with the inputs
-abbrev pub Set : Prepared → List ℤ → Shown
+abbrev pub Set : Prepared → List ℤ → VmView
 Set p ins = holding p.machine (with_args (p.input_at + 1) ins p.machine.state.cells)
 
-pub tick-comes : (file : Parts) (p : Prepared) (m : Shown) (ins : List ℤ) → PreparedKeeps file p → m ≡ Set p ins →
+pub tick-comes : (file : Parts) (p : Prepared) (m : VmView) (ins : List ℤ) → PreparedInvariant file p → m ≡ Set p ins →
     Comes (steps_of file (codes "bl_tick") (Args p) m.state.cells) p.code.items p.tick p.base (Args p) m
     (entered_flat file (codes "bl_tick") (Args p) m.state.cells)
 tick-comes file p m ins k is =
     file-comes file (codes "bl_tick") (Args p) m p.code.items p.tick p.base k.code k.tick k.base
-    (subst (λ (x : Shown). length p.code.items ≤ x.numbers) (sym is) k.numbers) (subst (λ (x : Shown). length file.funcs ≤ x.calls) (sym is) k.calls)
+    (subst (λ (x : VmView). length p.code.items ≤ x.numbers) (sym is) k.numbers) (subst (λ (x : VmView). length file.funcs ≤ x.calls) (sym is) k.calls)
 
-tick-called : (file : Parts) (p : Prepared) (m : Shown) (ins : List ℤ) → PreparedKeeps file p → m ≡ Set p ins → (code : Code) →
+tick-called : (file : Parts) (p : Prepared) (m : VmView) (ins : List ℤ) → PreparedInvariant file p → m ≡ Set p ins → (code : Code) →
     code ≡ p.code.items → (args : List ℤ) →
     args ≡ Args p →
     Comes (steps_of file (codes "bl_tick") args m.state.cells) code p.tick p.base args m (entered_flat file (codes "bl_tick") args m.state.cells)
@@ -135,40 +135,40 @@ tick-called file p m ins keeps is code code-is args args-are =
     (subst (λ given. Comes (steps_of file (codes "bl_tick") given m.state.cells) p.code.items p.tick p.base given m
     (entered_flat file (codes "bl_tick") given m.state.cells)) (sym args-are) (tick-comes file p m ins keeps is))
 
-pub tick-required : (file : Parts) (p : Prepared) (m : Shown) (ins : List ℤ) → PreparedKeeps file p → m ≡ Set p ins → (code : Code) →
+pub tick-required : (file : Parts) (p : Prepared) (m : VmView) (ins : List ℤ) → PreparedInvariant file p → m ≡ Set p ins → (code : Code) →
     code ≡ p.code.items →
     (args : List ℤ) → args ≡ Args p →
-    (l : Left ℤ) × Comes (steps_of file (codes "bl_tick") args m.state.cells) code p.tick p.base args m l
+    (l : FlatAnswer ℤ) × Comes (steps_of file (codes "bl_tick") args m.state.cells) code p.tick p.base args m l
 tick-required file p m ins keeps is code code-is args args-are =
     (entered_flat file (codes "bl_tick") args m.state.cells, tick-called file p m ins keeps is code code-is args args-are)
 
-pub tick-done : (file : Parts) (p : Prepared) (m : Shown) (ins : List ℤ) → PreparedKeeps file p → m ≡ Set p ins →
+pub tick-done : (file : Parts) (p : Prepared) (m : VmView) (ins : List ℤ) → PreparedInvariant file p → m ≡ Set p ins →
     (code : Code) → code ≡ p.code.items →
-    (args : List ℤ) → args ≡ Args p → (called : Called) (after : Shown) →
-    ((l : Left ℤ) → Comes (steps_of file (codes "bl_tick") args m.state.cells) code p.tick p.base args m l → CallDone l m called after) →
+    (args : List ℤ) → args ≡ Args p → (called : Called) (after : VmView) →
+    ((l : FlatAnswer ℤ) → Comes (steps_of file (codes "bl_tick") args m.state.cells) code p.tick p.base args m l → CallDone l m called after) →
     CallDone (entered_flat file (codes "bl_tick") (pos 0 ∷ pos p.input_at ∷ pos p.output_at ∷ []) m.state.cells) m called after
 tick-done file p m ins keeps is code code-is args args-are called after does =
     subst (λ given. CallDone (entered_flat file (codes "bl_tick") given m.state.cells) m called after) args-are
     (does (entered_flat file (codes "bl_tick") args m.state.cells) (tick-called file p m ins keeps is code code-is args args-are))
 
-start-called : (file : Parts) (p : Prepared) → PreparedKeeps file p → (code : Code) → code ≡ p.code.items →
+start-called : (file : Parts) (p : Prepared) → PreparedInvariant file p → (code : Code) → code ≡ p.code.items →
     Comes (steps_of file (codes "bl_init") (pos 0 ∷ []) p.machine.state.cells) code p.init p.base (pos 0 ∷ []) p.machine (Start file p)
 start-called file p keeps code code-is =
     subst (λ k. Comes (steps_of file (codes "bl_init") (pos 0 ∷ []) p.machine.state.cells) k p.init p.base (pos 0 ∷ []) p.machine
     (Start file p)) (sym code-is)
     (start-comes file p keeps)
 
-pub start-required : (file : Parts) (p : Prepared) → PreparedKeeps file p → (code : Code) → code ≡ p.code.items →
-    (l : Left ℤ) × Comes (steps_of file (codes "bl_init") (pos 0 ∷ []) p.machine.state.cells) code p.init p.base (pos 0 ∷ []) p.machine l
+pub start-required : (file : Parts) (p : Prepared) → PreparedInvariant file p → (code : Code) → code ≡ p.code.items →
+    (l : FlatAnswer ℤ) × Comes (steps_of file (codes "bl_init") (pos 0 ∷ []) p.machine.state.cells) code p.init p.base (pos 0 ∷ []) p.machine l
 start-required file p keeps code code-is = (Start file p, start-called file p keeps code code-is)
 
-pub start-done : (file : Parts) (p : Prepared) → PreparedKeeps file p → (code : Code) → code ≡ p.code.items → (called : Called) (after : Shown) →
-    ((l : Left ℤ) → Comes (steps_of file (codes "bl_init") (pos 0 ∷ []) p.machine.state.cells) code p.init p.base (pos 0 ∷ []) p.machine l →
+pub start-done : (file : Parts) (p : Prepared) → PreparedInvariant file p → (code : Code) → code ≡ p.code.items → (called : Called) (after : VmView) →
+    ((l : FlatAnswer ℤ) → Comes (steps_of file (codes "bl_init") (pos 0 ∷ []) p.machine.state.cells) code p.init p.base (pos 0 ∷ []) p.machine l →
     CallDone l p.machine called after) →
     CallDone (entered_flat file (codes "bl_init") (pos 0 ∷ []) p.machine.state.cells) p.machine called after
 start-done file p keeps code code-is called after does = does (Start file p) (start-called file p keeps code code-is)
 
-pub set-within : (file : Parts) (p : Prepared) (ins : List ℤ) → PreparedKeeps file p → PortsStand file →
+pub set-within : (file : Parts) (p : Prepared) (ins : List ℤ) → PreparedInvariant file p → PortsStand file →
     row_fits (inputs_of file) ins ≡ true → (k : ℕ) → k < length ins →
     p.input_at + 1 + k < length p.machine.state.cells
 set-within file p ins keeps stand fits k within =
@@ -176,12 +176,12 @@ set-within file p ins keeps stand fits k within =
     let h = inputs-within file keeps.runs stand ins p.machine.state.cells keeps.cells.room fits k within in
     omega arith
 
-module _ (file : Parts) (p : Prepared) (k : PreparedKeeps file p) (agrees : TicksAgree file) (stand : PortsStand file) (ins : List ℤ)
+module _ (file : Parts) (p : Prepared) (k : PreparedInvariant file p) (agrees : TicksAgree file) (stand : PortsStand file) (ins : List ℤ)
     (fits : row_fits (inputs_of file) ins ≡ true)
-    (m : Shown) (is : m ≡ holding p.machine (with_args (p.input_at + 1) ins p.machine.state.cells))
-    (called : Called) (after : Shown)
+    (m : VmView) (is : m ≡ holding p.machine (with_args (p.input_at + 1) ins p.machine.state.cells))
+    (called : Called) (after : VmView)
     (done : CallDone (entered_flat file (codes "bl_tick") (pos 0 ∷ pos p.input_at ∷ pos p.output_at ∷ []) m.state.cells) m called after) where
-  abbrev Left-of : Left ℤ
+  abbrev Left-of : FlatAnswer ℤ
   Left-of = entered_flat file (codes "bl_tick") (pos 0 ∷ pos p.input_at ∷ pos p.output_at ∷ []) m.state.cells
 
   numbers : numbers_in p ≡ first_cells file p.machine.state.cells
@@ -193,7 +193,7 @@ module _ (file : Parts) (p : Prepared) (k : PreparedKeeps file p) (agrees : Tick
       let in-at : inputs_start file.structs ≡ p.input_at = sym k.input_at in
       let in-flat : input_at file ≡ p.input_at = sym (input-start file formed) ∙ sym k.input_at in
       let out-flat : output_at file ≡ p.output_at = sym (output-start file formed) ∙ sym k.output_at in
-      let cells : m.state.cells ≡ with_args (p.input_at + 1) ins p.machine.state.cells = ap (λ (x : Shown). x.state.cells) is in
+      let cells : m.state.cells ≡ with_args (p.input_at + 1) ins p.machine.state.cells = ap (λ (x : VmView). x.state.cells) is in
       let t = tick-is file k.runs stand agrees p.machine.state.cells ins k.cells fits in
       subst (λ ns. IsTick file ns ins (entered_flat file (codes "bl_tick") (pos 0 ∷ pos p.input_at ∷ pos p.output_at ∷ []) m.state.cells)) (sym numbers)
       (subst (λ cs. IsTick file (first_cells file p.machine.state.cells) ins
@@ -207,9 +207,9 @@ module _ (file : Parts) (p : Prepared) (k : PreparedKeeps file p) (agrees : Tick
       (entered_flat file (codes "bl_tick") (pos 0 ∷ pos (input_at file) ∷ pos a ∷ [])
       (with_args (inputs_start file.structs + 1) ins p.machine.state.cells))) out-flat t))))
 
-  pub tick-keeps : PreparedKeeps file (record p { machine = after })
+  pub tick-keeps : PreparedInvariant file (record p { machine = after })
   tick-keeps =
-      kept file p after k (done.numbers ∙ ap (λ (x : Shown). x.numbers) is) (done.calls ∙ ap (λ (x : Shown). x.calls) is)
+      kept file p after k (done.numbers ∙ ap (λ (x : VmView). x.numbers) is) (done.calls ∙ ap (λ (x : VmView). x.calls) is)
       (subst (CellsKeep file) (sym done.cells) ticks.keeps)
 
   pub tick-ticked : Ticked file (numbers_in p) ins called (record p { machine = after })

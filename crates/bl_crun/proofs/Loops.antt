@@ -29,9 +29,9 @@ use Rattle.std.proofs.lemmas.Option.{get_or_from_slice_get, slice_get-get_or, sl
 use Rattle.bl_tree.specs.declared.row.Column.{Column}
 use Rattle.bl_tree.specs.Scalar.{in_range}
 use Rattle.bl_tree.specs.Ports.{in_ranges, types_of}
-use Rattle.bl_cmeaning_laws.specs.Flat.{cell_at, with_args}
-use Rattle.bl_bytecode_machine.specs.Shown.{Shown}
-use Rattle.bl_bytecode_machine.specs.Steps.{holding}
+use Rattle.bl_ctext_semantics_laws.specs.Flat.{cell_at, with_args}
+use Rattle.bl_crun_bytecode_vm.specs.Shown.{VmView}
+use Rattle.bl_crun_bytecode_vm.specs.Steps.{holding}
 
 -- an input is set
 pub args-step : (at k : ℕ) (ins cells all : List ℤ) (n : ℤ) → slice_get ins k ≡ Some n → with_args (at + k) (drop k ins) cells ≡ all →
@@ -145,14 +145,14 @@ ranges-long (c ∷ columns) (n ∷ row) differ =
 
 -- ---- the loop that sets inputs
 
-pub set-step : (r m n : Shown) (at k : ℕ) (ins all : List ℤ) (x : ℤ) → m ≡ holding r m.state.cells →
+pub set-step : (r m n : VmView) (at k : ℕ) (ins all : List ℤ) (x : ℤ) → m ≡ holding r m.state.cells →
     n ≡ holding m (slice_set m.state.cells (at + k) x) →
     slice_get ins k ≡ Some x →
     with_args (at + k) (drop k ins) m.state.cells ≡ all →
     (n ≡ holding r n.state.cells) × (with_args (at + (k + 1)) (drop (k + 1) ins) n.state.cells ≡ all)
 set-step r m n at k ins all x first then there before =
-    let cells : n.state.cells ≡ slice_set m.state.cells (at + k) x = ap (λ (s : Shown). s.state.cells) then in (
-      then ∙ ap (λ (s : Shown). holding s (slice_set m.state.cells (at + k) x)) first ∙ ap (holding r) (sym cells),
+    let cells : n.state.cells ≡ slice_set m.state.cells (at + k) x = ap (λ (s : VmView). s.state.cells) then in (
+      then ∙ ap (λ (s : VmView). holding s (slice_set m.state.cells (at + k) x)) first ∙ ap (holding r) (sym cells),
       ap (with_args (at + (k + 1)) (drop (k + 1) ins)) cells ∙ args-step at k ins m.state.cells all x there before,
     )
 

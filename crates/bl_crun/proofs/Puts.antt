@@ -26,17 +26,17 @@ use Rattle.std.proofs.lemmas.List.{length-map}
 use Rattle.bl_tree.specs.declared.scalar.Scalar.{Scalar}
 use Rattle.bl_tree.specs.Scalar.{in_range}
 use Rattle.bl_tree.specs.Ports.{in_ranges}
-use Rattle.bl_cmeaning_laws.specs.Flat.{cell_at}
-use Rattle.bl_bytecode_machine.specs.Shown.{Shown}
-use Rattle.bl_bytecode_machine.specs.Steps.{holding}
+use Rattle.bl_ctext_semantics_laws.specs.Flat.{cell_at}
+use Rattle.bl_crun_bytecode_vm.specs.Shown.{VmView}
+use Rattle.bl_crun_bytecode_vm.specs.Steps.{holding}
 use Rattle.bl_crun.specs.Running.{Running, with_cell}
 use Rattle.bl_crun.proofs.Loops.{cell-there}
-use Rattle.bl_cmeaning.specs.Cells.{cells_of}
-use Rattle.bl_cmeaning.specs.Parts.{Parts}
-use Rattle.bl_cinterface.specs.Layout.{kinds_of}
+use Rattle.bl_ctext_semantics.specs.Cells.{cells_of}
+use Rattle.bl_ctext_semantics.specs.Parts.{Parts}
+use Rattle.bl_crun_ports.specs.Layout.{kinds_of}
 use Rattle.bl_crun.specs.declared.prepared.Prepared.{Prepared}
 use Rattle.bl_crun.specs.Done.{first_cells}
-use Rattle.bl_crun.specs.Prepared.{PreparedKeeps, numbers_in}
+use Rattle.bl_crun.specs.Prepared.{PreparedInvariant, numbers_in}
 use Rattle.bl_crun.proofs.Cells.{cells-long}
 use Rattle.bl_crun.proofs.Keeping.{kept}
 use Rattle.bl_crun.proofs.Rows.{ranges-at, ranges-set, set-taken}
@@ -57,7 +57,7 @@ kinds-within [] k t h = cc
 kinds-within (u ∷ ts) zero t h = omega arith
 kinds-within (u ∷ ts) (suc k) t h = let e = kinds-within ts k t h in omega arith
 
-module _ (file : Parts) (p : Prepared) (keeps : PreparedKeeps file p) where
+module _ (file : Parts) (p : Prepared) (keeps : PreparedInvariant file p) where
   pub cells-are : p.base ≡ length (cells_of file)
   cells-are = keeps.base ∙ sym (cells-long file keeps.runs.formed)
 
@@ -81,7 +81,7 @@ module _ (file : Parts) (p : Prepared) (keeps : PreparedKeeps file p) where
 
   pub put-keeps : (k : ℕ) (n : ℤ) → k < length (cells_of file) →
       ((kind : Scalar) → slice_get (kinds_of file) k ≡ Some kind → in_range kind n ≡ true) →
-      PreparedKeeps file (record p { machine = holding p.machine (slice_set p.machine.state.cells k n) })
+      PreparedInvariant file (record p { machine = holding p.machine (slice_set p.machine.state.cells k n) })
   put-keeps k n h fits =
       let t = kind-there (kinds_of file) k (let e = kinds-long in omega arith) in
       kept file p (holding p.machine (slice_set p.machine.state.cells k n)) keeps refl refl (record {
@@ -101,7 +101,7 @@ module _ (file : Parts) (p : Prepared) (keeps : PreparedKeeps file p) where
 abbrev pub shown : Parts → Prepared → Bool → Bool → Running
 shown file p ready live = record { parts = file; cells = numbers_in p; ready = ready; live = live }
 
-module _ (file : Parts) (p : Prepared) (keeps : PreparedKeeps file p) (ready live : Bool) (r : Running) (is : shown file p ready live ≡ r) where
+module _ (file : Parts) (p : Prepared) (keeps : PreparedInvariant file p) (ready live : Bool) (r : Running) (is : shown file p ready live ≡ r) where
   shown-within : (k : ℕ) → k < length (cells_of r.parts) → k < length (cells_of file)
   shown-within k h = subst (λ (s : Running). k < length (cells_of s.parts)) (sym is) h
 
@@ -121,16 +121,16 @@ module _ (file : Parts) (p : Prepared) (keeps : PreparedKeeps file p) (ready liv
       cell-range file p keeps k kind n (ap (λ (s : Running). slice_get (kinds_of s.parts) k) is ∙ there)
       (cell-there p.machine.state.cells k n (cell-within file p keeps k within) at)
 
-  pub shown-put : (k : ℕ) (n : ℤ) (m : Shown) → m ≡ holding p.machine (slice_set p.machine.state.cells k n) →
+  pub shown-put : (k : ℕ) (n : ℤ) (m : VmView) → m ≡ holding p.machine (slice_set p.machine.state.cells k n) →
       shown file (record p { machine = m }) ready live ≡ with_cell r k n
   shown-put k n m set =
       ap (λ x. shown file (record p { machine = x }) ready live) set
       ∙ ap (λ (ns : List ℤ). record { parts = file; cells = ns; ready = ready; live = live }) (put-numbers file p keeps k n)
       ∙ ap (λ s. with_cell s k n) is
 
-  pub shown-keeps : (k : ℕ) (n : ℤ) (m : Shown) → k < length (cells_of r.parts) →
+  pub shown-keeps : (k : ℕ) (n : ℤ) (m : VmView) → k < length (cells_of r.parts) →
       ((kind : Scalar) → slice_get (kinds_of r.parts) k ≡ Some kind → in_range kind n ≡ true) →
-      m ≡ holding p.machine (slice_set p.machine.state.cells k n) → PreparedKeeps file (record p { machine = m })
+      m ≡ holding p.machine (slice_set p.machine.state.cells k n) → PreparedInvariant file (record p { machine = m })
   shown-keeps k n m h fits set =
-      subst (λ x. PreparedKeeps file (record p { machine = x })) (sym set)
+      subst (λ x. PreparedInvariant file (record p { machine = x })) (sym set)
       (put-keeps file p keeps k n (shown-within k h) (λ kind there. fits kind (ap (λ (s : Running). slice_get (kinds_of s.parts) k) (sym is) ∙ there)))

@@ -33,11 +33,11 @@ use Rattle.bl_tree.specs.declared.c.CMember.{CMember}
 use Rattle.bl_tree.specs.declared.c.CType.{CType}
 use Rattle.bl_tree.specs.declared.c.CType.TheVariants.{Scalar as OfScalar, Struct as OfStruct}
 use Rattle.bl_tree.specs.Scalar.{in_range}
-use Rattle.bl_cmeaning.specs.Cells.{Cell, column_of, column_typed, numbers_of, outputs_in, port, with_inputs}
-use Rattle.bl_cmeaning.specs.Memory.{Root, input_object, output_object, Memory, number_in, scalar, set_at, value_at}
-use Rattle.bl_cmeaning_laws.specs.Fitting.{cell_holds}
-use Rattle.bl_cmeaning_laws.proofs.Lists.{and-both, and-left, and-right}
-use Rattle.bl_cmeaning_laws.specs.Flat.{with_args}
+use Rattle.bl_ctext_semantics.specs.Cells.{Cell, column_of, column_typed, numbers_of, outputs_in, port, with_inputs}
+use Rattle.bl_ctext_semantics.specs.Memory.{Root, input_object, output_object, Memory, number_in, scalar, set_at, value_at}
+use Rattle.bl_ctext_semantics_laws.specs.Fitting.{cell_holds}
+use Rattle.bl_ctext_semantics_laws.proofs.Lists.{and-both, and-left, and-right}
+use Rattle.bl_ctext_semantics_laws.specs.Flat.{with_args}
 use Rattle.bl_tree.specs.Ports.{in_ranges, types_of}
 use Rattle.bl_crun.proofs.Cells.{Separate, numbers-set}
 

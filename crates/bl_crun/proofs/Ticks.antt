@@ -29,22 +29,22 @@ use Rattle.std.proofs.lemmas.List.{length-map, take-append-drop, take-replicate}
 use Rattle.bl_tree.specs.declared.scalar.Scalar.{Scalar}
 use Rattle.bl_tree.specs.declared.text.Text.{Text}
 use Rattle.bl_tree.specs.declared.c.CMember.{CMember}
-use Rattle.bl_cmeaning_laws.specs.Fitting.{cell_holds}
-use Rattle.bl_cmeaning_laws.proofs.Lists.{and-both}
-use Rattle.bl_cmeaning_laws.specs.Flat.{Left, with_args}
-use Rattle.bl_cmeaning_laws.specs.Laws.{SameCall, StartsAgree, TicksAgree, entered_flat, input_at, output_at}
-use Rattle.bl_cmeaning_laws.proofs.Spans.{length-args}
-use Rattle.bl_cmeaning_laws.proofs.Standing.{zero-fits}
-use Rattle.bl_cmeaning.specs.Cells.{Cell, cells_of, inputs_of, memory_of, numbers_of, outputs_in, outputs_of, port, ports_of, with_inputs}
-use Rattle.bl_cmeaning.specs.Faults.{WellFormed}
-use Rattle.bl_cmeaning.specs.Meaning.{Called}
-use Rattle.bl_cmeaning.specs.Memory.{Memory, cleared, state_object, input_object, output_object}
-use Rattle.bl_cmeaning.specs.Parts.{Parts}
-use Rattle.bl_cmeaning.specs.Sizes.{cells_needed}
-use Rattle.bl_cmeaning.specs.Trace.{entered, object, reply_of, started, tick_c}
-use Rattle.bl_cinterface.specs.Layout.{kinds_of}
-use Rattle.bl_cinterface.specs.Ports.{PortsStand, inputs_start, outputs_start}
-use Rattle.bl_crun.specs.Cause.{Runs}
+use Rattle.bl_ctext_semantics_laws.specs.Fitting.{cell_holds}
+use Rattle.bl_ctext_semantics_laws.proofs.Lists.{and-both}
+use Rattle.bl_ctext_semantics_laws.specs.Flat.{FlatAnswer, with_args}
+use Rattle.bl_ctext_semantics_laws.specs.Laws.{SameCall, StartsAgree, TicksAgree, entered_flat, input_at, output_at}
+use Rattle.bl_ctext_semantics_laws.proofs.Spans.{length-args}
+use Rattle.bl_ctext_semantics_laws.proofs.Standing.{zero-fits}
+use Rattle.bl_ctext_semantics.specs.Cells.{Cell, cells_of, inputs_of, memory_of, numbers_of, outputs_in, outputs_of, port, ports_of, with_inputs}
+use Rattle.bl_ctext_semantics.specs.Faults.{WellFormed}
+use Rattle.bl_ctext_semantics.specs.Meaning.{CallResult}
+use Rattle.bl_ctext_semantics.specs.Memory.{Memory, cleared, state_object, input_object, output_object}
+use Rattle.bl_ctext_semantics.specs.Parts.{Parts}
+use Rattle.bl_ctext_semantics.specs.Sizes.{cells_needed}
+use Rattle.bl_ctext_semantics.specs.Trace.{entered, object, reply_of, started, tick_c}
+use Rattle.bl_crun_ports.specs.Layout.{kinds_of}
+use Rattle.bl_crun_ports.specs.Ports.{PortsStand, inputs_start, outputs_start}
+use Rattle.bl_crun.specs.Cause.{IsRunnable}
 use Rattle.bl_crun.specs.Done.{CellsKeep, first_cells}
 use Rattle.bl_crun.specs.inner.CallsDone.{IsStart, IsTick}
 use Rattle.bl_tree.specs.Ports.{in_ranges, row_fits, types_of}
@@ -56,7 +56,7 @@ use Rattle.bl_crun.proofs.Rows.{args-taken, columns-long, inputs-fit, inputs-lon
 abbrev Kinds : List Cell → List Scalar
 Kinds cs = map (λ c. c.kind) cs
 
-module _ (file : Parts) (runs : Runs file) where
+module _ (file : Parts) (runs : IsRunnable file) where
   few : length (cells_of file) ≤ cells_needed file
   few = let e = cells-long file runs.formed in omega arith
 
@@ -64,7 +64,7 @@ module _ (file : Parts) (runs : Runs file) where
   kinds-long = length-map (cells_of file) (λ c. c.kind)
 
   -- cells that begin with the numbers of a memory, and what a call leaves there
-  call-agrees : (name : Text) (call : Memory → Called) (args : List ℤ) →
+  call-agrees : (name : Text) (call : Memory → CallResult) (args : List ℤ) →
       (WellFormed file → cells_needed file ≤ 1000000 → (memory : Memory) (others : List ℤ) → list_all (cell_holds memory) (cells_of file) ≡ true →
       cells_needed file ≤ length (numbers_of (cells_of file) memory ++ others) →
       SameCall file (call memory) (entered_flat file name args (numbers_of (cells_of file) memory ++ others))) →
@@ -81,7 +81,7 @@ module _ (file : Parts) (runs : Runs file) where
       (subst (λ cs. cells_needed file ≤ length cs) (sym whole) room))
 
   -- what such a call leaves
-  call-keeps : (c : Called) (l : Left ℤ) → SameCall file c l → CellsKeep file l.cells
+  call-keeps : (c : CallResult) (l : FlatAnswer ℤ) → SameCall file c l → CellsKeep file l.cells
   call-keeps c l same = record {
     room = same.room;
     ranges =
@@ -90,7 +90,7 @@ module _ (file : Parts) (runs : Runs file) where
         ∙ same.fits;
   }
 
-  first-are : (c : Called) (l : Left ℤ) → SameCall file c l → first_cells file l.cells ≡ numbers_of (cells_of file) c.memory
+  first-are : (c : CallResult) (l : FlatAnswer ℤ) → SameCall file c l → first_cells file l.cells ≡ numbers_of (cells_of file) c.memory
   first-are c l same = ap (λ n. take n l.cells) kinds-long ∙ same.cells
 
   -- ---- the start
@@ -126,8 +126,8 @@ module _ (file : Parts) (runs : Runs file) where
       let keeps = zeros-keep cells is in
       let same = call-agrees (codes "bl_init") (entered file (codes "bl_init") (object state_object ∷ [])) (pos 0 ∷ []) agrees cleared cells keeps.room
       (zeros-there (cells_of file) ∙ sym (zeros-begin cells is)) (ap (λ n. in_ranges (kinds_of file) (take n cells)) (sym kinds-long) ∙ keeps.ranges) in
-      let c : Called = entered file (codes "bl_init") (object state_object ∷ []) cleared in
-      let l : Left ℤ = entered_flat file (codes "bl_init") (pos 0 ∷ []) cells in
+      let c : CallResult = entered file (codes "bl_init") (object state_object ∷ []) cleared in
+      let l : FlatAnswer ℤ = entered_flat file (codes "bl_init") (pos 0 ∷ []) cells in
       record { ready = ap is_some (sym same.answer); cells = first-are c l same; keeps = call-keeps c l same }
 
   -- ---- ticks
@@ -204,8 +204,8 @@ module _ (file : Parts) (runs : Runs file) where
         subst (λ k. cells_needed file ≤ k) (sym (length-args ins_at ins cells)) keeps.room in
         let same = call-agrees (codes "bl_tick") (entered file (codes "bl_tick") (object state_object ∷ object input_object ∷ object output_object ∷ []))
         (pos 0 ∷ pos (input_at file) ∷ pos (output_at file) ∷ []) agrees memory (with_args ins_at ins cells) room begin ranges in
-        let c : Called = entered file (codes "bl_tick") (object state_object ∷ object input_object ∷ object output_object ∷ []) memory in
-        let l : Left ℤ = entered_flat file (codes "bl_tick") (pos 0 ∷ pos (input_at file) ∷ pos (output_at file) ∷ []) (with_args ins_at ins cells) in
+        let c : CallResult = entered file (codes "bl_tick") (object state_object ∷ object input_object ∷ object output_object ∷ []) memory in
+        let l : FlatAnswer ℤ = entered_flat file (codes "bl_tick") (pos 0 ∷ pos (input_at file) ∷ pos (output_at file) ∷ []) (with_args ins_at ins cells) in
         record {
           reply = ap reply_of (sym same.answer);
           outputs = outs-are c l same;
@@ -215,14 +215,14 @@ module _ (file : Parts) (runs : Runs file) where
           keeps = call-keeps c l same;
         }
       where
-        outs-fit : (c : Called) (l : Left ℤ) → SameCall file c l → in_ranges (types_of (outputs_of file)) (outputs_in out_ports c.memory) ≡ true
+        outs-fit : (c : CallResult) (l : FlatAnswer ℤ) → SameCall file c l → in_ranges (types_of (outputs_of file)) (outputs_in out_ports c.memory) ≡ true
         outs-fit c l same =
             let ports = stand runs.formed in
             ap (in_ranges (types_of (outputs_of file))) (outputs-taken (cells_of file) outs_at out_ports c.memory ports.1)
             ∙ outputs-fit (cells_of file) outs_at out_ports (numbers_of (cells_of file) c.memory) ports.1
             (sym (ranges-are (cells_of file) c.memory) ∙ same.fits)
 
-        outs-are : (c : Called) (l : Left ℤ) → SameCall file c l →
+        outs-are : (c : CallResult) (l : FlatAnswer ℤ) → SameCall file c l →
             take (length (outputs_of file)) (drop outs_at l.cells) ≡ outputs_in out_ports c.memory
         outs-are c l same =
             let ports = stand runs.formed in

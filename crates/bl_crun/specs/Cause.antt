@@ -1,14 +1,14 @@
 -- Why a file isn't loaded.
 use Rattle.std.specs.Prelude.{◌≡◌, ◌<◌, ◌≤◌, ℕ, Some}
-use Rattle.bl_cmeaning.specs.Faults.{WellFormed, first_fault}
-use Rattle.bl_cmeaning.specs.Parts.{Parts}
-use Rattle.bl_cmeaning.specs.Saturated.{saturated}
-use Rattle.bl_cmeaning.specs.Sizes.{cells_needed}
+use Rattle.bl_ctext_semantics.specs.Faults.{WellFormed, first_fault}
+use Rattle.bl_ctext_semantics.specs.Parts.{Parts}
+use Rattle.bl_ctext_semantics.specs.Saturated.{saturated}
+use Rattle.bl_ctext_semantics.specs.Sizes.{cells_needed}
 use Rattle.bl_crun.specs.declared.fault.LoadFault.{LoadFault}
 use Rattle.bl_crun.specs.declared.fault.LoadFault.TheVariants.{IllFormed, TooLarge, NoMemory}
 
 -- a file that runs: it is well formed and needs at most 1,000,000 cells
-pub record Runs (file : Parts) : Type 0 where
+pub record IsRunnable (file : Parts) : Type 0 where
   pub formed : WellFormed file
   pub small : cells_needed file ≤ 1000000
 

@@ -1,9 +1,9 @@
 -- What calls of a file's functions come to in the machine.
 use Rattle.std.specs.Prelude.{◌≡◌, ◌≤◌, ℤ, true, List, length, take}
 use Rattle.bl_tree.specs.Ports.{in_ranges}
-use Rattle.bl_cmeaning.specs.Parts.{Parts}
-use Rattle.bl_cmeaning.specs.Sizes.{cells_needed}
-use Rattle.bl_cinterface.specs.Layout.{kinds_of}
+use Rattle.bl_ctext_semantics.specs.Parts.{Parts}
+use Rattle.bl_ctext_semantics.specs.Sizes.{cells_needed}
+use Rattle.bl_crun_ports.specs.Layout.{kinds_of}
 
 -- the numbers of a file's cells, which come first
 abbrev pub first_cells : Parts → List ℤ → List ℤ

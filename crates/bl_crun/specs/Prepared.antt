@@ -1,19 +1,19 @@
 -- What a runner keeps of its file.
 use Rattle.std.specs.Prelude.{◌≡◌, ◌≤◌, ℤ, List, length, take, option_map, codes}
-use Rattle.bl_bytecode.specs.Laws.{code_of_file, entry_in_file}
-use Rattle.bl_bytecode_compiler.specs.Entries.{entry_for}
-use Rattle.bl_cmeaning_laws.specs.Laws.{behind_objects}
-use Rattle.bl_cmeaning.specs.Cells.{inputs_of, outputs_of}
-use Rattle.bl_cmeaning.specs.Parts.{Parts}
-use Rattle.bl_cinterface.specs.Layout.{kinds_of}
-use Rattle.bl_cinterface.specs.Ports.{inputs_start, outputs_start}
-use Rattle.bl_crun.specs.Cause.{Runs}
+use Rattle.bl_crun_bytecode.specs.Laws.{code_of_file, entry_in_file}
+use Rattle.bl_crun_bytecode_compiler.specs.Entries.{entry_for}
+use Rattle.bl_ctext_semantics_laws.specs.Laws.{behind_objects}
+use Rattle.bl_ctext_semantics.specs.Cells.{inputs_of, outputs_of}
+use Rattle.bl_ctext_semantics.specs.Parts.{Parts}
+use Rattle.bl_crun_ports.specs.Layout.{kinds_of}
+use Rattle.bl_crun_ports.specs.Ports.{inputs_start, outputs_start}
+use Rattle.bl_crun.specs.Cause.{IsRunnable}
 use Rattle.bl_crun.specs.Done.{CellsKeep}
 use Rattle.bl_crun.specs.declared.prepared.Prepared.{Prepared}
 
 -- what is prepared is the file's; the machine has room for its code
-pub record PreparedKeeps (file : Parts) (p : Prepared) : Type 0 where
-  pub runs : Runs file
+pub record PreparedInvariant (file : Parts) (p : Prepared) : Type 0 where
+  pub runs : IsRunnable file
   pub code : p.code.items ≡ code_of_file file.structs file.funcs
   pub init : option_map entry_for p.init ≡ entry_in_file file.structs file.funcs (codes "bl_init")
   pub tick : option_map entry_for p.tick ≡ entry_in_file file.structs file.funcs (codes "bl_tick")

@@ -1,11 +1,11 @@
 -- What a runner shows, and what its ticks do to it.
 use Rattle.std.specs.Prelude.{◌≡◌, ℕ, ◌-◌, ◌^◌, min, ℤ, Bool, true, false, List, [], slice_set, Option}
 use Rattle.bl_tree.specs.declared.row.Column.{Column}
-use Rattle.bl_cmeaning.specs.Parts.{Parts}
-use Rattle.bl_cmeaning.specs.Trace.{Reply, row, ended, trapped, Tick as CTick, cells_if, start_cells, starts, tick_c}
+use Rattle.bl_ctext_semantics.specs.Parts.{Parts}
+use Rattle.bl_ctext_semantics.specs.Trace.{Reply, row, ended, trapped, TickOfFile as CTick, cells_if, start_cells, starts, tick_c}
 use Rattle.bl_tree.specs.Ports.{row_fits}
-use Rattle.bl_crun.specs.declared.tick.Tick.{Tick}
-use Rattle.bl_crun.specs.declared.tick.Tick.TheVariants.{Row, Ended, Trap}
+use Rattle.bl_crun.specs.declared.tick.TickAnswer.{TickAnswer}
+use Rattle.bl_crun.specs.declared.tick.TickAnswer.TheVariants.{Row, Ended, Trap}
 
 -- what a runner shows
 pub record Running : Type 0 where
@@ -38,25 +38,25 @@ abbrev pub tick_at : Running → List ℤ → CTick
 tick_at r ins = tick_if r.ready r.parts r.cells ins
 
 -- what is answered
-abbrev pub answer_of : Reply → Tick
+abbrev pub answer_of : Reply → TickAnswer
 answer_of row = Row
 answer_of ended = Ended
 answer_of trapped = Trap
 
 -- whether the run can go on
-abbrev pub is_row : Tick → Bool
+abbrev pub is_row : TickAnswer → Bool
 is_row Row = true
 is_row Ended = false
 is_row Trap = false
 
 -- the outputs stay where the tick traps
-abbrev pub unless_trapped : Tick → List ℤ → List ℤ → List ℤ
+abbrev pub unless_trapped : TickAnswer → List ℤ → List ℤ → List ℤ
 unless_trapped Row outputs before = outputs
 unless_trapped Ended outputs before = outputs
 unless_trapped Trap outputs before = before
 
 -- a row of outputs that a tick has filled has a number for each output, in the range of its type
-abbrev pub OutputsFit : List Column → Tick → List ℤ → Type 0
+abbrev pub OutputsFit : List Column → TickAnswer → List ℤ → Type 0
 OutputsFit outs Row numbers = row_fits outs numbers ≡ true
 OutputsFit outs Ended numbers = row_fits outs numbers ≡ true
 OutputsFit outs Trap numbers = Unit {0}

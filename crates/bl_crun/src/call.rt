@@ -1,12 +1,12 @@
 //! Calls of a file's functions from outside.
 
 ghost use Rattle.std.specs.Prelude.{ℕ, ℤ};
-ghost use Rattle.bl_cmeaning_laws.specs.Flat.{Left};
+ghost use Rattle.bl_ctext_semantics_laws.specs.Flat.{FlatAnswer};
 ghost use Rattle.bl_crun.specs.inner.CallsDone.{CallDone, Comes};
 
-use bl_bytecode::instruction::Instruction;
-use bl_bytecode_compiler::Entry;
-use bl_bytecode_machine::Machine;
+use bl_crun_bytecode::instruction::Instruction;
+use bl_crun_bytecode_compiler::Entry;
+use bl_crun_bytecode_vm::Vm;
 use bl_ctext::CFile;
 
 /// What a call comes to.
@@ -21,15 +21,15 @@ pub struct Called {
 /// Calls the function at an entry of a file's code. A function that isn't there traps.
 pub fn call(
     _file: &CFile,
-    machine: &mut Machine,
+    machine: &mut Vm,
     code: &[Instruction],
     entry: Option<Entry>,
     base: u32,
     args: &[i128],
 ) -> Called
     ghost steps: { ℕ }
-    requires { (l : Left ℤ) × Comes steps code.now entry base args.now machine.old l }
-    ensures { (l : Left ℤ) → Comes steps code.now entry base args.now machine.old l → CallDone l machine.old result machine.new }
+    requires { (l : FlatAnswer ℤ) × Comes steps code.now entry base args.now machine.old l }
+    ensures { (l : FlatAnswer ℤ) → Comes steps code.now entry base args.now machine.old l → CallDone l machine.old result machine.new }
 {
     match entry {
         None => Called {

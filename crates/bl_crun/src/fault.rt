@@ -1,13 +1,13 @@
 //! Why a file isn't loaded.
 
 ghost use Rattle.std.specs.Prelude.{◌≡◌, IfErr, IfOk, OnOk};
-ghost use Rattle.bl_cmeaning.specs.Faults.{WellFormed};
-ghost use Rattle.bl_cmeaning.specs.Parts.{parts_of};
-ghost use Rattle.bl_cmeaning.specs.Sizes.{cells_needed};
-ghost use Rattle.bl_crun.specs.Cause.{IsCause, Runs};
+ghost use Rattle.bl_ctext_semantics.specs.Faults.{WellFormed};
+ghost use Rattle.bl_ctext_semantics.specs.Parts.{parts_of};
+ghost use Rattle.bl_ctext_semantics.specs.Sizes.{cells_needed};
+ghost use Rattle.bl_crun.specs.Cause.{IsCause, IsRunnable};
 
-use bl_cmeaning::check::{CheckFault, cells, check as check_form};
 use bl_ctext::CFile;
+use bl_ctext_semantics::check::{CheckFault, cells, check as check_form};
 use bl_tree::Place;
 use std::alloc::Global;
 
@@ -38,7 +38,7 @@ fn form(alloc: Global, file: &CFile) -> Result<(), LoadFault>
 /// How many cells a file needs that can be loaded, and else why it can't.
 pub fn needed(alloc: Global, file: &CFile) -> Result<usize, LoadFault>
     ensures cells { IfOk result (λ cells. cells ≡ cells_needed (parts_of file.now)) }
-    ensures runs { OnOk result (Runs (parts_of file.now)) }
+    ensures runs { OnOk result (IsRunnable (parts_of file.now)) }
     ensures fault { IfErr result (IsCause (parts_of file.now)) }
 {
     match form(alloc, file) {
@@ -54,7 +54,7 @@ pub fn needed(alloc: Global, file: &CFile) -> Result<usize, LoadFault>
 
 /// Whether a file can be loaded, and else why not.
 pub fn check(alloc: Global, file: &CFile) -> Result<(), LoadFault>
-    ensures runs { OnOk result (Runs (parts_of file.now)) }
+    ensures runs { OnOk result (IsRunnable (parts_of file.now)) }
     ensures fault { IfErr result (IsCause (parts_of file.now)) }
 {
     match needed(alloc, file) {

@@ -1,14 +1,14 @@
 //! Rows of inputs and outputs in a machine's cells.
 
 ghost use Rattle.std.specs.Prelude.{◌≡◌, ℕ, ◌+◌, ◌≤◌, ◌<◌, drop, length, take};
-ghost use Rattle.bl_cmeaning_laws.specs.Flat.{with_args};
-ghost use Rattle.bl_bytecode_machine.specs.Steps.{holding};
+ghost use Rattle.bl_ctext_semantics_laws.specs.Flat.{with_args};
+ghost use Rattle.bl_crun_bytecode_vm.specs.Steps.{holding};
 
-use bl_bytecode_machine::Machine;
+use bl_crun_bytecode_vm::Vm;
 use bl_tree::Row;
 
 /// Sets the cells from one on to the numbers of a row.
-pub fn set_inputs(machine: &mut Machine, at: usize, ins: &Row)
+pub fn set_inputs(machine: &mut Vm, at: usize, ins: &Row)
     requires within { (k : ℕ) → k < length ins.now → at + k < length machine.old.state.cells }
     requires small { at ≤ 4294967296 }
     ensures { machine.new ≡ holding machine.old (with_args at ins.now machine.old.state.cells) }
@@ -19,7 +19,7 @@ pub fn set_inputs(machine: &mut Machine, at: usize, ins: &Row)
 }
 
 /// Fills a row with the numbers of the cells from one on.
-pub fn read_outputs(machine: &Machine, at: usize, outs: &mut Row)
+pub fn read_outputs(machine: &Vm, at: usize, outs: &mut Row)
     requires within { (k : ℕ) → k < length outs.old → at + k < length machine.now.state.cells }
     requires small { at ≤ 4294967296 }
     ensures { outs.new ≡ take (length outs.old) (drop at machine.now.state.cells) }

@@ -2,26 +2,26 @@
 
 ghost use Rattle.std.specs.Prelude.{◌≡◌, [], ◌∷◌, ℕ, ◌+◌, ◌<◌, pos, true, length, replicate, IfErr, IfOk};
 ghost use Rattle.bl_tree.specs.Ports.{row_fits};
-ghost use Rattle.bl_cmeaning.specs.Cells.{inputs_of};
-ghost use Rattle.bl_cmeaning.specs.Parts.{parts_of};
-ghost use Rattle.bl_cmeaning.specs.Sizes.{cells_needed};
-ghost use Rattle.bl_cmeaning.specs.Trace.{start_cells, starts};
-ghost use Rattle.bl_crun.specs.Cause.{IsCause, Runs};
-ghost use Rattle.bl_crun.specs.Prepared.{PreparedKeeps, numbers_in};
+ghost use Rattle.bl_ctext_semantics.specs.Cells.{inputs_of};
+ghost use Rattle.bl_ctext_semantics.specs.Parts.{parts_of};
+ghost use Rattle.bl_ctext_semantics.specs.Sizes.{cells_needed};
+ghost use Rattle.bl_ctext_semantics.specs.Trace.{start_cells, starts};
+ghost use Rattle.bl_crun.specs.Cause.{IsCause, IsRunnable};
+ghost use Rattle.bl_crun.specs.Prepared.{PreparedInvariant, numbers_in};
 ghost use Rattle.bl_crun.specs.inner.Ticked.{Ticked, outputs_in};
 ghost use Rattle.bl_crun.specs.Running.{OutputsFit, unless_trapped};
 
 use crate::call::{Called, call};
 use crate::fault::{LoadFault, needed};
 use crate::ports::{read_outputs, set_inputs};
-use crate::tick::Tick;
-use bl_bytecode::instruction::Instruction;
-use bl_bytecode_compiler::{Compiled, Entry, compile};
-use bl_bytecode_machine::Machine;
-use bl_cinterface::laws::ports_stand;
-use bl_cinterface::{CellKinds, inputs, lay_out, outputs};
-use bl_cmeaning_laws::flat::{starts_agree, ticks_agree};
+use crate::tick::TickAnswer;
+use bl_crun_bytecode::instruction::Instruction;
+use bl_crun_bytecode_compiler::{Compiled, Entry, compile};
+use bl_crun_bytecode_vm::Vm;
+use bl_crun_ports::laws::ports_stand;
+use bl_crun_ports::{CellKinds, inputs, lay_out, outputs};
 use bl_ctext::CFile;
+use bl_ctext_semantics_laws::flat::{starts_agree, ticks_agree};
 use bl_tree::{Column, List, NoMemory, Row, Scalar};
 use std::alloc::Global;
 
@@ -41,12 +41,12 @@ pub struct Prepared {
     pub output_at: u32,
     /// The first cell behind the objects.
     pub base: u32,
-    pub machine: Machine,
+    pub machine: Vm,
 }
 
 /// Prepares a file, if it can be loaded. All cells of its machine are 0.
 pub fn prepare(alloc: Global, file: &CFile) -> Result<Prepared, LoadFault>
-    ensures keeps { IfOk result (PreparedKeeps (parts_of file.now)) }
+    ensures keeps { IfOk result (PreparedInvariant (parts_of file.now)) }
     ensures cleared { IfOk result (λ p. p.machine.state.cells ≡ replicate (cells_needed (parts_of file.now)) (pos 0)) }
     ensures fault { IfErr result (IsCause (parts_of file.now)) }
 {
@@ -62,16 +62,16 @@ pub fn prepare(alloc: Global, file: &CFile) -> Result<Prepared, LoadFault>
 
 /// Prepares a file that needs so many cells.
 fn prepare_for(alloc: Global, file: &CFile, cells: usize) -> Result<Prepared, NoMemory>
-    requires runs { Runs (parts_of file.now) }
+    requires runs { IsRunnable (parts_of file.now) }
     requires cells { cells ≡ cells_needed (parts_of file.now) }
-    ensures keeps { IfOk result (PreparedKeeps (parts_of file.now)) }
+    ensures keeps { IfOk result (PreparedInvariant (parts_of file.now)) }
     ensures cleared { IfOk result (λ p. p.machine.state.cells ≡ replicate (cells_needed (parts_of file.now)) (pos 0)) }
 {
     let Compiled { code, init, tick } = compile(alloc, &file.structs, &file.funcs)?;
     let cells_of = lay_out(alloc, &file.structs)?;
     let inputs = inputs(alloc, &file.structs)?;
     let outputs = outputs(alloc, &file.structs)?;
-    let machine = Machine::new(alloc, cells, code.len(), file.funcs.len())?;
+    let machine = Vm::new(alloc, cells, code.len(), file.funcs.len())?;
     let CellKinds {
         kinds,
         inputs: input_at,
@@ -94,9 +94,9 @@ fn prepare_for(alloc: Global, file: &CFile, cells: usize) -> Result<Prepared, No
 
 /// Does the start, and tells whether it hasn't trapped.
 pub fn start(file: &CFile, prepared: &mut Prepared) -> bool
-    requires keeps { PreparedKeeps (parts_of file.now) prepared.old }
+    requires keeps { PreparedInvariant (parts_of file.now) prepared.old }
     requires cleared { prepared.old.machine.state.cells ≡ replicate (cells_needed (parts_of file.now)) (pos 0) }
-    ensures keeps { PreparedKeeps (parts_of file.now) prepared.new }
+    ensures keeps { PreparedInvariant (parts_of file.now) prepared.new }
     ensures ready { result ≡ starts (parts_of file.now) }
     ensures cells { numbers_in prepared.new ≡ start_cells (parts_of file.now) }
 {
@@ -121,9 +121,9 @@ fn tick_args(input_at: u32, output_at: u32) -> [i128; 3]
 
 /// Does a tick with a row of inputs.
 pub fn do_tick(file: &CFile, prepared: &mut Prepared, ins: &Row) -> Called
-    requires keeps { PreparedKeeps (parts_of file.now) prepared.old }
+    requires keeps { PreparedInvariant (parts_of file.now) prepared.old }
     requires fits { row_fits (inputs_of (parts_of file.now)) ins.now ≡ true }
-    ensures keeps { PreparedKeeps (parts_of file.now) prepared.new }
+    ensures keeps { PreparedInvariant (parts_of file.now) prepared.new }
     ensures ticked { Ticked (parts_of file.now) (numbers_in prepared.old) ins.now result prepared.new }
 {
     ticks_agree(file);
@@ -141,7 +141,7 @@ pub fn do_tick(file: &CFile, prepared: &mut Prepared, ins: &Row) -> Called
 }
 
 /// Fills the row of outputs after a tick with this answer, unless it has trapped.
-pub fn tell(prepared: &Prepared, answer: Tick, outs: &mut Row)
+pub fn tell(prepared: &Prepared, answer: TickAnswer, outs: &mut Row)
     requires within { (k : ℕ) → k < length prepared.now.outputs → prepared.now.output_at + 1 + k < length prepared.now.machine.state.cells }
     requires long { length outs.old ≡ length prepared.now.outputs }
     requires ranges { row_fits prepared.now.outputs (outputs_in prepared.now) ≡ true }
@@ -149,8 +149,8 @@ pub fn tell(prepared: &Prepared, answer: Tick, outs: &mut Row)
     ensures fit { OutputsFit prepared.now.outputs answer outs.new }
 {
     match answer {
-        Tick::Trap => {}
-        Tick::Row | Tick::Ended => {
+        TickAnswer::Trap => {}
+        TickAnswer::Row | TickAnswer::Ended => {
             read_outputs(&prepared.machine, prepared.output_at as usize + 1, outs);
         }
     }

@@ -4,14 +4,14 @@ ghost use Rattle.std.specs.Prelude.{◌≡◌, ◌<◌, Some, true, length, slic
 ghost use Rattle.bl_tree.specs.declared.scalar.Scalar.{Scalar as Kind};
 ghost use Rattle.bl_tree.specs.Scalar.{in_range};
 ghost use Rattle.bl_tree.specs.Ports.{row_fits};
-ghost use Rattle.bl_cmeaning.specs.Cells.{cells_of, inputs_of, outputs_of};
-ghost use Rattle.bl_cinterface.specs.Layout.{kinds_of};
+ghost use Rattle.bl_ctext_semantics.specs.Cells.{cells_of, inputs_of, outputs_of};
+ghost use Rattle.bl_crun_ports.specs.Layout.{kinds_of};
 
 use crate::answer::{goes_on, tick_of};
 use crate::fault::LoadFault;
 use crate::fits::fit_all;
 use crate::prepared::{Prepared, do_tick, prepare, start, tell};
-use crate::tick::Tick;
+use crate::tick::TickAnswer;
 use bl_ctext::CFile;
 use bl_tree::{Column, List, Row, Scalar};
 use std::alloc::Global;
@@ -30,8 +30,8 @@ impl Model for Runner {
     ghost use Rattle.std.specs.Coded.{codes};
     ghost use Rattle.bl_tree.specs.contracts.c.CStmt as stmt;
     ghost use Rattle.bl_tree.specs.contracts.c.CStmtKind as kind;
-    ghost use Rattle.bl_cmeaning.specs.Parts.{parts_of};
-    ghost use Rattle.bl_crun.specs.Prepared.{PreparedKeeps, numbers_in};
+    ghost use Rattle.bl_ctext_semantics.specs.Parts.{parts_of};
+    ghost use Rattle.bl_crun.specs.Prepared.{PreparedInvariant, numbers_in};
     ghost use Rattle.bl_crun.specs.Running.{Running};
 
     ghost Value = { Running };
@@ -40,18 +40,18 @@ impl Model for Runner {
 
     ghost view = { λ r. record { parts = parts_of r.file; cells = numbers_in r.prepared; ready = r.ready; live = r.live } };
 
-    ghost invariant = { λ r. PreparedKeeps (parts_of r.file) r.prepared };
+    ghost invariant = { λ r. PreparedInvariant (parts_of r.file) r.prepared };
 }
 
 impl Runner {
-    ghost use Rattle.bl_cmeaning.specs.Parts.{parts_of};
-    ghost use Rattle.bl_crun.specs.Cause.{IsCause, Runs};
+    ghost use Rattle.bl_ctext_semantics.specs.Parts.{parts_of};
+    ghost use Rattle.bl_crun.specs.Cause.{IsCause, IsRunnable};
     ghost use Rattle.bl_crun.specs.Running.{OutputsFit, after_tick, answer_of, count_after, loaded, outputs_after, reply_at, with_cell};
 
     /// Loads a file: clears its cells and does its start. After a fault the file comes back.
     pub fn load(alloc: Global, file: CFile) -> Result<Runner, (CFile, LoadFault)>
         ensures loaded { IfOk result (λ r. r ≡ loaded (parts_of file)) }
-        ensures runs { OnOk result (Runs (parts_of file)) }
+        ensures runs { OnOk result (IsRunnable (parts_of file)) }
         ensures back { IfErr result (λ e. e.0 ≡ file) }
         ensures fault { IfErr result (λ e. IsCause (parts_of file) e.1) }
     {
@@ -104,7 +104,7 @@ impl Runner {
 
     /// Does a tick with a row of inputs, and fills the row of outputs unless it traps. Where the start has trapped, the
     /// first tick traps.
-    pub fn tick(&mut self, ins: &Row, outs: &mut Row) -> Tick
+    pub fn tick(&mut self, ins: &Row, outs: &mut Row) -> TickAnswer
         requires fits { row_fits (inputs_of self.old.parts) ins.now ≡ true }
         requires long { length outs.old ≡ length (outputs_of self.old.parts) }
         requires live { self.old.live ≡ true }
@@ -118,7 +118,7 @@ impl Runner {
     }
 
     /// Does a tick and tells how many statements it executed, at most 2^128 - 1.
-    pub fn tick_counted(&mut self, ins: &Row, outs: &mut Row, count: &mut u128) -> Tick
+    pub fn tick_counted(&mut self, ins: &Row, outs: &mut Row, count: &mut u128) -> TickAnswer
         requires fits { row_fits (inputs_of self.old.parts) ins.now ≡ true }
         requires long { length outs.old ≡ length (outputs_of self.old.parts) }
         requires live { self.old.live ≡ true }
@@ -131,7 +131,7 @@ impl Runner {
         if !self.ready {
             self.live = false;
             *count = 0;
-            return Tick::Trap;
+            return TickAnswer::Trap;
         }
         let called = do_tick(&self.file, &mut self.prepared, ins);
         *count = called.count;

@@ -1,7 +1,7 @@
 //! Texts that are loaded and driven over rows of inputs, and what is seen of their ticks.
 
 use bl_cparse::parse;
-use bl_crun::{Runner, Tick};
+use bl_crun::{Runner, TickAnswer};
 use bl_ctext::{CFile, PRELUDE};
 use bl_tree::Row;
 use std::alloc::{AllocError, Global};
@@ -14,7 +14,7 @@ const LONGEST: usize = 67_108_864;
 /// What is seen of one tick.
 #[derive(Clone, Copy, PartialEq, Eq, Debug)]
 pub struct Seen {
-    pub answer: Tick,
+    pub answer: TickAnswer,
     /// The first output.
     pub out: i128,
     /// How many statements were executed.
@@ -26,7 +26,7 @@ pub struct Seen {
 /// A tick that isn't the last.
 pub fn row(out: i128, count: u128) -> Seen {
     Seen {
-        answer: Tick::Row,
+        answer: TickAnswer::Row,
         out,
         count,
         live: true,
@@ -36,7 +36,7 @@ pub fn row(out: i128, count: u128) -> Seen {
 /// A tick with which the run ends.
 pub fn ended(out: i128, count: u128) -> Seen {
     Seen {
-        answer: Tick::Ended,
+        answer: TickAnswer::Ended,
         out,
         count,
         live: false,
@@ -46,7 +46,7 @@ pub fn ended(out: i128, count: u128) -> Seen {
 /// A tick that traps, beside the output of the tick before it.
 pub fn trap(out: i128, count: u128) -> Seen {
     Seen {
-        answer: Tick::Trap,
+        answer: TickAnswer::Trap,
         out,
         count,
         live: false,
@@ -121,7 +121,7 @@ pub fn loaded(alloc: Global, parts: &[&str]) -> Result<Driven, Fail> {
 }
 
 /// Does a tick, and tells how many statements it executed.
-fn answer(runner: &mut Runner, ins: &Row, outs: &mut Row) -> Result<(Tick, u128), Fail> {
+fn answer(runner: &mut Runner, ins: &Row, outs: &mut Row) -> Result<(TickAnswer, u128), Fail> {
     if !runner.live() || !runner.fits(ins) || outs.len() as usize != runner.outputs().len() {
         return Err(Fail::new("no tick can be done"));
     }

@@ -2,7 +2,7 @@
 
 use crate::cells::{Left, hold, leaves};
 use crate::drive::{Driven, Seen, ended, gives, loaded, next, row, row_of, trap};
-use bl_crun::{Runner, Tick};
+use bl_crun::{Runner, TickAnswer};
 use bl_tree::{Row, Scalar, Width};
 use std::alloc::{AllocError, Global};
 use std::test::Fail;
@@ -65,7 +65,7 @@ fn hand(alloc: Global) -> Result<Driven, Fail> {
 const HALVED: Left<'static> = Left {
     ins: 2,
     seen: Seen {
-        answer: Tick::Row,
+        answer: TickAnswer::Row,
         out: 2,
         count: 4,
         live: true,
@@ -119,7 +119,7 @@ fn put(runner: &mut Runner, k: u32, n: i128) -> Result<(), Fail> {
 const DIVIDED: Left<'static> = Left {
     ins: 3,
     seen: Seen {
-        answer: Tick::Row,
+        answer: TickAnswer::Row,
         out: 3,
         count: 4,
         live: true,
@@ -137,7 +137,7 @@ fn a_tick_goes_on_from_what_was_put(rt: HostRuntime) -> Result<(), Fail> {
 }
 
 /// Does a tick that isn't counted.
-fn plain_tick(runner: &mut Runner, ins: &Row, outs: &mut Row) -> Result<Tick, Fail> {
+fn plain_tick(runner: &mut Runner, ins: &Row, outs: &mut Row) -> Result<TickAnswer, Fail> {
     if !runner.live() || !runner.fits(ins) || outs.len() as usize != runner.outputs().len() {
         return Err(Fail::new("no tick can be done"));
     }
@@ -145,7 +145,7 @@ fn plain_tick(runner: &mut Runner, ins: &Row, outs: &mut Row) -> Result<Tick, Fa
 }
 
 /// The same over this number.
-fn plain_next(alloc: Global, driven: &mut Driven, n: i128) -> Result<Tick, Fail> {
+fn plain_next(alloc: Global, driven: &mut Driven, n: i128) -> Result<TickAnswer, Fail> {
     let ins = row_of(alloc, &[n])?;
     plain_tick(&mut driven.runner, &ins, &mut driven.outs)
 }
@@ -153,8 +153,8 @@ fn plain_next(alloc: Global, driven: &mut Driven, n: i128) -> Result<Tick, Fail>
 #[test]
 fn a_tick_may_go_uncounted(rt: HostRuntime) -> Result<(), Fail> {
     let mut driven = hand(rt.alloc())?;
-    assert_eq!(rt; plain_next(rt.alloc(), &mut driven, -2)?, Tick::Row);
-    assert_eq!(rt; plain_next(rt.alloc(), &mut driven, 7)?, Tick::Ended);
+    assert_eq!(rt; plain_next(rt.alloc(), &mut driven, -2)?, TickAnswer::Row);
+    assert_eq!(rt; plain_next(rt.alloc(), &mut driven, 7)?, TickAnswer::Ended);
     assert!(rt; !driven.runner.live());
     hold(&rt, rt.alloc(), &driven, &[0, 0, 7, 0, 0])
 }

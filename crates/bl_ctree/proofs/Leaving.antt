@@ -24,7 +24,7 @@ use Rattle.bl_ctree.specs.Control.{
   do_all,
   followed,
   seq,
-  begun,
+  branches_begun,
   woken,
   all_woken,
   is_nil,
@@ -32,20 +32,20 @@ use Rattle.bl_ctree.specs.Control.{
 use Rattle.bl_ctree.specs.Instances.{Setting, unit_at}
 use Rattle.bl_ctree.specs.Laws.{
   BlocksFit,
-  ItemsBeginLeft,
-  MovesKeepLeft,
-  ReachedInsideIsLeft,
-  ReachedIsLeft,
-  SeqIsLeft,
-  WakingKeepsLeft,
-  WokenTreeIsLeft,
+  ItemsBeginResidual,
+  ReachedInsideIsResidual,
+  ReachedIsResidual,
+  SeqIsResidual,
+  StepsKeepResidual,
+  WakingKeepsResidual,
+  WokenTreeIsResidual,
 }
-use Rattle.bl_ctree.specs.Left.{
-  Left,
-  LeftEach,
-  LeftOf,
-  LeftTree,
-  Stands,
+use Rattle.bl_ctree.specs.Residual.{
+  Residual,
+  ResidualEach,
+  ResidualOf,
+  ResidualTree,
+  SplitsAt,
   TestsFit,
   a_begin,
   an_again,
@@ -128,56 +128,56 @@ then_fits position k (s ∷ body) then fit = a_begin (then_fits position (suc k)
 
 -- ---- what begins
 
-next : {item other : Item} {rest items : List Item} → Stands item (other ∷ rest) items → Stands other rest items
+next : {item other : Item} {rest items : List Item} → SplitsAt item (other ∷ rest) items → SplitsAt other rest items
 next here = there here
 next (there stands) = there (next stands)
 
 -- items from one on that are all to begin
-first_left : {w : Setting} {stood : Bool} {i : ℕ} {items : List Item} {item : Item} (rest : List Item) → Stands item rest items →
-    TestsFit (item ∷ rest) → Left w stood i items (do_all (item ∷ rest))
+first_left : {w : Setting} {stood : Bool} {i : ℕ} {items : List Item} {item : Item} (rest : List Item) → SplitsAt item rest items →
+    TestsFit (item ∷ rest) → Residual w stood i items (do_all (item ∷ rest))
 first_left [] stands (a_begin fit) = of_last stands to_begin
 first_left [] stands (an_again e fit) = of_last stands (to_turn e)
 first_left (other ∷ rest) stands (a_begin fit) = of_one stands fit to_begin refl
 first_left (other ∷ rest) stands (an_again e fit) = of_one stands fit (to_turn e) refl
 
 -- what follows an item is left where it begins
-rest_left : {w : Setting} {stood : Bool} {i : ℕ} {item : Item} {items : List Item} (rest : List Item) → Stands item rest items → TestsFit rest →
-    Left w stood i items (do_all rest)
+rest_left : {w : Setting} {stood : Bool} {i : ℕ} {item : Item} {items : List Item} (rest : List Item) → SplitsAt item rest items → TestsFit rest →
+    Residual w stood i items (do_all rest)
 rest_left [] stands fit = nothing
 rest_left (other ∷ rest) stands fit = first_left rest (next stands) fit
 
-all_left : {w : Setting} {stood : Bool} {i : ℕ} (items : List Item) → TestsFit items → Left w stood i items (do_all items)
+all_left : {w : Setting} {stood : Bool} {i : ℕ} (items : List Item) → TestsFit items → Residual w stood i items (do_all items)
 all_left [] fit = nothing
 all_left (item ∷ rest) fit = first_left rest here fit
 
-pub items_begin_left : ItemsBeginLeft
+pub items_begin_left : ItemsBeginResidual
 items_begin_left w stood i items fit = all_left items fit
 
 block_left : {w : Setting} {stood : Bool} {i : ℕ} (s : Located) (block : ℕ) (body : List Stmt) →
-    Left w stood i (block_items s block body) (do_all (block_items s block body))
+    Residual w stood i (block_items s block body) (do_all (block_items s block body))
 block_left s block body = all_left (block_items s block body) (blocks_fit (s.position ++ block ∷ []) 0 body)
 
-unit_left : {w : Setting} {stood : Bool} {i : ℕ} (body : List Stmt) → Left w stood i (body_items body) (do_all (body_items body))
+unit_left : {w : Setting} {stood : Bool} {i : ℕ} (body : List Stmt) → Residual w stood i (body_items body) (do_all (body_items body))
 unit_left body = all_left (body_items body) (blocks_fit [] 0 body)
 
 -- the body of a loop, and what ends its turn
 turn_left : {w : Setting} {stood : Bool} {i : ℕ} (s : Located) (body : List Stmt) (after : Item) → TestsFit (after ∷ []) →
-    Left w stood i (turn_items s body after) (do_all (turn_items s body after))
+    Residual w stood i (turn_items s body after) (do_all (turn_items s body after))
 turn_left s body after fit = all_left (turn_items s body after) (then_fits (s.position ++ 0 ∷ []) 0 body (after ∷ []) fit)
 
-each_left : {w : Setting} {stood : Bool} {i : ℕ} (s : Located) (k : ℕ) (written : List Branch) → LeftEach w stood i s k written (begun s k written)
+each_left : {w : Setting} {stood : Bool} {i : ℕ} (s : Located) (k : ℕ) (written : List Branch) → ResidualEach w stood i s k written (branches_begun s k written)
 each_left s k [] = no_branch_left
 each_left s k (b ∷ written) = one_branch_left (block_left s k (out-Branch b).body) (each_left s (suc k) written)
 
 -- a tree that has not ended, and what follows it
 busy_left : {w : Setting} {stood : Bool} {i : ℕ} {item : Item} {items : List Item} (c : Control) (rest : List Item) → is_nil c ≡ false →
-    Stands item rest items → TestsFit rest → LeftOf w stood i item c → Left w stood i items (followed c rest)
+    SplitsAt item rest items → TestsFit rest → ResidualOf w stood i item c → Residual w stood i items (followed c rest)
 busy_left c [] busy stands fit of = of_last stands of
 busy_left c (other ∷ rest) busy stands fit of = of_one stands fit of busy
 
 -- what is left of an item, and what follows it
-seq_left : {w : Setting} {stood : Bool} {i : ℕ} {item : Item} {items : List Item} (c : Control) (rest : List Item) → Stands item rest items →
-    TestsFit rest → LeftOf w stood i item c → Left w stood i items (seq c rest)
+seq_left : {w : Setting} {stood : Bool} {i : ℕ} {item : Item} {items : List Item} (c : Control) (rest : List Item) → SplitsAt item rest items →
+    TestsFit rest → ResidualOf w stood i item c → Residual w stood i items (seq c rest)
 seq_left Nil rest stands fit of = rest_left rest stands fit
 seq_left (Wait s) rest stands fit of = busy_left (Wait s) rest refl stands fit of
 seq_left (Test s) rest stands fit of = busy_left (Test s) rest refl stands fit of
@@ -189,7 +189,7 @@ seq_left (Par s stood branches) rest stands fit of = busy_left (Par s stood bran
 seq_left (Guard s phase stood c) rest stands fit of = busy_left (Guard s phase stood c) rest refl stands fit of
 seq_left (Run s callee phase stood c) rest stands fit of = busy_left (Run s callee phase stood c) rest refl stands fit of
 
-pub seq_is_left : SeqIsLeft
+pub seq_is_left : SeqIsResidual
 seq_is_left w stood i item rest items c stands fit of = seq_left c rest stands fit of
 
 -- ---- steps
@@ -204,13 +204,13 @@ unchecked e = absurd cc
 
 mutual
   keeps : {w : Setting} {stood : Bool} {i : ℕ} {items : List Item} {c : Control} {d : Bool} {a : Action} {c' : Control} →
-      Left w stood i items c → Moves w i c d a c' → Left w stood i items c'
+      Residual w stood i items c → Moves w i c d a c' → Residual w stood i items c'
   keeps nothing move = elim move [ ]
   keeps (of_last stands of) move = of_last stands (keeps_of of move)
   keeps (of_one {next = other} {rest} stands fit of busy) (in_seq {c' = c'} move) = seq_left c' (other ∷ rest) stands fit (keeps_of of move)
 
   keeps_of : {w : Setting} {stood : Bool} {i : ℕ} {item : Item} {c : Control} {d : Bool} {a : Action} {c' : Control} →
-      LeftOf w stood i item c → Moves w i c d a c' → LeftOf w stood i item c'
+      ResidualOf w stood i item c → Moves w i c d a c' → ResidualOf w stood i item c'
   keeps_of to_begin (acts e) = ended
   keeps_of to_begin (takes_arm {s = s} {arm} e) = of_arm e (block_left s s.passed (out-Arm arm).body)
   keeps_of to_begin (passes_arm e) = of_further e to_begin
@@ -249,23 +249,23 @@ mutual
 
   keeps_each : {w : Setting} {stood : Bool} {i : ℕ} {s : Located} {k : ℕ} {written : List Branch} {branches : Branches} {d : Bool} {a : Action}
       {branches' : Branches} →
-      LeftEach w stood i s k written branches → OneMoves w i branches d a branches' → LeftEach w stood i s k written branches'
+      ResidualEach w stood i s k written branches → OneMoves w i branches d a branches' → ResidualEach w stood i s k written branches'
   keeps_each no_branch_left move = elim move [ ]
   keeps_each (one_branch_left left each) (first move free) = one_branch_left (keeps left move) each
   keeps_each (one_branch_left left each) (later move free) = one_branch_left left (keeps_each each move)
 
-pub moves_keep_left : MovesKeepLeft
+pub moves_keep_left : StepsKeepResidual
 moves_keep_left w stood i items d a c c' move left = keeps left move
 
 -- ---- waking
 
 mutual
-  wakes : {w : Setting} {stood : Bool} {i : ℕ} {items : List Item} {c : Control} → Left w stood i items c → Left w true i items (woken c)
+  wakes : {w : Setting} {stood : Bool} {i : ℕ} {items : List Item} {c : Control} → Residual w stood i items c → Residual w true i items (woken c)
   wakes nothing = nothing
   wakes (of_last stands of) = of_last stands (wakes_of of)
   wakes (of_one {next = other} {rest} {c = c} stands fit of busy) = seq_left (woken c) (other ∷ rest) stands fit (wakes_of of)
 
-  wakes_of : {w : Setting} {stood : Bool} {i : ℕ} {item : Item} {c : Control} → LeftOf w stood i item c → LeftOf w true i item (woken c)
+  wakes_of : {w : Setting} {stood : Bool} {i : ℕ} {item : Item} {c : Control} → ResidualOf w stood i item c → ResidualOf w true i item (woken c)
   wakes_of to_begin = to_begin
   wakes_of (to_turn e) = to_turn e
   wakes_of ended = ended
@@ -283,11 +283,11 @@ mutual
   wakes_of (of_run e at is around check left) = of_run e at is (λ t. refl) (λ t. refl) (wakes left)
 
   wakes_each : {w : Setting} {stood : Bool} {i : ℕ} {s : Located} {k : ℕ} {written : List Branch} {branches : Branches} →
-      LeftEach w stood i s k written branches → LeftEach w true i s k written (all_woken branches)
+      ResidualEach w stood i s k written branches → ResidualEach w true i s k written (all_woken branches)
   wakes_each no_branch_left = no_branch_left
   wakes_each (one_branch_left left each) = one_branch_left (wakes left) (wakes_each each)
 
-pub waking_keeps_left : WakingKeepsLeft
+pub waking_keeps_left : WakingKeepsResidual
 waking_keeps_left w stood i items c left = wakes left
 
 -- ---- runs
@@ -299,11 +299,11 @@ entry_fits w = go (unit_at w 0)
     go None = no_item
     go (Some unit) = blocks_fit [] 0 unit.body
 
-tree_wakes : {w : Setting} {c : Control} → LeftTree w c → Left w true 0 (entry_items w) (woken c)
+tree_wakes : {w : Setting} {c : Control} → ResidualTree w c → Residual w true 0 (entry_items w) (woken c)
 tree_wakes {w} not_begun = all_left (entry_items w) (entry_fits w)
 tree_wakes (has_begun left) = wakes left
 
-pub woken_tree_is_left : WokenTreeIsLeft
+pub woken_tree_is_left : WokenTreeIsResidual
 woken_tree_is_left w c left = tree_wakes left
 
 tree_same : (c c' : Control) (store store' : Store) → Rests c store ≡ Rests c' store' → c ≡ c'
@@ -311,18 +311,18 @@ tree_same c c' store store' e = cc
 
 steps_keep : {w : Setting} {stood : Bool} {items : List Item} {c : Control} {store : Store} {actions : List Action} {c' : Control}
     {store' : Store} {end : End} →
-    Steps w c store actions end → end ≡ Rests c' store' → Left w stood 0 items c → Left w stood 0 items c'
+    Steps w c store actions end → end ≡ Rests c' store' → Residual w stood 0 items c → Residual w stood 0 items c'
 steps_keep {w} {stood} {items = items} {c' = c'} {store' = store'} (none {c} {store}) e left =
-    subst (Left w stood 0 items) (tree_same c c' store store' e) left
+    subst (Residual w stood 0 items) (tree_same c c' store store' e) left
 steps_keep (traps t) e left = absurd cc
 steps_keep (step s rest) e left = steps_keep rest e (keeps left s.moves)
 
-reached : {w : Setting} {rows : List (List ℤ)} {c : Control} {store : Store} → Reaches w rows c store → LeftTree w c
+reached : {w : Setting} {rows : List (List ℤ)} {c : Control} {store : Store} → Reaches w rows c store → ResidualTree w c
 reached at_first = not_begun
 reached (after_tick before tick waiting is) = has_begun (steps_keep tick.maximal.steps refl (tree_wakes (reached before)))
 
-pub reached_is_left : ReachedIsLeft
+pub reached_is_left : ReachedIsResidual
 reached_is_left w rows c store r = reached r
 
-pub reached_inside_is_left : ReachedInsideIsLeft
+pub reached_inside_is_left : ReachedInsideIsResidual
 reached_inside_is_left w rows row actions c store r = steps_keep r.steps refl (tree_wakes (reached r.before))

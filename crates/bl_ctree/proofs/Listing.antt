@@ -59,7 +59,7 @@ use Rattle.bl_ctree.specs.Instances.{Setting, callee_of, unit_at}
 use Rattle.bl_ctree.specs.Laws.{PointsAct, PointsMove, MovesAreListed, StepsAreListed, StillIsUnlisted, Listed, can_answer}
 use Rattle.bl_ctree.specs.Pending.{meets, any_meets}
 use Rattle.bl_ctree.specs.Points.{
-  Among,
+  IsMember,
   here,
   there,
   Point,
@@ -130,7 +130,7 @@ use Rattle.bl_ctree.proofs.Elements.{among-map, of-map, among-left, among-right,
 -- the one point of `sure` moves where its answer true does
 of_sure : {w : Setting} {i : ℕ} {c : Control} (s : Located) (effect : Effect) (after : Control) →
     ((d : Bool) → can_answer effect d ≡ d) → Moves w i c true (action i s effect) after →
-    (p : Point Control) → Among (Point Control) p (sure i s effect after) → (d : Bool) → can_answer p.action.effect d ≡ true →
+    (p : Point Control) → IsMember (Point Control) p (sure i s effect after) → (d : Bool) → can_answer p.action.effect d ≡ true →
     Moves w i c d p.action (p.after d)
 of_sure s effect after one move p here true h = move
 of_sure s effect after one move p here false h = absurd (let e = one false in cc)
@@ -138,7 +138,7 @@ of_sure s effect after one move p (there m) d h = elim m [ ]
 
 of_asking : {w : Setting} {i : ℕ} {c : Control} (s : Located) (effect : Effect) (yes' no' : Control) →
     Moves w i c true (action i s effect) yes' → Moves w i c false (action i s effect) no' →
-    (p : Point Control) → Among (Point Control) p (asking i s effect yes' no') → (d : Bool) → Moves w i c d p.action (p.after d)
+    (p : Point Control) → IsMember (Point Control) p (asking i s effect yes' no') → (d : Bool) → Moves w i c d p.action (p.after d)
 of_asking s effect yes' no' if_true if_false p here true = if_true
 of_asking s effect yes' no' if_true if_false p here false = if_false
 of_asking s effect yes' no' if_true if_false p (there m) d = elim m [ ]
@@ -146,7 +146,7 @@ of_asking s effect yes' no' if_true if_false p (there m) d = elim m [ ]
 -- a point that is listed moves
 abbrev Sound : Setting → ℕ → Control → List (Point Control) → Type 0
 Sound w i c listed =
-    (p : Point Control) → Among (Point Control) p listed → (d : Bool) → can_answer p.action.effect d ≡ true → Moves w i c d p.action (p.after d)
+    (p : Point Control) → IsMember (Point Control) p listed → (d : Bool) → can_answer p.action.effect d ≡ true → Moves w i c d p.action (p.after d)
 
 nothing_sound : (w : Setting) (i : ℕ) (c : Control) → Sound w i c []
 nothing_sound w i c p m d h = elim m [ ]
@@ -256,7 +256,7 @@ sound_joining w i s stood branches = go (are_settled branches) (are_done branche
 -- the same of branches
 abbrev OneSound : Setting → ℕ → Branches → List (Point Branches) → Type 0
 OneSound w i branches listed =
-    (p : Point Branches) → Among (Point Branches) p listed → (d : Bool) → can_answer p.action.effect d ≡ true →
+    (p : Point Branches) → IsMember (Point Branches) p listed → (d : Bool) → can_answer p.action.effect d ≡ true →
     OneMoves w i branches d p.action (p.after d)
 
 sound_par : (w : Setting) (i : ℕ) (s : Located) (stood : Bool) (branches : Branches) (listed : List (Point Branches)) → OneSound w i branches listed →
@@ -285,7 +285,7 @@ sound_later w i weak c others listed inner p m d h =
 either_sound : {w : Setting} {i : ℕ} {c : Control} (xs ys : List (Point Control)) → Sound w i c xs → Sound w i c ys → Sound w i c (xs ++ ys)
 either_sound {w} {i} {c} xs ys left right p m d h = go (of-append xs m)
   where
-    go : Among (Point Control) p xs ⊎ Among (Point Control) p ys → Moves w i c d p.action (p.after d)
+    go : IsMember (Point Control) p xs ⊎ IsMember (Point Control) p ys → Moves w i c d p.action (p.after d)
     go (inl n) = left p n d h
     go (inr n) = right p n d h
 
@@ -293,7 +293,7 @@ one_either_sound : {w : Setting} {i : ℕ} {c : Branches} (xs ys : List (Point B
     OneSound w i c (xs ++ ys)
 one_either_sound {w} {i} {c} xs ys left right p m d h = go (of-append xs m)
   where
-    go : Among (Point Branches) p xs ⊎ Among (Point Branches) p ys → OneMoves w i c d p.action (p.after d)
+    go : IsMember (Point Branches) p xs ⊎ IsMember (Point Branches) p ys → OneMoves w i c d p.action (p.after d)
     go (inl n) = left p n d h
     go (inr n) = right p n d h
 
@@ -522,7 +522,7 @@ steps_are_listed w c store a c' store' = (
   },
 )
 
-acting : (w : Setting) (c : Control) (store : Store) (a : Action) (p : Point Control) → Among (Point Control) p (points w 0 c) → p.action ≡ a →
+acting : (w : Setting) (c : Control) (store : Store) (a : Action) (p : Point Control) → IsMember (Point Control) p (points w 0 c) → p.action ≡ a →
     (performed : Option Performed) → perform w a store ≡ performed → Acting w c store a
 acting w c store a p m same None e =
     fails (record { answer = true; after = p.after true; moves = moved same refl (sound w 0 c p m true (can_true p.action.effect)); fails = e })
@@ -542,13 +542,13 @@ points_act w c store d a c' move = let l = complete move in acting w c store a l
 none_listed : (w : Setting) (c : Control) → IsStill w c → (all : List (Point Control)) → points w 0 c ≡ all → all ≡ []
 none_listed w c still [] e = refl
 none_listed w c still (p ∷ all) e =
-    absurd (still true p.action (p.after true) (sound w 0 c p (subst (Among (Point Control) p) (sym e) here) true (can_true p.action.effect)))
+    absurd (still true p.action (p.after true) (sound w 0 c p (subst (IsMember (Point Control) p) (sym e) here) true (can_true p.action.effect)))
 
-no_element : {A : Type 0} {x : A} → Among A x [] → ⊥
+no_element : {A : Type 0} {x : A} → IsMember A x [] → ⊥
 no_element m = elim m [ ]
 
 pub still_is_unlisted : StillIsUnlisted
 still_is_unlisted w c = (
   λ still. none_listed w c still (points w 0 c) refl,
-  λ e d a c' move. let l = complete move in no_element (subst (Among (Point Control) l.point) e l.among),
+  λ e d a c' move. let l = complete move in no_element (subst (IsMember (Point Control) l.point) e l.among),
 )

@@ -63,7 +63,7 @@ use Rattle.bl_ctree.specs.Instances.{Setting, callee_of, unit_at}
 use Rattle.bl_ctree.specs.Laws.{InOrder, no_point, comes_first, PointsInOrder}
 use Rattle.bl_ctree.specs.Pending.{meets, any_meets}
 use Rattle.bl_ctree.specs.Points.{
-  Among,
+  IsMember,
   here,
   there,
   Point,
@@ -104,7 +104,7 @@ order_map f keeps (x ∷ xs) (comes_first before rest) =
     comes_first (λ q m. let image = of-map f xs m in subst (λ q. Precede (f x) q) image.is (keeps x image.source (before image.source image.among)))
     (order_map f keeps xs rest)
 
-order_cond : {A : Type 0} (b : Bool) (x : Point A) (ys : List (Point A)) → ((q : Point A) → Among (Point A) q ys → Precede x q) →
+order_cond : {A : Type 0} (b : Bool) (x : Point A) (ys : List (Point A)) → ((q : Point A) → IsMember (Point A) q ys → Precede x q) →
     InOrder A ys → InOrder A (cond b (x ∷ ys) ys)
 order_cond true x ys before rest = comes_first before rest
 order_cond false x ys before rest = rest
@@ -114,14 +114,14 @@ order_filter test [] no_point = no_point
 order_filter test (x ∷ xs) (comes_first before rest) =
     order_cond (test x) x (filter test xs) (λ q m. before q (of-filter test xs m).among) (order_filter test xs rest)
 
-before_both : {A : Type 0} (x : Point A) {xs ys : List (Point A)} → ((q : Point A) → Among (Point A) q xs → Precede x q) →
-    ((q : Point A) → Among (Point A) q ys → Precede x q) →
-    (q : Point A) → Among (Point A) q xs ⊎ Among (Point A) q ys → Precede x q
+before_both : {A : Type 0} (x : Point A) {xs ys : List (Point A)} → ((q : Point A) → IsMember (Point A) q xs → Precede x q) →
+    ((q : Point A) → IsMember (Point A) q ys → Precede x q) →
+    (q : Point A) → IsMember (Point A) q xs ⊎ IsMember (Point A) q ys → Precede x q
 before_both x left right q (inl m) = left q m
 before_both x left right q (inr m) = right q m
 
 order_append : {A : Type 0} (xs ys : List (Point A)) → InOrder A xs → InOrder A ys →
-    ((p q : Point A) → Among (Point A) p xs → Among (Point A) q ys → Precede p q) → InOrder A (xs ++ ys)
+    ((p q : Point A) → IsMember (Point A) p xs → IsMember (Point A) q ys → Precede p q) → InOrder A (xs ++ ys)
 order_append [] ys no_point second across = second
 order_append (x ∷ xs) ys (comes_first before rest) second across =
     comes_first (λ q m. before_both x before (λ q n. across x q here n) q (of-append xs m))
@@ -225,31 +225,31 @@ order_if true xs ys first second = first
 order_if false xs ys first second = second
 
 -- a join has no branch above it
-pub join_path : (i : ℕ) (s : Located) (b : Bool) (p : Point Control) → Among (Point Control) p (if b then sure i s Silent Nil else []) → p.path ≡ []
+pub join_path : (i : ℕ) (s : Located) (b : Bool) (p : Point Control) → IsMember (Point Control) p (if b then sure i s Silent Nil else []) → p.path ≡ []
 join_path i s true p here = refl
 join_path i s true p (there m) = elim m [ ]
 join_path i s false p m = elim m [ ]
 
 -- a point in a branch has that branch above it
 led_first : (around : Control → Branches) (xs : List (Point Control)) (q : Point Branches) →
-    Among (Point Branches) q (map (in_first around) xs) → fields_precede [] q.path ≡ true
+    IsMember (Point Branches) q (map (in_first around) xs) → fields_precede [] q.path ≡ true
 led_first around xs q m = let image = of-map (in_first around) xs m in subst (λ q. fields_precede [] q.path ≡ true) image.is refl
 
 led_later : (around : Branches → Branches) (xs : List (Point Branches)) →
-    ((q : Point Branches) → Among (Point Branches) q xs → fields_precede [] q.path ≡ true) →
-    (q : Point Branches) → Among (Point Branches) q (map (in_later around) xs) → fields_precede [] q.path ≡ true
+    ((q : Point Branches) → IsMember (Point Branches) q xs → fields_precede [] q.path ≡ true) →
+    (q : Point Branches) → IsMember (Point Branches) q (map (in_later around) xs) → fields_precede [] q.path ≡ true
 led_later around xs led q m =
     let image = of-map (in_later around) xs m in
     subst (λ q. fields_precede [] q.path ≡ true) image.is (later_longer image.source.path (led image.source image.among))
 
 led_either : {xs ys : List (Point Branches)} {q : Point Branches} →
-    ((q : Point Branches) → Among (Point Branches) q xs → fields_precede [] q.path ≡ true) →
-    ((q : Point Branches) → Among (Point Branches) q ys → fields_precede [] q.path ≡ true) →
-    Among (Point Branches) q xs ⊎ Among (Point Branches) q ys → fields_precede [] q.path ≡ true
+    ((q : Point Branches) → IsMember (Point Branches) q xs → fields_precede [] q.path ≡ true) →
+    ((q : Point Branches) → IsMember (Point Branches) q ys → fields_precede [] q.path ≡ true) →
+    IsMember (Point Branches) q xs ⊎ IsMember (Point Branches) q ys → fields_precede [] q.path ≡ true
 led_either {q = q} left right (inl m) = left q m
 led_either {q = q} left right (inr m) = right q m
 
-led : (w : Setting) (i : ℕ) (branches : Branches) (q : Point Branches) → Among (Point Branches) q (branch_points w i branches) →
+led : (w : Setting) (i : ℕ) (branches : Branches) (q : Point Branches) → IsMember (Point Branches) q (branch_points w i branches) →
     fields_precede [] q.path ≡ true
 led w i no_branch q m = elim m [ ]
 led w i (branch weak c others) q m =
@@ -259,17 +259,17 @@ led w i (branch weak c others) q m =
     (of-append (map (in_first (λ c. branch weak c others)) (free_of (any_meets w i others) (points w i c))) m)
 
 join_before : (i : ℕ) (s : Located) (stood b : Bool) (xs : List (Point Branches)) →
-    ((q : Point Branches) → Among (Point Branches) q xs → fields_precede [] q.path ≡ true) →
-    (p q : Point Control) → Among (Point Control) p (if b then sure i s Silent Nil else []) →
-    Among (Point Control) q (map (within (Par s stood)) xs) → Precede p q
+    ((q : Point Branches) → IsMember (Point Branches) q xs → fields_precede [] q.path ≡ true) →
+    (p q : Point Control) → IsMember (Point Control) p (if b then sure i s Silent Nil else []) →
+    IsMember (Point Control) q (map (within (Par s stood)) xs) → Precede p q
 join_before i s stood b xs led p q m n =
     let image = of-map (within (Par s stood)) xs n in
     subst (λ path. fields_precede path q.path ≡ true) (sym (join_path i s b p m))
     (subst (λ q. fields_precede [] q.path ≡ true) image.is (led image.source image.among))
 
 first_then_later : (around : Control → Branches) (beside : Branches → Branches) (xs : List (Point Control)) (ys : List (Point Branches)) →
-    ((q : Point Branches) → Among (Point Branches) q ys → fields_precede [] q.path ≡ true) →
-    (p q : Point Branches) → Among (Point Branches) p (map (in_first around) xs) → Among (Point Branches) q (map (in_later beside) ys) → Precede p q
+    ((q : Point Branches) → IsMember (Point Branches) q ys → fields_precede [] q.path ≡ true) →
+    (p q : Point Branches) → IsMember (Point Branches) p (map (in_first around) xs) → IsMember (Point Branches) q (map (in_later beside) ys) → Precede p q
 first_then_later around beside xs ys led p q m n =
     let left = of-map (in_first around) xs m in
     let right = of-map (in_later beside) ys n in

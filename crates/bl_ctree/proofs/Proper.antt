@@ -9,10 +9,10 @@ use Rattle.bl_tree.specs.declared.tree.StmtKind.TheOpen.{StmtKind-F}
 use Rattle.bl_tree.specs.declared.tree.Unit.{Unit as UnitDef}
 use Rattle.bl_ctree.specs.Control.{Control, Branches, Nil, Wait, Test, Do, Turn, Seq, Par, Guard, Run, no_branch, branch, Phase, is_nil}
 use Rattle.bl_ctree.specs.Instances.{Setting, callee_of, unit_at}
-use Rattle.bl_ctree.specs.Left.{
-  Left,
-  LeftEach,
-  LeftOf,
+use Rattle.bl_ctree.specs.Residual.{
+  Residual,
+  ResidualEach,
+  ResidualOf,
   TestsFit,
   ended,
   no_branch_left,
@@ -65,12 +65,12 @@ mutual
         Proper w i c → BranchesProper w i written others → BranchesProper w i (b ∷ written) (branch (out-Branch b).weak c others)
 
 mutual
-  pub left_proper : {w : Setting} {stood : Bool} {i : ℕ} {items : List Item} {c : Control} → Left w stood i items c → Proper w i c
+  pub left_proper : {w : Setting} {stood : Bool} {i : ℕ} {items : List Item} {c : Control} → Residual w stood i items c → Proper w i c
   left_proper nothing = a_nil
   left_proper (of_last stands of) = of_proper of
   left_proper (of_one stands fit of busy) = a_seq busy refl (of_proper of) fit
 
-  of_proper : {w : Setting} {stood : Bool} {i : ℕ} {item : Item} {c : Control} → LeftOf w stood i item c → Proper w i c
+  of_proper : {w : Setting} {stood : Bool} {i : ℕ} {item : Item} {c : Control} → ResidualOf w stood i item c → Proper w i c
   of_proper to_begin = a_do
   of_proper (to_turn e) = a_turn e
   of_proper ended = a_nil
@@ -88,6 +88,6 @@ mutual
   of_proper (of_run e at is around check left) = a_run e at is (left_proper left)
 
   pub each_proper : {w : Setting} {stood : Bool} {i : ℕ} {s : Located} {k : ℕ} {written : List Branch} {branches : Branches} →
-      LeftEach w stood i s k written branches → BranchesProper w i written branches
+      ResidualEach w stood i s k written branches → BranchesProper w i written branches
   each_proper no_branch_left = no_more
   each_proper (one_branch_left left each) = a_branch (left_proper left) (each_proper each)

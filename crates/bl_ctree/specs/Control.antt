@@ -63,9 +63,9 @@ seq Nil rest = do_all rest
 seq c rest = followed c rest
 
 -- the branches of a `cobegin` as they begin, from the one with number k on
-abbrev pub begun : Located → ℕ → List Branch → Branches
-begun s k [] = no_branch
-begun s k (b ∷ rest) = branch (out-Branch b).weak (do_all (block_items s k (out-Branch b).body)) (begun s (suc k) rest)
+abbrev pub branches_begun : Located → ℕ → List Branch → Branches
+branches_begun s k [] = no_branch
+branches_begun s k (b ∷ rest) = branch (out-Branch b).weak (do_all (block_items s k (out-Branch b).body)) (branches_begun s (suc k) rest)
 
 -- ---- settled. What is due has only still to end: a Par whose branches are settled and done, a Guard or a Run in phase body over Nil
 

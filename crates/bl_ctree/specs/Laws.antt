@@ -5,9 +5,9 @@ use Rattle.bl_tree.specs.Static.{fields_precede}
 use Rattle.bl_ctree.specs.Actions.{Action, Effect, Silent, Acts, Asks, Copies, Gives, perform}
 use Rattle.bl_ctree.specs.Control.{Control, do_all, forget, is_settled, seq, woken}
 use Rattle.bl_ctree.specs.Instances.{Setting}
-use Rattle.bl_ctree.specs.Left.{Left, LeftOf, LeftTree, Stands, TestsFit}
+use Rattle.bl_ctree.specs.Residual.{Residual, ResidualOf, ResidualTree, SplitsAt, TestsFit}
 use Rattle.bl_ctree.specs.Means.{entry_items}
-use Rattle.bl_ctree.specs.Points.{Among, Point, points}
+use Rattle.bl_ctree.specs.Points.{IsMember, Point, points}
 use Rattle.bl_ctree.specs.Positions.{Item, Position, items_from}
 use Rattle.bl_ctree.specs.Reaches.{Reaches, ReachesInside}
 use Rattle.bl_ctree.specs.Steps.{Acting, IsStill, Moves, Step}
@@ -25,14 +25,14 @@ can_answer (Gives callee target) d = d
 -- a point among the listed ones with this action and this tree after it
 pub record Listed {A : Type 0} (all : List (Point A)) (d : Bool) (a : Action) (after : A) : Type 0 where
   pub point : Point A
-  pub among : Among (Point A) point all
+  pub among : IsMember (Point A) point all
   pub acts : point.action ≡ a
   pub leads : point.after d ≡ after
 
 -- every listed point may act, by each answer that its action can have
 abbrev pub PointsMove : Type 0
 PointsMove =
-    (w : Setting) (i : ℕ) (c : Control) (point : Point Control) → Among (Point Control) point (points w i c) →
+    (w : Setting) (i : ℕ) (c : Control) (point : Point Control) → IsMember (Point Control) point (points w i c) →
     (d : Bool) → can_answer point.action.effect d ≡ true → Moves w i c d point.action (point.after d)
 
 -- every point that may act is listed
@@ -40,7 +40,7 @@ abbrev pub MovesAreListed : Type 0
 MovesAreListed = (w : Setting) (i : ℕ) (c : Control) (d : Bool) (a : Action) (c' : Control) → Moves w i c d a c' → Listed (points w i c) d a c'
 
 -- a point of the whole tree whose action gives this store, by an answer that leads to this tree
-pub record Taken (w : Setting) (c : Control) (store : Store) (a : Action) (c' : Control) (store' : Store) : Type 0 where
+pub record StepTaken (w : Setting) (c : Control) (store : Store) (a : Action) (c' : Control) (store' : Store) : Type 0 where
   pub answer : Bool
   pub listed : Listed (points w 0 c) answer a c'
   pub performs : perform w a store ≡ Some (record { answer = answer; store = store' })
@@ -48,7 +48,7 @@ pub record Taken (w : Setting) (c : Control) (store : Store) (a : Action) (c' : 
 -- the steps of a tree are its listed points
 abbrev pub StepsAreListed : Type 0
 StepsAreListed =
-    (w : Setting) (c : Control) (store : Store) (a : Action) (c' : Control) (store' : Store) → Step w c store a c' store' ↔ Taken w c store a c' store'
+    (w : Setting) (c : Control) (store : Store) (a : Action) (c' : Control) (store' : Store) → Step w c store a c' store' ↔ StepTaken w c store a c' store'
 
 -- no point may act exactly where none is listed
 abbrev pub StillIsUnlisted : Type 0
@@ -64,7 +64,7 @@ SettledIsStill = (w : Setting) (i : ℕ) (c : Control) → is_settled c ≡ true
 pub data InOrder (A : Type 0) : List (Point A) → Type 0 where
   no_point : InOrder A []
   comes_first : {point : Point A} {rest : List (Point A)} →
-      ((other : Point A) → Among (Point A) other rest → fields_precede point.path other.path ≡ true) → InOrder A rest → InOrder A (point ∷ rest)
+      ((other : Point A) → IsMember (Point A) other rest → fields_precede point.path other.path ≡ true) → InOrder A rest → InOrder A (point ∷ rest)
 
 -- points are listed in order, each once
 abbrev pub PointsInOrder : Type 0
@@ -106,38 +106,38 @@ abbrev pub BlocksFit : Type 0
 BlocksFit = (position : Position) (k : ℕ) (body : List Stmt) → TestsFit (items_from position k body)
 
 -- what begins is left of its items
-abbrev pub ItemsBeginLeft : Type 0
-ItemsBeginLeft = (w : Setting) (stood : Bool) (i : ℕ) (items : List Item) → TestsFit items → Left w stood i items (do_all items)
+abbrev pub ItemsBeginResidual : Type 0
+ItemsBeginResidual = (w : Setting) (stood : Bool) (i : ℕ) (items : List Item) → TestsFit items → Residual w stood i items (do_all items)
 
 -- what is left of an item, before what follows the item, is left of the items
-abbrev pub SeqIsLeft : Type 0
-SeqIsLeft =
-    (w : Setting) (stood : Bool) (i : ℕ) (item : Item) (rest items : List Item) (c : Control) → Stands item rest items → TestsFit rest →
-    LeftOf w stood i item c → Left w stood i items (seq c rest)
+abbrev pub SeqIsResidual : Type 0
+SeqIsResidual =
+    (w : Setting) (stood : Bool) (i : ℕ) (item : Item) (rest items : List Item) (c : Control) → SplitsAt item rest items → TestsFit rest →
+    ResidualOf w stood i item c → Residual w stood i items (seq c rest)
 
 -- a step keeps what is left of items
-abbrev pub MovesKeepLeft : Type 0
-MovesKeepLeft =
+abbrev pub StepsKeepResidual : Type 0
+StepsKeepResidual =
     (w : Setting) (stood : Bool) (i : ℕ) (items : List Item) (d : Bool) (a : Action) (c c' : Control) → Moves w i c d a c' →
-    Left w stood i items c → Left w stood i items c'
+    Residual w stood i items c → Residual w stood i items c'
 
 -- waking keeps it, and then everything in it stood
-abbrev pub WakingKeepsLeft : Type 0
-WakingKeepsLeft = (w : Setting) (stood : Bool) (i : ℕ) (items : List Item) (c : Control) → Left w stood i items c → Left w true i items (woken c)
+abbrev pub WakingKeepsResidual : Type 0
+WakingKeepsResidual = (w : Setting) (stood : Bool) (i : ℕ) (items : List Item) (c : Control) → Residual w stood i items c → Residual w true i items (woken c)
 
 -- a whole tree that is woken is left of the entry's body, and everything in it stood
-abbrev pub WokenTreeIsLeft : Type 0
-WokenTreeIsLeft = (w : Setting) (c : Control) → LeftTree w c → Left w true 0 (entry_items w) (woken c)
+abbrev pub WokenTreeIsResidual : Type 0
+WokenTreeIsResidual = (w : Setting) (c : Control) → ResidualTree w c → Residual w true 0 (entry_items w) (woken c)
 
 -- between ticks runs reach only what is left of the entry's body
-abbrev pub ReachedIsLeft : Type 0
-ReachedIsLeft = (w : Setting) (rows : List (List ℤ)) (c : Control) (store : Store) → Reaches w rows c store → LeftTree w c
+abbrev pub ReachedIsResidual : Type 0
+ReachedIsResidual = (w : Setting) (rows : List (List ℤ)) (c : Control) (store : Store) → Reaches w rows c store → ResidualTree w c
 
 -- and inside ticks
-abbrev pub ReachedInsideIsLeft : Type 0
-ReachedInsideIsLeft =
+abbrev pub ReachedInsideIsResidual : Type 0
+ReachedInsideIsResidual =
     (w : Setting) (rows : List (List ℤ)) (row : List ℤ) (actions : List Action) (c : Control) (store : Store) →
-    ReachesInside w rows row actions (Rests c store) → Left w true 0 (entry_items w) c
+    ReachesInside w rows row actions (Rests c store) → Residual w true 0 (entry_items w) c
 
 -- ---- between ticks
 

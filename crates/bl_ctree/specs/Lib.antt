@@ -2,7 +2,7 @@ pub mod Actions
 pub mod Control
 pub mod Instances
 pub mod Laws
-pub mod Left
+pub mod Residual
 pub mod Means
 pub mod Measure
 pub mod Nodes

@@ -9,44 +9,44 @@ use Rattle.bl_ctree.specs.declared.instance.Instance.{Instance}
 use Rattle.bl_ctree.specs.Instances.{Setting, setting_of, unit_of}
 
 -- a statement of this kind and those that stand in it, where the numbers of its parts are given
-abbrev pub kind_statements : StmtKind-F ℕ ℕ ℕ ℕ → ℕ
-kind_statements (StmtKind-F.Declare k initial) = 1
-kind_statements (StmtKind-F.Assign path e) = 1
-kind_statements (StmtKind-F.Call f inputs outputs) = 1
-kind_statements (StmtKind-F.Await e) = 1
-kind_statements (StmtKind-F.Run target a inputs outputs) = 1
-kind_statements (StmtKind-F.If arms other) = 1 + (length arms - 1) + total arms + total other
-kind_statements (StmtKind-F.Cobegin branches) = 1 + total branches
-kind_statements (StmtKind-F.When guard e body) = 1 + total body
-kind_statements (StmtKind-F.Repeat body) = 1 + total body
-kind_statements (StmtKind-F.Until body e) = 1 + total body
-kind_statements (StmtKind-F.While e body) = 1 + total body
-kind_statements (StmtKind-F.Return e) = 1
+abbrev pub kind_step_statements : StmtKind-F ℕ ℕ ℕ ℕ → ℕ
+kind_step_statements (StmtKind-F.Declare k initial) = 1
+kind_step_statements (StmtKind-F.Assign path e) = 1
+kind_step_statements (StmtKind-F.Call f inputs outputs) = 1
+kind_step_statements (StmtKind-F.Await e) = 1
+kind_step_statements (StmtKind-F.Run target a inputs outputs) = 1
+kind_step_statements (StmtKind-F.If arms other) = 1 + (length arms - 1) + total arms + total other
+kind_step_statements (StmtKind-F.Cobegin branches) = 1 + total branches
+kind_step_statements (StmtKind-F.When guard e body) = 1 + total body
+kind_step_statements (StmtKind-F.Repeat body) = 1 + total body
+kind_step_statements (StmtKind-F.Until body e) = 1 + total body
+kind_step_statements (StmtKind-F.While e body) = 1 + total body
+kind_step_statements (StmtKind-F.Return e) = 1
 
 -- the statements in an arm, where the number of each is given
-abbrev pub arm_statements : Arm-F ℕ ℕ ℕ ℕ → ℕ
-arm_statements arm = total arm.body
+abbrev pub arm_step_statements : Arm-F ℕ ℕ ℕ ℕ → ℕ
+arm_step_statements arm = total arm.body
 
 -- the statements in a branch, where the number of each is given
-abbrev pub branch_statements : Branch-F ℕ ℕ ℕ ℕ → ℕ
-branch_statements branch = total branch.body
+abbrev pub branch_step_statements : Branch-F ℕ ℕ ℕ ℕ → ℕ
+branch_step_statements branch = total branch.body
 
 -- those of a statement, where the number for its kind is given
-abbrev pub stmt_layer_statements : Stmt-F ℕ ℕ ℕ ℕ → ℕ
-stmt_layer_statements s = s.what
+abbrev pub layer_step_statements : Stmt-F ℕ ℕ ℕ ℕ → ℕ
+layer_step_statements s = s.what
 
 -- a statement and those that stand in it; each `elseif` counts as one
-abbrev pub statements_in : Stmt → ℕ
-statements_in = fold-Stmt ℕ ℕ ℕ ℕ kind_statements arm_statements branch_statements stmt_layer_statements
+abbrev pub step_statements_in : Stmt → ℕ
+step_statements_in = fold-Stmt ℕ ℕ ℕ ℕ kind_step_statements arm_step_statements branch_step_statements layer_step_statements
 
 -- the statements of a unit, those inside others too
-abbrev pub statements_of : UnitDef → ℕ
-statements_of unit = total (map statements_in unit.body)
+abbrev pub step_statements_of : UnitDef → ℕ
+step_statements_of unit = total (map step_statements_in unit.body)
 
 -- an instance is passed at most once for itself and once for each of its callers. A statement has at most four nodes, of which
 -- in a pass each acts at most once, and the resume of a `run` at most twice: so six for each statement is enough
 abbrev pub instance_steps : Setting → Instance → ℕ
-instance_steps w instance = 6 * (instance.depth + 1) * unwrap_or (option_map statements_of (unit_of w instance)) 0
+instance_steps w instance = 6 * (instance.depth + 1) * unwrap_or (option_map step_statements_of (unit_of w instance)) 0
 
 -- the most steps of a tick
 abbrev pub steps : List StructDef → List UnitDef → ℕ → ℕ

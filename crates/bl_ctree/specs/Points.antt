@@ -48,7 +48,7 @@ use Rattle.bl_ctree.specs.Control.{
   Body,
   do_all,
   seq,
-  begun,
+  branches_begun,
   are_settled,
   are_done,
   is_nil,
@@ -115,7 +115,7 @@ begins w i s (StmtKind-F.Run target a inputs outputs) =
     or_nothing (option_and_then (λ callee. option_map (run_begins w i s (Copies callee inputs) callee) (unit_at w callee)) (callee_of w i (place_of s)))
 begins w i s (StmtKind-F.If [] other) = []
 begins w i s (StmtKind-F.If (arm ∷ arms) other) = asking i s (Asks (out-Arm arm).test) (do_all (arm_items s arm)) (passing s arms other)
-begins w i s (StmtKind-F.Cobegin branches) = sure i s Silent (Par s false (begun s 0 branches))
+begins w i s (StmtKind-F.Cobegin branches) = sure i s Silent (Par s false (branches_begun s 0 branches))
 begins w i s (StmtKind-F.When guard e body) = sure i s Silent (Guard s Body false (do_all (block_items s 0 body)))
 begins w i s (StmtKind-F.Repeat body) = sure i s Silent (do_all (turn_items s body (Begin s)))
 begins w i s (StmtKind-F.Until body e) = sure i s Silent (do_all (turn_items s body (Again s)))
@@ -195,6 +195,6 @@ abbrev mutual
       ++ map (in_later (branch weak c)) (free_of (meets w i c) (branch_points w i others))
 
 -- an element of a list
-pub data Among (A : Type 0) (x : A) : List A → Type 0 where
-  here : {xs : List A} → Among A x (x ∷ xs)
-  there : {y : A} {xs : List A} → Among A x xs → Among A x (y ∷ xs)
+pub data IsMember (A : Type 0) (x : A) : List A → Type 0 where
+  here : {xs : List A} → IsMember A x (x ∷ xs)
+  there : {y : A} {xs : List A} → IsMember A x xs → IsMember A x (y ∷ xs)

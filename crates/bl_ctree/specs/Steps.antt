@@ -27,7 +27,7 @@ use Rattle.bl_ctree.specs.Control.{
   Body,
   do_all,
   seq,
-  begun,
+  branches_begun,
   are_settled,
   are_done,
 }
@@ -94,7 +94,7 @@ mutual
         kind_of s ≡ StmtKind-F.While e body → Moves w i (Do s) false (action i s (Asks e)) Nil
     -- all branches of a `cobegin` begin
     forks : {i : ℕ} {s : Located} {branches : List Branch} →
-        kind_of s ≡ StmtKind-F.Cobegin branches → Moves w i (Do s) true (action i s Silent) (Par s false (begun s 0 branches))
+        kind_of s ≡ StmtKind-F.Cobegin branches → Moves w i (Do s) true (action i s Silent) (Par s false (branches_begun s 0 branches))
     -- the body of a `when` begins, without a test
     guards : {i : ℕ} {s : Located} {guard : GuardKind} {e : Expr} {body : List Stmt} →
         kind_of s ≡ StmtKind-F.When guard e body → Moves w i (Do s) true (action i s Silent) (Guard s Body false (do_all (block_items s 0 body)))

@@ -1,8 +1,8 @@
 //! Laws of control trees. None of these functions does anything: the contract is the law.
 
-ghost use Rattle.bl_ctree.specs.Laws.{BlocksFit, FrontsAreSteps, ItemsBeginLeft, MaximalIsSteps, MovesAreListed, MovesKeepLeft, PointsAct};
-ghost use Rattle.bl_ctree.specs.Laws.{PointsInOrder, PointsMove, ReachedInsideIsLeft, ReachedIsLeft, SeqIsLeft, SettledIsStill, StepsAreListed};
-ghost use Rattle.bl_ctree.specs.Laws.{StepsFollow, StillIsUnlisted, WakingForgets, WakingKeepsLeft, WokenTreeIsLeft};
+ghost use Rattle.bl_ctree.specs.Laws.{BlocksFit, FrontsAreSteps, ItemsBeginResidual, MaximalIsSteps, MovesAreListed, PointsAct, StepsKeepResidual};
+ghost use Rattle.bl_ctree.specs.Laws.{PointsInOrder, PointsMove, ReachedInsideIsResidual, ReachedIsResidual, SeqIsResidual, SettledIsStill, StepsAreListed};
+ghost use Rattle.bl_ctree.specs.Laws.{StepsFollow, StillIsUnlisted, WakingForgets, WakingKeepsResidual, WokenTreeIsResidual};
 
 /// The listed points of a tree are its steps: each may act, and no other.
 pub fn points_are_steps()
@@ -34,13 +34,13 @@ pub fn lists_of_steps()
 /// entry's body.
 pub fn trees_stay_left()
     ensures blocks { BlocksFit }
-    ensures items { ItemsBeginLeft }
-    ensures seq { SeqIsLeft }
-    ensures steps { MovesKeepLeft }
-    ensures waking { WakingKeepsLeft }
-    ensures whole { WokenTreeIsLeft }
-    ensures reached { ReachedIsLeft }
-    ensures inside { ReachedInsideIsLeft }
+    ensures items { ItemsBeginResidual }
+    ensures seq { SeqIsResidual }
+    ensures steps { StepsKeepResidual }
+    ensures waking { WakingKeepsResidual }
+    ensures whole { WokenTreeIsResidual }
+    ensures reached { ReachedIsResidual }
+    ensures inside { ReachedInsideIsResidual }
 {}
 
 /// What stood in the tree when the last tick began doesn't tell in the next one.

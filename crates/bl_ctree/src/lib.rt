@@ -4,7 +4,7 @@
 //! `Bounded` and `NeverStuck`), and `bl_rules_laws` shows both of every accepted text.
 //!
 //! Laws: the listed points of a tree are exactly its steps, in source order and each once; nothing may act in a settled
-//! tree; runs reach only what steps and waking leave of the entry's body (`specs/Left.antt`, `specs/Laws.antt`). The
+//! tree; runs reach only what steps and waking leave of the entry's body (`specs/Residual.antt`, `specs/Laws.antt`). The
 //! functions on trees of the code give what their definitions say of the plain tree (`specs/Nodes.antt`, `control_of`).
 #![tactic(auto)]
 

@@ -7,11 +7,11 @@ use Rattle.bl_tree.specs.declared.tree.Stmt.{Stmt}
 use Rattle.bl_tree.specs.declared.tree.StmtKind.{StmtKind}
 use Rattle.bl_tree.specs.declared.tree.StmtKind.TheOpen.{StmtKind-F}
 use Rattle.bl_tree.specs.Instant.{instant}
-use Rattle.bl_nodes.specs.Laws.{plain_arm, plain_branch}
-use Rattle.bl_nodes.specs.Nodes.{are_instant, is_instant, some_instant, some_strong, strong_instant}
-use Rattle.bl_nodes.specs.Plain.{Label, Position, bodies_from, else_at, inside, label_at, passed_one, plain_block}
-use Rattle.bl_nodes.proofs.Instants.{blocks_are_instant, instant_is}
-use Rattle.bl_ctree.specs.Left.{TestsFit, no_item, a_begin, an_again}
+use Rattle.bl_graph_nodes.specs.Laws.{plain_arm, plain_branch}
+use Rattle.bl_graph_nodes.specs.Nodes.{are_instant, is_instant, some_instant, some_strong, strong_instant}
+use Rattle.bl_graph_nodes.specs.Plain.{Label, Position, bodies_from, else_at, inside, label_at, passed_one, plain_block}
+use Rattle.bl_graph_nodes.proofs.Instants.{blocks_are_instant, instant_is}
+use Rattle.bl_ctree.specs.Residual.{TestsFit, no_item, a_begin, an_again}
 use Rattle.bl_ctree.specs.Pending.{items_may_end}
 use Rattle.bl_ctree.specs.Positions.{Item, Located, kind_of, place_of}
 use Rattle.bl_ctree_laws.specs.Bridge.{again, label_of, plain_at, plain_items, plain_kind}

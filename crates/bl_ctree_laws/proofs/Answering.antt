@@ -12,13 +12,13 @@ use Rattle.bl_tree.specs.Effects.{target_static}
 use Rattle.bl_tree.specs.Instant.{instant}
 use Rattle.bl_tree.specs.Static.{static_of}
 use Rattle.bl_effects.specs.Surface.{surface_of}
-use Rattle.bl_nodes.specs.Laws.{plain_branch}
-use Rattle.bl_nodes.specs.Nodes.{are_instant, is_instant}
-use Rattle.bl_nodes.specs.Plain.{Plain, Await as AwaitOf, Cobegin as CobeginOf, Run as RunOf, Until, When as WhenOf, bodies_from, inside, plain_block}
+use Rattle.bl_graph_nodes.specs.Laws.{plain_branch}
+use Rattle.bl_graph_nodes.specs.Nodes.{are_instant, is_instant}
+use Rattle.bl_graph_nodes.specs.Plain.{Plain, Await as AwaitOf, Cobegin as CobeginOf, Run as RunOf, Until, When as WhenOf, bodies_from, inside, plain_block}
 use Rattle.bl_ctree.specs.Actions.{Action, reads_of}
 use Rattle.bl_ctree.specs.Control as control
 use Rattle.bl_ctree.specs.Instances.{Setting}
-use Rattle.bl_ctree.specs.Left.{TestsFit, no_item, a_begin, an_again}
+use Rattle.bl_ctree.specs.Residual.{TestsFit, no_item, a_begin, an_again}
 use Rattle.bl_ctree.specs.Pending as pending
 use Rattle.bl_ctree.specs.Positions.{Item, Begin, Again, Located, kind_of, place_of}
 use Rattle.bl_ctree.specs.Store.{Location, home, overlap}

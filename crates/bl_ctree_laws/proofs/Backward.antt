@@ -9,7 +9,7 @@ use Rattle.bl_tree.specs.declared.tree.Path.{Path}
 use Rattle.bl_tree.specs.declared.tree.Stmt.{Stmt}
 use Rattle.bl_tree.specs.declared.tree.StmtKind.{StmtKind}
 use Rattle.bl_tree.specs.declared.tree.StmtKind.TheOpen.{StmtKind-F}
-use Rattle.bl_nodes.specs.Steps.{StepLabel}
+use Rattle.bl_graph_nodes.specs.Steps.{StepLabel}
 use Rattle.bl_ctree.specs.Actions.{Action, action, Silent, Acts, Asks, Copies, Gives}
 use Rattle.bl_ctree.specs.Control as control
 use Rattle.bl_ctree.specs.Control.{Body, Check}
@@ -105,7 +105,7 @@ module _ {w : Setting} {i : ℕ} (s : Located) where
   begins (StmtKind-F.If (arm ∷ next ∷ arms) other) e h passes =
       found (action i s (Asks (out-Arm arm).test)) (control.Do (further s next arms other)) (located.passes_arm e) (sym (further_is s next arms other))
   begins (StmtKind-F.Cobegin branches) e arm forks =
-      found (action i s Silent) (control.Par s false (control.begun s 0 branches)) (located.forks e)
+      found (action i s Silent) (control.Par s false (control.branches_begun s 0 branches)) (located.forks e)
       (sym (par_begins s branches e))
   begins (StmtKind-F.When guard test body) e arm guards =
       found (action i s Silent) _ (located.guards e)

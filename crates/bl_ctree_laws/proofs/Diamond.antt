@@ -5,9 +5,9 @@ use Rattle.bl_tree.specs.declared.tree.Expr.{Expr}
 use Rattle.bl_tree.specs.declared.tree.Guard.TheVariants.{Abort, Reset}
 use Rattle.bl_tree.specs.declared.tree.Path.{Path}
 use Rattle.bl_tree.specs.declared.tree.Unit.{Unit as UnitDef}
-use Rattle.bl_nodes.specs.Plain.{Block, Done, Label, Run as RunOf, Then, plain_body}
-use Rattle.bl_nodes.specs.Nodes.{entry}
-use Rattle.bl_nodes.specs.Steps.{StepLabel, Inside, Here, run_node}
+use Rattle.bl_graph_nodes.specs.Plain.{Block, Done, Label, Run as RunOf, Then, plain_body}
+use Rattle.bl_graph_nodes.specs.Nodes.{entry}
+use Rattle.bl_graph_nodes.specs.Steps.{StepLabel, Inside, Here, run_node}
 use Rattle.bl_ctree.specs.Actions.{Copies}
 use Rattle.bl_ctree.specs.Control.{Body}
 use Rattle.bl_ctree.specs.Instances.{Setting, callee_of, unit_at}

@@ -32,7 +32,7 @@ use Rattle.bl_tree.specs.declared.tree.StmtKind.{StmtKind, fold-StmtKind, fold-r
 use Rattle.bl_tree.specs.declared.tree.StmtKind.TheOpen.{StmtKind-F}
 use Rattle.bl_tree.specs.declared.tree.Unit.{Unit as UnitDef}
 use Rattle.bl_tree.specs.Reduce.{all_of}
-use Rattle.bl_tree.specs.Typing.{Site, arm_fits, branch_fits, fits, is_activity, is_inhabited, is_truth, kind_fits, stmt_fits, type_of}
+use Rattle.bl_tree.specs.Typing.{TypingContext, arm_fits, branch_fits, fits, is_activity, is_inhabited, is_truth, kind_fits, stmt_fits, type_of}
 use Rattle.bl_ctree.specs.Actions.{Action}
 use Rattle.bl_ctree.specs.Control.{
   Control,
@@ -50,7 +50,7 @@ use Rattle.bl_ctree.specs.Control.{
   no_branch,
   branch,
   all_woken,
-  begun,
+  branches_begun,
   do_all,
   followed,
   seq,
@@ -103,34 +103,34 @@ use Rattle.bl_ctree_laws.proofs.Tests.{and_both, and_first, and_second}
 
 -- a statement may stand at some site
 record Fits (s : Stmt) : Type 0 where
-  site : Site
+  site : TypingContext
   is : fits site s ≡ true
 
-abbrev kind_typed : Site → StmtKind → Bool
+abbrev kind_typed : TypingContext → StmtKind → Bool
 kind_typed site = fold-StmtKind Bool Bool Bool Bool (kind_fits site) (arm_fits site) branch_fits stmt_fits
 
-abbrev arm_typed : Site → Arm → Bool
+abbrev arm_typed : TypingContext → Arm → Bool
 arm_typed site = fold-Arm Bool Bool Bool Bool (kind_fits site) (arm_fits site) branch_fits stmt_fits
 
-abbrev branch_typed : Site → Branch → Bool
+abbrev branch_typed : TypingContext → Branch → Bool
 branch_typed site = fold-Branch Bool Bool Bool Bool (kind_fits site) (arm_fits site) branch_fits stmt_fits
 
-abbrev parts : Site → StmtKind-F StmtKind Arm Branch Stmt → StmtKind-F Bool Bool Bool Bool
+abbrev parts : TypingContext → StmtKind-F StmtKind Arm Branch Stmt → StmtKind-F Bool Bool Bool Bool
 parts site = map-StmtKind StmtKind Arm Branch Stmt Bool Bool Bool Bool (kind_typed site) (arm_typed site) (branch_typed site) (fits site)
 
-fits_at : (site : Site) (s : Stmt) (layer : StmtKind-F StmtKind Arm Branch Stmt) → stmt_kind s ≡ layer → fits site s ≡ kind_fits site (parts site layer)
+fits_at : (site : TypingContext) (s : Stmt) (layer : StmtKind-F StmtKind Arm Branch Stmt) → stmt_kind s ≡ layer → fits site s ≡ kind_fits site (parts site layer)
 fits_at site s layer e =
     fold_out-Stmt Bool Bool Bool Bool (kind_fits site) (arm_fits site) branch_fits stmt_fits s
     ∙ fold_out-StmtKind Bool Bool Bool Bool (kind_fits site) (arm_fits site) branch_fits stmt_fits (out-Stmt s).what
     ∙ ap (λ layer. kind_fits site (parts site layer)) e
 
-arm_at : (site : Site) (arm : Arm) → arm_typed site arm ≡ (is_truth (type_of site (out-Arm arm).test) && all_of (map (fits site) (out-Arm arm).body))
+arm_at : (site : TypingContext) (arm : Arm) → arm_typed site arm ≡ (is_truth (type_of site (out-Arm arm).test) && all_of (map (fits site) (out-Arm arm).body))
 arm_at site arm = fold_out-Arm Bool Bool Bool Bool (kind_fits site) (arm_fits site) branch_fits stmt_fits arm
 
-branch_at : (site : Site) (b : Branch) → branch_typed site b ≡ all_of (map (fits site) (out-Branch b).body)
+branch_at : (site : TypingContext) (b : Branch) → branch_typed site b ≡ all_of (map (fits site) (out-Branch b).body)
 branch_at site b = fold_out-Branch Bool Bool Bool Bool (kind_fits site) (arm_fits site) branch_fits stmt_fits b
 
-abbrev Block : Site → List Stmt → Type 0
+abbrev Block : TypingContext → List Stmt → Type 0
 Block site body = all_of (map (fits site) body) ≡ true
 
 -- what is known of the parts
@@ -152,7 +152,7 @@ first_arm {arm = arm} {arms} {other} f e =
 else_of : {s : Stmt} {arms : List Arm} {other : List Stmt} (f : Fits s) → stmt_kind s ≡ StmtKind-F.If arms other → Block f.site other
 else_of {arms = arms} {other} f e = and_second (all_of (map (arm_typed f.site) arms)) (all_of (map (fits f.site) other)) (arms_of f e)
 
-made_fits : (site : Site) (place : Place) (arm : Arm) (arms : List Arm) (other : List Stmt) →
+made_fits : (site : TypingContext) (place : Place) (arm : Arm) (arms : List Arm) (other : List Stmt) →
     (all_of (map (arm_typed site) (arm ∷ arms)) && all_of (map (fits site) other)) ≡ true →
     fits site (roll-Stmt (record { place = place; what = roll-StmtKind (StmtKind-F.If (arm ∷ arms) other) })) ≡ true
 made_fits site place arm arms other e = rw (fold-roll-Stmt, fold-roll-StmtKind) e
@@ -172,7 +172,7 @@ guarded_body {e = e} {body} f is =
     and_second (is_truth (type_of f.site e)) (all_of (map (fits f.site) body))
     (and_second (is_activity f.site.kind) (is_truth (type_of f.site e) && all_of (map (fits f.site) body)) (known f is))
 
-arm_there : (site : Site) (layer : StmtKind-F StmtKind Arm Branch Stmt) → kind_fits site (parts site layer) ≡ true → has_arm layer ≡ true
+arm_there : (site : TypingContext) (layer : StmtKind-F StmtKind Arm Branch Stmt) → kind_fits site (parts site layer) ≡ true → has_arm layer ≡ true
 arm_there site (StmtKind-F.If [] other) e = absurd cc
 arm_there site (StmtKind-F.If (arm ∷ arms) other) e = refl
 arm_there site (StmtKind-F.Declare k initial) e = refl
@@ -230,7 +230,7 @@ mutual
 
 -- ---- what begins
 
-items_fit : (site : Site) (position : Position) (k : ℕ) (body : List Stmt) (after : List Item) → Block site body → FitsItems after →
+items_fit : (site : TypingContext) (position : Position) (k : ℕ) (body : List Stmt) (after : List Item) → Block site body → FitsItems after →
     FitsItems (items_from position k body ++ after)
 items_fit site position k [] after e f = f
 items_fit site position k (s ∷ rest) after e f = (
@@ -238,7 +238,7 @@ items_fit site position k (s ∷ rest) after e f = (
   items_fit site position (suc k) rest after (and_second (fits site s) (all_of (map (fits site) rest)) e) f,
 )
 
-block_fit : (site : Site) (position : Position) (k : ℕ) (body : List Stmt) → Block site body → FitsItems (items_from position k body)
+block_fit : (site : TypingContext) (position : Position) (k : ℕ) (body : List Stmt) → Block site body → FitsItems (items_from position k body)
 block_fit site position k [] e = tt
 block_fit site position k (s ∷ rest) e = (
   record { site = site; is = and_first (fits site s) (all_of (map (fits site) rest)) e },
@@ -266,15 +266,15 @@ seq_fit (Par s stood branches) rest f g = followed_fit (Par s stood branches) re
 seq_fit (Guard s phase stood c) rest f g = followed_fit (Guard s phase stood c) rest f g
 seq_fit (Run s callee phase stood c) rest f g = followed_fit (Run s callee phase stood c) rest f g
 
-block_begins : (site : Site) (s : Located) (k : ℕ) (body : List Stmt) → Block site body → FitsTree (do_all (block_items s k body))
+block_begins : (site : TypingContext) (s : Located) (k : ℕ) (body : List Stmt) → Block site body → FitsTree (do_all (block_items s k body))
 block_begins site s k body e = do_fit (block_items s k body) (block_fit site (s.position ++ k ∷ []) 0 body e)
 
-turn_begins : (site : Site) (s : Located) (body : List Stmt) (next : Item) → Block site body → FitsItems (next ∷ []) →
+turn_begins : (site : TypingContext) (s : Located) (body : List Stmt) (next : Item) → Block site body → FitsItems (next ∷ []) →
     FitsTree (do_all (block_items s 0 body ++ next ∷ []))
 turn_begins site s body next e f = do_fit (block_items s 0 body ++ next ∷ []) (items_fit site (s.position ++ 0 ∷ []) 0 body (next ∷ []) e f)
 
-branches_begin : (site : Site) (s : Located) (k : ℕ) (branches : List Branch) → all_of (map (branch_typed site) branches) ≡ true →
-    FitsTrees (begun s k branches)
+branches_begin : (site : TypingContext) (s : Located) (k : ℕ) (branches : List Branch) → all_of (map (branch_typed site) branches) ≡ true →
+    FitsTrees (branches_begun s k branches)
 branches_begin site s k [] e = tt
 branches_begin site s k (b ∷ rest) e = (
   block_begins site s k (out-Branch b).body (sym (branch_at site b) ∙ and_first (branch_typed site b) (all_of (map (branch_typed site) rest)) e),

@@ -9,9 +9,9 @@ use Rattle.bl_tree.specs.declared.tree.Path.{Path}
 use Rattle.bl_tree.specs.declared.tree.Stmt.{Stmt, out-Stmt, out-roll-Stmt, roll-Stmt}
 use Rattle.bl_tree.specs.declared.tree.StmtKind.{StmtKind, out-StmtKind, out-roll-StmtKind, roll-StmtKind}
 use Rattle.bl_tree.specs.declared.tree.StmtKind.TheOpen.{Stmt-F, StmtKind-F}
-use Rattle.bl_nodes.specs.Laws.{plain_arm, plain_branch}
-use Rattle.bl_nodes.specs.Plain.{Plain, bodies_from, else_at, inside, passed_one, plain_block, plain_body}
-use Rattle.bl_nodes.specs.Steps.{StepLabel}
+use Rattle.bl_graph_nodes.specs.Laws.{plain_arm, plain_branch}
+use Rattle.bl_graph_nodes.specs.Plain.{Plain, bodies_from, else_at, inside, passed_one, plain_block, plain_body}
+use Rattle.bl_graph_nodes.specs.Steps.{StepLabel}
 use Rattle.bl_ctree.specs.Actions.{Action}
 use Rattle.bl_ctree.specs.Control as control
 use Rattle.bl_ctree.specs.Instances.{Setting}
@@ -68,7 +68,7 @@ use Rattle.bl_ctree_laws.specs.Steps.{
   later,
   turn,
 }
-use Rattle.bl_ctree_laws.specs.Trees.{Tree, Do, Guard, Par, Run, begun, beside, do_block}
+use Rattle.bl_ctree_laws.specs.Trees.{Tree, Do, Guard, Par, Run, trees_begun, beside, do_block}
 use Rattle.bl_ctree_laws.proofs.Answering.{all_settled, call_of, fork_of, watch_of, any_meeting, done_is, guard_is, meeting, par_is, run_is, test_is, wait_is}
 use Rattle.bl_ctree_laws.proofs.PlainKinds.{act_is, before_is, block_is, inner_is, of_kind}
 use Rattle.bl_ctree_laws.proofs.Waking.{begins_is, seq_is}
@@ -97,17 +97,17 @@ turn_begins s body next then is =
     ∙ sym (begins_is (located.turn_items s body next))
 
 pub branches_begin : (s : Located) (k : ℕ) (branches : List Branch) →
-    begun (bodies_from (map plain_branch branches) k (label_of s)) ≡ plain_trees (control.begun s k branches)
+    trees_begun (bodies_from (map plain_branch branches) k (label_of s)) ≡ plain_trees (control.branches_begun s k branches)
 branches_begin s k [] = refl
 branches_begin s k (b ∷ rest) = λ i. beside (out-Branch b).weak (block_begins s k (out-Branch b).body i) (branches_begin s (suc k) rest i)
 
 -- ---- what is around it
 
 pub par_begins : (s : Located) (branches : List Branch) → kind_of s ≡ StmtKind-F.Cobegin branches →
-    Par (fork_of s branches) false (begun (bodies_from (map plain_branch branches) 0 (label_of s)))
-    ≡ plain_tree (control.Par s false (control.begun s 0 branches))
+    Par (fork_of s branches) false (trees_begun (bodies_from (map plain_branch branches) 0 (label_of s)))
+    ≡ plain_tree (control.Par s false (control.branches_begun s 0 branches))
 par_begins s branches e =
-    sym (par_is s false (begun (bodies_from (map plain_branch branches) 0 (label_of s))) e)
+    sym (par_is s false (trees_begun (bodies_from (map plain_branch branches) 0 (label_of s))) e)
     ∙ ap (λ all. parallel false all (plain_at s)) (branches_begin s 0 branches)
 
 pub guard_begins : (s : Located) (stood : Bool) (guard : GuardKind) (test : Expr) (body : List Stmt) → kind_of s ≡ StmtKind-F.When guard test body →

@@ -1,15 +1,15 @@
 -- Steps and waking lead from what may be left of a body to what may be left of it.
 use Rattle.std.proofs.Common.{◌≡◌, ℕ, Bool, true, false, refl}
-use Rattle.bl_nodes.specs.Plain.{Block, Bodies, Plain, Body as BodyOf, Done, Last, Then, plain_body}
-use Rattle.bl_nodes.specs.Steps.{StepLabel}
+use Rattle.bl_graph_nodes.specs.Plain.{Block, Bodies, Plain, Body as BodyOf, Done, Last, Then, plain_body}
+use Rattle.bl_graph_nodes.specs.Steps.{StepLabel}
 use Rattle.bl_ctree.specs.Control.{Check, Body}
 use Rattle.bl_ctree.specs.Instances.{Setting}
-use Rattle.bl_ctree_laws.specs.LeftLaws.{BlocksAreLeft, StepsKeepLeft, WakingKeepsLeft}
-use Rattle.bl_ctree_laws.specs.Left.{
-  Left,
-  LeftEach,
-  LeftOf,
-  Stands,
+use Rattle.bl_ctree_laws.specs.ResidualLaws.{BlocksArePlainResidual, StepsKeepPlainResidual, WakingKeepsPlainResidual}
+use Rattle.bl_ctree_laws.specs.Residual.{
+  BlockSplitsAt,
+  PlainResidual,
+  PlainResidualEach,
+  PlainResidualOf,
   ended,
   has_begun,
   here,
@@ -79,7 +79,7 @@ use Rattle.bl_ctree_laws.specs.Trees.{
   Guard,
   Run,
   all_woken,
-  begun,
+  trees_begun,
   do_block,
   is_nil,
   seq,
@@ -88,28 +88,28 @@ use Rattle.bl_ctree_laws.specs.Trees.{
 
 -- ---- what begins
 
-next : {s t : Plain} {rest body : Block} → Stands s (Then t rest) body → Stands t rest body
+next : {s t : Plain} {rest body : Block} → BlockSplitsAt s (Then t rest) body → BlockSplitsAt t rest body
 next here = there here
 next (there stands) = there (next stands)
 
 -- what follows a statement is left where it begins
-pub rest_left : {w : Setting} {stood : Bool} {i : ℕ} {s : Plain} {body : Block} (rest : Block) → Stands s rest body → Left w stood i body (do_block rest)
+pub rest_left : {w : Setting} {stood : Bool} {i : ℕ} {s : Plain} {body : Block} (rest : Block) → BlockSplitsAt s rest body → PlainResidual w stood i body (do_block rest)
 rest_left Done stands = nothing
 rest_left (Then t Done) stands = of_last (next stands) to_begin
 rest_left (Then t (Then u rest)) stands = of_one (next stands) to_begin refl
 
-pub block_left : {w : Setting} {stood : Bool} {i : ℕ} (body : Block) → Left w stood i body (do_block body)
+pub block_left : {w : Setting} {stood : Bool} {i : ℕ} (body : Block) → PlainResidual w stood i body (do_block body)
 block_left Done = nothing
 block_left (Then s Done) = of_last here to_begin
 block_left (Then s (Then t rest)) = of_one here to_begin refl
 
-pub each_left : {w : Setting} {stood : Bool} {i : ℕ} (bodies : Bodies) → LeftEach w stood i bodies (begun bodies)
+pub each_left : {w : Setting} {stood : Bool} {i : ℕ} (bodies : Bodies) → PlainResidualEach w stood i bodies (trees_begun bodies)
 each_left Last = none_left
 each_left (BodyOf weak body rest) = one_left (block_left body) (each_left rest)
 
 -- what is left of a statement, and what follows it
-pub seq_left : {w : Setting} {stood : Bool} {i : ℕ} {s t : Plain} {rest body : Block} (c : Tree) → Stands s (Then t rest) body →
-    LeftOf w stood i s c → Left w stood i body (seq c (Then t rest))
+pub seq_left : {w : Setting} {stood : Bool} {i : ℕ} {s t : Plain} {rest body : Block} (c : Tree) → BlockSplitsAt s (Then t rest) body →
+    PlainResidualOf w stood i s c → PlainResidual w stood i body (seq c (Then t rest))
 seq_left {t = t} {rest} Nil stands of = rest_left (Then t rest) stands
 seq_left (Wait p) stands of = of_one stands of refl
 seq_left (Test p) stands of = of_one stands of refl
@@ -133,13 +133,13 @@ unchecked e = absurd cc
 module _ {T : Bool → Type 0} {w : Setting} where
   mutual
     pub keeps : {stood : Bool} {i : ℕ} {body : Block} {c : Tree} {d : Bool} {a : Deed} {n : StepLabel} {c' : Tree} →
-        Left w stood i body c → Moves T w i c d a n c' → Left w stood i body c'
+        PlainResidual w stood i body c → Moves T w i c d a n c' → PlainResidual w stood i body c'
     keeps nothing move = elim move [ ]
     keeps (of_last stands of) move = of_last stands (keeps_of of move)
     keeps (of_one stands of busy) (in_seq {c' = c'} move) = seq_left c' stands (keeps_of of move)
 
     keeps_of : {stood : Bool} {i : ℕ} {s : Plain} {c : Tree} {d : Bool} {a : Deed} {n : StepLabel} {c' : Tree} →
-        LeftOf w stood i s c → Moves T w i c d a n c' → LeftOf w stood i s c'
+        PlainResidualOf w stood i s c → Moves T w i c d a n c' → PlainResidualOf w stood i s c'
     keeps_of to_begin acts = ended
     keeps_of to_begin (takes {body = body}) = of_then (block_left body)
     keeps_of to_begin (passes {other = other}) = of_else (block_left other)
@@ -175,7 +175,7 @@ module _ {T : Bool → Type 0} {w : Setting} where
     keeps_of (of_run at is around check left) (in_run move) = of_run at is around check (keeps left move)
 
     keeps_each : {stood : Bool} {i : ℕ} {bodies : Bodies} {branches : Trees} {d : Bool} {a : Deed} {n : StepLabel} {branches' : Trees} →
-        LeftEach w stood i bodies branches → OneMoves T w i branches d a n branches' → LeftEach w stood i bodies branches'
+        PlainResidualEach w stood i bodies branches → OneMoves T w i branches d a n branches' → PlainResidualEach w stood i bodies branches'
     keeps_each none_left move = elim move [ ]
     keeps_each (one_left left each) (first move free) = one_left (keeps left move) each
     keeps_each (one_left left each) (later move free) = one_left left (keeps_each each move)
@@ -183,12 +183,12 @@ module _ {T : Bool → Type 0} {w : Setting} where
 -- ---- waking
 
 mutual
-  still_busy : {w : Setting} {stood : Bool} {i : ℕ} {body : Block} {c : Tree} → Left w stood i body c → is_nil c ≡ false → is_nil (woken c) ≡ false
+  still_busy : {w : Setting} {stood : Bool} {i : ℕ} {body : Block} {c : Tree} → PlainResidual w stood i body c → is_nil c ≡ false → is_nil (woken c) ≡ false
   still_busy nothing e = absurd cc
   still_busy (of_last stands of) e = busy_of of e
   still_busy (of_one stands of busy) e = refl
 
-  busy_of : {w : Setting} {stood : Bool} {i : ℕ} {s : Plain} {c : Tree} → LeftOf w stood i s c → is_nil c ≡ false → is_nil (woken c) ≡ false
+  busy_of : {w : Setting} {stood : Bool} {i : ℕ} {s : Plain} {c : Tree} → PlainResidualOf w stood i s c → is_nil c ≡ false → is_nil (woken c) ≡ false
   busy_of to_begin e = refl
   busy_of ended e = absurd cc
   busy_of paused e = refl
@@ -208,12 +208,12 @@ all_stood : {stood : Bool} → stood ≡ true → true ≡ true
 all_stood e = refl
 
 mutual
-  wakes : {w : Setting} {stood : Bool} {i : ℕ} {body : Block} {c : Tree} → Left w stood i body c → Left w true i body (woken c)
+  wakes : {w : Setting} {stood : Bool} {i : ℕ} {body : Block} {c : Tree} → PlainResidual w stood i body c → PlainResidual w true i body (woken c)
   wakes nothing = nothing
   wakes (of_last stands of) = of_last stands (wakes_of of)
   wakes (of_one stands of busy) = of_one stands (wakes_of of) (busy_of of busy)
 
-  wakes_of : {w : Setting} {stood : Bool} {i : ℕ} {s : Plain} {c : Tree} → LeftOf w stood i s c → LeftOf w true i s (woken c)
+  wakes_of : {w : Setting} {stood : Bool} {i : ℕ} {s : Plain} {c : Tree} → PlainResidualOf w stood i s c → PlainResidualOf w true i s (woken c)
   wakes_of to_begin = to_begin
   wakes_of ended = ended
   wakes_of paused = tested
@@ -228,17 +228,17 @@ mutual
   wakes_of (of_guard around check left) = of_guard (λ e. refl) (λ e. refl) (wakes left)
   wakes_of (of_run at is around check left) = of_run at is (λ e. refl) (λ e. refl) (wakes left)
 
-  wakes_each : {w : Setting} {stood : Bool} {i : ℕ} {bodies : Bodies} {branches : Trees} → LeftEach w stood i bodies branches →
-      LeftEach w true i bodies (all_woken branches)
+  wakes_each : {w : Setting} {stood : Bool} {i : ℕ} {bodies : Bodies} {branches : Trees} → PlainResidualEach w stood i bodies branches →
+      PlainResidualEach w true i bodies (all_woken branches)
   wakes_each none_left = none_left
   wakes_each (one_left left each) = one_left (wakes left) (wakes_each each)
 
-pub blocks_are_left : BlocksAreLeft
+pub blocks_are_left : BlocksArePlainResidual
 blocks_are_left w stood i body = block_left body
 
-pub steps_keep_left : StepsKeepLeft
+pub steps_keep_left : StepsKeepPlainResidual
 steps_keep_left w stood i body c d a n c' left move = keeps left move
 
-pub waking_keeps_left : WakingKeepsLeft
+pub waking_keeps_left : WakingKeepsPlainResidual
 waking_keeps_left w body c not_begun = block_left body
 waking_keeps_left w body c (has_begun left) = wakes left

@@ -5,9 +5,9 @@ use Rattle.bl_tree.specs.declared.static_path.Static.{Static}
 use Rattle.bl_tree.specs.declared.tree.Guard.TheVariants.{Abort}
 use Rattle.bl_tree.specs.Effects.{target_static}
 use Rattle.bl_tree.specs.Static.{static_of}
-use Rattle.bl_nodes.specs.Nodes.{are_instant, is_instant, some_instant, some_strong, strong_instant}
-use Rattle.bl_nodes.specs.Plain.{Block, Bodies, Plain, Again, Body as BodyOf, Done, Last, Repeat, Then, While, plain_body}
-use Rattle.bl_nodes.specs.Steps.{StepLabel}
+use Rattle.bl_graph_nodes.specs.Nodes.{are_instant, is_instant, some_instant, some_strong, strong_instant}
+use Rattle.bl_graph_nodes.specs.Plain.{Block, Bodies, Plain, Again, Body as BodyOf, Done, Last, Repeat, Then, While, plain_body}
+use Rattle.bl_graph_nodes.specs.Steps.{StepLabel}
 use Rattle.bl_ctree.specs.Control.{Check, Body}
 use Rattle.bl_ctree.specs.Instances.{Setting}
 use Rattle.bl_ctree.specs.Pending.{is_reset_kind}
@@ -82,7 +82,7 @@ use Rattle.bl_ctree_laws.specs.Trees.{
   are_done,
   are_settled,
   before,
-  begun,
+  trees_begun,
   beside,
   do_block,
   followed,
@@ -282,21 +282,21 @@ seq_writes test (Run p callee phase stood c) rest = followed_writes test (Run p 
 
 -- ---- branches that begin
 
-begun_strong : (bodies : Bodies) → has_strong (begun bodies) ≡ some_strong bodies
+begun_strong : (bodies : Bodies) → has_strong (trees_begun bodies) ≡ some_strong bodies
 begun_strong Last = refl
 begun_strong (BodyOf weak body rest) = ap (λ b. not weak || b) (begun_strong rest)
 
-begun_join : (strong : Bool) (bodies : Bodies) → may_join strong (begun bodies) ≡ cond strong (strong_instant bodies) (some_instant bodies)
+begun_join : (strong : Bool) (bodies : Bodies) → may_join strong (trees_begun bodies) ≡ cond strong (strong_instant bodies) (some_instant bodies)
 begun_join true Last = refl
 begun_join false Last = refl
 begun_join true (BodyOf weak body rest) = λ i. (weak || do_ends body i) && begun_join true rest i
 begun_join false (BodyOf weak body rest) = λ i. do_ends body i || begun_join false rest i
 
 begun_ends : (bodies : Bodies) →
-    may_join (has_strong (begun bodies)) (begun bodies) ≡ cond (some_strong bodies) (strong_instant bodies) (some_instant bodies)
-begun_ends bodies = ap (λ b. may_join b (begun bodies)) (begun_strong bodies) ∙ begun_join (some_strong bodies) bodies
+    may_join (has_strong (trees_begun bodies)) (trees_begun bodies) ≡ cond (some_strong bodies) (strong_instant bodies) (some_instant bodies)
+begun_ends bodies = ap (λ b. may_join b (trees_begun bodies)) (begun_strong bodies) ∙ begun_join (some_strong bodies) bodies
 
-begun_writes : (test : Static → Bool) (bodies : Bodies) → any_writes_path test (begun bodies) ≡ soon_in_each test bodies
+begun_writes : (test : Static → Bool) (bodies : Bodies) → any_writes_path test (trees_begun bodies) ≡ soon_in_each test bodies
 begun_writes test Last = refl
 begun_writes test (BodyOf weak body rest) = λ i. do_writes test body i || begun_writes test rest i
 

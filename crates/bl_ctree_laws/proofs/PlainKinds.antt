@@ -6,9 +6,9 @@ use Rattle.bl_tree.specs.declared.tree.Branch.{Branch}
 use Rattle.bl_tree.specs.declared.tree.Stmt.{Stmt, fold-roll-Stmt, out-Stmt}
 use Rattle.bl_tree.specs.declared.tree.StmtKind.{StmtKind, fold-roll-StmtKind}
 use Rattle.bl_tree.specs.declared.tree.StmtKind.TheOpen.{StmtKind-F}
-use Rattle.bl_nodes.specs.Laws.{stmt}
-use Rattle.bl_nodes.specs.Plain.{Label, Position, Act, Then, block_from, inside, label_at, plain, plain_block}
-use Rattle.bl_nodes.proofs.Equations.{made_of_parts, plain_statements}
+use Rattle.bl_graph_nodes.specs.Laws.{stmt}
+use Rattle.bl_graph_nodes.specs.Plain.{Label, Position, Act, Then, block_from, inside, label_at, plain, plain_block}
+use Rattle.bl_graph_nodes.proofs.Equations.{made_of_parts, plain_statements}
 use Rattle.bl_ctree.specs.Positions.{Item, Located, block_items, is_act, items_from, kind_of, place_of, stmt_kind}
 use Rattle.bl_ctree_laws.specs.Bridge.{label_of, plain_at, plain_item, plain_items, plain_kind}
 use Rattle.bl_ctree_laws.specs.Laws.{StatementsArePlain}

@@ -49,9 +49,9 @@ use Rattle.bl_effects.specs.Surface.{
 }
 use Rattle.bl_effects.proofs.InstantLemmas.{surface_agrees}
 use Rattle.bl_effects.proofs.SetLemmas.{In, in_set, set_in}
-use Rattle.bl_nodes.specs.Laws.{plain_arm, plain_branch}
-use Rattle.bl_nodes.specs.Nodes.{is_instant}
-use Rattle.bl_nodes.specs.Plain.{
+use Rattle.bl_graph_nodes.specs.Laws.{plain_arm, plain_branch}
+use Rattle.bl_graph_nodes.specs.Nodes.{is_instant}
+use Rattle.bl_graph_nodes.specs.Plain.{
   Act,
   Again,
   Await,
@@ -80,9 +80,9 @@ use Rattle.bl_nodes.specs.Plain.{
   plain,
   plain_block,
 }
-use Rattle.bl_nodes.specs.Writes.{surface_writes, surface_writes_in, surface_writes_in_each}
-use Rattle.bl_nodes.proofs.Equations.{made_of_parts}
-use Rattle.bl_nodes.proofs.Instants.{instant_is}
+use Rattle.bl_graph_nodes.specs.Writes.{surface_writes, surface_writes_in, surface_writes_in_each}
+use Rattle.bl_graph_nodes.proofs.Equations.{made_of_parts}
+use Rattle.bl_graph_nodes.proofs.Instants.{instant_is}
 use Rattle.bl_ctree.specs.Positions.{Located, is_act, kind_of, place_of, stmt_kind}
 use Rattle.bl_ctree_laws.specs.Bridge.{label_of, plain_at, plain_kind}
 use Rattle.bl_ctree_laws.specs.Pending.{soon, soon_in, soon_in_each}

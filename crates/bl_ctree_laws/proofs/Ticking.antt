@@ -4,18 +4,18 @@ use Rattle.bl_tree.specs.declared.row.Last.TheVariants.{Ended as HasEnded}
 use Rattle.bl_ctree.specs.Actions.{Action}
 use Rattle.bl_ctree.specs.Control as control
 use Rattle.bl_ctree.specs.Instances.{Setting}
-use Rattle.bl_ctree.specs.Laws.{MovesKeepLeft, ReachedInsideIsLeft, ReachedIsLeft, WokenTreeIsLeft}
-use Rattle.bl_ctree.specs.Left.{Left}
-use Rattle.bl_ctree.specs.Means.{Allows, Shown, entry_items, ends, goes_on, is_stuck, nothing_more, row_then, stays_open, traps}
+use Rattle.bl_ctree.specs.Laws.{ReachedInsideIsResidual, ReachedIsResidual, StepsKeepResidual, WokenTreeIsResidual}
+use Rattle.bl_ctree.specs.Residual.{Residual}
+use Rattle.bl_ctree.specs.Means.{Allows, ShownTrace, entry_items, ends, goes_on, is_stuck, nothing_more, row_then, stays_open, traps}
 use Rattle.bl_ctree.specs.Positions.{Item}
 use Rattle.bl_ctree.specs.Reaches.{Reaches, ReachesInside, after_tick, at_first}
 use Rattle.bl_ctree.specs.Store.{Store, outputs_row, woken_store}
 use Rattle.bl_ctree.specs.Ticks as ticks
 use Rattle.bl_ctree.proofs.Proper.{left_proper}
 use Rattle.bl_ctree_laws.specs.Bridge.{plain_tree}
-use Rattle.bl_ctree_laws.specs.Ends.{BranchesAreIndependent, IsOver, Maximal, Rests, Trapped}
+use Rattle.bl_ctree_laws.specs.Ends.{BranchesAreIndependent, PlainTreeIsOver, PlainTreeMaximal, Rests, Trapped}
 use Rattle.bl_ctree_laws.specs.Fitted.{Fitted}
-use Rattle.bl_ctree_laws.specs.Runs.{SameEnd, TicksHaveOneEnd, TracesAreOne, entry_block, plain_end}
+use Rattle.bl_ctree_laws.specs.Runs.{SameEnd, TicksEndAlikeByPlain, TracesAreOne, entry_block, plain_end}
 use Rattle.bl_ctree_laws.specs.Shrinks.{Paces}
 use Rattle.bl_ctree_laws.specs.Trees.{Tree, is_nil, is_settled, woken}
 use Rattle.bl_ctree_laws.proofs.Answering.{ended, settled}
@@ -28,7 +28,7 @@ tree_same : (c c' : Tree) (store store' : Store) → Rests c store ≡ Rests c' 
 tree_same c c' store store' e = cc
 
 -- what rests with one plain tree is one outcome
-resting_same : {w : Setting} {items : List Item} (c c' : control.Control) → Left w true 0 items c → Left w true 0 items c' →
+resting_same : {w : Setting} {items : List Item} (c c' : control.Control) → Residual w true 0 items c → Residual w true 0 items c' →
     plain_tree c ≡ plain_tree c' →
     ticks.resting_outcome (control.is_nil c) (control.is_settled c) ≡ ticks.resting_outcome (control.is_nil c') (control.is_settled c')
 resting_same c c' p p' e =
@@ -84,9 +84,9 @@ stuck_waits e = absurd cc
 ended_waits : {A : Type 0} → ticks.Ended ≡ ticks.Paused → A
 ended_waits e = absurd cc
 
-module _ (kept : MovesKeepLeft) (begun : WokenTreeIsLeft) (between : ReachedIsLeft) (inside : ReachedInsideIsLeft) where
+module _ (kept : StepsKeepResidual) (begun : WokenTreeIsResidual) (between : ReachedIsResidual) (inside : ReachedInsideIsResidual) where
   over : {w : Setting} {rows : List (List ℤ)} {row : List ℤ} {actions : List Action} (end : ticks.End) → Fitted w →
-      ReachesInside w rows row actions end → ticks.IsOver w end → IsOver w (plain_end end)
+      ReachesInside w rows row actions end → ticks.IsOver w end → PlainTreeIsOver w (plain_end end)
   over ticks.Trapped typed r done = tt
   over {w} {rows} {row} {actions} (ticks.Rests c store) typed r done =
       still_is_plain w true (entry_items w) c (inside w rows row actions c store r) (reached_is_armed w rows row actions c store typed r) done
@@ -96,7 +96,7 @@ module _ (kept : MovesKeepLeft) (begun : WokenTreeIsLeft) (between : ReachedIsLe
   within {c = c} {store} r t = record { tree = c; store = store; before = r; steps = t.maximal.steps }
 
   plain_maximal : {w : Setting} {rows : List (List ℤ)} {row : List ℤ} {c : control.Control} {store : Store} {end : ticks.End} → Fitted w →
-      Reaches w rows c store → ticks.Tick w row c store end → Maximal w (plain_tree (control.woken c)) (woken_store row store) (plain_end end)
+      Reaches w rows c store → ticks.Tick w row c store end → PlainTreeMaximal w (plain_tree (control.woken c)) (woken_store row store) (plain_end end)
   plain_maximal {w} {rows} {row} {c} {store} {end} typed r t =
       let list = lists_are_plain kept begun between w true (entry_items w) (control.woken c) (woken_store row store) t.actions end
       (begun w c (between w rows c store r)) t.maximal.steps in
@@ -118,10 +118,10 @@ module _ (kept : MovesKeepLeft) (begun : WokenTreeIsLeft) (between : ReachedIsLe
   woken_same {w} {rows} {rows'} {c} {c'} {store} {store'} r r' e =
       waking_is_plain w c (between w rows c store r) ∙ ap woken e ∙ sym (waking_is_plain w c' (between w rows' c' store' r'))
 
-  pub ticks_have_one_end : TicksHaveOneEnd
+  pub ticks_have_one_end : TicksEndAlikeByPlain
   ticks_have_one_end w rows rows' row c c' store end end' typed paces free r r' e one other =
       let left = woken_left kept begun between c (between w rows c store r) (reached kept begun between r) in
-      let alike = subst (λ c. Maximal w c (woken_store row store) (plain_end end')) (sym (woken_same r r' e)) (plain_maximal typed r' other) in
+      let alike = subst (λ c. PlainTreeMaximal w c (woken_store row store) (plain_end end')) (sym (woken_same r r' e)) (plain_maximal typed r' other) in
       let same = ends_are_one w true (entry_block w) (plain_tree (control.woken c)) (woken_store row store) (plain_end end) (plain_end end') paces free left
       (plain_maximal typed r one) alike in
       record { plain = same; outcome = outcome_same end end' (within r one) (within r' other) same }
@@ -135,7 +135,7 @@ module _ (kept : MovesKeepLeft) (begun : WokenTreeIsLeft) (between : ReachedIsLe
       (subst (Reaches w alike.past' c') (sym alike.same.stores) alike.reached') alike.same.trees one
       (subst (λ store. ticks.Tick w row c' store end') (sym alike.same.stores) other)
 
-  one_trace : {w : Setting} {rows : List (List ℤ)} {c c' : control.Control} {store store' : Store} {one other : Shown} → Premises w →
+  one_trace : {w : Setting} {rows : List (List ℤ)} {c c' : control.Control} {store store' : Store} {one other : ShownTrace} → Premises w →
       BeginAlike w c c' store store' → Allows w rows c store one → Allows w rows c' store' other → one ≡ other
   one_trace given alike stays_open stays_open = refl
   one_trace given alike (traps t) (traps t') = refl

@@ -1,10 +1,10 @@
 -- Sequences and waking, seen on plain trees.
 use Rattle.std.proofs.Common.{◌≡◌, ℕ, true, false, List, [], ◌∷◌, refl, ap, sym, ◌∙◌}
 use Rattle.bl_tree.specs.declared.tree.Branch.{Branch, out-Branch}
-use Rattle.bl_nodes.specs.Plain.{Block, Then}
+use Rattle.bl_graph_nodes.specs.Plain.{Block, Then}
 use Rattle.bl_ctree.specs.Control as control
 use Rattle.bl_ctree.specs.Instances.{Setting}
-use Rattle.bl_ctree.specs.Left.{LeftTree, has_begun, not_begun}
+use Rattle.bl_ctree.specs.Residual.{ResidualTree, has_begun, not_begun}
 use Rattle.bl_ctree.specs.Means.{entry_items}
 use Rattle.bl_ctree.specs.Positions.{Item, Begin, Again, none_left}
 use Rattle.bl_ctree.proofs.Proper.{Proper, a_nil, a_wait, a_test, a_do, a_turn, a_seq, a_par, a_guard, a_run, BranchesProper, no_more, a_branch, left_proper}
@@ -111,7 +111,7 @@ mutual
   all_wake no_more = refl
   all_wake (a_branch {b = b} inner others) = λ i. beside (out-Branch b).weak (wakes inner i) (all_wake others i)
 
-tree_wakes : {w : Setting} {c : control.Control} → LeftTree w c → plain_tree (control.woken c) ≡ woken (plain_tree c)
+tree_wakes : {w : Setting} {c : control.Control} → ResidualTree w c → plain_tree (control.woken c) ≡ woken (plain_tree c)
 tree_wakes {w} not_begun = begins_is (entry_items w)
 tree_wakes (has_begun left) = wakes (left_proper left)
 

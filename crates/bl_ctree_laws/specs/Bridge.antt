@@ -6,8 +6,8 @@ use Rattle.bl_tree.specs.declared.tree.Branch.{Branch}
 use Rattle.bl_tree.specs.declared.tree.Stmt.{Stmt}
 use Rattle.bl_tree.specs.declared.tree.StmtKind.{StmtKind}
 use Rattle.bl_tree.specs.declared.tree.StmtKind.TheOpen.{StmtKind-F}
-use Rattle.bl_nodes.specs.Laws.{plain_arm, plain_branch}
-use Rattle.bl_nodes.specs.Plain.{
+use Rattle.bl_graph_nodes.specs.Laws.{plain_arm, plain_branch}
+use Rattle.bl_graph_nodes.specs.Plain.{
   Block,
   Label,
   Plain,

@@ -1,8 +1,8 @@
 -- Two steps that may act in one tree are one step, or steps of different branches, and then they lead to one tree in either
 -- order.
 use Rattle.std.specs.Prelude.{ℕ, Bool, false, ◌⊎◌, ◌≡◌}
-use Rattle.bl_nodes.specs.Plain.{Block}
-use Rattle.bl_nodes.specs.Steps.{StepLabel}
+use Rattle.bl_graph_nodes.specs.Plain.{Block}
+use Rattle.bl_graph_nodes.specs.Steps.{StepLabel}
 use Rattle.bl_ctree.specs.Control.{Body}
 use Rattle.bl_ctree.specs.Instances.{Setting}
 use Rattle.bl_ctree_laws.specs.Pending.{Deed, any_meets, meets}

@@ -1,12 +1,12 @@
 -- Lists of steps within a tick on plain trees, and that all maximal ones have one end.
 use Rattle.std.specs.Prelude.{Bool, List, [], ◌∷◌, Option, Some, None, ◌≡◌, ⊤}
-use Rattle.bl_nodes.specs.Plain.{Block}
-use Rattle.bl_nodes.specs.Steps.{StepLabel}
+use Rattle.bl_graph_nodes.specs.Plain.{Block}
+use Rattle.bl_graph_nodes.specs.Steps.{StepLabel}
 use Rattle.bl_ctree.specs.Actions.{Performed, effect_on}
 use Rattle.bl_ctree.specs.Instances.{Setting}
 use Rattle.bl_ctree.specs.Store.{Store}
 use Rattle.bl_ctree_laws.specs.Commutes.{Apart}
-use Rattle.bl_ctree_laws.specs.Left.{Left}
+use Rattle.bl_ctree_laws.specs.Residual.{PlainResidual}
 use Rattle.bl_ctree_laws.specs.Pending.{Deed}
 use Rattle.bl_ctree_laws.specs.Shrinks.{Paces}
 use Rattle.bl_ctree_laws.specs.Steps.{Moves, Unmet}
@@ -17,14 +17,14 @@ abbrev pub done_by : Setting → Deed → Store → Option Performed
 done_by w a store = effect_on w a.instance a.effect store
 
 -- one step of the whole tree, which stands in instance 0
-pub record Step (w : Setting) (c : Tree) (store : Store) (n : StepLabel) (c' : Tree) (store' : Store) : Type 0 where
+pub record PlainTreeStep (w : Setting) (c : Tree) (store : Store) (n : StepLabel) (c' : Tree) (store' : Store) : Type 0 where
   pub answer : Bool
   pub deed : Deed
   pub moves : Moves Unmet w 0 c answer deed n c'
   pub performs : done_by w deed store ≡ Some (record { answer = answer; store = store' })
 
 -- a step may act and its value traps
-pub record Traps (w : Setting) (c : Tree) (store : Store) (n : StepLabel) : Type 0 where
+pub record PlainTreeTraps (w : Setting) (c : Tree) (store : Store) (n : StepLabel) : Type 0 where
   pub answer : Bool
   pub deed : Deed
   pub after : Tree
@@ -32,31 +32,31 @@ pub record Traps (w : Setting) (c : Tree) (store : Store) (n : StepLabel) : Type
   pub fails : done_by w deed store ≡ None
 
 -- where a list of steps leads: to a trap, or to a tree and a store
-pub data End : Type 0 where
-  Trapped : End
-  Rests : Tree → Store → End
+pub data PlainTreeEnd : Type 0 where
+  Trapped : PlainTreeEnd
+  Rests : Tree → Store → PlainTreeEnd
 
 -- a list of steps, one after another, with their labels. A trapping step is the last one
-pub data Steps (w : Setting) : Tree → Store → List StepLabel → End → Type 0 where
-  none : {c : Tree} {store : Store} → Steps w c store [] (Rests c store)
-  traps : {c : Tree} {store : Store} {n : StepLabel} → Traps w c store n → Steps w c store (n ∷ []) Trapped
-  step : {c : Tree} {store : Store} {n : StepLabel} {c' : Tree} {store' : Store} {rest : List StepLabel} {end : End} →
-      Step w c store n c' store' → Steps w c' store' rest end → Steps w c store (n ∷ rest) end
+pub data PlainTreeSteps (w : Setting) : Tree → Store → List StepLabel → PlainTreeEnd → Type 0 where
+  none : {c : Tree} {store : Store} → PlainTreeSteps w c store [] (Rests c store)
+  traps : {c : Tree} {store : Store} {n : StepLabel} → PlainTreeTraps w c store n → PlainTreeSteps w c store (n ∷ []) Trapped
+  step : {c : Tree} {store : Store} {n : StepLabel} {c' : Tree} {store' : Store} {rest : List StepLabel} {end : PlainTreeEnd} →
+      PlainTreeStep w c store n c' store' → PlainTreeSteps w c' store' rest end → PlainTreeSteps w c store (n ∷ rest) end
 
 -- nothing may act in the tree
-abbrev pub IsStill : Setting → Tree → Type 0
-IsStill w c = (d : Bool) (a : Deed) (n : StepLabel) (c' : Tree) → ¬ Moves Unmet w 0 c d a n c'
+abbrev pub PlainTreeIsStill : Setting → Tree → Type 0
+PlainTreeIsStill w c = (d : Bool) (a : Deed) (n : StepLabel) (c' : Tree) → ¬ Moves Unmet w 0 c d a n c'
 
 -- no step can follow: the last one trapped, or nothing may act
-abbrev pub IsOver : Setting → End → Type 0
-IsOver w Trapped = ⊤
-IsOver w (Rests c store) = IsStill w c
+abbrev pub PlainTreeIsOver : Setting → PlainTreeEnd → Type 0
+PlainTreeIsOver w Trapped = ⊤
+PlainTreeIsOver w (Rests c store) = PlainTreeIsStill w c
 
 -- a list of steps that no step can follow
-pub record Maximal (w : Setting) (c : Tree) (store : Store) (end : End) : Type 0 where
+pub record PlainTreeMaximal (w : Setting) (c : Tree) (store : Store) (end : PlainTreeEnd) : Type 0 where
   pub labels : List StepLabel
-  pub steps : Steps w c store labels end
-  pub over : IsOver w end
+  pub steps : PlainTreeSteps w c store labels end
+  pub over : PlainTreeIsOver w end
 
 -- ---- deeds whose order does not matter
 
@@ -75,10 +75,10 @@ pub record Independent (w : Setting) (a b : Deed) : Type 0 where
 
 -- in what may be left of the body the order of steps of different branches does not matter
 abbrev pub BranchesAreIndependent : Setting → Bool → Block → Type 0
-BranchesAreIndependent w stood body = (c : Tree) (a b : Deed) → Left w stood 0 body c → Apart w 0 c a b → Independent w a b
+BranchesAreIndependent w stood body = (c : Tree) (a b : Deed) → PlainResidual w stood 0 body c → Apart w 0 c a b → Independent w a b
 
 -- then all maximal lists of steps from one tree and store have one end, be it a trap or a tree and a store
-abbrev pub OneEnd : Type 0
-OneEnd =
-    (w : Setting) (stood : Bool) (body : Block) (c : Tree) (store : Store) (end end' : End) → Paces w → BranchesAreIndependent w stood body →
-    Left w stood 0 body c → Maximal w c store end → Maximal w c store end' → end ≡ end'
+abbrev pub TicksAreConfluent : Type 0
+TicksAreConfluent =
+    (w : Setting) (stood : Bool) (body : Block) (c : Tree) (store : Store) (end end' : PlainTreeEnd) → Paces w → BranchesAreIndependent w stood body →
+    PlainResidual w stood 0 body c → PlainTreeMaximal w c store end → PlainTreeMaximal w c store end' → end ≡ end'

@@ -3,7 +3,7 @@ use Rattle.std.specs.Prelude.{ℕ, ℤ, true, List, map, Some, ◌≡◌}
 use Rattle.bl_tree.specs.declared.tree.Stmt.{Stmt}
 use Rattle.bl_tree.specs.declared.tree.Unit.{Unit as UnitDef}
 use Rattle.bl_tree.specs.Reduce.{all_of}
-use Rattle.bl_tree.specs.Typing.{Site, fits}
+use Rattle.bl_tree.specs.Typing.{TypingContext, fits}
 use Rattle.bl_ctree.specs.Actions.{Action}
 use Rattle.bl_ctree.specs.Control.{Control}
 use Rattle.bl_ctree.specs.Instances.{Setting, unit_at}
@@ -14,7 +14,7 @@ use Rattle.bl_ctree_laws.specs.Laws.{Armed}
 
 -- a site at which all statements of the block may stand
 pub record BlockFits (body : List Stmt) : Type 0 where
-  pub site : Site
+  pub site : TypingContext
   pub each : all_of (map (fits site) body) ≡ true
 
 -- the body of each unit that has an instance is typed

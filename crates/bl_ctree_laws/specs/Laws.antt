@@ -2,12 +2,12 @@
 use Rattle.std.specs.Prelude.{ℕ, Bool, true, false, List, [], ◌≡◌, ⊤}
 use Rattle.bl_tree.specs.declared.tree.Stmt.{Stmt}
 use Rattle.bl_tree.specs.declared.tree.StmtKind.TheOpen.{StmtKind-F}
-use Rattle.bl_nodes.specs.Plain.{plain, plain_block}
-use Rattle.bl_nodes.specs.Steps.{StepLabel}
+use Rattle.bl_graph_nodes.specs.Plain.{plain, plain_block}
+use Rattle.bl_graph_nodes.specs.Steps.{StepLabel}
 use Rattle.bl_ctree.specs.Actions.{Action}
 use Rattle.bl_ctree.specs.Control as control
 use Rattle.bl_ctree.specs.Instances.{Setting}
-use Rattle.bl_ctree.specs.Left.{Left, LeftTree}
+use Rattle.bl_ctree.specs.Residual.{Residual, ResidualTree}
 use Rattle.bl_ctree.specs.Pending as pending
 use Rattle.bl_ctree.specs.Positions.{Item, Position, items_from, kind_of}
 use Rattle.bl_ctree.specs.Steps as located
@@ -25,18 +25,18 @@ pub record StatementsArePlain : Type 0 where
 -- what can be asked of what may be left of items in an instance is the same of its plain tree
 pub record AnswersArePlain : Type 0 where
   pub ended : (c : control.Control) → is_nil (plain_tree c) ≡ control.is_nil c
-  pub settled : (w : Setting) (stood : Bool) (i : ℕ) (items : List Item) (c : control.Control) → Left w stood i items c →
+  pub settled : (w : Setting) (stood : Bool) (i : ℕ) (items : List Item) (c : control.Control) → Residual w stood i items c →
       is_settled (plain_tree c) ≡ control.is_settled c
-  pub ends : (w : Setting) (stood : Bool) (i : ℕ) (items : List Item) (c : control.Control) → Left w stood i items c →
+  pub ends : (w : Setting) (stood : Bool) (i : ℕ) (items : List Item) (c : control.Control) → Residual w stood i items c →
       may_end (plain_tree c) ≡ pending.may_end c
-  pub writes : (w : Setting) (stood : Bool) (i : ℕ) (items : List Item) (c : control.Control) (at : Location) → Left w stood i items c →
+  pub writes : (w : Setting) (stood : Bool) (i : ℕ) (items : List Item) (c : control.Control) (at : Location) → Residual w stood i items c →
       may_write w i (plain_tree c) at ≡ pending.may_write w i c at
-  pub meeting : (w : Setting) (stood : Bool) (i : ℕ) (items : List Item) (c : control.Control) (a : Action) → Left w stood i items c →
+  pub meeting : (w : Setting) (stood : Bool) (i : ℕ) (items : List Item) (c : control.Control) (a : Action) → Residual w stood i items c →
       meets w i (plain_tree c) (deed_of a) ≡ pending.meets w i c a
 
 -- and waking a whole tree wakes its plain tree
 abbrev pub WakingIsPlain : Type 0
-WakingIsPlain = (w : Setting) (c : control.Control) → LeftTree w c → plain_tree (control.woken c) ≡ woken (plain_tree c)
+WakingIsPlain = (w : Setting) (c : control.Control) → ResidualTree w c → plain_tree (control.woken c) ≡ woken (plain_tree c)
 
 -- a step of the plain tree for a step of the tree
 pub record PlainStep (w : Setting) (i : ℕ) (c : control.Control) (d : Bool) (a : Action) (c' : control.Control) : Type 0 where
@@ -55,7 +55,7 @@ pub record LocatedStep (w : Setting) (i : ℕ) (c : control.Control) (d : Bool) 
 abbrev pub StepsArePlain : Type 0
 StepsArePlain =
     (w : Setting) (stood : Bool) (i : ℕ) (items : List Item) (c : control.Control) (d : Bool) (a : Action) (c' : control.Control) →
-    Left w stood i items c → located.Moves w i c d a c' → PlainStep w i c d a c'
+    Residual w stood i items c → located.Moves w i c d a c' → PlainStep w i c d a c'
 
 -- whether the statement is no `if` without an arm; no program has such an `if`
 abbrev pub has_arm : {A B C D : Type 0} → StmtKind-F A B C D → Bool
@@ -85,4 +85,4 @@ abbrev mutual
 abbrev pub PlainStepsAreSteps : Type 0
 PlainStepsAreSteps =
     (w : Setting) (stood : Bool) (i : ℕ) (items : List Item) (c : control.Control) (d : Bool) (a : Deed) (n : StepLabel) (c' : Tree) →
-    Left w stood i items c → Armed c → Moves Unmet w i (plain_tree c) d a n c' → LocatedStep w i c d a c'
+    Residual w stood i items c → Armed c → Moves Unmet w i (plain_tree c) d a n c' → LocatedStep w i c d a c'

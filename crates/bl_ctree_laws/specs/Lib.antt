@@ -3,8 +3,8 @@ pub mod Commutes
 pub mod Ends
 pub mod Fitted
 pub mod Laws
-pub mod Left
-pub mod LeftLaws
+pub mod Residual
+pub mod ResidualLaws
 pub mod Pending
 pub mod Runs
 pub mod Shrinks

@@ -5,8 +5,8 @@ use Rattle.bl_tree.specs.declared.place.Place.{Place}
 use Rattle.bl_tree.specs.declared.static_path.Static.{Static}
 use Rattle.bl_tree.specs.Effects.{target_static, writes}
 use Rattle.bl_tree.specs.Static.{static_of}
-use Rattle.bl_nodes.specs.Nodes.{are_instant, is_instant}
-use Rattle.bl_nodes.specs.Plain.{
+use Rattle.bl_graph_nodes.specs.Nodes.{are_instant, is_instant}
+use Rattle.bl_graph_nodes.specs.Plain.{
   Block,
   Bodies,
   Plain,

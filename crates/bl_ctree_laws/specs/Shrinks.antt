@@ -1,9 +1,9 @@
 -- What a step leaves is no more than what was before: it never lets its branch end or write more.
 use Rattle.std.specs.Prelude.{ℕ, Bool, true, false, Some, ◌≡◌}
 use Rattle.bl_tree.specs.declared.tree.Unit.{Unit as UnitDef}
-use Rattle.bl_nodes.specs.Nodes.{are_instant}
-use Rattle.bl_nodes.specs.Plain.{plain_body}
-use Rattle.bl_nodes.specs.Steps.{StepLabel}
+use Rattle.bl_graph_nodes.specs.Nodes.{are_instant}
+use Rattle.bl_graph_nodes.specs.Plain.{plain_body}
+use Rattle.bl_graph_nodes.specs.Steps.{StepLabel}
 use Rattle.bl_ctree.specs.Instances.{Setting, unit_at}
 use Rattle.bl_ctree.specs.Store.{Location}
 use Rattle.bl_ctree_laws.specs.Pending.{Deed, may_end, may_write, meets}

@@ -2,8 +2,8 @@
 use Rattle.std.specs.Prelude.{Bool, ◌≡◌}
 use Rattle.std.specs.List.{list_any}
 use Rattle.bl_tree.specs.declared.static_path.Static.{Static}
-use Rattle.bl_nodes.specs.Plain.{Block, Bodies, Plain}
-use Rattle.bl_nodes.specs.Writes.{surface_writes, surface_writes_in, surface_writes_in_each}
+use Rattle.bl_graph_nodes.specs.Plain.{Block, Bodies, Plain}
+use Rattle.bl_graph_nodes.specs.Writes.{surface_writes, surface_writes_in, surface_writes_in_each}
 use Rattle.bl_ctree_laws.specs.Pending.{soon, soon_in, soon_in_each}
 
 -- a statement, a block or branches that begin can write a static path that passes a test exactly where their surface's list has one

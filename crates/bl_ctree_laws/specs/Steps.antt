@@ -7,8 +7,8 @@ use Rattle.bl_tree.specs.declared.tree.Guard.TheVariants.{Abort, Reset}
 use Rattle.bl_tree.specs.declared.tree.Path.{Path}
 use Rattle.bl_tree.specs.declared.tree.Stmt.{Stmt, out-Stmt}
 use Rattle.bl_tree.specs.declared.tree.Unit.{Unit as UnitDef}
-use Rattle.bl_nodes.specs.Nodes.{CheckAt, TestAt, arguments_of, entry}
-use Rattle.bl_nodes.specs.Plain.{
+use Rattle.bl_graph_nodes.specs.Nodes.{CheckAt, TestAt, arguments_of, entry}
+use Rattle.bl_graph_nodes.specs.Plain.{
   Block,
   Bodies,
   Label,
@@ -27,7 +27,7 @@ use Rattle.bl_nodes.specs.Plain.{
   While,
   plain_body,
 }
-use Rattle.bl_nodes.specs.Steps.{StepLabel, Gives as EndOf, Here, Inside, end_node, join_node, run_node}
+use Rattle.bl_graph_nodes.specs.Steps.{StepLabel, Gives as EndOf, Here, Inside, end_node, join_node, run_node}
 use Rattle.bl_ctree.specs.Actions.{Silent, Acts, Asks, Copies, Gives}
 use Rattle.bl_ctree.specs.Control.{Check, Body}
 use Rattle.bl_ctree.specs.Instances.{Setting, callee_of, unit_at}
@@ -51,7 +51,7 @@ use Rattle.bl_ctree_laws.specs.Trees.{
   are_done,
   are_settled,
   before,
-  begun,
+  trees_begun,
   do_block,
   seq,
 }
@@ -127,7 +127,7 @@ mutual
         Moves T w i (Do (While l at e body)) false (deed i at (Asks e)) (Here (TestAt l at e)) Nil
     -- all branches of a `cobegin` begin
     forks : {i : ℕ} {l : Label} {at : Place} {bodies : Bodies} →
-        Moves T w i (Do (Cobegin l at bodies)) true (deed i at Silent) (Here (entry (Cobegin l at bodies))) (Par (fork l at bodies) false (begun bodies))
+        Moves T w i (Do (Cobegin l at bodies)) true (deed i at Silent) (Here (entry (Cobegin l at bodies))) (Par (fork l at bodies) false (trees_begun bodies))
     -- the body of a `when` begins, without a test
     guards : {i : ℕ} {l : Label} {at : Place} {guard : GuardKind} {e : Expr} {body : Block} →
         Moves T w i (Do (When l at guard e body)) true (deed i at Silent) (Here (entry (When l at guard e body)))

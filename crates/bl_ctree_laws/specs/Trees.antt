@@ -3,8 +3,8 @@ use Rattle.std.specs.Prelude.{ℕ, Bool, true, false, not, ◌&&◌, ◌||◌, i
 use Rattle.bl_tree.specs.declared.place.Place.{Place}
 use Rattle.bl_tree.specs.declared.tree.Expr.{Expr}
 use Rattle.bl_tree.specs.declared.tree.Guard.{Guard as GuardKind}
-use Rattle.bl_nodes.specs.Nodes.{Arguments}
-use Rattle.bl_nodes.specs.Plain.{Block, Bodies, Label, Plain, Body as BodyOf, Done, Last, Then}
+use Rattle.bl_graph_nodes.specs.Nodes.{Arguments}
+use Rattle.bl_graph_nodes.specs.Plain.{Block, Bodies, Label, Plain, Body as BodyOf, Done, Last, Then}
 use Rattle.bl_ctree.specs.Control.{Phase, Check, Body}
 
 -- an `await`
@@ -81,9 +81,9 @@ seq Nil rest = do_block rest
 seq c rest = followed c rest
 
 -- the branches of a `cobegin` as they begin
-abbrev pub begun : Bodies → Trees
-begun Last = no_tree
-begun (BodyOf weak body rest) = beside weak (do_block body) (begun rest)
+abbrev pub trees_begun : Bodies → Trees
+trees_begun Last = no_tree
+trees_begun (BodyOf weak body rest) = beside weak (do_block body) (trees_begun rest)
 
 -- a block before another
 abbrev pub before : Block → Block → Block

@@ -1,7 +1,7 @@
 //! Steps of different branches commute. None of these functions does anything: the contract is the law.
 
 ghost use Rattle.bl_ctree_laws.specs.Commutes.{StepsCommute};
-ghost use Rattle.bl_ctree_laws.specs.Ends.{OneEnd};
+ghost use Rattle.bl_ctree_laws.specs.Ends.{TicksAreConfluent};
 
 /// Of two steps that may act in one tree each may act after the other, and both orders lead to one tree; or they are one step.
 pub fn steps_commute()
@@ -10,5 +10,5 @@ pub fn steps_commute()
 
 /// Where the deeds of different branches are independent, all maximal lists of steps of a tick have one end, traps included.
 pub fn ends_are_one()
-    ensures { OneEnd }
+    ensures { TicksAreConfluent }
 {}

@@ -1,14 +1,14 @@
 //! What runs reach, on plain trees. None of these functions does anything: the contract is the law.
 
 ghost use Rattle.bl_ctree_laws.specs.Fitted.{ReachedIsArmed};
-ghost use Rattle.bl_ctree_laws.specs.Runs.{ListsArePlain, ReachedInsideIsLeft, ReachedIsLeft, StillIsPlain, TicksHaveOneEnd, TracesAreOne};
+ghost use Rattle.bl_ctree_laws.specs.Runs.{ListsArePlain, ReachedInsideIsPlainResidual, ReachedIsPlainResidual, StillIsPlain, TicksEndAlikeByPlain, TracesAreOne};
 
 use bl_ctree::laws::trees_stay_left;
 
 /// The trees that runs reach may be left of the entry's body.
-pub fn reached_trees_are_left()
-    ensures trees { ReachedIsLeft }
-    ensures inside { ReachedInsideIsLeft }
+pub fn reached_trees_are_residual()
+    ensures trees { ReachedIsPlainResidual }
+    ensures inside { ReachedInsideIsPlainResidual }
 {
     trees_stay_left();
 }
@@ -29,7 +29,7 @@ pub fn reached_trees_are_armed()
 /// Where the order of steps of different branches doesn't matter, ticks that begin alike have one end, over all their maximal lists of
 /// steps.
 pub fn ticks_have_one_end()
-    ensures { TicksHaveOneEnd }
+    ensures { TicksEndAlikeByPlain }
 {
     trees_stay_left();
 }

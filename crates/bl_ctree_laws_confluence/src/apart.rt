@@ -12,7 +12,7 @@
 ghost use Rattle.bl_ctree_laws_confluence.specs.Apart.Forks.{BranchesKeepApart};
 ghost use Rattle.bl_ctree_laws_confluence.specs.Apart.Frames.{FramesAreOfCalls, ResultsAreOfCalls};
 ghost use Rattle.bl_ctree_laws_confluence.specs.Apart.Named.{BodiesDeclareWhatTheyDo, BodiesNameWhatTheyDo};
-ghost use Rattle.bl_ctree_laws_confluence.specs.Apart.Outputs.{LeftCallsStand, TypedRunsHaveOutputs};
+ghost use Rattle.bl_ctree_laws_confluence.specs.Apart.Outputs.{ResidualCallsMatch, TypedRunsHaveOutputs};
 ghost use Rattle.bl_ctree_laws_confluence.specs.Apart.Owned.{DeedsAreOfBodies};
 ghost use Rattle.bl_ctree_laws_confluence.specs.Apart.Parted.{AcceptedKeepsApart, ApartIsTwoBranches};
 ghost use Rattle.bl_ctree_laws_confluence.specs.Apart.Returns.{AcceptedReturnsLast, NoBranchReturns};
@@ -107,6 +107,6 @@ pub fn typed_runs_have_outputs()
 {}
 
 /// So the calls in what is left of its body stand as its `run` statements do.
-pub fn left_calls_stand()
-    ensures { LeftCallsStand }
+pub fn residual_calls_match()
+    ensures { ResidualCallsMatch }
 {}

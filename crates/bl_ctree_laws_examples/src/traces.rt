@@ -11,7 +11,7 @@ ghost use Rattle.bl_ctree_laws_examples.specs.Traces.{TicksEndAlike, units};
 ghost use Rattle.bl_ctree_laws_traces.specs.Ready.Ordered.{ActivitiesAreOrdered};
 ghost use Rattle.bl_ctree_laws_traces.specs.Traces.OneTrace.{HasOneTrace};
 ghost use Rattle.bl_effects.specs.Rules.{Passes};
-ghost use Rattle.bl_tree.specs.Program.{Keeps};
+ghost use Rattle.bl_tree.specs.Program.{IsWellTyped};
 
 use crate::trees::{acts_read_and_write, two_branches_are_plain};
 use bl_cause_laws::bodies_have_graphs;
@@ -23,7 +23,7 @@ use bl_graph::graphs_stay_within;
 
 /// The program keeps what each typed program keeps.
 pub fn it_is_typed()
-    ensures { Keeps [] units 0 }
+    ensures { IsWellTyped [] units 0 }
 {}
 
 /// None of the rules Pause, Conflict, Alias and Instant fails for it.

@@ -7,8 +7,8 @@
 ghost use Rattle.std.specs.Prelude.{◌≡◌, ◌⊎◌, ◌∷◌, Bool, [], false, true};
 ghost use Rattle.bl_tree.specs.Effects.{reads, writes};
 ghost use Rattle.bl_tree.specs.Static.{mentions, whole};
-ghost use Rattle.bl_nodes.specs.Plain.{plain_body};
-ghost use Rattle.bl_nodes.specs.Steps.{StepLabel};
+ghost use Rattle.bl_graph_nodes.specs.Plain.{plain_body};
+ghost use Rattle.bl_graph_nodes.specs.Steps.{StepLabel};
 ghost use Rattle.bl_ctree.specs.Instances.{instances_of};
 ghost use Rattle.bl_ctree.specs.Measure.{steps};
 ghost use Rattle.bl_ctree.specs.Store.{whole_of};

@@ -1,7 +1,7 @@
 pub mod Accepted
 pub mod Blocked
 pub mod Laws
-pub mod Live
+pub mod FitsGraph
 pub mod Places
 pub mod Reached
 pub mod Reading

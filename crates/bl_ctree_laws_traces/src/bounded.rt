@@ -7,15 +7,15 @@
 ghost use Rattle.bl_ctree_laws_traces.specs.Bounded.Bounds.{AcceptedIsBounded, TypedIsBounded};
 ghost use Rattle.bl_ctree_laws_traces.specs.Bounded.Differ.{TicksDiffer};
 
-use crate::progress::{accepted_trees_are_live, programs_are_callable, steps_keep_live};
+use crate::progress::{accepted_trees_fit_graphs, programs_are_callable, steps_keep_fits_graph};
 use bl_ctree::laws::trees_stay_left;
 use bl_ctree_laws::bridge::statements_are_plain;
-use bl_ctree_laws::left::bodies_stay_left;
-use bl_ctree_laws::runs::{lists_are_plain, reached_trees_are_left};
+use bl_ctree_laws::residual::bodies_stay_residual;
+use bl_ctree_laws::runs::{lists_are_plain, reached_trees_are_residual};
 use bl_ctree_laws::shrinking::{acting_is_open, steps_shrink};
 use bl_ctree_laws_confluence::deeds::{accepted_programs_are_orderly, instances_have_callers};
 use bl_graph::{branches_part, graphs_stay_within, instants_pass};
-use bl_measures_laws::laws::ordered_runs_stand_apart;
+use bl_limits_measures_laws::laws::ordered_runs_stand_apart;
 use bl_types_laws::kept::what_is_typed_keeps;
 use bl_types_laws::order::statements_begin_in_order;
 
@@ -27,7 +27,7 @@ pub fn ticks_differ()
     branches_part();
     acting_is_open();
     steps_shrink();
-    steps_keep_live();
+    steps_keep_fits_graph();
 }
 
 /// Where nodes have numbers that rise and `run` statements places of their own, no list of steps of one tick is longer than the
@@ -38,11 +38,11 @@ pub fn accepted_is_bounded()
     trees_stay_left();
     statements_are_plain();
     lists_are_plain();
-    reached_trees_are_left();
-    bodies_stay_left();
+    reached_trees_are_residual();
+    bodies_stay_residual();
     acting_is_open();
-    steps_keep_live();
-    accepted_trees_are_live();
+    steps_keep_fits_graph();
+    accepted_trees_fit_graphs();
     accepted_programs_are_orderly();
     programs_are_callable();
     instances_have_callers();

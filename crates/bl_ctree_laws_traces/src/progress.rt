@@ -1,6 +1,6 @@
 //! Trees stand in tick graphs: the first part of progress. A place in the graph of a unit's body says which nodes may act
 //! there now and in later ticks, and which lead out (`specs/Progress/Places.antt`); a tree is live at a place where all that is left
-//! in it fits there (`specs/Progress/Live.antt`, `Live`). There is no code here.
+//! in it fits there (`specs/Progress/FitsGraph.antt`, `FitsGraph`). There is no code here.
 //!
 //! Laws (`specs/Progress/Laws.antt`): bodies begin live, and steps and waking keep that; what could act in a live tree is of the part
 //! of the graph that acts in this tick; a tree in which something is left to do has something that could act; where it may
@@ -10,11 +10,11 @@
 //! (`specs/Progress/Accepted.antt`). What a deed reads is what its node reads, so in one instance such a writer has a static path that
 //! overlaps one that the waiting node reads (`specs/Progress/Reading.antt`).
 
-ghost use Rattle.bl_ctree_laws_traces.specs.Progress.Accepted.{AcceptedTreesAreLive, ProgramsAreCallable};
+ghost use Rattle.bl_ctree_laws_traces.specs.Progress.Accepted.{AcceptedTreesFitGraphs, ProgramsAreCallable};
 ghost use Rattle.bl_ctree_laws_traces.specs.Progress.Blocked.{ActsOrWaits};
-ghost use Rattle.bl_ctree_laws_traces.specs.Progress.Laws.{BodiesBeginLive, EndsAreReached, NodesAreInPart, StepsKeepLive};
-ghost use Rattle.bl_ctree_laws_traces.specs.Progress.Laws.{UnsettledCould, WakingKeepsLive, WritersAreAhead};
-ghost use Rattle.bl_ctree_laws_traces.specs.Progress.Reached.{ReachedCould, ReachedInsideIsLive, ReachedIsLive};
+ghost use Rattle.bl_ctree_laws_traces.specs.Progress.Laws.{BodiesFitGraph, EndsAreReached, NodesAreInPart, StepsKeepFitsGraph};
+ghost use Rattle.bl_ctree_laws_traces.specs.Progress.Laws.{UnsettledCould, WakingKeepsFitsGraph, WritersAreAhead};
+ghost use Rattle.bl_ctree_laws_traces.specs.Progress.Reached.{ReachedCould, ReachedFitsGraph, ReachedInsideFitsGraph};
 ghost use Rattle.bl_ctree_laws_traces.specs.Progress.Reading.{DeedsReadAtNodes, DeedsStandAtNodes, WritersTouch};
 
 use bl_ctree::laws::trees_stay_left;
@@ -52,21 +52,21 @@ pub fn writers_are_ahead()
 }
 
 /// A unit's body begins at its place in its graph.
-pub fn bodies_begin_live()
-    ensures { BodiesBeginLive }
+pub fn bodies_fit_graph()
+    ensures { BodiesFitGraph }
 {}
 
 /// Each step that could be taken keeps a tree at its place.
-pub fn steps_keep_live()
-    ensures { StepsKeepLive }
+pub fn steps_keep_fits_graph()
+    ensures { StepsKeepFitsGraph }
 {
     instants_pass();
     steps_shrink();
 }
 
 /// Waking keeps a settled tree at its place, in the next tick.
-pub fn waking_keeps_live()
-    ensures { WakingKeepsLive }
+pub fn waking_keeps_fits_graph()
+    ensures { WakingKeepsFitsGraph }
 {
     instants_pass();
 }
@@ -82,9 +82,9 @@ pub fn acts_or_waits()
 
 /// The trees that runs reach stand at their places in the graph of the entry's body, and something could act in each of them
 /// in which something is left to do.
-pub fn reached_trees_are_live()
-    ensures trees { ReachedIsLive }
-    ensures inside { ReachedInsideIsLive }
+pub fn reached_trees_fit_graphs()
+    ensures trees { ReachedFitsGraph }
+    ensures inside { ReachedInsideFitsGraph }
     ensures could { ReachedCould }
 {
     trees_stay_left();
@@ -121,10 +121,10 @@ pub fn programs_are_callable()
 {}
 
 /// The trees that runs of an accepted program reach stand at their places, whatever their inputs.
-pub fn accepted_trees_are_live()
-    ensures { AcceptedTreesAreLive }
+pub fn accepted_trees_fit_graphs()
+    ensures { AcceptedTreesFitGraphs }
 {
     accepted_programs_are_orderly();
     programs_are_callable();
-    reached_trees_are_live();
+    reached_trees_fit_graphs();
 }

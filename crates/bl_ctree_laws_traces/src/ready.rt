@@ -6,19 +6,20 @@
 //! are such numbers (`specs/Ready/Ordered.antt`).
 
 ghost use Rattle.bl_ctree_laws_traces.specs.Ready.Least.{LeastMayAct, UnsettledHasLeast};
-ghost use Rattle.bl_ctree_laws_traces.specs.Ready.Never.{AcceptedNeverStuck, ReachedLowestMayAct, TypedCallsStand, UnsettledMay};
+ghost use Rattle.bl_ctree_laws_traces.specs.Ready.Never.{AcceptedNeverStuck, ReachedLowestMayAct, TypedCallsMatch, UnsettledMay};
 ghost use Rattle.bl_ctree_laws_traces.specs.Ready.Ordered.{OrderedNeverStuck, OrdersGiveRanks};
 ghost use Rattle.bl_ctree_laws_traces.specs.Ready.Ranks.{LowestMayAct};
 ghost use Rattle.bl_ctree_laws_traces.specs.Ready.Touching.{WritersTouchOnTheWay};
 
 use crate::progress::{
-    accepted_trees_are_live, acts_or_waits, deeds_read_at_nodes, nodes_are_in_part, unsettled_could,
+    accepted_trees_fit_graphs, acts_or_waits, deeds_read_at_nodes, nodes_are_in_part,
+    unsettled_could,
 };
 use bl_ctree::laws::trees_stay_left;
 use bl_ctree_laws::bridge::{answers_are_plain, statements_are_plain};
-use bl_ctree_laws::runs::{lists_are_plain, reached_trees_are_armed, reached_trees_are_left};
+use bl_ctree_laws::runs::{lists_are_plain, reached_trees_are_armed, reached_trees_are_residual};
 use bl_ctree_laws_confluence::apart::{
-    deeds_stay_inside, left_calls_stand, typed_runs_have_outputs,
+    deeds_stay_inside, residual_calls_match, typed_runs_have_outputs,
 };
 use bl_ctree_laws_confluence::deeds::{
     accepted_programs_are_orderly, homes_are_apart, instances_nest,
@@ -65,12 +66,12 @@ pub fn unsettled_may()
 
 /// In the trees that runs of a typed program reach each `run` has the callee that its place begins, with its own outputs.
 pub fn typed_calls_stand()
-    ensures { TypedCallsStand }
+    ensures { TypedCallsMatch }
 {
-    reached_trees_are_left();
+    reached_trees_are_residual();
     statements_are_plain();
     typed_runs_have_outputs();
-    left_calls_stand();
+    residual_calls_match();
 }
 
 /// In the trees that runs of an accepted program reach the lowest step that could be taken may be taken.
@@ -79,7 +80,7 @@ pub fn reached_lowest_may_act()
 {
     lowest_may_act();
     nodes_are_in_part();
-    accepted_trees_are_live();
+    accepted_trees_fit_graphs();
     accepted_programs_are_orderly();
     statements_are_plain();
     typed_calls_stand();
@@ -92,7 +93,7 @@ pub fn accepted_programs_are_never_stuck()
     unsettled_may();
     unsettled_could();
     nodes_are_in_part();
-    accepted_trees_are_live();
+    accepted_trees_fit_graphs();
     accepted_programs_are_orderly();
     trees_stay_left();
     reached_trees_are_armed();

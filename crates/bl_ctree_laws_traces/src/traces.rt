@@ -4,7 +4,7 @@
 //! effects has exactly one trace over all rows, no tick with more steps than its number of them, and no stuck tick, where
 //! the tick graphs of its activities have orders (`specs/Traces/OneTrace.antt`).
 
-ghost use Rattle.bl_ctree_laws_traces.specs.Traces.Maximal.{BoundedGoOn, BoundedHaveMeanings, BoundedHaveTicks, UnstuckShowTraces};
+ghost use Rattle.bl_ctree_laws_traces.specs.Traces.Maximal.{BoundedExtend, BoundedHaveMeanings, BoundedHaveTicks, UnstuckShowTraces};
 ghost use Rattle.bl_ctree_laws_traces.specs.Traces.OneTrace.{OrderedAreNumbered, OrderedHaveOneTrace, TypedHaveOneTrace};
 
 use crate::bounded::accepted_is_bounded;
@@ -12,13 +12,13 @@ use crate::ready::{ordered_programs_are_never_stuck, orders_give_ranks};
 use bl_ctree::laws::{lists_of_steps, points_are_steps};
 use bl_ctree_laws_confluence::deeds::accepted_programs_are_orderly;
 use bl_ctree_laws_confluence::independent::accepted_programs_have_at_most_one_trace;
-use bl_measures_laws::laws::ordered_runs_stand_apart;
+use bl_limits_measures_laws::laws::ordered_runs_stand_apart;
 use bl_types_laws::kept::what_is_typed_keeps;
 use bl_types_laws::order::statements_begin_in_order;
 
 /// Where ticks are bounded every list of steps of a tick goes on to a maximal one.
 pub fn bounded_lists_go_on()
-    ensures { BoundedGoOn }
+    ensures { BoundedExtend }
 {
     points_are_steps();
     lists_of_steps();

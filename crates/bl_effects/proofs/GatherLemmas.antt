@@ -71,7 +71,7 @@ use Rattle.bl_effects.specs.inner.Gathered.{
   writes_of_branch,
   writes_of_kind,
 }
-use Rattle.bl_tree.specs.Instant.{Ends, arm_instant, branch_ends, branches_instant, instant, kind_instant, stmt_instant}
+use Rattle.bl_tree.specs.Instant.{BranchInstant, arm_instant, branch_ends, branches_instant, instant, kind_instant, stmt_instant}
 use Rattle.bl_tree.specs.Static.{mentions, set_of}
 use Rattle.bl_tree.specs.Within.{Effect, StandsIn, Within, itself, deeper, children, effect_of, kind_children, place_of}
 use Rattle.bl_tree.specs.Rules.{same_place}
@@ -252,7 +252,7 @@ pub writes_arm_out : (arm : Arm) → writes_of_arm arm ≡ joined (map writes (o
 writes_arm_out = fold_out-Arm (List Static) (List Static) (List Static) (List Static) kind_writes arm_writes branch_paths stmt_set
 
 pub instant_arm_out : (arm : Arm) → instant_of_arm arm ≡ all_of (map instant (out-Arm arm).body)
-instant_arm_out = fold_out-Arm Bool Bool Ends Bool kind_instant arm_instant branch_ends stmt_instant
+instant_arm_out = fold_out-Arm Bool Bool BranchInstant Bool kind_instant arm_instant branch_ends stmt_instant
 
 pub reads_branch_out : (branch : Branch) → reads_of_branch branch ≡ joined (map reads (out-Branch branch).body)
 reads_branch_out = fold_out-Branch (List Static) (List Static) (List Static) (List Static) kind_reads arm_reads branch_paths stmt_set
@@ -262,7 +262,7 @@ writes_branch_out = fold_out-Branch (List Static) (List Static) (List Static) (L
 
 pub ends_branch_out : (branch : Branch) → ends_of_branch branch
     ≡ record { weak = (out-Branch branch).weak; instant = all_of (map instant (out-Branch branch).body) }
-ends_branch_out = fold_out-Branch Bool Bool Ends Bool kind_instant arm_instant branch_ends stmt_instant
+ends_branch_out = fold_out-Branch Bool Bool BranchInstant Bool kind_instant arm_instant branch_ends stmt_instant
 
 abbrev pub read_parts : StmtKind-F StmtKind Arm Branch Stmt → StmtKind-F (List Static) (List Static) (List Static) (List Static)
 read_parts = map-StmtKind StmtKind Arm Branch Stmt (List Static) (List Static) (List Static) (List Static) reads_of_kind reads_of_arm reads_of_branch reads
@@ -354,7 +354,7 @@ branches_end all k is_strong strong some over strongs alls somes =
     let third = any_end (λ branch. (ends_of_branch branch).instant) all k some over somes ∙ ap any_of (sym (twice (λ ends. ends.instant) all)) in
     λ i. cond (first i) (second i) (third i)
   where
-    twice : (f : Ends → Bool) (all : List Branch) → map f (map ends_of_branch all) ≡ map (λ branch. f (ends_of_branch branch)) all
+    twice : (f : BranchInstant → Bool) (all : List Branch) → map f (map ends_of_branch all) ≡ map (λ branch. f (ends_of_branch branch)) all
     twice f [] = refl
     twice f (branch ∷ all) = ap (λ rest. f (ends_of_branch branch) ∷ rest) (twice f all)
 
@@ -429,7 +429,7 @@ statement_gathers s sets empty inner p q a b c gathers no_reads no_writes read w
     ∙ sym (fold_out-Stmt (List Static) (List Static) (List Static) (List Static) kind_reads arm_reads branch_paths stmt_set s) in
     let writes_is : sets.writes ≡ writes s = wrote ∙ ap set_of (gathers.writes_grow ∙ ap (λ xs. xs ++ writes_of_kind (out-Stmt s).what) no_writes)
     ∙ sym (fold_out-Stmt (List Static) (List Static) (List Static) (List Static) kind_writes arm_writes branch_paths stmt_set s) in
-    let ends_is : sets.instant ≡ instant s = ends ∙ sym (fold_out-Stmt Bool Bool Ends Bool kind_instant arm_instant branch_ends stmt_instant s) in
+    let ends_is : sets.instant ≡ instant s = ends ∙ sym (fold_out-Stmt Bool Bool BranchInstant Bool kind_instant arm_instant branch_ends stmt_instant s) in
     let effect_is : effect_at (place_of s) sets ≡ effect_of s =
     λ i. record { place = place_of s; reads = reads_is i; writes = writes_is i; instant = ends_is i } in
     record {

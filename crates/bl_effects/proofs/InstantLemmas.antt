@@ -11,7 +11,7 @@ use Rattle.bl_tree.specs.declared.tree.StmtKind.TheOpen.{StmtKind-F}
 use Rattle.bl_tree.specs.Reduce.{all_of, any_of}
 use Rattle.bl_tree.proofs.StmtInduction.{Each, induct, stmt}
 use Rattle.bl_effects.specs.inner.Gathered.{ends_of_branch, instant_of_arm, instant_of_kind}
-use Rattle.bl_tree.specs.Instant.{Ends, instant, kind_instant}
+use Rattle.bl_tree.specs.Instant.{BranchInstant, instant, kind_instant}
 use Rattle.bl_effects.specs.Rules.{BranchLoops, Loops, arm_loops, branch_loops, kind_loops, loop_instants, loops_in, stmt_loops}
 use Rattle.bl_effects.specs.Surface.{BranchSurface, Surface, arm_surface, branch_surface, instants_of, kind_surface, stmt_surface, surface_of}
 use Rattle.bl_effects.proofs.GatherLemmas.{ends_branch_out, instant_arm_out}
@@ -24,8 +24,8 @@ alike f g h (x ∷ xs) all = λ i. All-head (λ x. g (f x) ≡ h x) x xs all i �
 shown : {A : Type 0} (P Q : A → Type 0) → ((x : A) → P x → Q x) → (xs : List A) → All P xs → All Q xs
 shown P Q gives xs all = λ k d within. gives _ (all k d within)
 
-abbrev instant_parts : StmtKind-F StmtKind Arm Branch Stmt → StmtKind-F Bool Bool Ends Bool
-instant_parts = map-StmtKind StmtKind Arm Branch Stmt Bool Bool Ends Bool instant_of_kind instant_of_arm ends_of_branch instant
+abbrev instant_parts : StmtKind-F StmtKind Arm Branch Stmt → StmtKind-F Bool Bool BranchInstant Bool
+instant_parts = map-StmtKind StmtKind Arm Branch Stmt Bool Bool BranchInstant Bool instant_of_kind instant_of_arm ends_of_branch instant
 
 instant_at : (place : Place) (layer : StmtKind-F StmtKind Arm Branch Stmt) → instant (stmt place layer) ≡ kind_instant (instant_parts layer)
 instant_at place layer = rw (fold-roll-Stmt, fold-roll-StmtKind) refl

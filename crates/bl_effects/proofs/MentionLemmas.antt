@@ -23,7 +23,7 @@ use Rattle.bl_tree.specs.Reduce.{joined}
 use Rattle.bl_tree.specs.declared.static_path.Static.{Static}
 use Rattle.bl_tree.specs.Static.{
   Reach,
-  Step,
+  StaticStep,
   expr_mentions,
   index_mentions,
   kind_mentions,
@@ -39,7 +39,7 @@ reach_out : (path : Path) → reach_of path ≡ record {
   static = record { root = (out-Path path).root; fields = leading_fields (map step_of (out-Path path).parts) };
   indices = joined (map (λ step. step.reads) (map step_of (out-Path path).parts));
 }
-reach_out path = fold_out-Path (List Static) Step (List Static) Reach kind_mentions part_step expr_mentions path_reach path
+reach_out path = fold_out-Path (List Static) StaticStep (List Static) Reach kind_mentions part_step expr_mentions path_reach path
 
 reads_of_steps : (parts : List Part) → map (λ step. step.reads) (map step_of parts) ≡ map part_mentions parts
 reads_of_steps [] = refl

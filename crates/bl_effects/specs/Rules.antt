@@ -39,7 +39,7 @@ use Rattle.bl_tree.specs.Typing.{is_activity}
 use Rattle.bl_effects.specs.declared.marked.Marked.{Marked}
 use Rattle.bl_tree.specs.declared.static_path.Static.{Static}
 use Rattle.bl_tree.specs.Effects.{target_static}
-use Rattle.bl_tree.specs.Instant.{Ends, kind_instant, is_instant_block}
+use Rattle.bl_tree.specs.Instant.{BranchInstant, kind_instant, is_instant_block}
 use Rattle.bl_tree.specs.Static.{overlaps, static_of}
 
 -- ---- Pause: an activity's body may end in the tick in which it begins; at the activity's name
@@ -233,7 +233,7 @@ pub record Loops : Type 0 where
 
 -- the same of a branch
 pub record BranchLoops : Type 0 where
-  pub ends : Ends
+  pub ends : BranchInstant
   pub places : List Place
 
 -- the places of all loops in a block that are listed for its statements
@@ -264,8 +264,8 @@ kind_loop_places (StmtKind-F.While e body) place = loop_places place body
 kind_loop_places (StmtKind-F.Return e) place = []
 
 -- what is known of the parts, as far as `instant` asks for it
-abbrev pub loop_instants : StmtKind-F (Place → Loops) Loops BranchLoops Loops → StmtKind-F Bool Bool Ends Bool
-loop_instants = map-StmtKind (Place → Loops) Loops BranchLoops Loops Bool Bool Ends Bool (λ kind. true) (λ s. s.instant) (λ s. s.ends) (λ s. s.instant)
+abbrev pub loop_instants : StmtKind-F (Place → Loops) Loops BranchLoops Loops → StmtKind-F Bool Bool BranchInstant Bool
+loop_instants = map-StmtKind (Place → Loops) Loops BranchLoops Loops Bool Bool BranchInstant Bool (λ kind. true) (λ s. s.instant) (λ s. s.ends) (λ s. s.instant)
 
 -- a kind of statement at this place, from what is known of its parts
 abbrev pub kind_loops : StmtKind-F (Place → Loops) Loops BranchLoops Loops → Place → Loops

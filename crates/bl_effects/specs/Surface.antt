@@ -5,7 +5,7 @@ use Rattle.bl_tree.specs.declared.tree.StmtKind.TheFolds.{map-StmtKind}
 use Rattle.bl_tree.specs.declared.tree.StmtKind.TheOpen.{StmtKind-F, Arm-F, Branch-F, Stmt-F}
 use Rattle.bl_tree.specs.Reduce.{all_of, joined, greatest, total}
 use Rattle.bl_tree.specs.declared.static_path.Static.{Static}
-use Rattle.bl_tree.specs.Instant.{Ends, kind_instant}
+use Rattle.bl_tree.specs.Instant.{BranchInstant, kind_instant}
 use Rattle.bl_tree.specs.Static.{whole, set_of, static_of}
 
 -- ---- surface writes
@@ -17,7 +17,7 @@ pub record Surface : Type 0 where
 
 -- the same of a branch
 pub record BranchSurface : Type 0 where
-  pub ends : Ends
+  pub ends : BranchInstant
   pub writes : List Static
 
 -- a list of statements writes what its first does and, where that may end at once, what the rest does
@@ -45,8 +45,8 @@ kind_surface_writes (StmtKind-F.While e body) = block_surface body
 kind_surface_writes (StmtKind-F.Return e) = []
 
 -- what is known of the parts, as far as `instant` asks for it
-abbrev pub instants_of : StmtKind-F Surface Surface BranchSurface Surface → StmtKind-F Bool Bool Ends Bool
-instants_of = map-StmtKind Surface Surface BranchSurface Surface Bool Bool Ends Bool (λ s. s.instant) (λ s. s.instant) (λ s. s.ends) (λ s. s.instant)
+abbrev pub instants_of : StmtKind-F Surface Surface BranchSurface Surface → StmtKind-F Bool Bool BranchInstant Bool
+instants_of = map-StmtKind Surface Surface BranchSurface Surface Bool Bool BranchInstant Bool (λ s. s.instant) (λ s. s.instant) (λ s. s.ends) (λ s. s.instant)
 
 -- a kind of statement, from what is known of its parts
 abbrev pub kind_surface : StmtKind-F Surface Surface BranchSurface Surface → Surface

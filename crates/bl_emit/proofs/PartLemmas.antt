@@ -10,31 +10,31 @@ use Rattle.bl_tree.specs.declared.tree.StructDef.{StructDef}
 use Rattle.bl_tree.specs.declared.tree.Unit.{Unit as UnitDef}
 use Rattle.bl_tree.specs.Typing.{is_activity}
 use Rattle.bl_machine.specs.declared.machine.Activity.{Activity as InMachine}
-use Rattle.bl_emit_pass.specs.Programs.{Parts, no_parts, parts_then, where_needed}
+use Rattle.bl_emit_spec.specs.Programs.{ProgramParts, no_parts, parts_then, where_needed}
 use Rattle.bl_emit.specs.Programs.{next_told, parts_told, told_of, unit_told, units_told}
 
-abbrev parts : List CStruct → List CFunc → List Bool → Parts
+abbrev parts : List CStruct → List CFunc → List Bool → ProgramParts
 parts structs funcs remember = record { structs = structs; funcs = funcs; remember = remember }
 
-then_then : (a b c : Parts) → parts_then (parts_then a b) c ≡ parts_then a (parts_then b c)
+then_then : (a b c : ProgramParts) → parts_then (parts_then a b) c ≡ parts_then a (parts_then b c)
 then_then a b c =
     ap (λ structs. parts structs ((a.funcs ++ b.funcs) ++ c.funcs) ((a.remember ++ b.remember) ++ c.remember))
     (append_assoc a.structs b.structs c.structs)
     ∙ ap₂ (λ (funcs : List CFunc) (remember : List Bool). parts (a.structs ++ (b.structs ++ c.structs)) funcs remember)
     (append_assoc a.funcs b.funcs c.funcs) (append_assoc a.remember b.remember c.remember)
 
-then_none : (a : Parts) → parts_then a no_parts ≡ a
+then_none : (a : ProgramParts) → parts_then a no_parts ≡ a
 then_none a =
     ap (λ structs. parts structs (a.funcs ++ []) (a.remember ++ [])) (append-nil a.structs)
     ∙ ap₂ (λ (funcs : List CFunc) (remember : List Bool). parts a.structs funcs remember) (append-nil a.funcs) (append-nil a.remember)
 
-kept : (test : Bool) (p : Parts) → (where_needed test p).remember ≡ p.remember
+kept : (test : Bool) (p : ProgramParts) → (where_needed test p).remember ≡ p.remember
 kept true p = refl
 kept false p = refl
 
 module _ (structs : List StructDef) where
-  one_more : (earlier : List UnitDef) (made : Parts) (unit : UnitDef) (units : List UnitDef) (test : Bool) (needed : List Bool)
-      (left : List InMachine) (here next : Parts) (more : List InMachine) →
+  one_more : (earlier : List UnitDef) (made : ProgramParts) (unit : UnitDef) (units : List UnitDef) (test : Bool) (needed : List Bool)
+      (left : List InMachine) (here next : ProgramParts) (more : List InMachine) →
       here ≡ where_needed test (unit_told structs earlier made.remember unit left) → next ≡ parts_then made here →
       more ≡ (if is_activity unit.kind then drop 1 left else left) →
       parts_then next (units_told structs (earlier ++ unit ∷ []) next.remember units needed more)
@@ -42,7 +42,7 @@ module _ (structs : List StructDef) where
   one_more earlier made unit units test needed left here next more here_is next_is more_is =
       let told = unit_told structs earlier made.remember unit left in
       let next_so : next ≡ parts_then made (where_needed test told) = next_is ∙ ap (parts_then made) here_is in
-      ap₂ (λ (next : Parts) (more : List InMachine). parts_then next (units_told structs (earlier ++ unit ∷ []) next.remember units needed more))
+      ap₂ (λ (next : ProgramParts) (more : List InMachine). parts_then next (units_told structs (earlier ++ unit ∷ []) next.remember units needed more))
       next_so more_is
       ∙ (ap (λ (seen : List Bool). parts_then (parts_then made (where_needed test told))
       (units_told structs (earlier ++ unit ∷ []) (made.remember ++ seen) units needed
@@ -72,8 +72,8 @@ module _ (structs : List StructDef) where
   same_at (x ∷ xs) zero a b within = refl
   same_at (x ∷ xs) (suc k) a b within = same_at xs k a b (omega (arith, within))
 
-  pub step : (units : List UnitDef) (needed : List Bool) (left : List InMachine) (k : ℕ) (made : Parts) (unit again : UnitDef) (d : Bool)
-      (front : List UnitDef) (seen : List Bool) (here next whole : Parts) (more : List InMachine) →
+  pub step : (units : List UnitDef) (needed : List Bool) (left : List InMachine) (k : ℕ) (made : ProgramParts) (unit again : UnitDef) (d : Bool)
+      (front : List UnitDef) (seen : List Bool) (here next whole : ProgramParts) (more : List InMachine) →
       k < length units → k < length needed → unit ≡ get_or units k unit → again ≡ get_or units k again → front ≡ take k units →
       seen ≡ made.remember → here ≡ where_needed (get_or needed k d) (unit_told structs front seen unit left) →
       next ≡ parts_then made here →
@@ -99,7 +99,7 @@ module _ (structs : List StructDef) where
       (sym rest) (sym tests)
       ∙ so))
 
-  pub no_test : (earlier : List UnitDef) (units : List UnitDef) (needed : List Bool) (left : List InMachine) (k : ℕ) (made whole : Parts) →
+  pub no_test : (earlier : List UnitDef) (units : List UnitDef) (needed : List Bool) (left : List InMachine) (k : ℕ) (made whole : ProgramParts) →
       length needed ≤ k →
       parts_then made (units_told structs earlier made.remember (drop k units) (drop k needed) left) ≡ whole → made ≡ whole
   no_test earlier units needed left k made whole past so =
@@ -112,7 +112,7 @@ module _ (structs : List StructDef) where
       nothing [] = refl
       nothing (u ∷ units) = refl
 
-  pub no_unit : (earlier : List UnitDef) (units : List UnitDef) (needed : List Bool) (left : List InMachine) (k : ℕ) (made whole : Parts) →
+  pub no_unit : (earlier : List UnitDef) (units : List UnitDef) (needed : List Bool) (left : List InMachine) (k : ℕ) (made whole : ProgramParts) →
       length units ≤ k →
       parts_then made (units_told structs earlier made.remember (drop k units) (drop k needed) left) ≡ whole → made ≡ whole
   no_unit earlier units needed left k made whole past so =

@@ -2,12 +2,12 @@
 use Rattle.std.proofs.Common.{◌≡◌, Option, List, [], ◌∷◌, map, refl, ap, sym, ◌∙◌, slice_get}
 use Rattle.std.proofs.lemmas.Option.{slice_get-map}
 use Rattle.std.specs.Prelude.{option_map}
-use Rattle.bl_emit_pass.specs.Blocks.{Sizes}
-use Rattle.bl_pass_listed.specs.Told.{Rule, rule_in}
-use Rattle.bl_pass_listed.specs.declared.rule.Rule.{Rule as Kept}
+use Rattle.bl_emit_spec.specs.Blocks.{Sizes}
+use Rattle.bl_machine_transitions.specs.Told.{NumberedTransition, rule_in}
+use Rattle.bl_machine_transitions.specs.declared.transition.Transition.{Transition as Kept}
 use Rattle.bl_emit.specs.Activities.{entry_told, entry_where}
 
-entry_first : (sizes : Sizes) (rules : List Rule) → entry_told sizes rules ≡ entry_where sizes (slice_get rules 0)
+entry_first : (sizes : Sizes) (rules : List NumberedTransition) → entry_told sizes rules ≡ entry_where sizes (slice_get rules 0)
 entry_first sizes [] = refl
 entry_first sizes (rule ∷ rest) = refl
 

@@ -1,14 +1,14 @@
 -- The C function of an activity by what the code has of it.
 use Rattle.std.proofs.Common.{◌≡◌, ℕ, Bool, false, List, length, filter, slice_get, unwrap_or, ap, ap₂, ◌∙◌}
 use Rattle.bl_tree.specs.declared.c.CFunc.{CFunc}
-use Rattle.bl_tree.specs.Typing.{Site, site_of}
+use Rattle.bl_tree.specs.Typing.{TypingContext, site_of}
 use Rattle.bl_machine.specs.Blocks.{up_to}
-use Rattle.bl_emit_pass.specs.Activities.{RunAt, copies_of}
+use Rattle.bl_emit_spec.specs.Activities.{RunAt, copies_of}
 use Rattle.bl_emit_tables.specs.Told.{read_told, runs_told}
-use Rattle.bl_emit.specs.Activities.{Told, copied_told, counters_told, function_told, function_viewed, remembers_told}
+use Rattle.bl_emit.specs.Activities.{ActivityInput, copied_told, counters_told, function_told, function_viewed, remembers_told}
 
-module _ (a : Told) where
-  abbrev made : Site → List Bool → (ℕ → Bool) → List ℕ → List ℕ → List RunAt → Bool → CFunc
+module _ (a : ActivityInput) where
+  abbrev made : TypingContext → List Bool → (ℕ → Bool) → List ℕ → List ℕ → List RunAt → Bool → CFunc
   made site copies is_read counters copied runs remembers =
       function_viewed a
       (record {
@@ -21,7 +21,7 @@ module _ (a : Told) where
       })
       counters copied runs remembers
 
-  pub function_is : (site : Site) (copies read : List Bool) (counters copied : List ℕ) (n m : ℕ) (runs : List RunAt) (remembers : Bool) →
+  pub function_is : (site : TypingContext) (copies read : List Bool) (counters copied : List ℕ) (n m : ℕ) (runs : List RunAt) (remembers : Bool) →
       site ≡ site_of a.structs a.earlier a.unit → copies ≡ copies_of a.unit →
       ((k : ℕ) → unwrap_or (slice_get read k) false ≡ read_told a.rules k) →
       counters ≡ filter (λ k. unwrap_or (slice_get read k) false) (up_to n) → n ≡ length a.sizes →

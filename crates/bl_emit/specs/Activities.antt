@@ -21,28 +21,28 @@ use Rattle.bl_emit_acts.specs.Expressions.{scalar_at}
 use Rattle.bl_emit_acts.specs.Trees.{c_read, c_two, nowhere}
 use Rattle.bl_emit_acts.specs.Types.{c_scalar, copy_name, unit_name}
 use Rattle.bl_emit_functions.specs.Functions.{members_of, memory_name, params_from, struct_of}
-use Rattle.bl_pass_listed.specs.Told.{Rule}
-use Rattle.bl_emit_pass.specs.Blocks.{Sizes, View, counter_value, name_in}
-use Rattle.bl_emit_pass.specs.Names.{callee_name, counter_place, ended_name, flag_place, frame_name}
-use Rattle.bl_emit_pass.specs.Activities.{RunAt, blocks_code, copies_of, counter_member, given_local, over_param, pointer_param}
-use Rattle.bl_emit_pass.specs.Activities.{rested_code, rested_local, result_params, scalar_local, struct_member}
+use Rattle.bl_machine_transitions.specs.Told.{NumberedTransition}
+use Rattle.bl_emit_spec.specs.Blocks.{ActivityView, Sizes, counter_value, name_in}
+use Rattle.bl_emit_spec.specs.Names.{callee_name, counter_place, ended_name, flag_place, frame_name}
+use Rattle.bl_emit_spec.specs.Activities.{RunAt, blocks_code, copies_of, counter_member, given_local, over_param, pointer_param}
+use Rattle.bl_emit_spec.specs.Activities.{rested_code, rested_local, result_params, scalar_local, struct_member}
 use Rattle.bl_emit_blocks.specs.Numbered.{numbered_turn}
 use Rattle.bl_emit_tables.specs.Told.{flags_told, marks_told, read_told, runs_told}
 
 -- what C is made of: a unit with the structs and units before it, its rules in source order, and the blocks of their nodes
-pub record Told : Type 0 where
+pub record ActivityInput : Type 0 where
   pub structs : List StructDef
   pub earlier : List UnitDef
   pub unit : UnitDef
   pub blocks : List (List ℕ)
-  pub rules : List Rule
+  pub rules : List NumberedTransition
   -- how many values each counter has
   pub sizes : Sizes
   -- which of the units before it remember variables
   pub remember : List Bool
 
 -- the activity as its blocks see it. They don't ask for the numbers of nodes
-abbrev pub view_told : Told → View
+abbrev pub view_told : ActivityInput → ActivityView
 view_told a = record {
   site = site_of a.structs a.earlier a.unit;
   copies = copies_of a.unit;
@@ -67,7 +67,7 @@ frame_by earlier name sizes runs = record {
 }
 
 -- where the activity rests
-abbrev pub frame_told : Told → CStruct
+abbrev pub frame_told : ActivityInput → CStruct
 frame_told a = frame_by a.earlier a.unit.name a.sizes (runs_told a.rules)
 
 -- what the activity that a `run` calls remembers, where that is anything
@@ -82,15 +82,15 @@ abbrev pub remembered_by : List StructDef → List UnitDef → List Bool → Uni
 remembered_by structs earlier remember unit runs = members_of structs earlier unit ++ joined (map (memory_member_told earlier remember) runs)
 
 -- what the activity remembers
-abbrev pub remembered_told : Told → List CMember
+abbrev pub remembered_told : ActivityInput → List CMember
 remembered_told a = remembered_by a.structs a.earlier a.remember a.unit (runs_told a.rules)
 
 -- the struct of that, where it is anything
-abbrev pub remembered_struct_told : Told → List CStruct
+abbrev pub remembered_struct_told : ActivityInput → List CStruct
 remembered_struct_told a = struct_of a.unit.name (remembered_told a)
 
 -- whether it is
-abbrev pub remembers_told : Told → Bool
+abbrev pub remembers_told : ActivityInput → Bool
 remembers_told a = nat_lt 0 (length (remembered_told a))
 
 -- ---- the function
@@ -107,7 +107,7 @@ params_told structs unit remembers =
     ++ (params_from structs 0 (parameters_of unit) ++ (result_params unit.result ++ over_param ∷ [])))
 
 -- the counters of which some rule asks what they held, in order
-abbrev pub counters_told : Sizes → List Rule → List ℕ
+abbrev pub counters_told : Sizes → List NumberedTransition → List ℕ
 counters_told sizes rules = filter (read_told rules) (up_to (length sizes))
 
 -- the local for the copy of a variable
@@ -124,13 +124,13 @@ run_locals_told earlier run =
     scalar_local OfBool (ended_name run.number) ∷ given_local run.number (option_and_then (λ unit. unit.result) (slice_get earlier run.unit))
 
 -- the locals: what these counters held, flags, marks, copies of these variables, and those of each `run`
-abbrev pub locals_by : List UnitDef → UnitDef → Sizes → List Rule → List ℕ → List ℕ → List RunAt → List CLocal
+abbrev pub locals_by : List UnitDef → UnitDef → Sizes → List NumberedTransition → List ℕ → List ℕ → List RunAt → List CLocal
 locals_by earlier unit sizes rules counters copied runs =
     map (rested_local sizes) counters
     ++ (flags_told rules ++ (marks_told rules ++ (map (copy_told unit) copied ++ joined (map (run_locals_told earlier) runs))))
 
 -- the locals of the activity
-abbrev pub locals_told : Told → List CLocal
+abbrev pub locals_told : ActivityInput → List CLocal
 locals_told a = locals_by a.earlier a.unit a.sizes a.rules (counters_told a.sizes a.rules) (copied_told a.unit) (runs_told a.rules)
 
 -- the node with the number waits where the first counter holds 0: the instance is begun, or rests where it goes home
@@ -138,23 +138,23 @@ abbrev pub entry_at : Sizes → ℕ → CStmt
 entry_at sizes number = c_set (flag_place number) (c_two Eq (c_read (counter_place 0)) (counter_value sizes 0 0))
 
 -- the entry, where it may be known
-abbrev pub entry_where : Sizes → Option Rule → List CStmt
+abbrev pub entry_where : Sizes → Option NumberedTransition → List CStmt
 entry_where sizes (Some rule) = entry_at sizes rule.number ∷ []
 entry_where sizes None = []
 
 -- the entry is the first node; a body without statements has none
-abbrev pub entry_told : Sizes → List Rule → List CStmt
+abbrev pub entry_told : Sizes → List NumberedTransition → List CStmt
 entry_told sizes [] = []
 entry_told sizes (rule ∷ rest) = entry_at sizes rule.number ∷ []
 
 -- the body: copies of what these counters held and of these variables when the tick began, and the blocks in their order
-abbrev pub code_by : View → List Rule → List (List ℕ) → List ℕ → List ℕ → List CStmt
+abbrev pub code_by : ActivityView → List NumberedTransition → List (List ℕ) → List ℕ → List ℕ → List CStmt
 code_by view rules blocks counters copied =
     map rested_code counters
     ++ (entry_told view.sizes rules ++ (map (c_copied view.site) copied ++ blocks_code (map (numbered_turn view) rules) blocks))
 
 -- the body of the activity
-abbrev pub code_told : Told → List CStmt
+abbrev pub code_told : ActivityInput → List CStmt
 code_told a = code_by (view_told a) a.rules a.blocks (counters_told a.sizes a.rules) (copied_told a.unit)
 
 -- a C function of an activity
@@ -170,11 +170,11 @@ function_by structs unit remembers locals body = record {
 }
 
 -- the C function of the activity
-abbrev pub function_told : Told → CFunc
+abbrev pub function_told : ActivityInput → CFunc
 function_told a = function_by a.structs a.unit (remembers_told a) (locals_told a) (code_told a)
 
 -- a C function of the activity, as its blocks see it, where these counters are asked for, these variables copied and these are its `run`s
-abbrev pub function_viewed : Told → View → List ℕ → List ℕ → List RunAt → Bool → CFunc
+abbrev pub function_viewed : ActivityInput → ActivityView → List ℕ → List ℕ → List RunAt → Bool → CFunc
 function_viewed a view counters copied runs remembers =
     function_by a.structs a.unit remembers (locals_by a.earlier a.unit a.sizes a.rules counters copied runs)
     (code_by view a.rules a.blocks counters copied)

@@ -1,13 +1,13 @@
 -- Runs and parts as the code has them.
-use Rattle.bl_emit_pass.specs.Activities.{RunAt}
-use Rattle.bl_emit_pass.specs.Programs.{Parts, Written}
+use Rattle.bl_emit_spec.specs.Activities.{RunAt}
+use Rattle.bl_emit_spec.specs.Programs.{ProgramParts, Written}
 use Rattle.bl_emit.specs.declared.runs.RunAt.{RunAt as Kept}
 use Rattle.bl_emit.specs.declared.activity.Parts.{Parts as KeptParts}
-use Rattle.bl_emit.specs.declared.activity.Told.{Told as KeptTold}
+use Rattle.bl_emit.specs.declared.activity.ActivityInput.{ActivityInput as KeptTold}
 use Rattle.bl_emit.specs.declared.shared.Shared.{Shared as KeptShared}
-use Rattle.bl_emit.specs.Activities.{Told}
+use Rattle.bl_emit.specs.Activities.{ActivityInput}
 use Rattle.bl_emit.specs.Programs.{SharedRules}
-use Rattle.bl_pass_listed.specs.Told.{rule_in}
+use Rattle.bl_machine_transitions.specs.Told.{rule_in}
 use Rattle.std.specs.Prelude.{map}
 use Rattle.bl_emit.specs.declared.program.Written.{Written as KeptFile}
 
@@ -16,7 +16,7 @@ abbrev pub run_in : Kept → RunAt
 run_in run = record { number = run.number; unit = run.unit }
 
 -- parts of units
-abbrev pub parts_in : KeptParts → Parts
+abbrev pub parts_in : KeptParts → ProgramParts
 parts_in parts = record { structs = parts.structs; funcs = parts.funcs; remember = parts.remember }
 
 -- a file
@@ -24,7 +24,7 @@ abbrev pub written_in : KeptFile → Written
 written_in made = record { structs = made.structs; funcs = made.funcs }
 
 -- what C of an activity is made of
-abbrev pub told_in : KeptTold → Told
+abbrev pub told_in : KeptTold → ActivityInput
 told_in told = record {
   structs = told.structs.now;
   earlier = told.earlier.now;

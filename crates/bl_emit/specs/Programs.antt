@@ -5,23 +5,23 @@ use Rattle.bl_tree.specs.declared.tree.StructDef.{StructDef}
 use Rattle.bl_tree.specs.declared.tree.Unit.{Unit as UnitDef}
 use Rattle.bl_tree.specs.Reduce.{joined}
 use Rattle.bl_tree.specs.Typing.{is_activity}
-use Rattle.bl_nodes.specs.Plain.{Block, plain_body}
+use Rattle.bl_graph_nodes.specs.Plain.{Block, plain_body}
 use Rattle.bl_machine.specs.declared.machine.Activity.{Activity as InMachine}
 use Rattle.bl_machine.specs.declared.slots.Slot.{Slot}
-use Rattle.bl_pass_listed.specs.Listed.{layout_of, listed}
-use Rattle.bl_pass_listed.specs.Shared.{last_value, shared, shared_sizes, shared_slot}
-use Rattle.bl_pass_listed.specs.Told.{Rule}
-use Rattle.bl_emit_pass.specs.Programs.{Parts, Written, file_at, needed_units, no_parts, parts_of_function, parts_then, where_needed}
-use Rattle.bl_emit.specs.Activities.{Told, frame_told, function_told, remembered_struct_told, remembers_told}
+use Rattle.bl_machine_transitions.specs.Listed.{layout_of, listed}
+use Rattle.bl_machine_transitions.specs.Shared.{last_value, shared, shared_sizes, shared_slot}
+use Rattle.bl_machine_transitions.specs.Told.{NumberedTransition}
+use Rattle.bl_emit_spec.specs.Programs.{ProgramParts, Written, file_at, needed_units, no_parts, parts_of_function, parts_then, where_needed}
+use Rattle.bl_emit.specs.Activities.{ActivityInput, frame_told, function_told, remembered_struct_told, remembers_told}
 
 -- the parts of an activity: where it rests, what it remembers, and its function
-abbrev pub parts_told : Told → Parts
+abbrev pub parts_told : ActivityInput → ProgramParts
 parts_told a =
     record { structs = frame_told a ∷ remembered_struct_told a; funcs = function_told a ∷ []; remember = remembers_told a ∷ [] }
 
 -- the rules of an activity, and how many values each of its counters has
 pub record SharedRules : Type 0 where
-  pub rules : List Rule
+  pub rules : List NumberedTransition
   pub sizes : List ℕ
 
 -- those where the last resting place shares the number 0 with the beginning, by how many values each counter has before
@@ -37,7 +37,7 @@ shared_told unit one = record {
 }
 
 -- an activity of a machine
-abbrev pub told_of : List StructDef → List UnitDef → List Bool → UnitDef → InMachine → Told
+abbrev pub told_of : List StructDef → List UnitDef → List Bool → UnitDef → InMachine → ActivityInput
 told_of structs earlier remember unit one = record {
   structs = structs;
   earlier = earlier;
@@ -49,17 +49,17 @@ told_of structs earlier remember unit one = record {
 }
 
 -- the parts of an activity, where the machine has one more
-abbrev pub next_told : List StructDef → List UnitDef → List Bool → UnitDef → List InMachine → Parts
+abbrev pub next_told : List StructDef → List UnitDef → List Bool → UnitDef → List InMachine → ProgramParts
 next_told structs earlier remember unit [] = no_parts
 next_told structs earlier remember unit (one ∷ machine) = parts_told (told_of structs earlier remember unit one)
 
 -- the parts of a unit, where the machine has these activities from this unit on
-abbrev pub unit_told : List StructDef → List UnitDef → List Bool → UnitDef → List InMachine → Parts
+abbrev pub unit_told : List StructDef → List UnitDef → List Bool → UnitDef → List InMachine → ProgramParts
 unit_told structs earlier remember unit machine =
     if is_activity unit.kind then next_told structs earlier remember unit machine else parts_of_function structs earlier unit
 
 -- the parts of units, which stand behind those before them; the tests tell which of the units are needed
-abbrev pub units_told : List StructDef → List UnitDef → List Bool → List UnitDef → List Bool → List InMachine → Parts
+abbrev pub units_told : List StructDef → List UnitDef → List Bool → List UnitDef → List Bool → List InMachine → ProgramParts
 units_told structs earlier remember [] needed machine = no_parts
 units_told structs earlier remember (unit ∷ units) [] machine = no_parts
 units_told structs earlier remember (unit ∷ units) (test ∷ needed) machine =

@@ -4,7 +4,7 @@ ghost use Rattle.std.specs.Prelude.{◌≡◌, ◌∷◌, [], IfOk, map};
 ghost use Rattle.bl_emit_acts.specs.Sites.{site_in};
 ghost use Rattle.bl_emit_blocks.specs.Views.{view_in};
 ghost use Rattle.bl_emit_functions.specs.Functions.{struct_of};
-ghost use Rattle.bl_emit_pass.specs.Programs.{where_needed};
+ghost use Rattle.bl_emit_spec.specs.Programs.{where_needed};
 ghost use Rattle.bl_emit_tables.specs.Told.{runs_told};
 ghost use Rattle.bl_tree.specs.Typing.{site_of};
 ghost use Rattle.bl_emit.specs.Activities.{frame_by, function_by, function_told, function_viewed, remembers_told};
@@ -17,11 +17,11 @@ use crate::frames::{frame, is_any, remembered, remembered_struct};
 use crate::locals::locals;
 use crate::params::params;
 use crate::runs::{RunAt, runs_of};
-use bl_emit_acts::Site;
+use bl_emit_acts::UnitSite;
 use bl_emit_acts::parts::{NOWHERE, joined, prefixed, single};
-use bl_emit_blocks::View;
+use bl_emit_blocks::ActivityView;
 use bl_emit_tables::{copies_of, read_by};
-use bl_pass_listed::Rule;
+use bl_machine_transitions::Transition;
 use bl_tree::c::{CFunc, CLocal, CMember, CStmt, CStruct};
 use bl_tree::tree::{StructDef, Unit};
 use bl_tree::{List, NoMemory};
@@ -29,7 +29,7 @@ use std::alloc::Global;
 
 /// What C of an activity is made of.
 #[derive(Clone, Copy)]
-pub struct Told<'a> {
+pub struct ActivityInput<'a> {
     pub structs: &'a [StructDef],
     /// The units before it.
     pub earlier: &'a [Unit],
@@ -37,7 +37,7 @@ pub struct Told<'a> {
     /// The blocks of its nodes, by their positions in source order.
     pub blocks: &'a [List<u32>],
     /// Its rules in source order.
-    pub rules: &'a [Rule<'a>],
+    pub rules: &'a [Transition<'a>],
     /// How many values each counter has.
     pub sizes: &'a [u32],
     /// Which of the units before it remember variables.
@@ -53,10 +53,10 @@ pub struct Parts {
 }
 
 /// What the statements of the activity see.
-fn site<'a>(told: &Told<'a>) -> Site<'a>
+fn site<'a>(told: &ActivityInput<'a>) -> UnitSite<'a>
     ensures { site_in result ≡ site_of (told_in told.entry.now).structs (told_in told.entry.now).earlier (told_in told.entry.now).unit }
 {
-    Site {
+    UnitSite {
         structs: told.structs,
         earlier: told.earlier,
         kind: told.unit.kind,
@@ -68,7 +68,7 @@ fn site<'a>(told: &Told<'a>) -> Site<'a>
 /// A C function of the activity.
 fn made(
     alloc: Global,
-    told: &Told,
+    told: &ActivityInput,
     remembers: bool,
     locals: List<CLocal>,
     body: List<CStmt>,
@@ -92,8 +92,8 @@ fn made(
 /// copied.
 fn viewed(
     alloc: Global,
-    told: &Told,
-    view: &View,
+    told: &ActivityInput,
+    view: &ActivityView,
     counters: &[u32],
     copied: &[u32],
     runs: &[RunAt],
@@ -117,7 +117,12 @@ fn viewed(
 }
 
 /// The C function of the activity, with these `run`s, and where it is told whether it remembers anything.
-fn function(alloc: Global, told: &Told, runs: &[RunAt], remembers: bool) -> Result<CFunc, NoMemory>
+fn function(
+    alloc: Global,
+    told: &ActivityInput,
+    runs: &[RunAt],
+    remembers: bool,
+) -> Result<CFunc, NoMemory>
     ensures { map run_in runs.now ≡ runs_told (told_in told.entry.now).rules → remembers ≡ remembers_told (told_in told.entry.now) →
         IfOk result (λ made. made ≡ function_told (told_in told.entry.now)) }
 {
@@ -127,7 +132,7 @@ fn function(alloc: Global, told: &Told, runs: &[RunAt], remembers: bool) -> Resu
     let counters = chosen(alloc, &read, count)?;
     let many = count_of(&told.unit.vars)?;
     let copied = chosen(alloc, &copies, many)?;
-    let view = View {
+    let view = ActivityView {
         site: site(told),
         copies: &copies,
         sizes: told.sizes,
@@ -140,7 +145,7 @@ fn function(alloc: Global, told: &Told, runs: &[RunAt], remembers: bool) -> Resu
 /// The C structs of the activity, with these `run`s, of which it remembers these members.
 fn structs(
     alloc: Global,
-    told: &Told,
+    told: &ActivityInput,
     runs: &[RunAt],
     members: List<CMember>,
 ) -> Result<List<CStruct>, NoMemory>
@@ -154,7 +159,7 @@ fn structs(
 }
 
 /// The parts of the activity; where it isn't needed it is only told whether it remembers anything. Fails only for want of memory.
-pub fn activity_parts(alloc: Global, told: &Told, needed: bool) -> Result<Parts, NoMemory>
+pub fn activity_parts(alloc: Global, told: &ActivityInput, needed: bool) -> Result<Parts, NoMemory>
     ensures { IfOk result (λ made. parts_in made ≡ where_needed needed (parts_told (told_in told.entry.now))) }
 {
     let runs = runs_of(alloc, told.rules)?;

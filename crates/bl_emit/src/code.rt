@@ -4,17 +4,17 @@ ghost use Rattle.std.specs.Prelude.{◌≡◌, ◌++◌, IfOk, OnOk, map, option
 ghost use Rattle.bl_emit_acts.specs.Acts.{c_copied};
 ghost use Rattle.bl_emit_blocks.specs.Numbered.{numbered_turn};
 ghost use Rattle.bl_emit_blocks.specs.Views.{view_in};
-ghost use Rattle.bl_emit_pass.specs.Activities.{blocks_code, picked, rested_code};
-ghost use Rattle.bl_emit_pass.specs.Blocks.{merged_code};
-ghost use Rattle.bl_pass_listed.specs.Told.{rule_in};
+ghost use Rattle.bl_emit_spec.specs.Activities.{blocks_code, picked, rested_code};
+ghost use Rattle.bl_emit_spec.specs.Blocks.{merged_code};
+ghost use Rattle.bl_machine_transitions.specs.Told.{rule_in};
 ghost use Rattle.bl_emit.specs.Activities.{code_by, entry_at, entry_told, entry_where};
 
 use crate::names::counter_type;
 use crate::parts::equal;
 use bl_emit_acts::copied as copy_set;
 use bl_emit_acts::parts::{literal, member_at, numbered, read, set, whole};
-use bl_emit_blocks::{View, merged};
-use bl_pass_listed::Rule;
+use bl_emit_blocks::{ActivityView, merged};
+use bl_machine_transitions::Transition;
 use bl_tree::c::CStmt;
 use bl_tree::slices::element;
 use bl_tree::{List, NoMemory};
@@ -54,7 +54,7 @@ fn entered(alloc: Global, sizes: &[u32], number: u32) -> Result<CStmt, NoMemory>
 fn add_entered(
     alloc: Global,
     sizes: &[u32],
-    rule: Option<&Rule>,
+    rule: Option<&Transition>,
     code: &mut List<CStmt>,
 ) -> Result<(), NoMemory>
     ensures { OnOk result (code.new ≡ code.old ++ entry_where sizes.now (option_map rule_in (option_map (λ rule. rule.now) rule.entry))) }
@@ -73,7 +73,7 @@ fn add_entered(
 fn add_entry(
     alloc: Global,
     sizes: &[u32],
-    rules: &[Rule],
+    rules: &[Transition],
     code: &mut List<CStmt>,
 ) -> Result<(), NoMemory>
     ensures { OnOk result (code.new ≡ code.old ++ entry_told sizes.now (map rule_in rules.now)) }
@@ -84,7 +84,7 @@ fn add_entry(
 /// Appends that the copies of the variables become what these are.
 fn add_copies(
     alloc: Global,
-    view: &View,
+    view: &ActivityView,
     copied: &[u32],
     code: &mut List<CStmt>,
 ) -> Result<(), NoMemory>
@@ -99,8 +99,8 @@ fn add_copies(
 /// Appends the `if` of a block, where that has a node.
 fn add_block(
     alloc: Global,
-    view: &View,
-    rules: &[Rule],
+    view: &ActivityView,
+    rules: &[Transition],
     block: &[u32],
     code: &mut List<CStmt>,
 ) -> Result<(), NoMemory>
@@ -116,8 +116,8 @@ fn add_block(
 /// Appends the `if`s of the blocks in their order.
 fn add_blocks(
     alloc: Global,
-    view: &View,
-    rules: &[Rule],
+    view: &ActivityView,
+    rules: &[Transition],
     blocks: &[List<u32>],
     code: &mut List<CStmt>,
 ) -> Result<(), NoMemory>
@@ -133,8 +133,8 @@ fn add_blocks(
 /// The body: copies of what the counters held and of the variables when the tick began, and the blocks in their order.
 pub fn code(
     alloc: Global,
-    view: &View,
-    rules: &[Rule],
+    view: &ActivityView,
+    rules: &[Transition],
     blocks: &[List<u32>],
     counters: &[u32],
     copied: &[u32],

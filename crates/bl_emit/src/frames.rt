@@ -4,7 +4,7 @@ ghost use Rattle.std.specs.Prelude.{◌≡◌, ◌++◌, IfOk, OnOk, length, map
 ghost use Rattle.bl_machine.specs.Blocks.{up_to};
 ghost use Rattle.bl_tree.specs.Reduce.{joined};
 ghost use Rattle.bl_emit_functions.specs.Functions.{members_of, struct_of};
-ghost use Rattle.bl_emit_pass.specs.Activities.{counter_member};
+ghost use Rattle.bl_emit_spec.specs.Activities.{counter_member};
 ghost use Rattle.bl_emit.specs.Activities.{frame_by, frame_member_told, memory_member_told, remembered_by};
 ghost use Rattle.bl_emit.specs.Kept.{run_in};
 ghost use Rattle.bl_emit.specs.inner.Members.{members_within};

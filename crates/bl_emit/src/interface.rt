@@ -2,7 +2,7 @@
 
 ghost use Rattle.std.specs.Prelude.{◌≡◌, ◌++◌, IfOk, OnOk, map};
 ghost use Rattle.bl_tree.specs.Typing.{inputs_of, outputs_of};
-ghost use Rattle.bl_emit_pass.specs.Programs as programs;
+ghost use Rattle.bl_emit_spec.specs.Programs as programs;
 ghost use Rattle.bl_emit.specs.inner.Members.{pad_member};
 
 use crate::parts::member;

@@ -2,8 +2,8 @@
 
 ghost use Rattle.std.specs.Prelude.{◌≡◌, ◌++◌, IfOk, OnOk, map, option_and_then, slice_get};
 ghost use Rattle.bl_tree.specs.Reduce.{joined};
-ghost use Rattle.bl_pass_listed.specs.Told.{rule_in};
-ghost use Rattle.bl_emit_pass.specs.Activities.{given_local, rested_local};
+ghost use Rattle.bl_machine_transitions.specs.Told.{rule_in};
+ghost use Rattle.bl_emit_spec.specs.Activities.{given_local, rested_local};
 ghost use Rattle.bl_emit.specs.Activities.{copy_told, locals_by, run_locals_told};
 ghost use Rattle.bl_emit.specs.Kept.{run_in};
 
@@ -13,7 +13,7 @@ use crate::registers::{add_flags, add_marks};
 use crate::runs::RunAt;
 use bl_emit_acts::parts::numbered;
 use bl_emit_acts::scalar_in_c;
-use bl_pass_listed::Rule;
+use bl_machine_transitions::Transition;
 use bl_tree::c::CLocal;
 use bl_tree::slices::element;
 use bl_tree::tree::Unit;
@@ -126,7 +126,7 @@ pub fn locals(
     earlier: &[Unit],
     unit: &Unit,
     sizes: &[u32],
-    rules: &[Rule],
+    rules: &[Transition],
     counters: &[u32],
     copied: &[u32],
     runs: &[RunAt],

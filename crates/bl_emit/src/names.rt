@@ -2,7 +2,7 @@
 
 ghost use Rattle.std.specs.Prelude.{◌≡◌, slice_get, Some};
 ghost use Rattle.bl_emit_acts.specs.Expressions.{scalar_at};
-ghost use Rattle.bl_emit_pass.specs.Blocks as blocks;
+ghost use Rattle.bl_emit_spec.specs.Blocks as blocks;
 
 use bl_emit_acts::scalar_in;
 use bl_tree::slices::element;

@@ -1,8 +1,8 @@
 //! The parameters of the function of an activity.
 
 ghost use Rattle.std.specs.Prelude.{◌≡◌, ◌∷◌, ◌++◌, [], IfOk, OnOk, codes};
-ghost use Rattle.bl_emit_pass.specs.Activities.{over_param, pointer_param, result_params};
-ghost use Rattle.bl_emit_pass.specs.Names.{frame_name};
+ghost use Rattle.bl_emit_spec.specs.Activities.{over_param, pointer_param, result_params};
+ghost use Rattle.bl_emit_spec.specs.Names.{frame_name};
 ghost use Rattle.bl_emit.specs.Activities.{memory_params_told, params_told};
 
 use crate::parts::pointer;

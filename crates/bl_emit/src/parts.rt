@@ -3,7 +3,7 @@
 ghost use Rattle.std.specs.Prelude.{◌≡◌, IfOk};
 ghost use Rattle.bl_tree.specs.declared.scalar.Op.TheVariants.{Eq};
 ghost use Rattle.bl_emit_acts.specs.Trees.{c_two};
-ghost use Rattle.bl_emit_pass.specs.Activities.{scalar_local, struct_member, pointer_param};
+ghost use Rattle.bl_emit_spec.specs.Activities.{scalar_local, struct_member, pointer_param};
 
 use bl_emit_acts::parts::two;
 use bl_tree::c::{CExpr, CLocal, CMember, CParam, CType};

@@ -1,7 +1,7 @@
 //! The C of a program.
 
 ghost use Rattle.std.specs.Prelude.{◌≡◌, ◌++◌, ◌∷◌, [], IfOk, option_map};
-ghost use Rattle.bl_emit_pass.specs.Programs.{file_at, file_of, init_function, interface_structs, tick_function};
+ghost use Rattle.bl_emit_spec.specs.Programs.{file_at, file_of, init_function, interface_structs, tick_function};
 ghost use Rattle.bl_emit_structs.specs.Structs.{structs_of as structs_needed};
 ghost use Rattle.bl_emit.specs.Kept.{parts_in, written_in};
 ghost use Rattle.bl_emit.specs.Programs.{written_told};

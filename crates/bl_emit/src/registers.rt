@@ -2,12 +2,12 @@
 
 ghost use Rattle.std.specs.Prelude.{◌≡◌, ◌++◌, OnOk, map};
 ghost use Rattle.bl_tree.specs.Reduce.{joined};
-ghost use Rattle.bl_pass_listed.specs.Told.{rule_in};
+ghost use Rattle.bl_machine_transitions.specs.Told.{rule_in};
 ghost use Rattle.bl_emit_tables.specs.Told.{asks_flag, flag_told, flags_told, mark_told, marks_told};
 
 use crate::parts::local;
 use bl_emit_acts::parts::numbered;
-use bl_pass_listed::{Asked, Change, Rule};
+use bl_machine_transitions::{Asked, Change, Transition};
 use bl_tree::c::CLocal;
 use bl_tree::{List, NoMemory, Scalar};
 use std::alloc::Global;
@@ -23,7 +23,7 @@ fn is_flag(asked: &Asked) -> bool
 }
 
 /// Appends the local for the flag of a node that waits by one.
-fn add_flag(alloc: Global, rule: &Rule, locals: &mut List<CLocal>) -> Result<(), NoMemory>
+fn add_flag(alloc: Global, rule: &Transition, locals: &mut List<CLocal>) -> Result<(), NoMemory>
     ensures { OnOk result (locals.new ≡ locals.old ++ flag_told (rule_in rule.now)) }
 {
     if is_flag(&rule.asked) {
@@ -34,7 +34,11 @@ fn add_flag(alloc: Global, rule: &Rule, locals: &mut List<CLocal>) -> Result<(),
 }
 
 /// Appends the locals for the flags of all nodes.
-pub fn add_flags(alloc: Global, rules: &[Rule], locals: &mut List<CLocal>) -> Result<(), NoMemory>
+pub fn add_flags(
+    alloc: Global,
+    rules: &[Transition],
+    locals: &mut List<CLocal>,
+) -> Result<(), NoMemory>
     ensures { OnOk result (locals.new ≡ locals.old ++ flags_told (map rule_in rules.now)) }
 {
     for rule in rules {
@@ -48,16 +52,16 @@ fn add_mark(alloc: Global, change: Change, locals: &mut List<CLocal>) -> Result<
     ensures { OnOk result (locals.new ≡ locals.old ++ mark_told change) }
 {
     match change {
-        Change::Mark(k) => {
+        Change::SetMark(k) => {
             let name = numbered(alloc, "u", u64::from(k))?;
             locals.push(local(Scalar::Bool, name))?;
             Ok(())
         }
-        Change::Flag(_)
-        | Change::Rest(_)
-        | Change::Free(_)
-        | Change::Forget(_)
-        | Change::End(_, _, _)
+        Change::SetFlag(_)
+        | Change::SetCounter(_)
+        | Change::ClearCounter(_)
+        | Change::ClearBoth(_)
+        | Change::EndWhen(_, _, _)
         | Change::Finish => Ok(()),
     }
 }
@@ -73,7 +77,11 @@ fn add_rule_marks(alloc: Global, so: &[Change], locals: &mut List<CLocal>) -> Re
 }
 
 /// Appends the locals for the marks that all rules set.
-pub fn add_marks(alloc: Global, rules: &[Rule], locals: &mut List<CLocal>) -> Result<(), NoMemory>
+pub fn add_marks(
+    alloc: Global,
+    rules: &[Transition],
+    locals: &mut List<CLocal>,
+) -> Result<(), NoMemory>
     ensures { OnOk result (locals.new ≡ locals.old ++ marks_told (map rule_in rules.now)) }
 {
     for rule in rules {

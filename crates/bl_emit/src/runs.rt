@@ -1,11 +1,11 @@
 //! The `run`s of an activity.
 
 ghost use Rattle.std.specs.Prelude.{◌≡◌, ◌++◌, IfOk, OnOk, map};
-ghost use Rattle.bl_pass_listed.specs.Told.{rule_in, task_in};
+ghost use Rattle.bl_machine_transitions.specs.Told.{rule_in, task_in};
 ghost use Rattle.bl_emit_tables.specs.Told.{run_told, runs_told};
 ghost use Rattle.bl_emit.specs.Kept.{run_in};
 
-use bl_pass_listed::{Rule, Task};
+use bl_machine_transitions::{Task, Transition};
 use bl_tree::{List, NoMemory};
 use std::alloc::Global;
 
@@ -35,7 +35,7 @@ fn add_run(task: &Task, runs: &mut List<RunAt>) -> Result<(), NoMemory>
 }
 
 /// The `run`s of an activity, in source order.
-pub fn runs_of(alloc: Global, rules: &[Rule]) -> Result<List<RunAt>, NoMemory>
+pub fn runs_of(alloc: Global, rules: &[Transition]) -> Result<List<RunAt>, NoMemory>
     ensures { IfOk result (λ runs. map run_in runs ≡ runs_told (map rule_in rules.now)) }
 {
     let mut runs = List::new(alloc);

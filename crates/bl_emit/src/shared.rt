@@ -1,14 +1,14 @@
 //! The rules of an activity by the numbers that its resting places have in C.
 
 ghost use Rattle.std.specs.Prelude.{◌≡◌, IfOk};
-ghost use Rattle.bl_nodes.specs.Plain.{plain_body};
+ghost use Rattle.bl_graph_nodes.specs.Plain.{plain_body};
 ghost use Rattle.bl_emit.specs.Kept.{shared_in};
 ghost use Rattle.bl_emit.specs.Programs.{home_told, shared_told};
 
 use bl_block::nodes_of;
 use bl_emit_tables::sizes_of;
 use bl_machine::{Activity, Slot};
-use bl_pass_listed::{Rule, rules};
+use bl_machine_transitions::{Transition, rules};
 use bl_slots::{goes_home, shared_sizes, shared_slots};
 use bl_tree::tree::Unit;
 use bl_tree::{List, NoMemory};
@@ -17,7 +17,7 @@ use std::alloc::Global;
 /// The rules of an activity of a machine, and how many values each of its counters has.
 #[derive(Drop)]
 pub struct Shared<'a> {
-    pub rules: List<Rule<'a>>,
+    pub rules: List<Transition<'a>>,
     pub sizes: List<u32>,
 }
 

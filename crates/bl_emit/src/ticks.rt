@@ -6,8 +6,8 @@ ghost use Rattle.bl_tree.specs.declared.scalar.Scalar.TheVariants.{Nat};
 ghost use Rattle.bl_tree.specs.declared.scalar.Width.TheVariants.{W32};
 ghost use Rattle.bl_emit_acts.specs.Trees.{c_literal, c_place, c_step};
 ghost use Rattle.bl_emit_functions.specs.Trees.{c_if, c_return};
-ghost use Rattle.bl_emit_pass.specs.Activities.{pointer_param};
-ghost use Rattle.bl_emit_pass.specs.Programs as programs;
+ghost use Rattle.bl_emit_spec.specs.Activities.{pointer_param};
+ghost use Rattle.bl_emit_spec.specs.Programs as programs;
 
 use crate::interface::{inputs, outputs};
 use crate::parts::{local, pointer};

@@ -2,11 +2,11 @@
 
 ghost use Rattle.std.specs.Prelude.{◌≡◌, [], IfOk, drop, if◌then◌else◌};
 ghost use Rattle.bl_tree.specs.Typing as typing;
-ghost use Rattle.bl_emit_pass.specs.Programs.{no_parts, parts_of_function, parts_then, where_needed};
+ghost use Rattle.bl_emit_spec.specs.Programs.{no_parts, parts_of_function, parts_then, where_needed};
 ghost use Rattle.bl_emit.specs.Kept.{parts_in};
 ghost use Rattle.bl_emit.specs.Programs.{next_told, parts_told, told_of, unit_told, units_told};
 
-use crate::activity::{Parts, Told, activity_parts};
+use crate::activity::{ActivityInput, Parts, activity_parts};
 use crate::shared::shared_rules;
 use bl_emit_acts::parts::joined;
 use bl_emit_functions::{function, memory};
@@ -39,7 +39,7 @@ fn machine_parts(
         ≡ where_needed needed (parts_told (told_of structs.now earlier.now remember.now unit.now one.now))) }
 {
     let shared = shared_rules(alloc, unit, one)?;
-    let told = Told {
+    let told = ActivityInput {
         structs,
         earlier,
         unit,

@@ -19,7 +19,7 @@ use Rattle.bl_tree.specs.declared.tree.StructDef.{StructDef}
 use Rattle.bl_tree.specs.declared.tree.Ty.{Ty}
 use Rattle.bl_tree.specs.declared.tree.Unit.{Unit as UnitDef}
 use Rattle.bl_tree.specs.Types.{scalar_in}
-use Rattle.bl_tree.specs.Typing.{Site, var_at}
+use Rattle.bl_tree.specs.Typing.{TypingContext, var_at}
 use Rattle.bl_emit_acts.specs.Expressions.{arg_of, code_of, made_of, stands, type_at}
 use Rattle.bl_emit_acts.specs.Places.{place_in}
 use Rattle.bl_emit_acts.specs.Trees.{c_call, c_literal, c_place, c_read, nowhere}
@@ -56,20 +56,20 @@ zeroed structs place (Some ty) = c_zeroed structs place ty (scalar_in ty) ∷ []
 zeroed structs place None = []
 
 -- the C expression of an expression
-abbrev pub code_made : Site → Expr → CExpr
+abbrev pub code_made : TypingContext → Expr → CExpr
 code_made site e = code_of (made_of site e)
 
 -- the initial value of the variable at a position, 0 or false where none is written
-abbrev pub initial_code : Site → ℕ → Option Expr → List CStmt
+abbrev pub initial_code : TypingContext → ℕ → Option Expr → List CStmt
 initial_code site k (Some e) = c_set (place_in site k []) (code_made site e) ∷ []
 initial_code site k None = zeroed site.structs (place_in site k []) (type_at (var_at site k))
 
 -- the copy of a variable becomes what the variable is
-abbrev pub c_copied : Site → ℕ → CStmt
+abbrev pub c_copied : TypingContext → ℕ → CStmt
 c_copied site k = c_set (c_place false (copy_name k) []) (c_read (place_in site k []))
 
 -- a declared variable had before what it has now: its copy gets that, where it has one
-abbrev pub copy_code : Site → Bool → ℕ → List CStmt
+abbrev pub copy_code : TypingContext → Bool → ℕ → List CStmt
 copy_code site true k = c_copied site k ∷ []
 copy_code site false k = []
 
@@ -78,7 +78,7 @@ abbrev pub is_copied : List Bool → ℕ → Bool
 is_copied copies k = unwrap_or (slice_get copies k) false
 
 -- a declaration: the initial value, and that of the copy
-abbrev pub declared_code : Site → List Bool → ℕ → Option Expr → List CStmt
+abbrev pub declared_code : TypingContext → List Bool → ℕ → Option Expr → List CStmt
 declared_code site copies k initial = initial_code site k initial ++ copy_code site (is_copied copies k) k
 
 -- ---- calls
@@ -89,26 +89,26 @@ name_of_callee (Some unit) = unit_name unit.name
 name_of_callee None = unit_name []
 
 -- the argument for an output
-abbrev pub output_arg : Site → Path → CArg
+abbrev pub output_arg : TypingContext → Path → CArg
 output_arg site path = Address (stands site path).place
 
 -- the arguments of a call: those of the inputs, then those of the outputs
-abbrev pub call_args : Site → List Expr → List Path → List CArg
+abbrev pub call_args : TypingContext → List Expr → List Path → List CArg
 call_args site inputs outputs = map arg_of (map (made_of site) inputs) ++ map (output_arg site) outputs
 
 -- a call with its outputs
-abbrev pub call_made : Site → ℕ → List Expr → List Path → CCall
+abbrev pub call_made : TypingContext → ℕ → List Expr → List Path → CCall
 call_made site f inputs outputs = c_call (name_of_callee (slice_get site.earlier f)) (call_args site inputs outputs)
 
 -- ---- acts
 
 -- the C of an act that stands at a site, from which of the unit's variables have copies. Other statements are no acts
-abbrev pub layer_code : {A B C D : Type 0} → Site → List Bool → StmtKind-F A B C D → List CStmt
+abbrev pub layer_code : {A B C D : Type 0} → TypingContext → List Bool → StmtKind-F A B C D → List CStmt
 layer_code site copies (StmtKind-F.Declare k initial) = declared_code site copies k initial
 layer_code site copies (StmtKind-F.Assign path e) = c_set (stands site path).place (code_made site e) ∷ []
 layer_code site copies (StmtKind-F.Call f inputs outputs) = c_calling (call_made site f inputs outputs) ∷ []
 layer_code site copies _ = []
 
 -- the C of a statement that is an act
-abbrev pub act_code : Site → List Bool → Stmt → List CStmt
+abbrev pub act_code : TypingContext → List Bool → Stmt → List CStmt
 act_code site copies s = layer_code site copies (out-StmtKind (out-Stmt s).what)

@@ -47,7 +47,7 @@ use Rattle.bl_tree.specs.declared.tree.Unit.{Unit as UnitDef}
 use Rattle.bl_tree.specs.declared.tree.Var.{Var}
 use Rattle.bl_tree.specs.Scalar.{is_int}
 use Rattle.bl_tree.specs.Types.{scalar_in}
-use Rattle.bl_tree.specs.Typing.{Site, element_in, var_at}
+use Rattle.bl_tree.specs.Typing.{TypingContext, element_in, var_at}
 use Rattle.bl_emit_acts.specs.declared.made.Made.{Made}
 use Rattle.bl_emit_acts.specs.declared.made.Made.TheVariants.{Number, Whole}
 use Rattle.bl_emit_acts.specs.Places.{place_in}
@@ -168,7 +168,7 @@ made_call None args = Number OfBool (c_called (unit_name []) args)
 -- ---- paths
 
 -- a step into a value of a type, and the type of what it leads to; none where the type has no such part
-pub record Stepped : Type 0 where
+pub record SteppedType : Type 0 where
   pub step : CStep
   pub ty : Option Ty
 
@@ -178,8 +178,8 @@ pub record Stood : Type 0 where
   pub ty : Ty
 
 -- what a part of a path is, from the type that it steps into
-abbrev pub Steps : Type 0
-Steps = Option Ty → Stepped
+abbrev pub PathStepTyping : Type 0
+PathStepTyping = Option Ty → SteppedType
 
 -- the field of a struct at a position; other types have none
 abbrev pub field_of_struct : List StructDef → ℕ → Ty-F Ty → Option Field
@@ -210,7 +210,7 @@ name_of_field (Some field) = field.name
 name_of_field None = []
 
 -- the step of a field or of an index
-abbrev pub part_steps : Site → Part-F Made Steps Made Stood → Steps
+abbrev pub part_steps : TypingContext → Part-F Made PathStepTyping Made Stood → PathStepTyping
 part_steps site (Part-F.Field k) ty =
     record {
       step = c_step (field_name (name_of_field (field_at site.structs k ty)));
@@ -220,7 +220,7 @@ part_steps site (Part-F.Index e) ty =
     record { step = c_element elements_name (c_index (is_int (type_made e)) (code_of e) (length_at ty)); ty = element_at ty }
 
 -- the steps of parts, each into the type to which those before it lead
-abbrev pub steps_of : List Steps → Option Ty → List CStep
+abbrev pub steps_of : List PathStepTyping → Option Ty → List CStep
 steps_of [] ty = []
 steps_of (part ∷ rest) ty = (part ty).step ∷ steps_of rest (part ty).ty
 
@@ -229,7 +229,7 @@ abbrev pub type_at : Option Var → Option Ty
 type_at var = option_map (λ var. var.ty) var
 
 -- the place of a path, and the type of what it leads to
-abbrev pub path_stands : Site → Path-F Made Steps Made Stood → Stood
+abbrev pub path_stands : TypingContext → Path-F Made PathStepTyping Made Stood → Stood
 path_stands site path =
     record { place = place_in site path.root (steps_of path.parts (type_at (var_at site path.root))); ty = path.ty }
 
@@ -240,7 +240,7 @@ abbrev pub scalar_at : Option Var → ScalarType
 scalar_at var = unwrap_or (option_and_then scalar_in (type_at var)) OfBool
 
 -- what is made of each kind of expression
-abbrev pub kind_made : Site → ExprKind-F Made Steps Made Stood → Made
+abbrev pub kind_made : TypingContext → ExprKind-F Made PathStepTyping Made Stood → Made
 kind_made site (ExprKind-F.Literal n s) = Number s (c_literal (c_scalar s) n)
 kind_made site (ExprKind-F.Read path) = made_at (scalar_in path.ty) path.place
 kind_made site (ExprKind-F.Prev k) = Number (scalar_at (var_at site k)) (c_read (c_place false (copy_name k) []))
@@ -250,17 +250,17 @@ kind_made site (ExprKind-F.Cast target a) = Number target (c_cast (type_made a) 
 kind_made site (ExprKind-F.Call f inputs) = made_call (slice_get site.earlier f) (map arg_of inputs)
 
 -- of an expression it is what is made of its kind
-abbrev pub expr_made : Expr-F Made Steps Made Stood → Made
+abbrev pub expr_made : Expr-F Made PathStepTyping Made Stood → Made
 expr_made e = e.what
 
 -- what is made of an expression
-abbrev pub made_of : Site → Expr → Made
-made_of site = fold-Expr Made Steps Made Stood (kind_made site) (part_steps site) expr_made (path_stands site)
+abbrev pub made_of : TypingContext → Expr → Made
+made_of site = fold-Expr Made PathStepTyping Made Stood (kind_made site) (part_steps site) expr_made (path_stands site)
 
 -- the place of a path
-abbrev pub stands : Site → Path → Stood
-stands site = fold-Path Made Steps Made Stood (kind_made site) (part_steps site) expr_made (path_stands site)
+abbrev pub stands : TypingContext → Path → Stood
+stands site = fold-Path Made PathStepTyping Made Stood (kind_made site) (part_steps site) expr_made (path_stands site)
 
 -- the step of a part into a type
-abbrev pub step_of : Site → Part → Steps
-step_of site = fold-Part Made Steps Made Stood (kind_made site) (part_steps site) expr_made (path_stands site)
+abbrev pub step_of : TypingContext → Part → PathStepTyping
+step_of site = fold-Part Made PathStepTyping Made Stood (kind_made site) (part_steps site) expr_made (path_stands site)

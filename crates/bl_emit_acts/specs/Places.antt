@@ -6,7 +6,7 @@ use Rattle.bl_tree.specs.declared.tree.Role.{Role}
 use Rattle.bl_tree.specs.declared.tree.Role.TheVariants.{Input, Output, Variable, Fixed}
 use Rattle.bl_tree.specs.declared.tree.Var.{Var}
 use Rattle.bl_tree.specs.Types.{scalar_in}
-use Rattle.bl_tree.specs.Typing.{Site, is_activity, is_function, var_at}
+use Rattle.bl_tree.specs.Typing.{TypingContext, is_activity, is_function, var_at}
 use Rattle.bl_emit_acts.specs.declared.home.Home.{Home}
 use Rattle.bl_emit_acts.specs.declared.home.Home.TheVariants.{Held, Given, Lent}
 use Rattle.bl_emit_acts.specs.Trees.{c_place, c_step}
@@ -27,11 +27,11 @@ home_of_role Variable scalar copies = Held
 home_of_role Fixed scalar copies = Held
 
 -- whether the unit of the site copies its aggregate inputs
-abbrev pub copies_inputs : Site → Bool
+abbrev pub copies_inputs : TypingContext → Bool
 copies_inputs site = is_function site.kind && is_some site.result
 
 -- the home of a variable of the site
-abbrev pub home_of : Site → Option Var → Home
+abbrev pub home_of : TypingContext → Option Var → Home
 home_of site (Some var) = home_of_role var.role (is_some (scalar_in var.ty)) (copies_inputs site)
 home_of site None = Held
 
@@ -42,5 +42,5 @@ place_at activity Given k steps = c_place false (variable_name k) steps
 place_at activity Lent k steps = c_place true (variable_name k) steps
 
 -- the same at a site
-abbrev pub place_in : Site → ℕ → List CStep → CPlace
+abbrev pub place_in : TypingContext → ℕ → List CStep → CPlace
 place_in site k steps = place_at (is_activity site.kind) (home_of site (var_at site k)) k steps

@@ -9,7 +9,7 @@ use crate::expressions::{arguments, expression, place};
 use crate::operators::code;
 use crate::parts::{clear, literal, numbered, prefixed, read, set, single, statement, whole};
 use crate::places::{type_of_variable, variable};
-use crate::site::Site;
+use crate::site::UnitSite;
 use crate::types::{name_of_type, scalar_in, scalar_in_c};
 use bl_tree::c::{CArg, CCall, CPlace, CStmt, CStmtKind};
 use bl_tree::slices::element;
@@ -44,7 +44,7 @@ fn zeroed(
 }
 
 /// Sets a place to what an expression gives.
-fn assigned(alloc: Global, site: &Site, at: CPlace, e: &Expr) -> Result<CStmt, NoMemory>
+fn assigned(alloc: Global, site: &UnitSite, at: CPlace, e: &Expr) -> Result<CStmt, NoMemory>
     ensures { IfOk result (λ s. s ≡ acts.c_set at (acts.code_made (site_in site.entry.now) e.now)) }
 {
     let value = expression(alloc, site, e)?;
@@ -52,7 +52,12 @@ fn assigned(alloc: Global, site: &Site, at: CPlace, e: &Expr) -> Result<CStmt, N
 }
 
 /// Sets the variable at a position to its initial value.
-fn initial(alloc: Global, site: &Site, k: u32, e: &Option<Expr>) -> Result<List<CStmt>, NoMemory>
+fn initial(
+    alloc: Global,
+    site: &UnitSite,
+    k: u32,
+    e: &Option<Expr>,
+) -> Result<List<CStmt>, NoMemory>
     ensures { IfOk result (λ code. code ≡ acts.initial_code (site_in site.entry.now) k e.now) }
 {
     let at = variable(alloc, site, k, List::new(alloc))?;
@@ -64,7 +69,7 @@ fn initial(alloc: Global, site: &Site, k: u32, e: &Option<Expr>) -> Result<List<
 
 /// The statement that sets the copy of the variable at a position to what the variable is, as a tick begins. Fails only for
 /// want of memory.
-pub fn copied(alloc: Global, site: &Site, k: u32) -> Result<CStmt, NoMemory>
+pub fn copied(alloc: Global, site: &UnitSite, k: u32) -> Result<CStmt, NoMemory>
     ensures { IfOk result (λ s. s ≡ acts.c_copied (site_in site.entry.now) k) }
 {
     let copy = whole(alloc, false, numbered(alloc, "p", u64::from(k))?);
@@ -75,7 +80,7 @@ pub fn copied(alloc: Global, site: &Site, k: u32) -> Result<CStmt, NoMemory>
 /// A declaration: the initial value, and that of the copy, where the variable has one.
 fn declared(
     alloc: Global,
-    site: &Site,
+    site: &UnitSite,
     copies: &[bool],
     k: u32,
     e: &Option<Expr>,
@@ -90,7 +95,7 @@ fn declared(
 }
 
 /// The name of the function at a position.
-fn callee(alloc: Global, site: &Site, f: u32) -> Result<Text, NoMemory>
+fn callee(alloc: Global, site: &UnitSite, f: u32) -> Result<Text, NoMemory>
     ensures { IfOk result (λ name. name ≡ acts.name_of_callee (slice_get (site_in site.entry.now).earlier f)) }
 {
     match element(site.earlier, f as usize) {
@@ -102,7 +107,7 @@ fn callee(alloc: Global, site: &Site, f: u32) -> Result<Text, NoMemory>
 /// The arguments of a call: those of the inputs, then those of the outputs.
 fn all_arguments(
     alloc: Global,
-    site: &Site,
+    site: &UnitSite,
     inputs: &[Expr],
     outputs: &[Path],
 ) -> Result<List<CArg>, NoMemory>
@@ -117,7 +122,7 @@ fn all_arguments(
 
 fn called(
     alloc: Global,
-    site: &Site,
+    site: &UnitSite,
     f: u32,
     inputs: &[Expr],
     outputs: &[Path],
@@ -132,7 +137,12 @@ fn called(
 /// The C of an assignment, a declaration or a call that stands at the site; other statements give nothing. `copies` says
 /// by its position of each variable whether the C keeps a copy of what it was when the tick began. Fails only for want of
 /// memory.
-pub fn act(alloc: Global, site: &Site, copies: &[bool], s: &Stmt) -> Result<List<CStmt>, NoMemory>
+pub fn act(
+    alloc: Global,
+    site: &UnitSite,
+    copies: &[bool],
+    s: &Stmt,
+) -> Result<List<CStmt>, NoMemory>
     ensures { IfOk result (λ code. code ≡ acts.act_code (site_in site.entry.now) copies.now s.now) }
 {
     match &s.what {

@@ -12,7 +12,7 @@ use crate::made::Made;
 use crate::operators::{argument, both, call, cast, code, one, standing, type_made};
 use crate::parts::{element, literal, numbered, prefixed, read, step, whole};
 use crate::places::{element_type, field, length, scalar_of_variable, type_of_variable, variable};
-use crate::site::Site;
+use crate::site::UnitSite;
 use crate::types::{is_int, scalar_in, scalar_in_c};
 use bl_tree::c::{CArg, CPlace, CStep};
 use bl_tree::tree::{Expr, ExprKind, Field, Part, Path, Ty};
@@ -29,7 +29,7 @@ struct Stepped<'a> {
 
 /// The C of an expression that stands at the site. Fails only for want of memory.
 #[cycle(expressions)]
-pub fn expression(alloc: Global, site: &Site, e: &Expr) -> Result<Made, NoMemory>
+pub fn expression(alloc: Global, site: &UnitSite, e: &Expr) -> Result<Made, NoMemory>
     ensures { IfOk result (λ made. made ≡ made_of (site_in site.entry.now) e.now) }
 {
     match &e.what {
@@ -62,7 +62,7 @@ pub fn expression(alloc: Global, site: &Site, e: &Expr) -> Result<Made, NoMemory
 
 /// The arguments for the inputs of a function.
 #[cycle(expressions)]
-pub fn arguments(alloc: Global, site: &Site, inputs: &[Expr]) -> Result<List<CArg>, NoMemory>
+pub fn arguments(alloc: Global, site: &UnitSite, inputs: &[Expr]) -> Result<List<CArg>, NoMemory>
     ensures { IfOk result (λ args. args ≡ map arg_of (map (made_of (site_in site.entry.now)) inputs.now)) }
 {
     let mut args = List::new(alloc);
@@ -74,7 +74,7 @@ pub fn arguments(alloc: Global, site: &Site, inputs: &[Expr]) -> Result<List<CAr
 
 /// The C place of a path that stands at the site. Fails only for want of memory.
 #[cycle(expressions)]
-pub fn place(alloc: Global, site: &Site, path: &Path) -> Result<CPlace, NoMemory>
+pub fn place(alloc: Global, site: &UnitSite, path: &Path) -> Result<CPlace, NoMemory>
     ensures { IfOk result (λ place. place ≡ (stands (site_in site.entry.now) path.now).place) }
 {
     let first = type_of_variable(site, path.root);
@@ -86,7 +86,7 @@ pub fn place(alloc: Global, site: &Site, path: &Path) -> Result<CPlace, NoMemory
 #[cycle(expressions)]
 fn steps<'a>(
     alloc: Global,
-    site: &Site<'a>,
+    site: &UnitSite<'a>,
     parts: &[Part],
     first: Option<&'a Ty>,
 ) -> Result<List<CStep>, NoMemory>
@@ -107,7 +107,7 @@ fn steps<'a>(
 #[cycle(expressions)]
 fn step_into<'a>(
     alloc: Global,
-    site: &Site<'a>,
+    site: &UnitSite<'a>,
     part: &Part,
     ty: Option<&'a Ty>,
 ) -> Result<Stepped<'a>, NoMemory>
@@ -147,7 +147,7 @@ fn to_field<'a>(alloc: Global, field: Option<&'a Field>) -> Result<Stepped<'a>, 
 }
 
 /// What a variable was when the tick began.
-fn previous(alloc: Global, site: &Site, k: u32) -> Result<Made, NoMemory>
+fn previous(alloc: Global, site: &UnitSite, k: u32) -> Result<Made, NoMemory>
     ensures { IfOk result (λ made. made
         ≡ Number (scalar_at (var_at (site_in site.entry.now) k)) (c_read (c_place false (copy_name k) []))) }
 {

@@ -3,7 +3,7 @@
 //! statements of an assignment, a declaration or a call of a function without a result (`specs/Acts.antt`, `act_code`);
 //! want of memory aside. `c_type` gives the C type of a type (`specs/Types.antt`), `definition` and `array` give the C
 //! struct of a struct or an array (`specs/Structs.antt`), and `specs/Places.antt` says where variables stand. What the C
-//! means is `bl_emit_acts_laws`.
+//! means is `bl_emit_acts_laws_simulation`.
 #![tactic(auto)]
 
 mod acts;
@@ -23,6 +23,6 @@ pub use home::Home;
 pub use made::Made;
 pub use operators::{argument, code};
 pub use places::variable;
-pub use site::Site;
+pub use site::UnitSite;
 pub use structs::{array, definition};
 pub use types::{c_type, scalar_in, scalar_in_c};

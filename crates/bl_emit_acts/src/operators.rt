@@ -5,7 +5,7 @@ ghost use Rattle.bl_emit_acts.specs.Expressions as expressions;
 
 use crate::made::Made;
 use crate::parts::{called, literal, negated, prefixed, read, single, two};
-use crate::site::Site;
+use crate::site::UnitSite;
 use crate::types::{is_int, word_of};
 use bl_tree::c::{CArg, CExpr, CExprKind, CPlace};
 use bl_tree::slices::element;
@@ -183,7 +183,7 @@ pub fn both(alloc: Global, op: Op, s: Scalar, a: CExpr, b: CExpr) -> Result<Made
 }
 
 /// A call of the function at a position for its result.
-pub fn call(alloc: Global, site: &Site, f: u32, args: List<CArg>) -> Result<Made, NoMemory>
+pub fn call(alloc: Global, site: &UnitSite, f: u32, args: List<CArg>) -> Result<Made, NoMemory>
     ensures { IfOk result (λ made. made ≡ expressions.made_call (slice_get site.entry.now.earlier.now f) args) }
 {
     match element(site.earlier, f as usize) {

@@ -10,7 +10,7 @@ ghost use Rattle.bl_emit_acts.specs.Trees.{c_place, c_step};
 
 use crate::home::Home;
 use crate::parts::{numbered, step, target};
-use crate::site::Site;
+use crate::site::UnitSite;
 use crate::types::scalar_in;
 use bl_tree::c::{CPlace, CStep};
 use bl_tree::slices::element;
@@ -51,14 +51,14 @@ fn home_of_role(role: Role, scalar: bool, copies: bool) -> Home
 }
 
 /// Whether the unit of the site copies its aggregate inputs.
-fn copies_inputs(site: &Site) -> bool
+fn copies_inputs(site: &UnitSite) -> bool
     ensures { result ≡ homes.copies_inputs (site_in site.entry.now) }
 {
     !is_activity(site.kind) && site.result.is_some()
 }
 
 /// Where the variable at a position stands.
-fn home(site: &Site, k: u32) -> Home
+fn home(site: &UnitSite, k: u32) -> Home
     ensures { result ≡ homes.home_of (site_in site.entry.now) (typing.var_at (site_in site.entry.now) k) }
 {
     match element(site.vars, k as usize) {
@@ -71,7 +71,12 @@ fn home(site: &Site, k: u32) -> Home
 }
 
 /// The place to which the steps lead from the variable at a position.
-pub fn variable(alloc: Global, site: &Site, k: u32, steps: List<CStep>) -> Result<CPlace, NoMemory>
+pub fn variable(
+    alloc: Global,
+    site: &UnitSite,
+    k: u32,
+    steps: List<CStep>,
+) -> Result<CPlace, NoMemory>
     ensures { IfOk result (λ place. place ≡ homes.place_in (site_in site.entry.now) k steps) }
 {
     let name = numbered(alloc, "v", u64::from(k))?;
@@ -95,7 +100,7 @@ fn held(alloc: Global, through: bool, name: Text, steps: List<CStep>) -> Result<
 }
 
 /// The type of the variable at a position, where there is one.
-pub fn type_of_variable<'a>(site: &Site<'a>, k: u32) -> Option<&'a Ty>
+pub fn type_of_variable<'a>(site: &UnitSite<'a>, k: u32) -> Option<&'a Ty>
     ensures { option_map (λ ty. ty.now) result ≡ type_at (typing.var_at (site_in site.entry.now) k) }
 {
     match element(site.vars, k as usize) {
@@ -105,7 +110,7 @@ pub fn type_of_variable<'a>(site: &Site<'a>, k: u32) -> Option<&'a Ty>
 }
 
 /// The type of the variable at a position; bool where it has parts or isn't there.
-pub fn scalar_of_variable(site: &Site, k: u32) -> Scalar
+pub fn scalar_of_variable(site: &UnitSite, k: u32) -> Scalar
     ensures { result ≡ scalar_at (typing.var_at (site_in site.entry.now) k) }
 {
     match type_of_variable(site, k) {

@@ -8,31 +8,31 @@ use Rattle.bl_tree.specs.declared.tree.Path.{Path}
 use Rattle.bl_tree.specs.declared.tree.Stmt.{Stmt, out-Stmt}
 use Rattle.bl_tree.specs.declared.tree.StmtKind.{out-StmtKind}
 use Rattle.bl_tree.specs.declared.tree.StmtKind.TheOpen.{StmtKind-F}
-use Rattle.bl_tree.specs.Typing.{Site}
-use Rattle.bl_nodes.specs.Nodes.{Arguments, Node}
+use Rattle.bl_tree.specs.Typing.{TypingContext}
+use Rattle.bl_graph_nodes.specs.Nodes.{Arguments, Node}
 use Rattle.bl_machine.specs.declared.slots.Slot.{Slot}
 use Rattle.bl_emit_acts.specs.Acts.{c_calling, c_clear, c_set, call_args, code_made, name_of_callee}
 use Rattle.bl_emit_acts.specs.Trees.{c_call, c_read}
 use Rattle.bl_emit_functions.specs.Statements.{else_code}
 use Rattle.bl_emit_functions.specs.Trees.{c_if, c_truth}
-use Rattle.bl_pass_listed.specs.declared.rule.Asked.{Asked}
-use Rattle.bl_pass_listed.specs.declared.rule.Asked.TheVariants as asked
-use Rattle.bl_pass_listed.specs.declared.rule.Change.{Change}
-use Rattle.bl_pass_listed.specs.declared.rule.Change.TheVariants as change
-use Rattle.bl_pass_listed.specs.Told.{Acts, Enters, Nothing, Resumes, Rule, Task, Tests}
-use Rattle.bl_emit_pass.specs.Blocks.{Sizes, Turn, View, acted, all_tests, arg_where, at_slot, forgotten, has_result}
-use Rattle.bl_emit_pass.specs.Blocks.{layer_acted, name_in, rested_in, run_code, some_test, target_code}
-use Rattle.bl_emit_pass.specs.Names.{callee_frame, callee_memory, ended_place, frame_name, given_place}
+use Rattle.bl_machine_transitions.specs.declared.transition.Asked.{Asked}
+use Rattle.bl_machine_transitions.specs.declared.transition.Asked.TheVariants as asked
+use Rattle.bl_machine_transitions.specs.declared.transition.Change.{Change}
+use Rattle.bl_machine_transitions.specs.declared.transition.Change.TheVariants as change
+use Rattle.bl_machine_transitions.specs.Told.{Acts, Enters, Nothing, NumberedTransition, Resumes, Task, Tests}
+use Rattle.bl_emit_spec.specs.Blocks.{ActivityView, NodeCode, Sizes, acted, all_tests, arg_where, at_slot, forgotten, has_result}
+use Rattle.bl_emit_spec.specs.Blocks.{layer_acted, name_in, rested_in, run_code, some_test, target_code}
+use Rattle.bl_emit_spec.specs.Names.{callee_frame, callee_memory, ended_place, frame_name, given_place}
 use Rattle.bl_emit_blocks.specs.Laws.{BlocksAlike}
 use Rattle.bl_emit_blocks.specs.Numbered.{numbered_aged, numbered_begun, numbered_change, numbered_changes}
 use Rattle.bl_emit_blocks.specs.Numbered.{numbered_guard, numbered_resumed, numbered_task, numbered_tested, numbered_turn}
 
-module _ (site : Site) (copies : List Bool) (sizes : Sizes) (number other : Node → ℕ) (read seen held kept : ℕ → Bool)
+module _ (site : TypingContext) (copies : List Bool) (sizes : Sizes) (number other : Node → ℕ) (read seen held kept : ℕ → Bool)
     (reads : (k : ℕ) → read k ≡ seen k) (keeps : (k : ℕ) → held k ≡ kept k) where
-  abbrev v : View
+  abbrev v : ActivityView
   v = record { site = site; copies = copies; number = number; sizes = sizes; is_read = read; remembers = held }
 
-  abbrev w : View
+  abbrev w : ActivityView
   w = record { site = site; copies = copies; number = other; sizes = sizes; is_read = seen; remembers = kept }
 
   -- ---- guards
@@ -64,12 +64,12 @@ module _ (site : Site) (copies : List Bool) (sizes : Sizes) (number other : Node
   forgotten_same k false = refl
 
   change_same : (change : Change) → numbered_change v change ≡ numbered_change w change
-  change_same (change.Flag k) = refl
-  change_same (change.Rest slot) = refl
-  change_same (change.Free k) = refl
-  change_same (change.Forget k) = forgotten_same k (read k) ∙ ap (forgotten w k) (reads k)
-  change_same (change.Mark k) = refl
-  change_same (change.End start surface depth) = refl
+  change_same (change.SetFlag k) = refl
+  change_same (change.SetCounter slot) = refl
+  change_same (change.ClearCounter k) = refl
+  change_same (change.ClearBoth k) = forgotten_same k (read k) ∙ ap (forgotten w k) (reads k)
+  change_same (change.SetMark k) = refl
+  change_same (change.EndWhen start surface depth) = refl
   change_same change.Finish = refl
 
   changes_same : (changes : List Change) → numbered_changes v changes ≡ numbered_changes w changes
@@ -131,22 +131,22 @@ module _ (site : Site) (copies : List Bool) (sizes : Sizes) (number other : Node
   acted_same : (s : Stmt) → acted v s ≡ acted w s
   acted_same s = acted_by s (out-StmtKind (out-Stmt s).what)
 
-  tested_same : (test : CExpr) (rule : Rule) → numbered_tested v test rule ≡ numbered_tested w test rule
+  tested_same : (test : CExpr) (rule : NumberedTransition) → numbered_tested v test rule ≡ numbered_tested w test rule
   tested_same test rule =
       ap (λ so. c_if test so (else_code (numbered_changes v rule.otherwise)) ∷ []) (changes_same rule.so)
       ∙ ap (λ other. c_if test (numbered_changes w rule.so) (else_code other) ∷ []) (changes_same rule.otherwise)
 
-  task_same : (rule : Rule) (task : Task) → numbered_task v rule task ≡ numbered_task w rule task
+  task_same : (rule : NumberedTransition) (task : Task) → numbered_task v rule task ≡ numbered_task w rule task
   task_same rule Nothing = changes_same rule.so
   task_same rule (Acts s) = ap (λ code. code ++ numbered_changes v rule.so) (acted_same s) ∙ ap (λ code. acted w s ++ code) (changes_same rule.so)
   task_same rule (Tests e) = tested_same (code_made site e) rule
   task_same rule (Enters k a arguments) = begun_same k a arguments rule.so
   task_same rule (Resumes k a arguments) = resumed_same k a arguments rule.so
 
-  abbrev turn : CExpr → List CStmt → Turn
+  abbrev turn : CExpr → List CStmt → NodeCode
   turn test code = record { test = test; code = code }
 
-  pub turn_same : (rule : Rule) → numbered_turn v rule ≡ numbered_turn w rule
+  pub turn_same : (rule : NumberedTransition) → numbered_turn v rule ≡ numbered_turn w rule
   turn_same rule =
       ap (λ (test : CExpr). turn test (numbered_task v rule rule.task)) (guard_same rule.number rule.asked)
       ∙ ap (λ (code : List CStmt). turn (numbered_guard w rule.number rule.asked) code) (task_same rule rule.task)
@@ -155,9 +155,9 @@ module _ (site : Site) (copies : List Bool) (sizes : Sizes) (number other : Node
 pub blocks_alike : BlocksAlike
 blocks_alike v w alike rule =
     turn_same v.site v.copies v.sizes v.number w.number v.is_read w.is_read v.remembers w.remembers alike.is_read alike.remembers rule
-    ∙ (ap (λ (site : Site). numbered_turn (viewed site v.copies v.sizes) rule) alike.site
+    ∙ (ap (λ (site : TypingContext). numbered_turn (viewed site v.copies v.sizes) rule) alike.site
     ∙ (ap (λ (copies : List Bool). numbered_turn (viewed w.site copies v.sizes) rule) alike.copies
     ∙ ap (λ (sizes : Sizes). numbered_turn (viewed w.site w.copies sizes) rule) alike.sizes)) where
-      viewed : Site → List Bool → Sizes → View
+      viewed : TypingContext → List Bool → Sizes → ActivityView
       viewed site copies sizes =
           record { site = site; copies = copies; number = w.number; sizes = sizes; is_read = w.is_read; remembers = w.remembers }

@@ -6,7 +6,7 @@ use Rattle.bl_tree.specs.declared.scalar.Op.{Op}
 use Rattle.bl_emit_acts.specs.Trees.{c_two}
 use Rattle.bl_emit_blocks.specs.declared.pairs.Pairs.{Pairs}
 use Rattle.bl_emit_blocks.specs.Pairs.{finished, no_pairs, paired, paired_all}
-use Rattle.bl_emit_pass.specs.Blocks.{in_pairs}
+use Rattle.bl_emit_spec.specs.Blocks.{in_pairs}
 
 -- one more test behind others
 pub paired_more : (op : Op) (pairs : Pairs) (tests : List CExpr) (test : CExpr) →

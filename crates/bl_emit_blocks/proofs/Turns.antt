@@ -5,28 +5,28 @@ use Rattle.std.proofs.lemmas.Option.{slice_get-map}
 use Rattle.std.specs.Prelude.{option_map, option_to_list}
 use Rattle.bl_tree.specs.declared.c.CStmt.{CStmt}
 use Rattle.bl_emit_functions.specs.Trees.{c_if}
-use Rattle.bl_pass_listed.specs.Told.{Rule, rule_in}
-use Rattle.bl_pass_listed.specs.declared.rule.Rule.{Rule as Kept}
-use Rattle.bl_emit_pass.specs.Activities.{picked}
-use Rattle.bl_emit_pass.specs.Blocks.{Turn, merged_code, turn_code}
+use Rattle.bl_machine_transitions.specs.Told.{NumberedTransition, rule_in}
+use Rattle.bl_machine_transitions.specs.declared.transition.Transition.{Transition as Kept}
+use Rattle.bl_emit_spec.specs.Activities.{picked}
+use Rattle.bl_emit_spec.specs.Blocks.{NodeCode, merged_code, turn_code}
 use Rattle.bl_emit_blocks.specs.Merging.{turn_codes, turn_where, turn_with, turns_at}
 
 -- the turn of the rule at a position
-pub turn_is : (rules : List Kept) (seen : Option Kept) (turn : Rule → Turn) (k : ℕ) → seen ≡ slice_get rules k →
+pub turn_is : (rules : List Kept) (seen : Option Kept) (turn : NumberedTransition → NodeCode) (k : ℕ) → seen ≡ slice_get rules k →
     option_map turn (option_map rule_in seen) ≡ slice_get (map turn (map rule_in rules)) k
 turn_is rules seen turn k is =
     ap (λ (rule : Option Kept). option_map turn (option_map rule_in rule)) is
-    ∙ (ap (λ (rule : Option Rule). option_map turn rule) (sym (slice_get-map rule_in rules k))
+    ∙ (ap (λ (rule : Option NumberedTransition). option_map turn rule) (sym (slice_get-map rule_in rules k))
     ∙ sym (slice_get-map turn (map rule_in rules) k))
 
-module _ (turns : List Turn) where
+module _ (turns : List NodeCode) where
   -- a block that is begun
   abbrev Begun : List ℕ → Type 0
   Begun block =
-      (made : Turn) →
+      (made : NodeCode) →
       turn_codes (turns_at turns (Some made) block) ≡ c_if made.test (made.code ++ map turn_code (picked turns block)) None ∷ []
 
-  begun_with : (block : List ℕ) → Begun block → (made : Turn) (next : Option Turn) →
+  begun_with : (block : List ℕ) → Begun block → (made : NodeCode) (next : Option NodeCode) →
       turn_codes (turns_at turns (turn_where (Some made) next) block)
       ≡ c_if made.test (made.code ++ map turn_code (option_to_list next ++ picked turns block)) None ∷ []
   begun_with block rest made None = rest made
@@ -40,7 +40,7 @@ module _ (turns : List Turn) where
   begun (k ∷ block) made = begun_with block (begun block) made (slice_get turns k)
 
   -- one that isn't
-  first_with : (block : List ℕ) → turn_codes (turns_at turns None block) ≡ merged_code (picked turns block) → (next : Option Turn) →
+  first_with : (block : List ℕ) → turn_codes (turns_at turns None block) ≡ merged_code (picked turns block) → (next : Option NodeCode) →
       turn_codes (turns_at turns (turn_where None next) block) ≡ merged_code (option_to_list next ++ picked turns block)
   first_with block rest None = rest
   first_with block rest (Some turn) = begun block turn
@@ -50,5 +50,5 @@ module _ (turns : List Turn) where
   merged (k ∷ block) = first_with block (merged block) (slice_get turns k)
 
   -- the `if` of a block
-  pub merged_is : (made : Option Turn) (block : List ℕ) → made ≡ turns_at turns None block → turn_codes made ≡ merged_code (picked turns block)
+  pub merged_is : (made : Option NodeCode) (block : List ℕ) → made ≡ turns_at turns None block → turn_codes made ≡ merged_code (picked turns block)
   merged_is made block is = ap turn_codes is ∙ merged block

@@ -1,24 +1,24 @@
 -- The `if` of a block, by its turns one after another.
 use Rattle.std.specs.Prelude.{ℕ, List, [], ◌∷◌, ◌++◌, Option, Some, None, slice_get}
 use Rattle.bl_tree.specs.declared.c.CStmt.{CStmt}
-use Rattle.bl_emit_pass.specs.Blocks.{Turn, turn_code}
+use Rattle.bl_emit_spec.specs.Blocks.{NodeCode, turn_code}
 
 -- one more turn: its `if` stands behind what the first one does
-abbrev pub turn_with : Option Turn → Turn → Turn
+abbrev pub turn_with : Option NodeCode → NodeCode → NodeCode
 turn_with None turn = turn
 turn_with (Some made) turn = record { test = made.test; code = made.code ++ turn_code turn ∷ [] }
 
 -- the same, where there is one more
-abbrev pub turn_where : Option Turn → Option Turn → Option Turn
+abbrev pub turn_where : Option NodeCode → Option NodeCode → Option NodeCode
 turn_where made None = made
 turn_where made (Some turn) = Some (turn_with made turn)
 
 -- the same of those at these positions, one after another
-abbrev pub turns_at : List Turn → Option Turn → List ℕ → Option Turn
+abbrev pub turns_at : List NodeCode → Option NodeCode → List ℕ → Option NodeCode
 turns_at turns made [] = made
 turns_at turns made (k ∷ block) = turns_at turns (turn_where made (slice_get turns k)) block
 
 -- the `if` of a turn, where there is one
-abbrev pub turn_codes : Option Turn → List CStmt
+abbrev pub turn_codes : Option NodeCode → List CStmt
 turn_codes None = []
 turn_codes (Some turn) = turn_code turn ∷ []

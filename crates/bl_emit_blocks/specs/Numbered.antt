@@ -3,27 +3,27 @@ use Rattle.std.specs.Prelude.{ℕ, true, List, [], ◌∷◌, ◌++◌, map, Som
 use Rattle.bl_tree.specs.declared.c.CExpr.{CExpr}
 use Rattle.bl_tree.specs.declared.c.CStmt.{CStmt}
 use Rattle.bl_tree.specs.declared.scalar.Op.TheVariants.{And}
-use Rattle.bl_nodes.specs.Nodes.{Arguments}
+use Rattle.bl_graph_nodes.specs.Nodes.{Arguments}
 use Rattle.bl_emit_acts.specs.Acts.{c_clear, c_set, code_made}
 use Rattle.bl_emit_acts.specs.Trees.{c_not, c_read, c_two}
 use Rattle.bl_emit_functions.specs.Statements.{else_code}
 use Rattle.bl_emit_functions.specs.Trees.{c_if, c_truth}
-use Rattle.bl_pass_listed.specs.declared.rule.Age.{Age}
-use Rattle.bl_pass_listed.specs.declared.rule.Age.TheVariants as age
-use Rattle.bl_pass_listed.specs.declared.rule.Asked.{Asked}
-use Rattle.bl_pass_listed.specs.declared.rule.Asked.TheVariants as asked
-use Rattle.bl_pass_listed.specs.declared.rule.Change.{Change}
-use Rattle.bl_pass_listed.specs.declared.rule.Change.TheVariants as change
-use Rattle.bl_pass_listed.specs.declared.rule.Needed.{Needed}
-use Rattle.bl_pass_listed.specs.Told.{Acts, Enters, Nothing, Resumes, Rule, Task, Tests}
-use Rattle.bl_emit_pass.specs.Blocks.{Turn, View, acted, all_tests, at_slot, counter_value, forgotten, freed, name_in}
-use Rattle.bl_emit_pass.specs.Blocks.{rested_at, rested_in, run_code, some_test, target_code, turn_code}
-use Rattle.bl_emit_pass.specs.Names.{callee_frame, counter_place, ended_place, flag_place, frame_name, mark_place, over_place}
+use Rattle.bl_machine_transitions.specs.declared.transition.Age.{Age}
+use Rattle.bl_machine_transitions.specs.declared.transition.Age.TheVariants as age
+use Rattle.bl_machine_transitions.specs.declared.transition.Asked.{Asked}
+use Rattle.bl_machine_transitions.specs.declared.transition.Asked.TheVariants as asked
+use Rattle.bl_machine_transitions.specs.declared.transition.Change.{Change}
+use Rattle.bl_machine_transitions.specs.declared.transition.Change.TheVariants as change
+use Rattle.bl_machine_transitions.specs.declared.transition.Needed.{Needed}
+use Rattle.bl_machine_transitions.specs.Told.{Acts, Enters, Nothing, NumberedTransition, Resumes, Task, Tests}
+use Rattle.bl_emit_spec.specs.Blocks.{ActivityView, NodeCode, acted, all_tests, at_slot, counter_value, forgotten, freed, name_in}
+use Rattle.bl_emit_spec.specs.Blocks.{rested_at, rested_in, run_code, some_test, target_code, turn_code}
+use Rattle.bl_emit_spec.specs.Names.{callee_frame, counter_place, ended_place, flag_place, frame_name, mark_place, over_place}
 
 -- ---- guards
 
 -- whether as many branches have ended as are needed
-abbrev pub numbered_ends : View → Needed → CExpr
+abbrev pub numbered_ends : ActivityView → Needed → CExpr
 numbered_ends view needed =
     if needed.all then all_tests (map (at_slot view) needed.slots) else some_test (map (at_slot view) needed.slots)
 
@@ -34,7 +34,7 @@ numbered_aged (age.Old k) ends = c_two And (c_not (c_read (mark_place k))) ends
 numbered_aged age.Any ends = ends
 
 -- what is asked before the node with this number acts
-abbrev pub numbered_guard : View → ℕ → Asked → CExpr
+abbrev pub numbered_guard : ActivityView → ℕ → Asked → CExpr
 numbered_guard view k asked.Flagged = c_read (flag_place k)
 numbered_guard view k (asked.Rested slot) = rested_at view slot
 numbered_guard view k (asked.RestedIn slots) = rested_in view slots
@@ -47,42 +47,42 @@ abbrev pub flag_set : ℕ → CStmt
 flag_set k = c_set (flag_place k) (c_truth true)
 
 -- the C of a change
-abbrev pub numbered_change : View → Change → List CStmt
-numbered_change view (change.Flag k) = flag_set k ∷ []
-numbered_change view (change.Rest slot) =
+abbrev pub numbered_change : ActivityView → Change → List CStmt
+numbered_change view (change.SetFlag k) = flag_set k ∷ []
+numbered_change view (change.SetCounter slot) =
     c_set (counter_place slot.counter) (counter_value view.sizes slot.counter slot.value) ∷ []
-numbered_change view (change.Free k) = freed view k ∷ []
-numbered_change view (change.Forget k) = forgotten view k (view.is_read k)
-numbered_change view (change.Mark k) = c_set (mark_place k) (c_truth true) ∷ []
-numbered_change view (change.End start surface depth) =
+numbered_change view (change.ClearCounter k) = freed view k ∷ []
+numbered_change view (change.ClearBoth k) = forgotten view k (view.is_read k)
+numbered_change view (change.SetMark k) = c_set (mark_place k) (c_truth true) ∷ []
+numbered_change view (change.EndWhen start surface depth) =
     c_if (c_read (mark_place start)) (flag_set surface ∷ []) (Some (flag_set depth ∷ [])) ∷ []
 numbered_change view change.Finish = c_set over_place (c_truth true) ∷ []
 
 -- of changes one after another
-abbrev pub numbered_changes : View → List Change → List CStmt
+abbrev pub numbered_changes : ActivityView → List Change → List CStmt
 numbered_changes view [] = []
 numbered_changes view (change ∷ rest) = numbered_change view change ++ numbered_changes view rest
 
 -- ---- blocks
 
 -- a test: changes where it is true, and others where it is false
-abbrev pub numbered_tested : View → CExpr → Rule → List CStmt
+abbrev pub numbered_tested : ActivityView → CExpr → NumberedTransition → List CStmt
 numbered_tested view test rule = c_if test (numbered_changes view rule.so) (else_code (numbered_changes view rule.otherwise)) ∷ []
 
 -- what a `run` does where it begins: the number is that of the node at which it begins, and the position that of the activity that it calls
-abbrev pub numbered_begun : View → ℕ → ℕ → Arguments → List Change → List CStmt
+abbrev pub numbered_begun : ActivityView → ℕ → ℕ → Arguments → List Change → List CStmt
 numbered_begun view k a arguments so =
     c_clear (callee_frame k) (frame_name (name_in (slice_get view.site.earlier a)))
     ∷ (run_code view k a arguments ++ numbered_changes view so)
 
 -- what it does where it goes on
-abbrev pub numbered_resumed : View → ℕ → ℕ → Arguments → List Change → List CStmt
+abbrev pub numbered_resumed : ActivityView → ℕ → ℕ → Arguments → List Change → List CStmt
 numbered_resumed view k a arguments so =
     run_code view k a arguments
     ++ c_if (c_read (ended_place k)) (target_code view k arguments.target ++ numbered_changes view so) None ∷ []
 
 -- what a block does, by what is done at its node
-abbrev pub numbered_task : View → Rule → Task → List CStmt
+abbrev pub numbered_task : ActivityView → NumberedTransition → Task → List CStmt
 numbered_task view rule Nothing = numbered_changes view rule.so
 numbered_task view rule (Acts s) = acted view s ++ numbered_changes view rule.so
 numbered_task view rule (Tests e) = numbered_tested view (code_made view.site e) rule
@@ -90,9 +90,9 @@ numbered_task view rule (Enters k a arguments) = numbered_begun view k a argumen
 numbered_task view rule (Resumes k a arguments) = numbered_resumed view k a arguments rule.so
 
 -- the turn of a rule: what is asked before its node, and what that does then
-abbrev pub numbered_turn : View → Rule → Turn
+abbrev pub numbered_turn : ActivityView → NumberedTransition → NodeCode
 numbered_turn view rule = record { test = numbered_guard view rule.number rule.asked; code = numbered_task view rule rule.task }
 
 -- its `if`
-abbrev pub numbered_block : View → Rule → CStmt
+abbrev pub numbered_block : ActivityView → NumberedTransition → CStmt
 numbered_block view rule = turn_code (numbered_turn view rule)

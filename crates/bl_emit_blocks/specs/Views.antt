@@ -1,12 +1,12 @@
 -- What blocks see of an activity, and turns, as the code has them.
 use Rattle.std.specs.Prelude.{false, slice_get, unwrap_or}
 use Rattle.bl_emit_acts.specs.Sites.{site_in}
-use Rattle.bl_emit_pass.specs.Blocks.{Turn, View}
-use Rattle.bl_emit_blocks.specs.declared.turn.Turn.{Turn as KeptTurn}
-use Rattle.bl_emit_blocks.specs.declared.view.View.{View as Kept}
+use Rattle.bl_emit_spec.specs.Blocks.{ActivityView, NodeCode}
+use Rattle.bl_emit_blocks.specs.declared.turn.NodeCode.{NodeCode as KeptTurn}
+use Rattle.bl_emit_blocks.specs.declared.view.ActivityView.{ActivityView as Kept}
 
 -- an activity as its blocks see it; the C of a block that has numbers doesn't ask which numbers nodes have
-abbrev pub view_in : Kept → View
+abbrev pub view_in : Kept → ActivityView
 view_in view = record {
   site = site_in view.site;
   copies = view.copies.now;
@@ -17,5 +17,5 @@ view_in view = record {
 }
 
 -- a turn
-abbrev pub turn_in : KeptTurn → Turn
+abbrev pub turn_in : KeptTurn → NodeCode
 turn_in turn = record { test = turn.test; code = turn.code }

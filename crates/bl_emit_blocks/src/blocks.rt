@@ -4,28 +4,28 @@ ghost use Rattle.std.specs.Prelude.{◌≡◌, ◌∷◌, [], IfOk};
 ghost use Rattle.bl_emit_acts.specs.Acts.{c_set, code_made};
 ghost use Rattle.bl_emit_blocks.specs.Numbered as numbered;
 ghost use Rattle.bl_emit_blocks.specs.Views.{turn_in, view_in};
-ghost use Rattle.bl_emit_pass.specs.Blocks.{acted, turn_code};
-ghost use Rattle.bl_emit_pass.specs.Names.{result_place};
-ghost use Rattle.bl_pass_listed.specs.Told.{rule_in, task_in};
+ghost use Rattle.bl_emit_spec.specs.Blocks.{acted, turn_code};
+ghost use Rattle.bl_emit_spec.specs.Names.{result_place};
+ghost use Rattle.bl_machine_transitions.specs.Told.{rule_in, task_in};
 
 use crate::changes::changes;
 use crate::guards::guard;
 use crate::parts::{otherwise, value};
 use crate::places::returned;
 use crate::runs::{begun, resumed};
-use crate::turn::Turn;
-use crate::view::View;
+use crate::turn::NodeCode;
+use crate::view::ActivityView;
 use bl_emit_acts::act;
 use bl_emit_acts::parts::{joined, set, single};
 use bl_emit_functions::parts::choice;
-use bl_pass_listed::{Rule, Task};
+use bl_machine_transitions::{Task, Transition};
 use bl_tree::c::CStmt;
 use bl_tree::tree::{Expr, Stmt, StmtKind};
 use bl_tree::{List, NoMemory};
 use std::alloc::Global;
 
 /// A `return` sets the result, where it has one.
-fn result_set(alloc: Global, view: &View, e: &Expr) -> Result<List<CStmt>, NoMemory>
+fn result_set(alloc: Global, view: &ActivityView, e: &Expr) -> Result<List<CStmt>, NoMemory>
     ensures { IfOk result (λ code. code ≡ c_set result_place (code_made (view_in view.entry.now).site e.now) ∷ []) }
 {
     let at = returned(alloc)?;
@@ -33,7 +33,7 @@ fn result_set(alloc: Global, view: &View, e: &Expr) -> Result<List<CStmt>, NoMem
 }
 
 /// An act.
-fn acted(alloc: Global, view: &View, s: &Stmt) -> Result<List<CStmt>, NoMemory>
+fn acted(alloc: Global, view: &ActivityView, s: &Stmt) -> Result<List<CStmt>, NoMemory>
     ensures { IfOk result (λ code. code ≡ acted (view_in view.entry.now) s.now) }
 {
     match &s.what {
@@ -44,7 +44,12 @@ fn acted(alloc: Global, view: &View, s: &Stmt) -> Result<List<CStmt>, NoMemory>
 }
 
 /// A test: changes where it is true, and others where it is false.
-fn tested(alloc: Global, view: &View, e: &Expr, rule: &Rule) -> Result<List<CStmt>, NoMemory>
+fn tested(
+    alloc: Global,
+    view: &ActivityView,
+    e: &Expr,
+    rule: &Transition,
+) -> Result<List<CStmt>, NoMemory>
     ensures { IfOk result (λ code. code
         ≡ numbered.numbered_tested (view_in view.entry.now) (code_made (view_in view.entry.now).site e.now) (rule_in rule.entry.now)) }
 {
@@ -55,7 +60,7 @@ fn tested(alloc: Global, view: &View, e: &Expr, rule: &Rule) -> Result<List<CStm
 }
 
 /// What a node does in its turn.
-fn done(alloc: Global, view: &View, rule: &Rule) -> Result<List<CStmt>, NoMemory>
+fn done(alloc: Global, view: &ActivityView, rule: &Transition) -> Result<List<CStmt>, NoMemory>
     ensures { IfOk result (λ code. code
         ≡ numbered.numbered_task (view_in view.entry.now) (rule_in rule.entry.now) (task_in rule.entry.now.task)) }
 {
@@ -69,23 +74,23 @@ fn done(alloc: Global, view: &View, rule: &Rule) -> Result<List<CStmt>, NoMemory
 }
 
 /// The turn of a rule's node.
-pub fn turn(alloc: Global, view: &View, rule: &Rule) -> Result<Turn, NoMemory>
+pub fn turn(alloc: Global, view: &ActivityView, rule: &Transition) -> Result<NodeCode, NoMemory>
     ensures { IfOk result (λ made. turn_in made ≡ numbered.numbered_turn (view_in view.entry.now) (rule_in rule.entry.now)) }
 {
     let test = guard(alloc, view, rule.number, &rule.asked)?;
     let code = done(alloc, view, rule)?;
-    Ok(Turn { test, code })
+    Ok(NodeCode { test, code })
 }
 
 /// The `if` of a turn.
-pub fn turn_code(alloc: Global, turn: Turn) -> Result<CStmt, NoMemory>
+pub fn turn_code(alloc: Global, turn: NodeCode) -> Result<CStmt, NoMemory>
     ensures { IfOk result (λ made. made ≡ turn_code (turn_in turn)) }
 {
     choice(alloc, turn.test, turn.code, None)
 }
 
 /// The `if` of a rule's node. Fails only for want of memory.
-pub fn block(alloc: Global, view: &View, rule: &Rule) -> Result<CStmt, NoMemory>
+pub fn block(alloc: Global, view: &ActivityView, rule: &Transition) -> Result<CStmt, NoMemory>
     ensures { IfOk result (λ made. made ≡ numbered.numbered_block (view_in view.entry.now) (rule_in rule.entry.now)) }
 {
     turn_code(alloc, turn(alloc, view, rule)?)

@@ -6,15 +6,15 @@ ghost use Rattle.bl_emit_acts.specs.Trees.{c_read};
 ghost use Rattle.bl_emit_blocks.specs.Numbered as numbered;
 ghost use Rattle.bl_emit_blocks.specs.Views.{view_in};
 ghost use Rattle.bl_emit_functions.specs.Trees.{c_if};
-ghost use Rattle.bl_emit_pass.specs.Blocks as blocks;
-ghost use Rattle.bl_emit_pass.specs.Names.{counter_place, mark_place};
+ghost use Rattle.bl_emit_spec.specs.Blocks as blocks;
+ghost use Rattle.bl_emit_spec.specs.Names.{counter_place, mark_place};
 
 use crate::counters::value_of;
 use crate::places::{counter, flag, mark, over, rested};
-use crate::view::View;
+use crate::view::ActivityView;
 use bl_emit_acts::parts::{joined, read, set, single};
 use bl_emit_functions::parts::{choice, truth};
-use bl_pass_listed::Change;
+use bl_machine_transitions::Change;
 use bl_tree::c::CStmt;
 use bl_tree::slices::element;
 use bl_tree::{List, NoMemory};
@@ -28,14 +28,19 @@ fn flag_set(alloc: Global, k: u32) -> Result<CStmt, NoMemory>
 }
 
 /// The instance rests at a number, or no longer at the counter where that is 0.
-fn counter_set(alloc: Global, view: &View, k: u32, v: u32) -> Result<CStmt, NoMemory>
+fn counter_set(alloc: Global, view: &ActivityView, k: u32, v: u32) -> Result<CStmt, NoMemory>
     ensures { IfOk result (λ s. s ≡ c_set (counter_place k) (blocks.counter_value (view_in view.entry.now).sizes k v)) }
 {
     set(alloc, counter(alloc, k)?, value_of(view, k, v))
 }
 
 /// A counter gets 0, and so does its copy, where it has one.
-fn forgotten(alloc: Global, view: &View, k: u32, read: bool) -> Result<List<CStmt>, NoMemory>
+fn forgotten(
+    alloc: Global,
+    view: &ActivityView,
+    k: u32,
+    read: bool,
+) -> Result<List<CStmt>, NoMemory>
     ensures { IfOk result (λ code. code ≡ blocks.forgotten (view_in view.entry.now) k read) }
 {
     let mut code = single(alloc, counter_set(alloc, view, k, 0)?)?;
@@ -46,7 +51,7 @@ fn forgotten(alloc: Global, view: &View, k: u32, read: bool) -> Result<List<CStm
 }
 
 /// Whether the counter has a copy of what it held when the tick began.
-fn is_read(view: &View, k: u32) -> bool
+fn is_read(view: &ActivityView, k: u32) -> bool
     ensures { result ≡ (view_in view.entry.now).is_read k }
 {
     match element(view.read, k as usize) {
@@ -66,16 +71,18 @@ fn ended(alloc: Global, start: u32, surface: u32, depth: u32) -> Result<CStmt, N
 }
 
 /// The C of a change.
-fn change(alloc: Global, view: &View, change: Change) -> Result<List<CStmt>, NoMemory>
+fn change(alloc: Global, view: &ActivityView, change: Change) -> Result<List<CStmt>, NoMemory>
     ensures { IfOk result (λ code. code ≡ numbered.numbered_change (view_in view.entry.now) change) }
 {
     match change {
-        Change::Flag(k) => single(alloc, flag_set(alloc, k)?),
-        Change::Rest(slot) => { single(alloc, counter_set(alloc, view, slot.counter, slot.value)?) }
-        Change::Free(k) => single(alloc, counter_set(alloc, view, k, 0)?),
-        Change::Forget(k) => forgotten(alloc, view, k, is_read(view, k)),
-        Change::Mark(k) => single(alloc, set(alloc, mark(alloc, k)?, truth(true))?),
-        Change::End(start, surface, depth) => {
+        Change::SetFlag(k) => single(alloc, flag_set(alloc, k)?),
+        Change::SetCounter(slot) => {
+            single(alloc, counter_set(alloc, view, slot.counter, slot.value)?)
+        }
+        Change::ClearCounter(k) => single(alloc, counter_set(alloc, view, k, 0)?),
+        Change::ClearBoth(k) => forgotten(alloc, view, k, is_read(view, k)),
+        Change::SetMark(k) => single(alloc, set(alloc, mark(alloc, k)?, truth(true))?),
+        Change::EndWhen(start, surface, depth) => {
             single(alloc, ended(alloc, start, surface, depth)?)
         }
         Change::Finish => single(alloc, set(alloc, over(alloc)?, truth(true))?),
@@ -83,7 +90,11 @@ fn change(alloc: Global, view: &View, change: Change) -> Result<List<CStmt>, NoM
 }
 
 /// Of changes one after another.
-pub fn changes(alloc: Global, view: &View, changes: &[Change]) -> Result<List<CStmt>, NoMemory>
+pub fn changes(
+    alloc: Global,
+    view: &ActivityView,
+    changes: &[Change],
+) -> Result<List<CStmt>, NoMemory>
     ensures { IfOk result (λ code. code ≡ numbered.numbered_changes (view_in view.entry.now) changes.now) }
 {
     let mut code = List::new(alloc);

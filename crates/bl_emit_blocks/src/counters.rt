@@ -5,10 +5,10 @@ ghost use Rattle.bl_tree.specs.declared.scalar.Scalar.TheVariants.{Nat};
 ghost use Rattle.bl_emit_acts.specs.Expressions.{c_cast, c_compare, cast_word, function_name};
 ghost use Rattle.bl_emit_acts.specs.Trees.{c_literal, c_read};
 ghost use Rattle.bl_emit_blocks.specs.Views.{view_in};
-ghost use Rattle.bl_emit_pass.specs.Blocks as blocks;
+ghost use Rattle.bl_emit_spec.specs.Blocks as blocks;
 
 use crate::places::{counter, rested};
-use crate::view::View;
+use crate::view::ActivityView;
 use bl_emit_acts::parts::{called, literal, read, single, two};
 use bl_emit_functions::parts::truth;
 use bl_machine::Slot;
@@ -31,7 +31,7 @@ fn width_for(n: u32) -> Width
 }
 
 /// The greatest value that a counter can hold, which is how many values it has beside 0.
-fn greatest_value(view: &View, k: u32) -> u32
+fn greatest_value(view: &ActivityView, k: u32) -> u32
     ensures { result ≡ blocks.greatest_value (view_in view.entry.now).sizes k }
 {
     match element(view.sizes, k as usize) {
@@ -41,21 +41,21 @@ fn greatest_value(view: &View, k: u32) -> u32
 }
 
 /// The width of a counter's type.
-pub fn width_of(view: &View, k: u32) -> Width
+pub fn width_of(view: &ActivityView, k: u32) -> Width
     ensures { Nat result ≡ blocks.counter_type (view_in view.entry.now).sizes k }
 {
     width_for(greatest_value(view, k))
 }
 
 /// A value of a counter.
-pub fn value_of(view: &View, k: u32, v: u32) -> CExpr
+pub fn value_of(view: &ActivityView, k: u32, v: u32) -> CExpr
     ensures { result ≡ blocks.counter_value (view_in view.entry.now).sizes k v }
 {
     literal(Scalar::Nat(width_of(view, k)), v as i128)
 }
 
 /// Whether the instance is at the number.
-pub fn at_slot(alloc: Global, view: &View, slot: Slot) -> Result<CExpr, NoMemory>
+pub fn at_slot(alloc: Global, view: &ActivityView, slot: Slot) -> Result<CExpr, NoMemory>
     ensures { IfOk result (λ e. e ≡ blocks.at_slot (view_in view.entry.now) slot) }
 {
     let at = read(counter(alloc, slot.counter)?);
@@ -63,14 +63,14 @@ pub fn at_slot(alloc: Global, view: &View, slot: Slot) -> Result<CExpr, NoMemory
 }
 
 /// Whether the value is the only one beside 0 that its counter has.
-fn is_only(view: &View, slot: Slot) -> bool
+fn is_only(view: &ActivityView, slot: Slot) -> bool
     ensures { result ≡ blocks.is_only (view_in view.entry.now).sizes slot }
 {
     slot.value == 1 && greatest_value(view, slot.counter) <= 1
 }
 
 /// Whether it rested at the number when the tick began: a counter with one value had that where it wasn't 0.
-pub fn rested_at(alloc: Global, view: &View, slot: Slot) -> Result<CExpr, NoMemory>
+pub fn rested_at(alloc: Global, view: &ActivityView, slot: Slot) -> Result<CExpr, NoMemory>
     ensures { IfOk result (λ e. e ≡ blocks.rested_at (view_in view.entry.now) slot) }
 {
     let at = read(rested(alloc, slot.counter)?);
@@ -113,7 +113,7 @@ fn compared(alloc: Global, op: Op, width: Width, at: CPlace, v: u32) -> Result<C
 /// Whether the counter held one of the values from the first to the last.
 fn rested_between(
     alloc: Global,
-    view: &View,
+    view: &ActivityView,
     k: u32,
     least: u32,
     greatest: u32,
@@ -138,7 +138,7 @@ fn last_value(v: u32, slots: &[Slot]) -> u32
 }
 
 /// Whether it rested at one of these numbers, which have one counter and values that follow one another.
-pub fn rested_in(alloc: Global, view: &View, slots: &[Slot]) -> Result<CExpr, NoMemory>
+pub fn rested_in(alloc: Global, view: &ActivityView, slots: &[Slot]) -> Result<CExpr, NoMemory>
     ensures { IfOk result (λ e. e ≡ blocks.rested_in (view_in view.entry.now) slots.now) }
 {
     match slots {

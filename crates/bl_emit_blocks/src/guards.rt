@@ -7,9 +7,9 @@ ghost use Rattle.bl_emit_blocks.specs.Views.{view_in};
 use crate::counters::{rested_at, rested_in};
 use crate::places::{flag, mark};
 use crate::tests::ends;
-use crate::view::View;
+use crate::view::ActivityView;
 use bl_emit_acts::parts::{negated, read, two};
-use bl_pass_listed::{Age, Asked};
+use bl_machine_transitions::{Age, Asked};
 use bl_tree::c::CExpr;
 use bl_tree::{NoMemory, Op};
 use std::alloc::Global;
@@ -29,7 +29,12 @@ fn aged(alloc: Global, age: Age, ends: CExpr) -> Result<CExpr, NoMemory>
 }
 
 /// What is asked before the node with this number acts.
-pub fn guard(alloc: Global, view: &View, number: u32, asked: &Asked) -> Result<CExpr, NoMemory>
+pub fn guard(
+    alloc: Global,
+    view: &ActivityView,
+    number: u32,
+    asked: &Asked,
+) -> Result<CExpr, NoMemory>
     ensures { IfOk result (λ e. e ≡ numbered.numbered_guard (view_in view.entry.now) number asked.now) }
 {
     match asked {

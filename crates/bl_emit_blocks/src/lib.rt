@@ -19,4 +19,4 @@ mod view;
 
 pub use laws::blocks_alike;
 pub use merging::merged;
-pub use view::View;
+pub use view::ActivityView;

@@ -4,21 +4,26 @@ ghost use Rattle.std.specs.Prelude.{◌≡◌, IfOk, None, map, option_map, opti
 ghost use Rattle.bl_emit_blocks.specs.Merging as merging;
 ghost use Rattle.bl_emit_blocks.specs.Numbered.{numbered_turn};
 ghost use Rattle.bl_emit_blocks.specs.Views.{turn_in, view_in};
-ghost use Rattle.bl_emit_pass.specs.Activities.{picked};
-ghost use Rattle.bl_emit_pass.specs.Blocks.{merged_code};
-ghost use Rattle.bl_pass_listed.specs.Told.{rule_in};
+ghost use Rattle.bl_emit_spec.specs.Activities.{picked};
+ghost use Rattle.bl_emit_spec.specs.Blocks.{merged_code};
+ghost use Rattle.bl_machine_transitions.specs.Told.{rule_in};
 
 use crate::blocks::{block, turn, turn_code};
-use crate::turn::Turn;
-use crate::view::View;
-use bl_pass_listed::Rule;
+use crate::turn::NodeCode;
+use crate::view::ActivityView;
+use bl_machine_transitions::Transition;
 use bl_tree::NoMemory;
 use bl_tree::c::CStmt;
 use bl_tree::slices::element;
 use std::alloc::Global;
 
 /// One more node: its `if` stands behind what the first one does.
-fn turn_with(alloc: Global, view: &View, made: Option<Turn>, rule: &Rule) -> Result<Turn, NoMemory>
+fn turn_with(
+    alloc: Global,
+    view: &ActivityView,
+    made: Option<NodeCode>,
+    rule: &Transition,
+) -> Result<NodeCode, NoMemory>
     ensures { IfOk result (λ next. turn_in next
         ≡ merging.turn_with (option_map turn_in made) (numbered_turn (view_in view.entry.now) (rule_in rule.entry.now))) }
 {
@@ -27,7 +32,7 @@ fn turn_with(alloc: Global, view: &View, made: Option<Turn>, rule: &Rule) -> Res
         Some(first) => {
             let mut code = first.code;
             code.push(block(alloc, view, rule)?)?;
-            Ok(Turn {
+            Ok(NodeCode {
                 test: first.test,
                 code,
             })
@@ -38,10 +43,10 @@ fn turn_with(alloc: Global, view: &View, made: Option<Turn>, rule: &Rule) -> Res
 /// The same, where there is one more.
 fn turn_where(
     alloc: Global,
-    view: &View,
-    made: Option<Turn>,
-    rule: Option<&Rule>,
-) -> Result<Option<Turn>, NoMemory>
+    view: &ActivityView,
+    made: Option<NodeCode>,
+    rule: Option<&Transition>,
+) -> Result<Option<NodeCode>, NoMemory>
     ensures { IfOk result (λ next. option_map turn_in next ≡ merging.turn_where (option_map turn_in made)
         (option_map (numbered_turn (view_in view.entry.now)) (option_map rule_in (option_map (λ rule. rule.now) rule.entry)))) }
 {
@@ -55,11 +60,11 @@ fn turn_where(
 #[tactic(auto, using(crate::proofs::Turns::turn_is))]
 fn turn_at(
     alloc: Global,
-    view: &View,
-    made: Option<Turn>,
-    rules: &[Rule],
+    view: &ActivityView,
+    made: Option<NodeCode>,
+    rules: &[Transition],
     k: u32,
-) -> Result<Option<Turn>, NoMemory>
+) -> Result<Option<NodeCode>, NoMemory>
     ensures { IfOk result (λ next. option_map turn_in next ≡ merging.turn_where (option_map turn_in made)
         (slice_get (map (numbered_turn (view_in view.entry.now)) (map rule_in rules.now)) k)) }
 {
@@ -69,10 +74,10 @@ fn turn_at(
 /// The turn of a block: that of its first node, with the `if`s of its other nodes in it.
 fn turns_at(
     alloc: Global,
-    view: &View,
-    rules: &[Rule],
+    view: &ActivityView,
+    rules: &[Transition],
     block: &[u32],
-) -> Result<Option<Turn>, NoMemory>
+) -> Result<Option<NodeCode>, NoMemory>
     ensures { IfOk result (λ made. option_map turn_in made
         ≡ merging.turns_at (map (numbered_turn (view_in view.entry.now)) (map rule_in rules.now)) None block.now) }
 {
@@ -84,7 +89,7 @@ fn turns_at(
 }
 
 /// The `if` of a turn, where there is one.
-fn turn_codes(alloc: Global, made: Option<Turn>) -> Result<Option<CStmt>, NoMemory>
+fn turn_codes(alloc: Global, made: Option<NodeCode>) -> Result<Option<CStmt>, NoMemory>
     ensures { IfOk result (λ code. option_to_list code ≡ merging.turn_codes (option_map turn_in made)) }
 {
     match made {
@@ -97,8 +102,8 @@ fn turn_codes(alloc: Global, made: Option<Turn>) -> Result<Option<CStmt>, NoMemo
 #[tactic(auto, using(crate::proofs::Turns::merged_is))]
 pub fn merged(
     alloc: Global,
-    view: &View,
-    rules: &[Rule],
+    view: &ActivityView,
+    rules: &[Transition],
     block: &[u32],
 ) -> Result<Option<CStmt>, NoMemory>
     ensures { IfOk result (λ made. option_to_list made

@@ -5,14 +5,14 @@ ghost use Rattle.bl_emit_acts.specs.Acts.{code_made};
 ghost use Rattle.bl_emit_acts.specs.Sites.{site_in};
 ghost use Rattle.bl_emit_functions.specs.Statements.{else_code};
 
-use bl_emit_acts::{Site, code, expression};
+use bl_emit_acts::{UnitSite, code, expression};
 use bl_tree::c::{CExpr, CStmt};
 use bl_tree::tree::Expr;
 use bl_tree::{List, NoMemory};
 use std::alloc::Global;
 
 /// The C of an expression.
-pub fn value(alloc: Global, site: &Site, e: &Expr) -> Result<CExpr, NoMemory>
+pub fn value(alloc: Global, site: &UnitSite, e: &Expr) -> Result<CExpr, NoMemory>
     ensures { IfOk result (λ made. made ≡ code_made (site_in site.entry.now) e.now) }
 {
     Ok(code(expression(alloc, site, e)?))

@@ -1,7 +1,7 @@
 //! Where the C function of an activity keeps the registers of a pass.
 
 ghost use Rattle.std.specs.Prelude.{◌≡◌, IfOk};
-ghost use Rattle.bl_emit_pass.specs.Names as names;
+ghost use Rattle.bl_emit_spec.specs.Names as names;
 
 use bl_emit_acts::parts::{member_at, numbered, whole};
 use bl_tree::c::CPlace;

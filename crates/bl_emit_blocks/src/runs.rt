@@ -8,17 +8,17 @@ ghost use Rattle.bl_emit_acts.specs.Sites.{site_in};
 ghost use Rattle.bl_emit_acts.specs.Trees.{c_call};
 ghost use Rattle.bl_emit_blocks.specs.Numbered as numbered;
 ghost use Rattle.bl_emit_blocks.specs.Views.{view_in};
-ghost use Rattle.bl_emit_pass.specs.Blocks as blocks;
-ghost use Rattle.bl_emit_pass.specs.Names as names;
-ghost use Rattle.bl_pass_listed.specs.Told.{arguments_in};
+ghost use Rattle.bl_emit_spec.specs.Blocks as blocks;
+ghost use Rattle.bl_emit_spec.specs.Names as names;
+ghost use Rattle.bl_machine_transitions.specs.Told.{arguments_in};
 
 use crate::changes::changes;
 use crate::places::{callee_frame, callee_memory, ended, given};
-use crate::view::View;
+use crate::view::ActivityView;
 use bl_emit_acts::parts::{clear, joined, prefixed, read, set, single, statement};
-use bl_emit_acts::{Site, argument, expression, place};
+use bl_emit_acts::{UnitSite, argument, expression, place};
 use bl_emit_functions::parts::{choice, truth};
-use bl_pass_listed::{Change, Run};
+use bl_machine_transitions::{Change, Run};
 use bl_tree::c::{CArg, CCall, CPlace, CStmt, CStmtKind};
 use bl_tree::slices::element;
 use bl_tree::tree::{Expr, Path};
@@ -28,7 +28,7 @@ use std::alloc::Global;
 // ---- the activity that is called
 
 /// Whether it has a result.
-fn has_result(view: &View, a: u32) -> bool
+fn has_result(view: &ActivityView, a: u32) -> bool
     ensures { result ≡ blocks.has_result (slice_get (view_in view.entry.now).site.earlier a) }
 {
     match element(view.site.earlier, a as usize) {
@@ -38,7 +38,7 @@ fn has_result(view: &View, a: u32) -> bool
 }
 
 /// Whether it remembers variables.
-fn remembers(view: &View, a: u32) -> bool
+fn remembers(view: &ActivityView, a: u32) -> bool
     ensures { result ≡ (view_in view.entry.now).remembers a }
 {
     match element(view.remembers, a as usize) {
@@ -48,7 +48,7 @@ fn remembers(view: &View, a: u32) -> bool
 }
 
 /// The name of its function.
-fn callee(alloc: Global, view: &View, a: u32) -> Result<Text, NoMemory>
+fn callee(alloc: Global, view: &ActivityView, a: u32) -> Result<Text, NoMemory>
     ensures { IfOk result (λ name. name ≡ name_of_callee (slice_get (view_in view.entry.now).site.earlier a)) }
 {
     match element(view.site.earlier, a as usize) {
@@ -58,7 +58,7 @@ fn callee(alloc: Global, view: &View, a: u32) -> Result<Text, NoMemory>
 }
 
 /// The name of the struct of where it rests.
-fn frame(alloc: Global, view: &View, a: u32) -> Result<Text, NoMemory>
+fn frame(alloc: Global, view: &ActivityView, a: u32) -> Result<Text, NoMemory>
     ensures { IfOk result (λ name. name ≡ names.frame_name (blocks.name_in (slice_get (view_in view.entry.now).site.earlier a))) }
 {
     match element(view.site.earlier, a as usize) {
@@ -84,7 +84,7 @@ fn with_address(args: List<CArg>, test: bool, place: CPlace) -> Result<List<CArg
 fn with_inputs(
     alloc: Global,
     args: List<CArg>,
-    site: &Site,
+    site: &UnitSite,
     inputs: &[Expr],
 ) -> Result<List<CArg>, NoMemory>
     ensures { IfOk result (λ all. all ≡ args ++ map arg_of (map (made_of (site_in site.entry.now)) inputs.now)) }
@@ -100,7 +100,7 @@ fn with_inputs(
 fn with_outputs(
     alloc: Global,
     args: List<CArg>,
-    site: &Site,
+    site: &UnitSite,
     outputs: &[Path],
 ) -> Result<List<CArg>, NoMemory>
     ensures { IfOk result (λ all. all ≡ args ++ map (output_arg (site_in site.entry.now)) outputs.now) }
@@ -113,7 +113,7 @@ fn with_outputs(
 }
 
 /// Where the activity rests, and what it remembers.
-fn first_args(alloc: Global, view: &View, run: &Run) -> Result<List<CArg>, NoMemory>
+fn first_args(alloc: Global, view: &ActivityView, run: &Run) -> Result<List<CArg>, NoMemory>
     ensures { IfOk result (λ args. args ≡ Address (names.callee_frame run.entry.now.begins)
         ∷ blocks.arg_where ((view_in view.entry.now).remembers run.entry.now.unit) (Address (names.callee_memory run.entry.now.begins))) }
 {
@@ -124,7 +124,7 @@ fn first_args(alloc: Global, view: &View, run: &Run) -> Result<List<CArg>, NoMem
 }
 
 /// The arguments of the call of an activity.
-fn run_args(alloc: Global, view: &View, run: &Run) -> Result<List<CArg>, NoMemory>
+fn run_args(alloc: Global, view: &ActivityView, run: &Run) -> Result<List<CArg>, NoMemory>
     ensures { IfOk result (λ args. args
         ≡ blocks.run_args (view_in view.entry.now) run.entry.now.begins run.entry.now.unit (arguments_in run.entry.now)) }
 {
@@ -139,7 +139,7 @@ fn run_args(alloc: Global, view: &View, run: &Run) -> Result<List<CArg>, NoMemor
 // ---- calls
 
 /// The call of an activity.
-fn called(alloc: Global, view: &View, run: &Run) -> Result<CStmt, NoMemory>
+fn called(alloc: Global, view: &ActivityView, run: &Run) -> Result<CStmt, NoMemory>
     ensures { IfOk result (λ s. s ≡ c_calling (c_call (name_of_callee (slice_get (view_in view.entry.now).site.earlier run.entry.now.unit))
         (blocks.run_args (view_in view.entry.now) run.entry.now.begins run.entry.now.unit (arguments_in run.entry.now)))) }
 {
@@ -149,7 +149,7 @@ fn called(alloc: Global, view: &View, run: &Run) -> Result<CStmt, NoMemory>
 }
 
 /// The call, before which the activity hasn't ended.
-fn run_code(alloc: Global, view: &View, run: &Run) -> Result<List<CStmt>, NoMemory>
+fn run_code(alloc: Global, view: &ActivityView, run: &Run) -> Result<List<CStmt>, NoMemory>
     ensures { IfOk result (λ code. code
         ≡ blocks.run_code (view_in view.entry.now) run.entry.now.begins run.entry.now.unit (arguments_in run.entry.now)) }
 {
@@ -162,7 +162,7 @@ fn run_code(alloc: Global, view: &View, run: &Run) -> Result<List<CStmt>, NoMemo
 /// The target gets the result.
 fn target_code(
     alloc: Global,
-    view: &View,
+    view: &ActivityView,
     k: u32,
     target: Option<&Path>,
 ) -> Result<List<CStmt>, NoMemory>
@@ -179,7 +179,12 @@ fn target_code(
 }
 
 /// What a `run` does where it begins.
-pub fn begun(alloc: Global, view: &View, run: &Run, so: &[Change]) -> Result<List<CStmt>, NoMemory>
+pub fn begun(
+    alloc: Global,
+    view: &ActivityView,
+    run: &Run,
+    so: &[Change],
+) -> Result<List<CStmt>, NoMemory>
     ensures { IfOk result (λ code. code
         ≡ numbered.numbered_begun (view_in view.entry.now) run.entry.now.begins run.entry.now.unit (arguments_in run.entry.now) so.now) }
 {
@@ -192,7 +197,7 @@ pub fn begun(alloc: Global, view: &View, run: &Run, so: &[Change]) -> Result<Lis
 /// What it does where it goes on.
 pub fn resumed(
     alloc: Global,
-    view: &View,
+    view: &ActivityView,
     run: &Run,
     so: &[Change],
 ) -> Result<List<CStmt>, NoMemory>

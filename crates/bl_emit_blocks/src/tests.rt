@@ -4,15 +4,15 @@ ghost use Rattle.std.specs.Prelude.{◌≡◌, IfOk, map};
 ghost use Rattle.bl_emit_blocks.specs.Pairs as steps;
 ghost use Rattle.bl_emit_blocks.specs.Numbered.{numbered_ends};
 ghost use Rattle.bl_emit_blocks.specs.Views.{view_in};
-ghost use Rattle.bl_emit_pass.specs.Blocks as blocks;
+ghost use Rattle.bl_emit_spec.specs.Blocks as blocks;
 
 use crate::counters::at_slot;
 use crate::pairs::Pairs;
-use crate::view::View;
+use crate::view::ActivityView;
 use bl_emit_acts::parts::two;
 use bl_emit_functions::parts::truth;
 use bl_machine::Slot;
-use bl_pass_listed::Needed;
+use bl_machine_transitions::Needed;
 use bl_tree::c::CExpr;
 use bl_tree::{List, NoMemory, Op};
 use std::alloc::Global;
@@ -113,7 +113,7 @@ fn some_test(alloc: Global, tests: List<CExpr>) -> Result<CExpr, NoMemory>
 }
 
 /// Whether the instance is at these numbers.
-fn at_slots(alloc: Global, view: &View, slots: &[Slot]) -> Result<List<CExpr>, NoMemory>
+fn at_slots(alloc: Global, view: &ActivityView, slots: &[Slot]) -> Result<List<CExpr>, NoMemory>
     ensures { IfOk result (λ tests. tests ≡ map (blocks.at_slot (view_in view.entry.now)) slots.now) }
 {
     let mut tests = List::new(alloc);
@@ -124,7 +124,7 @@ fn at_slots(alloc: Global, view: &View, slots: &[Slot]) -> Result<List<CExpr>, N
 }
 
 /// Whether as many branches have ended as are needed.
-pub fn ends(alloc: Global, view: &View, needed: &Needed) -> Result<CExpr, NoMemory>
+pub fn ends(alloc: Global, view: &ActivityView, needed: &Needed) -> Result<CExpr, NoMemory>
     ensures { IfOk result (λ e. e ≡ numbered_ends (view_in view.entry.now) needed.now) }
 {
     let tests = at_slots(alloc, view, &needed.slots)?;

@@ -1,12 +1,12 @@
 //! What blocks see of an activity.
 
-use bl_emit_acts::Site;
+use bl_emit_acts::UnitSite;
 
 /// An activity as its blocks see it.
 #[derive(Clone, Copy)]
-pub struct View<'a> {
+pub struct ActivityView<'a> {
     /// What its statements see.
-    pub site: Site<'a>,
+    pub site: UnitSite<'a>,
     /// Which of its variables have a copy of what they were when the tick began.
     pub copies: &'a [bool],
     /// How many values its counters have.

@@ -4,7 +4,7 @@ use Rattle.std.specs.Prelude.{slice_get}
 use Rattle.bl_tree.specs.declared.c.CExpr.{CExpr}
 use Rattle.bl_tree.specs.declared.c.CStmt.{CStmt}
 use Rattle.bl_tree.specs.declared.tree.Expr.{Expr}
-use Rattle.bl_nodes.specs.Nodes.{
+use Rattle.bl_graph_nodes.specs.Nodes.{
   ActAt,
   Arguments,
   CheckAt,
@@ -21,31 +21,31 @@ use Rattle.bl_nodes.specs.Nodes.{
   SurfaceJoinAt,
   TestAt,
 }
-use Rattle.bl_nodes.specs.Plain.{plain_body}
+use Rattle.bl_graph_nodes.specs.Plain.{plain_body}
 use Rattle.bl_emit_acts.specs.Acts.{c_clear, code_made}
 use Rattle.bl_emit_acts.specs.Trees.{c_read}
 use Rattle.bl_emit_functions.specs.Statements.{else_code}
 use Rattle.bl_emit_functions.specs.Trees.{c_if}
-use Rattle.bl_pass.specs.Rules as nodes
-use Rattle.bl_pass.specs.Rules.{Ended, Ends, Finishes, Flagged, Flags, Forgets, Frees, Holds, IsNew, IsOld, Marks, Rested, RestedIn, Whatever}
-use Rattle.bl_pass.specs.Numbered.{slots_of}
-use Rattle.bl_pass_listed.specs.Callees.{callees_in}
-use Rattle.bl_pass_listed_laws.specs.Laws.{RulesAreListed}
-use Rattle.bl_pass_listed.specs.Told.{all_told, task_at, told, told_asked, told_change}
-use Rattle.bl_emit_pass.specs.Blocks.{Turn, View, acted, change_code, changes_code, guard_of, name_in, node_code, run_code}
-use Rattle.bl_emit_pass.specs.Blocks.{target_code, turn_of, turns_of}
-use Rattle.bl_emit_pass.specs.Names.{callee_frame, ended_place, frame_name}
+use Rattle.bl_machine_pass.specs.Transitions as nodes
+use Rattle.bl_machine_pass.specs.Transitions.{ClearsBoth, ClearsCounter, Ended, EndsWhen, Finishes, Flagged, IsAny, IsNew, IsOld, Rested, RestedIn, SetsCounter, SetsFlag, SetsMark}
+use Rattle.bl_machine_pass.specs.Numbered.{slots_of}
+use Rattle.bl_machine_transitions.specs.Callees.{callees_in}
+use Rattle.bl_machine_transitions_laws.specs.Laws.{RulesAreListed}
+use Rattle.bl_machine_transitions.specs.Told.{all_told, task_at, told, told_asked, told_change}
+use Rattle.bl_emit_spec.specs.Blocks.{ActivityView, NodeCode, acted, change_code, changes_code, guard_of, name_in, node_code, run_code}
+use Rattle.bl_emit_spec.specs.Blocks.{target_code, turn_of, turns_of}
+use Rattle.bl_emit_spec.specs.Names.{callee_frame, ended_place, frame_name}
 use Rattle.bl_emit_blocks.specs.Numbered.{numbered_change, numbered_changes, numbered_guard, numbered_task, numbered_turn}
 use Rattle.bl_emit_blocks_laws.specs.Laws.{BlocksAreNumbered, BodiesAreNumbered}
 
-module _ (view : View) where
+module _ (view : ActivityView) where
   change_is : (change : nodes.Change) → change_code view change ≡ numbered_change view (told_change view.number change)
-  change_is (Flags n) = refl
-  change_is (Holds slot) = refl
-  change_is (Frees k) = refl
-  change_is (Forgets k) = refl
-  change_is (Marks n) = refl
-  change_is (Ends start surface depth) = refl
+  change_is (SetsFlag n) = refl
+  change_is (SetsCounter slot) = refl
+  change_is (ClearsCounter k) = refl
+  change_is (ClearsBoth k) = refl
+  change_is (SetsMark n) = refl
+  change_is (EndsWhen start surface depth) = refl
   change_is Finishes = refl
 
   changes_are : (changes : List nodes.Change) → changes_code view changes ≡ numbered_changes view (map (told_change view.number) changes)
@@ -60,7 +60,7 @@ module _ (view : View) where
   guard_is n (RestedIn slots) = refl
   guard_is n (Ended (IsNew m) needed) = refl
   guard_is n (Ended (IsOld m) needed) = refl
-  guard_is n (Ended Whatever needed) = refl
+  guard_is n (Ended IsAny needed) = refl
 
   -- a test, by what changes where it is true and where it is false
   abbrev test_with : CExpr → List CStmt → List CStmt → List CStmt
@@ -80,7 +80,7 @@ module _ (view : View) where
   resumed_with unit k arguments so =
       run_code view k unit arguments ++ c_if (c_read (ended_place k)) (target_code view k arguments.target ++ so) None ∷ []
 
-  node_is : (unit : ℕ) (rule : nodes.Rule) (n : Node) →
+  node_is : (unit : ℕ) (rule : nodes.Transition) (n : Node) →
       node_code view unit rule n ≡ numbered_task view (told view.number unit rule) (task_at view.number unit n)
   node_is unit rule (ActAt l s) = ap (λ xs. acted view s ++ xs) (changes_are rule.so)
   node_is unit rule (TestAt l at e) = test_is e _ _ _ _ (changes_are rule.so) (changes_are rule.otherwise)
@@ -96,22 +96,22 @@ module _ (view : View) where
   node_is unit rule (SurfaceJoinAt l at) = changes_are rule.so
   node_is unit rule (DepthJoinAt l at) = changes_are rule.so
 
-  abbrev turn : CExpr → List CStmt → Turn
+  abbrev turn : CExpr → List CStmt → NodeCode
   turn test code = record { test = test; code = code }
 
-  turn_is : (unit : ℕ) (rule : nodes.Rule) → turn_of view unit rule ≡ numbered_turn view (told view.number unit rule)
+  turn_is : (unit : ℕ) (rule : nodes.Transition) → turn_of view unit rule ≡ numbered_turn view (told view.number unit rule)
   turn_is unit rule =
       ap (λ (guard : CExpr). turn guard (node_code view unit rule rule.node)) (guard_is rule.node rule.asked)
       ∙ ap (λ (body : List CStmt). turn (numbered_guard view (view.number rule.node) (told_asked view.number rule.asked)) body)
       (node_is unit rule rule.node)
 
-  turns_are : (units : List ℕ) (rules : List nodes.Rule) →
+  turns_are : (units : List ℕ) (rules : List nodes.Transition) →
       turns_of view units rules ≡ map (numbered_turn view) (all_told view.number units rules)
   turns_are [] rules = refl
   turns_are (unit ∷ units) [] = refl
   turns_are (unit ∷ units) (rule ∷ rules) =
-      ap (λ (x : Turn). x ∷ turns_of view units rules) (turn_is unit rule)
-      ∙ ap (λ (xs : List Turn). numbered_turn view (told view.number unit rule) ∷ xs) (turns_are units rules)
+      ap (λ (x : NodeCode). x ∷ turns_of view units rules) (turn_is unit rule)
+      ∙ ap (λ (xs : List NodeCode). numbered_turn view (told view.number unit rule) ∷ xs) (turns_are units rules)
 
 pub blocks_are_numbered : BlocksAreNumbered
 blocks_are_numbered = record { one = turn_is; all = turns_are }

@@ -1,26 +1,26 @@
 -- The turns of rules by numbers are those of the nodes that have these numbers.
 use Rattle.std.specs.Prelude.{◌≡◌, ℕ, List, map}
 use Rattle.bl_tree.specs.declared.tree.Stmt.{Stmt}
-use Rattle.bl_nodes.specs.Plain.{plain_body}
+use Rattle.bl_graph_nodes.specs.Plain.{plain_body}
 use Rattle.bl_machine.specs.declared.slots.Slot.{Slot}
-use Rattle.bl_pass.specs.Numbered.{slots_of}
-use Rattle.bl_pass.specs.Rules as nodes
-use Rattle.bl_pass_listed.specs.Callees.{callees_in, number_in}
-use Rattle.bl_pass_listed.specs.Listed.{layout_of, listed}
-use Rattle.bl_pass_listed.specs.Told.{all_told, told}
-use Rattle.bl_emit_pass.specs.Blocks.{View, turn_of, turns_of}
+use Rattle.bl_machine_pass.specs.Numbered.{slots_of}
+use Rattle.bl_machine_pass.specs.Transitions as nodes
+use Rattle.bl_machine_transitions.specs.Callees.{callees_in, number_in}
+use Rattle.bl_machine_transitions.specs.Listed.{layout_of, listed}
+use Rattle.bl_machine_transitions.specs.Told.{all_told, told}
+use Rattle.bl_emit_spec.specs.Blocks.{ActivityView, turn_of, turns_of}
 use Rattle.bl_emit_blocks.specs.Numbered.{numbered_turn}
 
 pub record BlocksAreNumbered : Type 0 where
   -- one turn, of a node that calls the activity
-  pub one : (view : View) (unit : ℕ) (rule : nodes.Rule) → turn_of view unit rule ≡ numbered_turn view (told view.number unit rule)
+  pub one : (view : ActivityView) (unit : ℕ) (rule : nodes.Transition) → turn_of view unit rule ≡ numbered_turn view (told view.number unit rule)
   -- the turns of nodes that have these rules, each with the activity that it calls
-  pub all : (view : View) (units : List ℕ) (rules : List nodes.Rule) →
+  pub all : (view : ActivityView) (units : List ℕ) (rules : List nodes.Transition) →
       turns_of view units rules ≡ map (numbered_turn view) (all_told view.number units rules)
 
 -- so the turns of a body are those of its list of rules
 abbrev pub BodiesAreNumbered : Type 0
 BodiesAreNumbered =
-    (view : View) (body : List Stmt) (order : List ℕ) (list : List Slot) → view.number ≡ number_in order (plain_body body) →
+    (view : ActivityView) (body : List Stmt) (order : List ℕ) (list : List Slot) → view.number ≡ number_in order (plain_body body) →
     turns_of view (callees_in (plain_body body)) (nodes.rules (slots_of (plain_body body) list) (plain_body body))
     ≡ map (numbered_turn view) (listed (layout_of order list) (plain_body body))

@@ -4,7 +4,7 @@
 
 ghost use Rattle.bl_emit_blocks_laws.specs.Laws.{BlocksAreNumbered, BodiesAreNumbered};
 
-use bl_pass_listed_laws::rules_are_listed;
+use bl_machine_transitions_laws::rules_are_listed;
 
 /// The turn of a rule by numbers is that of the rule of a node which tells it.
 pub fn blocks_are_numbered()

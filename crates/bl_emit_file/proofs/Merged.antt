@@ -3,19 +3,19 @@ use Rattle.std.proofs.Common.{◌≡◌, true, List, [], ◌∷◌, ap, subst, s
 use Rattle.bl_tree.specs.declared.program.Program.{Program}
 use Rattle.bl_tree.specs.declared.tree.Unit.{Unit as UnitDef}
 use Rattle.bl_limits.specs.Rules.{Passes as KeepsLimits}
-use Rattle.bl_prevs.specs.Declared.{FromText}
+use Rattle.bl_machine_prevs.specs.Declared.{FromText}
 use Rattle.bl_block.specs.Merged.{AreMergedFrom, EachThree, IsMergedFrom}
 use Rattle.bl_cause.specs.Accepted.{AcceptedProgram, IsAccepted}
 use Rattle.bl_cause.specs.Activities.{EachTwo, activities}
-use Rattle.bl_cmeaning.specs.Parts.{parts_from}
-use Rattle.bl_emit_pass.specs.Shared.{IsShared, IsSharedActivityOf}
+use Rattle.bl_ctext_semantics.specs.Parts.{parts_from}
+use Rattle.bl_emit_spec.specs.Shared.{IsShared, IsSharedActivityOf}
 use Rattle.bl_machine.specs.declared.machine.Activity.{Activity}
 use Rattle.bl_machine.specs.Machines.{AreActivitiesOf, IsMachine, IsPlainActivityOf, IsPlainMachine, SeenMachine}
 use Rattle.bl_ctext.specs.Spellable.{is_spellable}
 use Rattle.bl_emit.specs.Programs.{written_told}
-use Rattle.bl_emit_laws.specs.Told.{WrittenIsTold}
-use Rattle.bl_emit_pass.specs.Programs.{Written, written}
-use Rattle.bl_emit_pass_laws_runs.specs.Compiled.{AreCountable}
+use Rattle.bl_emit_laws.specs.Told.{WrittenIsComputed}
+use Rattle.bl_emit_spec.specs.Programs.{Written, written}
+use Rattle.bl_emit_spec_laws_simulation.specs.Compiled.{AreCountable}
 use Rattle.bl_emit_laws.specs.Spelled.{ProgramsSpelled}
 use Rattle.bl_emit_file.specs.Laws.{Known}
 use Rattle.bl_emit_file.specs.Merged.{AreMerged, IsMerged, IsOfMerged}
@@ -54,7 +54,7 @@ pub record IsMadeOf (tree : Program) (machine : List Activity) (made : Written) 
 
 pub made_known : (accepted : AcceptedProgram) (plain merged : SeenMachine) (made : Written) → IsAccepted accepted → FromText accepted.tree.units →
     AreCountable accepted.tree.units → plain.program ≡ accepted.tree → IsPlainMachine plain → merged.program ≡ plain.program →
-    AreMergedFrom plain.program.units plain.activities merged.activities → IsMachine merged → WrittenIsTold →
+    AreMergedFrom plain.program.units plain.activities merged.activities → IsMachine merged → WrittenIsComputed →
     made ≡ written_told merged.program merged.activities → IsMadeOf accepted.tree merged.activities made
 made_known accepted plain merged made is_accepted text countable one are_plain two are_merged is_machine told same =
     let tree = accepted.tree in

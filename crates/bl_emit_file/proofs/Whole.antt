@@ -29,22 +29,22 @@ use Rattle.bl_tree.specs.Ports.{RowsFit, input_columns}
 use Rattle.bl_tree.specs.Program.{is_entry}
 use Rattle.bl_ctree.specs.declared.instance.Instance.{Instance}
 use Rattle.bl_ctree.specs.Instances.{Setting, expanded, instances_below, runs_of, setting_of, unit_at, unit_of}
-use Rattle.bl_ctree.specs.Means.{Means, Shown, shown}
-use Rattle.bl_cmeaning.specs.Faults.{WellFormed}
-use Rattle.bl_cmeaning.specs.Parts.{Parts, parts_from}
-use Rattle.bl_cmeaning.specs.Trace.{c_trace}
+use Rattle.bl_ctree.specs.Means.{Means, ShownTrace, shown_trace}
+use Rattle.bl_ctext_semantics.specs.Faults.{WellFormed}
+use Rattle.bl_ctext_semantics.specs.Parts.{Parts, parts_from}
+use Rattle.bl_ctext_semantics.specs.Trace.{c_trace}
 use Rattle.bl_machine.specs.declared.machine.Activity.{Activity as InMachine}
-use Rattle.bl_pass_laws_runs.specs.Runs.{RunByRules}
-use Rattle.bl_emit_functions_laws.specs.Units.{NoneOverlaps}
-use Rattle.bl_emit_pass.specs.Programs.{Written, written}
-use Rattle.bl_emit_pass_laws.specs.Calls.Built.{Activities, cleared, rank_by, slots_by}
-use Rattle.bl_emit_pass_laws.specs.Calls.Laws.{Compiled}
-use Rattle.bl_emit_pass_laws_runs.specs.Come.{AllCome}
-use Rattle.bl_emit_pass_laws_runs.specs.Compiled.{ProgramsCompile}
-use Rattle.bl_emit_pass_laws_files.specs.Entry.{EntryRuns}
-use Rattle.bl_emit_pass_laws_files.specs.Files.{FileShows, RowsSuffice}
-use Rattle.bl_emit_pass_laws.specs.Tables.Laws.{ActivitiesBuilt}
-use Rattle.bl_emit_laws.specs.Accepted.{ProgramsFormed}
+use Rattle.bl_machine_pass_laws_execution.specs.Runs.{RunByRules}
+use Rattle.bl_emit_functions_laws_simulation.specs.Units.{NoneOverlaps}
+use Rattle.bl_emit_spec.specs.Programs.{Written, written}
+use Rattle.bl_emit_spec_laws.specs.Calls.Built.{Activities, cleared, rank_by, slots_by}
+use Rattle.bl_emit_spec_laws.specs.Calls.Laws.{CompilationContext}
+use Rattle.bl_emit_spec_laws_simulation.specs.Simulation.{CompiledSimulate}
+use Rattle.bl_emit_spec_laws_simulation.specs.Compiled.{ProgramsCompile}
+use Rattle.bl_emit_spec_laws_files.specs.Entry.{EntryRuns}
+use Rattle.bl_emit_spec_laws_files.specs.Files.{FileShows, RowsSuffice}
+use Rattle.bl_emit_spec_laws.specs.Tables.Laws.{ActivitiesBuilt}
+use Rattle.bl_emit_laws.specs.Accepted.{ProgramsWellFormed}
 use Rattle.bl_emit_laws.specs.Cells.{FilesSmall}
 use Rattle.bl_emit_laws.specs.Counters.Laws.{FilesHaveIfs, FilesOwn}
 use Rattle.bl_emit_laws.specs.Kept.{activities_in, written_file}
@@ -79,11 +79,11 @@ entry_is structs units entry unit there =
 pub record Laws (program : Program) : Type 0 where
   pub built : ActivitiesBuilt
   pub compile : ProgramsCompile program.structs program.units program.entry
-  pub come : AllCome program.structs program.units program.entry
+  pub come : CompiledSimulate program.structs program.units program.entry
   pub rows : RowsSuffice
   pub runs : EntryRuns
   pub shows : WrittenShows program
-  pub formed : ProgramsFormed program
+  pub formed : ProgramsWellFormed program
   pub small : FilesSmall program
   pub own : FilesOwn program
   pub ifs : FilesHaveIfs program
@@ -108,7 +108,7 @@ module _ (program : Program) (machine : List InMachine) (laws : Laws program) (k
   abbrev file : Parts
   file = written_file program machine
 
-  compiled : Compiled structs units entry machine activities
+  compiled : CompilationContext structs units entry machine activities
   compiled =
       laws.compile machine activities known.keeps known.passes known.text known.agrees known.shared (laws.built structs units machine known.agrees)
       known.countable
@@ -129,13 +129,13 @@ module _ (program : Program) (machine : List InMachine) (laws : Laws program) (k
         laws.runs structs units entry machine activities unit rows compiled (entry_is structs units entry unit there)
         (laws.rows structs units entry unit rows known.keeps there fit)
 
-    traced : (rows : List (List ℤ)) (seen : Shown) → RowsFit (input_columns unit) rows →
-        Means structs units entry rows seen ↔ (seen ≡ shown (c_trace file rows))
+    traced : (rows : List (List ℤ)) (seen : ShownTrace) → RowsFit (input_columns unit) rows →
+        Means structs units entry rows seen ↔ (seen ≡ shown_trace (c_trace file rows))
     traced rows seen fit =
         let run = by_rules rows fit in
         let same : c_trace file rows ≡ run.one.trace = shows.trace rows (λ i c. 0) run.one.trace fit (λ i c. refl) run.run in (
-          λ means. run.one.only seen means ∙ ap shown (sym same),
-          λ is. subst (Means structs units entry rows) (sym (is ∙ ap shown same)) run.one.means,
+          λ means. run.one.only seen means ∙ ap shown_trace (sym same),
+          λ is. subst (Means structs units entry rows) (sym (is ∙ ap shown_trace same)) run.one.means,
         )
 
     shown_whole : ShowsProgram structs units entry file

@@ -1,22 +1,22 @@
 -- What is known of a program for which no rule fails, and what the C that is written of it shows.
 use Rattle.std.specs.Prelude.{List}
 use Rattle.bl_tree.specs.declared.program.Program.{Program}
-use Rattle.bl_tree.specs.Program.{Keeps}
+use Rattle.bl_tree.specs.Program.{IsWellTyped}
 use Rattle.bl_effects.specs.Rules.{Passes}
 use Rattle.bl_limits.specs.Rules.{Passes as KeepsLimits}
-use Rattle.bl_prevs.specs.Declared.{FromText}
+use Rattle.bl_machine_prevs.specs.Declared.{FromText}
 use Rattle.bl_machine.specs.declared.machine.Activity.{Activity as InMachine}
 use Rattle.bl_machine.specs.Machines.{AreActivitiesOf}
 use Rattle.bl_emit_laws.specs.Kept.{written_file}
-use Rattle.bl_emit_pass.specs.Shared.{IsShared}
-use Rattle.bl_emit_pass_laws_runs.specs.Compiled.{AreCountable}
+use Rattle.bl_emit_spec.specs.Shared.{IsShared}
+use Rattle.bl_emit_spec_laws_simulation.specs.Compiled.{AreCountable}
 use Rattle.bl_emit_file.specs.Merged.{AreMerged}
 use Rattle.bl_emit_file.specs.Shows.{ShowsProgram}
 
 -- no rule fails for a program that is made of a text, its machine shares counters and has merged blocks, and 64 bits count the variables and
 -- statements of its units
 pub record Known (program : Program) (machine : List InMachine) : Type 0 where
-  pub keeps : Keeps program.structs program.units program.entry
+  pub keeps : IsWellTyped program.structs program.units program.entry
   pub passes : Passes program.units
   pub limits : KeepsLimits program.structs program.units program.entry
   pub text : FromText program.units

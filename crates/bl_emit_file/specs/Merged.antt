@@ -5,10 +5,10 @@ use Rattle.bl_tree.specs.declared.tree.StructDef.{StructDef}
 use Rattle.bl_tree.specs.declared.tree.Unit.{Unit as UnitDef}
 use Rattle.bl_block.specs.Merged.{NothingLeft}
 use Rattle.bl_cause.specs.Activities.{EachTwo, activities}
-use Rattle.bl_cmeaning.specs.Parts.{Parts}
+use Rattle.bl_ctext_semantics.specs.Parts.{Parts}
 use Rattle.bl_machine.specs.declared.machine.Activity.{Activity}
 use Rattle.bl_machine.specs.Machines.{AreActivitiesOf}
-use Rattle.bl_nodes.specs.Plain.{plain_body}
+use Rattle.bl_graph_nodes.specs.Plain.{plain_body}
 use Rattle.bl_emit_laws.specs.Counters.Ifs.{EachFunctionHasIfs}
 use Rattle.bl_emit_laws.specs.Kept.{written_file}
 

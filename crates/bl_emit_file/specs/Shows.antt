@@ -3,12 +3,12 @@ use Rattle.std.specs.Prelude.{◌≡◌, ◌↔◌, ◌≤◌, ℕ, ℤ, List, S
 use Rattle.bl_tree.specs.declared.tree.StructDef.{StructDef}
 use Rattle.bl_tree.specs.declared.tree.Unit.{Unit as UnitDef}
 use Rattle.bl_tree.specs.Ports.{RowsFit, input_columns, output_columns}
-use Rattle.bl_ctree.specs.Means.{Means, Shown, shown}
-use Rattle.bl_cmeaning.specs.Cells.{inputs_of, outputs_of}
-use Rattle.bl_cmeaning.specs.Faults.{WellFormed}
-use Rattle.bl_cmeaning.specs.Parts.{Parts}
-use Rattle.bl_cmeaning.specs.Sizes.{cells_needed}
-use Rattle.bl_cmeaning.specs.Trace.{c_trace}
+use Rattle.bl_ctree.specs.Means.{Means, ShownTrace, shown_trace}
+use Rattle.bl_ctext_semantics.specs.Cells.{inputs_of, outputs_of}
+use Rattle.bl_ctext_semantics.specs.Faults.{WellFormed}
+use Rattle.bl_ctext_semantics.specs.Parts.{Parts}
+use Rattle.bl_ctext_semantics.specs.Sizes.{cells_needed}
+use Rattle.bl_ctext_semantics.specs.Trace.{c_trace}
 use Rattle.bl_emit_laws.specs.Counters.Own.{FunctionsOwn}
 use Rattle.bl_emit_laws.specs.Width.{EachFrameHasWidth}
 use Rattle.bl_emit_file.specs.Merged.{HasMergedBlocks}
@@ -30,5 +30,5 @@ pub record ShowsProgram (structs : List StructDef) (units : List UnitDef) (entry
   -- the body of that function is assignments, and then as many `if`s as a machine with merged blocks has blocks for the activity
   pub blocks : HasMergedBlocks structs units entry file
   -- over all rows that fit its inputs the parallel meaning allows its trace, and no other
-  pub trace : (rows : List (List ℤ)) (shows : Shown) → RowsFit (input_columns unit) rows →
-      Means structs units entry rows shows ↔ (shows ≡ shown (c_trace file rows))
+  pub trace : (rows : List (List ℤ)) (shows : ShownTrace) → RowsFit (input_columns unit) rows →
+      Means structs units entry rows shows ↔ (shows ≡ shown_trace (c_trace file rows))

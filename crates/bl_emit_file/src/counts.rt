@@ -2,10 +2,10 @@
 
 ghost use Rattle.std.specs.Prelude.{◌≡◌, IfOk};
 ghost use Rattle.std.specs.List.{list_all};
-ghost use Rattle.bl_emit_pass_laws_runs.specs.Compiled.{AreCountable};
+ghost use Rattle.bl_emit_spec_laws_simulation.specs.Compiled.{AreCountable};
 ghost use Rattle.bl_emit_file.specs.inner.Counts.{has_few, is_few};
 
-use bl_measures::Measures;
+use bl_limits_measures::Measures;
 use bl_tree::tree::Unit;
 use bl_tree::{NoMemory, Program};
 use std::alloc::Global;

@@ -2,16 +2,16 @@
 
 ghost use Rattle.bl_emit_file.specs.Laws.{ProgramsShow};
 
-use bl_emit_laws::accepted::programs_formed;
+use bl_emit_laws::accepted::programs_well_formed;
 use bl_emit_laws::cells::files_small;
 use bl_emit_laws::counters::{files_have_ifs, files_own};
 use bl_emit_laws::shows::written_shows;
 use bl_emit_laws::width::frames_have_width;
-use bl_emit_pass_laws::tables::activities_built;
-use bl_emit_pass_laws_files::entry::entry_runs;
-use bl_emit_pass_laws_files::files::rows_suffice;
-use bl_emit_pass_laws_runs::come::all_come;
-use bl_emit_pass_laws_runs::compiled::programs_compile;
+use bl_emit_spec_laws::tables::activities_built;
+use bl_emit_spec_laws_files::entry::entry_runs;
+use bl_emit_spec_laws_files::files::rows_suffice;
+use bl_emit_spec_laws_simulation::compiled::programs_compile;
+use bl_emit_spec_laws_simulation::simulation::compiled_simulate;
 use bl_tree::Program;
 
 /// What is written of a program for which no rule fails shows what the program means.
@@ -20,11 +20,11 @@ pub fn programs_show(program: &Program)
 {
     activities_built();
     programs_compile(program);
-    all_come(program);
+    compiled_simulate(program);
     rows_suffice();
     entry_runs();
     written_shows(program);
-    programs_formed(program);
+    programs_well_formed(program);
     files_small(program);
     files_own(program);
     files_have_ifs(program);

@@ -2,7 +2,7 @@
 //! most 1,000,000 cells; each activity that has an instance has one function, which alone names its counters, as many counters as its width, and
 //! as many `if`s as a machine with merged blocks has blocks for it; over all rows that fit it has the one trace that the meaning of the program
 //! allows, and no other (`specs/Shows.antt`, `ShowsProgram`). It is what is written of a machine of the program in which no two neighbouring
-//! blocks could be one (`specs/Merged.antt`, `IsOfMerged`). The program has to be made of a source text (`FromText` of `bl_prevs`). A law, as
+//! blocks could be one (`specs/Merged.antt`, `IsOfMerged`). The program has to be made of a source text (`FromText` of `bl_machine_prevs`). A law, as
 //! the contract of a function that does nothing, puts those of the parts together (`specs/Laws.antt`, `ProgramsShow`).
 #![tactic(auto)]
 
@@ -10,8 +10,8 @@ mod counts;
 mod laws;
 
 ghost use Rattle.std.specs.Prelude.{IfOk};
-ghost use Rattle.bl_cmeaning.specs.Parts.{parts_of};
-ghost use Rattle.bl_prevs.specs.Declared.{FromText};
+ghost use Rattle.bl_ctext_semantics.specs.Parts.{parts_of};
+ghost use Rattle.bl_machine_prevs.specs.Declared.{FromText};
 ghost use Rattle.bl_emit_file.specs.Merged.{IsOfMerged};
 ghost use Rattle.bl_emit_file.specs.Shows.{ShowsProgram};
 

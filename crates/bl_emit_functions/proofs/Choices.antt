@@ -6,7 +6,7 @@ use Rattle.bl_tree.specs.declared.tree.Stmt.{Stmt, fold-roll-Stmt, out-Stmt, rol
 use Rattle.bl_tree.specs.declared.tree.StmtKind.{StmtKind, fold-roll-StmtKind, roll-StmtKind}
 use Rattle.bl_tree.specs.declared.tree.StmtKind.TheOpen.{StmtKind-F}
 use Rattle.bl_tree.specs.declared.tree.StmtKind.TheVariants as kinds
-use Rattle.bl_tree.specs.Typing.{Site}
+use Rattle.bl_tree.specs.Typing.{TypingContext}
 use Rattle.bl_emit_acts.specs.Acts.{code_made}
 use Rattle.bl_emit_functions.specs.declared.coded.Coded.{Coded}
 use Rattle.bl_emit_functions.specs.declared.coded.Free.{Free}
@@ -29,7 +29,7 @@ use Rattle.bl_emit_functions.specs.Statements.{
   stmt_codes,
 }
 
-module _ (site : Site) (s : Stmt) (arms seen : List Arm) (other more : List Stmt) (is : (out-Stmt s).what ≡ kinds.If arms other) (same : seen ≡ arms)
+module _ (site : TypingContext) (s : Stmt) (arms seen : List Arm) (other more : List Stmt) (is : (out-Stmt s).what ≡ kinds.If arms other) (same : seen ≡ arms)
     (alike : more ≡ other) (free : Free) where
   abbrev block : List Stmt → Codes
   block body = block_codes (map (codes_of site) body)

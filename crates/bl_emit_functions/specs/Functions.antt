@@ -19,7 +19,7 @@ use Rattle.bl_tree.specs.declared.tree.Var.{Var}
 use Rattle.bl_tree.specs.Program.{is_output, parameters_of}
 use Rattle.bl_tree.specs.Returns.{is_return}
 use Rattle.bl_tree.specs.Types.{scalar_in}
-use Rattle.bl_tree.specs.Typing.{Site, inputs_of, site_of}
+use Rattle.bl_tree.specs.Typing.{TypingContext, inputs_of, site_of}
 use Rattle.bl_emit_acts.specs.Acts.{c_set}
 use Rattle.bl_emit_acts.specs.declared.home.Home.{Home}
 use Rattle.bl_emit_acts.specs.declared.home.Home.TheVariants.{Held, Given, Lent}
@@ -61,7 +61,7 @@ member_of true structs k var = held_member structs k var ∷ []
 member_of false structs k var = []
 
 -- the members of the variables that the unit holds, of those from this position on
-abbrev pub members_from : Site → ℕ → List Var → List CMember
+abbrev pub members_from : TypingContext → ℕ → List Var → List CMember
 members_from site k [] = []
 members_from site k (var ∷ rest) = member_of (is_held (home_of site (Some var))) site.structs k var ++ members_from site (k + 1) rest
 
@@ -83,7 +83,7 @@ abbrev pub memory_struct : List StructDef → List UnitDef → UnitDef → List 
 memory_struct structs earlier unit = struct_of unit.name (members_of structs earlier unit)
 
 -- whether the unit holds one of the variables
-abbrev pub holds_any : Site → List Var → Bool
+abbrev pub holds_any : TypingContext → List Var → Bool
 holds_any site vars = list_any (λ var. is_held (home_of site (Some var))) vars
 
 -- the local that is the struct of the variables, where there are any
@@ -103,17 +103,17 @@ flag_locals (suc n) = flag_locals n ++ flag_local n ∷ []
 -- ---- bodies
 
 -- a variable becomes what the parameter of its name points to
-abbrev pub c_input_copied : Site → ℕ → CStmt
+abbrev pub c_input_copied : TypingContext → ℕ → CStmt
 c_input_copied site k = c_set (place_in site k []) (c_read (c_place true (variable_name k) []))
 
 -- an input that the unit holds is copied from what its parameter points to; others aren't
-abbrev pub input_copied : Site → Home → ℕ → List CStmt
+abbrev pub input_copied : TypingContext → Home → ℕ → List CStmt
 input_copied site Held k = c_input_copied site k ∷ []
 input_copied site Given k = []
 input_copied site Lent k = []
 
 -- the copies of these inputs, the first of which is at this position
-abbrev pub copies_from : Site → ℕ → List Var → List CStmt
+abbrev pub copies_from : TypingContext → ℕ → List Var → List CStmt
 copies_from site k [] = []
 copies_from site k (var ∷ rest) = input_copied site (home_of site (Some var)) k ++ copies_from site (k + 1) rest
 
@@ -133,31 +133,31 @@ abbrev pub none_taken : Free
 none_taken = record { flags = 0; turns = 0 }
 
 -- the C of the statements of a function
-abbrev pub body_coded : Site → UnitDef → Coded
+abbrev pub body_coded : TypingContext → UnitDef → Coded
 body_coded site unit = block_codes (map (codes_of site) unit.body) none_taken
 
 -- the copies of inputs, the C of the statements, and what ends them
-abbrev pub body_code : Site → UnitDef → List CStmt
+abbrev pub body_code : TypingContext → UnitDef → List CStmt
 body_code site unit =
     copies_from site 0 (inputs_of unit) ++ ((body_coded site unit).code ++ end_code unit.result (returns_last false unit.body))
 
 -- the position of the first variable that the unit holds, of those from this position on
-abbrev pub first_held : Site → ℕ → List Var → Option ℕ
+abbrev pub first_held : TypingContext → ℕ → List Var → Option ℕ
 first_held site k [] = None
 first_held site k (var ∷ rest) = if is_held (home_of site (Some var)) then Some k else first_held site (k + 1) rest
 
 -- a variable is set to what it has
-abbrev pub c_set_again : Site → ℕ → CStmt
+abbrev pub c_set_again : TypingContext → ℕ → CStmt
 c_set_again site k = c_set (place_in site k []) (c_read (place_in site k []))
 
 -- Compilers warn of a struct that is set and never read. So where nothing of it is read, a variable in it is set to what it has
-abbrev pub read_code : Site → Option ℕ → Bool → List CStmt
+abbrev pub read_code : TypingContext → Option ℕ → Bool → List CStmt
 read_code site None reads = []
 read_code site (Some k) true = []
 read_code site (Some k) false = c_set_again site k ∷ []
 
 -- the body of the C function of a function
-abbrev pub whole_code : Site → UnitDef → List CStmt
+abbrev pub whole_code : TypingContext → UnitDef → List CStmt
 whole_code site unit = read_code site (first_held site 0 unit.vars) (reads_in_block (body_code site unit)) ++ body_code site unit
 
 -- the C function of a function

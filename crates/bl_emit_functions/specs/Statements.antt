@@ -6,7 +6,7 @@ use Rattle.bl_tree.specs.declared.scalar.Op.TheVariants.{And}
 use Rattle.bl_tree.specs.declared.tree.Arm.{Arm, fold-Arm}
 use Rattle.bl_tree.specs.declared.tree.Stmt.{Stmt, fold-Stmt}
 use Rattle.bl_tree.specs.declared.tree.StmtKind.TheOpen.{StmtKind-F, Arm-F, Branch-F, Stmt-F}
-use Rattle.bl_tree.specs.Typing.{Site}
+use Rattle.bl_tree.specs.Typing.{TypingContext}
 use Rattle.bl_emit_acts.specs.Acts.{call_made, c_calling, c_set, code_made, declared_code}
 use Rattle.bl_emit_acts.specs.Expressions.{stands}
 use Rattle.bl_emit_acts.specs.Trees.{c_read, c_two}
@@ -114,7 +114,7 @@ break_code test = c_if test (c_break ∷ []) None ∷ []
 -- ---- all statements
 
 -- what is made of each kind of statement. `await`, `run`, `cobegin` and `when` stand in no function
-abbrev pub kind_codes : Site → StmtKind-F Codes ArmCodes Codes Codes → Codes
+abbrev pub kind_codes : TypingContext → StmtKind-F Codes ArmCodes Codes Codes → Codes
 kind_codes site (StmtKind-F.If arms other) free = choice_code arms (block_codes other) free
 kind_codes site (StmtKind-F.Repeat body) free = loop_code free.turns (c_truth true) [] (block_codes body (turn_taken free))
 kind_codes site (StmtKind-F.Until body e) free = loop_code free.turns (c_truth true) (break_code (code_made site e)) (block_codes body (turn_taken free))
@@ -126,7 +126,7 @@ kind_codes site (StmtKind-F.Call f inputs outputs) free = only_code (c_calling (
 kind_codes site _ free = only_code [] free
 
 -- an arm: the C of its condition, and that of its statements in order
-abbrev pub arm_codes : Site → Arm-F Codes ArmCodes Codes Codes → ArmCodes
+abbrev pub arm_codes : TypingContext → Arm-F Codes ArmCodes Codes Codes → ArmCodes
 arm_codes site arm = record { test = code_made site arm.test; body = block_codes arm.body }
 
 -- a branch: no function has one
@@ -138,9 +138,9 @@ abbrev pub stmt_codes : Stmt-F Codes ArmCodes Codes Codes → Codes
 stmt_codes s = s.what
 
 -- the C of a statement of a function
-abbrev pub codes_of : Site → Stmt → Codes
+abbrev pub codes_of : TypingContext → Stmt → Codes
 codes_of site = fold-Stmt Codes ArmCodes Codes Codes (kind_codes site) (arm_codes site) branch_codes stmt_codes
 
 -- the C of an arm
-abbrev pub codes_of_arm : Site → Arm → ArmCodes
+abbrev pub codes_of_arm : TypingContext → Arm → ArmCodes
 codes_of_arm site = fold-Arm Codes ArmCodes Codes Codes (kind_codes site) (arm_codes site) branch_codes stmt_codes

@@ -17,7 +17,7 @@ use crate::parts::returning;
 use crate::reads::in_block;
 use crate::statements::block;
 use bl_emit_acts::parts::{NOWHERE, joined, literal, numbered, prefixed, read, set, single, whole};
-use bl_emit_acts::{Home, Site, c_type, scalar_in, scalar_in_c, variable};
+use bl_emit_acts::{Home, UnitSite, c_type, scalar_in, scalar_in_c, variable};
 use bl_tree::c::{CFunc, CLocal, CMember, CParam, CStmt, CStruct, CType};
 use bl_tree::tree::{Role, Stmt, StmtKind, StructDef, Unit, Var};
 use bl_tree::{List, NoMemory, Scalar, Text};
@@ -63,10 +63,10 @@ pub fn function(
 }
 
 /// What the statements of a unit see.
-fn site<'a>(structs: &'a [StructDef], earlier: &'a [Unit], unit: &'a Unit) -> Site<'a>
+fn site<'a>(structs: &'a [StructDef], earlier: &'a [Unit], unit: &'a Unit) -> UnitSite<'a>
     ensures { site_in result ≡ site_of structs.now earlier.now unit.now }
 {
-    Site {
+    UnitSite {
         structs,
         earlier,
         kind: unit.kind,
@@ -147,7 +147,7 @@ pub fn memory(
 }
 
 /// The members of the variables that the unit holds.
-fn members(alloc: Global, site: &Site, vars: &[Var]) -> Result<List<CMember>, NoMemory>
+fn members(alloc: Global, site: &UnitSite, vars: &[Var]) -> Result<List<CMember>, NoMemory>
     ensures { IfOk result (λ made. made ≡ functions.members_from (site_in site.entry.now) 0 vars.now) }
 {
     let mut made = List::new(alloc);
@@ -163,7 +163,7 @@ fn members(alloc: Global, site: &Site, vars: &[Var]) -> Result<List<CMember>, No
 fn with_member(
     alloc: Global,
     members: List<CMember>,
-    site: &Site,
+    site: &UnitSite,
     k: u64,
     var: &Var,
 ) -> Result<List<CMember>, NoMemory>
@@ -177,7 +177,7 @@ fn with_member(
     Ok(made)
 }
 
-fn is_held(site: &Site, var: &Var) -> bool
+fn is_held(site: &UnitSite, var: &Var) -> bool
     ensures { result ≡ functions.is_held (home_of (site_in site.entry.now) (Some var.now)) }
 {
     matches!(home_of_var(site, var), Home::Held)
@@ -195,7 +195,7 @@ fn member(alloc: Global, structs: &[StructDef], k: u64, var: &Var) -> Result<CMe
     })
 }
 
-fn holds_any(site: &Site, vars: &[Var]) -> bool
+fn holds_any(site: &UnitSite, vars: &[Var]) -> bool
     ensures { result ≡ functions.holds_any (site_in site.entry.now) vars.now }
 {
     for var in vars {
@@ -207,7 +207,7 @@ fn holds_any(site: &Site, vars: &[Var]) -> bool
 }
 
 /// The struct of the variables that the function holds, and so many flags.
-fn locals(alloc: Global, site: &Site, unit: &Unit, flags: u64) -> Result<List<CLocal>, NoMemory>
+fn locals(alloc: Global, site: &UnitSite, unit: &Unit, flags: u64) -> Result<List<CLocal>, NoMemory>
     ensures { IfOk result (λ made. made ≡ functions.memory_local unit.now.name (functions.holds_any (site_in site.entry.now) unit.now.vars)
         ++ functions.flag_locals flags) }
 {
@@ -245,7 +245,7 @@ fn with_flags(alloc: Global, locals: List<CLocal>, flags: u64) -> Result<List<CL
 
 const NONE_TAKEN: Free = Free { flags: 0, turns: 0 };
 
-fn body_coded(alloc: Global, site: &Site, unit: &Unit) -> Result<Coded, NoMemory>
+fn body_coded(alloc: Global, site: &UnitSite, unit: &Unit) -> Result<Coded, NoMemory>
     ensures { IfOk result (λ coded. coded ≡ functions.body_coded (site_in site.entry.now) unit.now) }
 {
     block(alloc, site, &unit.body, NONE_TAKEN)
@@ -254,7 +254,7 @@ fn body_coded(alloc: Global, site: &Site, unit: &Unit) -> Result<Coded, NoMemory
 /// The copies of inputs, the C of the statements, and a `return` where one is missing.
 fn body(
     alloc: Global,
-    site: &Site,
+    site: &UnitSite,
     unit: &Unit,
     statements: List<CStmt>,
 ) -> Result<List<CStmt>, NoMemory>
@@ -267,7 +267,7 @@ fn body(
 }
 
 /// The copies of the inputs that the unit holds.
-fn copies(alloc: Global, site: &Site, inputs: &[Var]) -> Result<List<CStmt>, NoMemory>
+fn copies(alloc: Global, site: &UnitSite, inputs: &[Var]) -> Result<List<CStmt>, NoMemory>
     ensures { IfOk result (λ made. made ≡ functions.copies_from (site_in site.entry.now) 0 inputs.now) }
 {
     let mut made = List::new(alloc);
@@ -282,7 +282,7 @@ fn copies(alloc: Global, site: &Site, inputs: &[Var]) -> Result<List<CStmt>, NoM
 }
 
 /// The variable becomes what its parameter points to.
-fn copy(alloc: Global, site: &Site, k: u32) -> Result<CStmt, NoMemory>
+fn copy(alloc: Global, site: &UnitSite, k: u32) -> Result<CStmt, NoMemory>
     ensures { IfOk result (λ s. s ≡ functions.c_input_copied (site_in site.entry.now) k) }
 {
     let to = variable(alloc, site, k, List::new(alloc))?;
@@ -293,7 +293,7 @@ fn copy(alloc: Global, site: &Site, k: u32) -> Result<CStmt, NoMemory>
 /// The whole body: a struct of variables that are only set is read first, since compilers warn of it.
 fn whole_body(
     alloc: Global,
-    site: &Site,
+    site: &UnitSite,
     unit: &Unit,
     body: List<CStmt>,
 ) -> Result<List<CStmt>, NoMemory>
@@ -306,7 +306,7 @@ fn whole_body(
 }
 
 /// The position of the first variable that the unit holds.
-fn first_held(site: &Site, vars: &[Var]) -> Result<Option<u32>, NoMemory>
+fn first_held(site: &UnitSite, vars: &[Var]) -> Result<Option<u32>, NoMemory>
     ensures { IfOk result (λ held. held ≡ functions.first_held (site_in site.entry.now) 0 vars.now) }
 {
     let mut k: u32 = 0;
@@ -322,7 +322,7 @@ fn first_held(site: &Site, vars: &[Var]) -> Result<Option<u32>, NoMemory>
 /// A statement that reads the struct of the variables, where there is one and no other statement does.
 fn reading(
     alloc: Global,
-    site: &Site,
+    site: &UnitSite,
     held: Option<u32>,
     reads: bool,
 ) -> Result<List<CStmt>, NoMemory>
@@ -335,7 +335,7 @@ fn reading(
 }
 
 /// The variable is set to what it has.
-fn set_again(alloc: Global, site: &Site, k: u32) -> Result<CStmt, NoMemory>
+fn set_again(alloc: Global, site: &UnitSite, k: u32) -> Result<CStmt, NoMemory>
     ensures { IfOk result (λ s. s ≡ functions.c_set_again (site_in site.entry.now) k) }
 {
     let to = variable(alloc, site, k, List::new(alloc))?;

@@ -5,7 +5,7 @@ ghost use Rattle.bl_tree.specs.Typing as typing;
 ghost use Rattle.bl_emit_acts.specs.Places as homes;
 ghost use Rattle.bl_emit_acts.specs.Sites.{site_in};
 
-use bl_emit_acts::{Home, Site, scalar_in};
+use bl_emit_acts::{Home, UnitSite, scalar_in};
 use bl_tree::tree::{Role, UnitKind, Var};
 
 fn is_function(kind: UnitKind) -> bool
@@ -30,7 +30,7 @@ fn home_of_input(scalar: bool, copies: bool) -> Home
 }
 
 /// Where a variable stands.
-pub fn home_of_var(site: &Site, var: &Var) -> Home
+pub fn home_of_var(site: &UnitSite, var: &Var) -> Home
     ensures { result ≡ homes.home_of (site_in site.entry.now) (Some var.now) }
 {
     let copies = is_function(site.kind) && site.result.is_some();

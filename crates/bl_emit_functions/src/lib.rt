@@ -3,7 +3,7 @@
 //! (`memory_struct`); want of memory aside. `specs/Statements.antt` says what C is made of each statement (`codes_of`),
 //! and `specs/Reads.antt` whether C reads what the function holds (`reads_in_block`). `params` makes the parameters of
 //! a unit's function for its inputs and outputs, and `parts` tests, loops and returns (`specs/Trees.antt`), for the
-//! crates above. What the C means is `bl_emit_functions_laws`.
+//! crates above. What the C means is `bl_emit_functions_laws_simulation`.
 #![tactic(auto)]
 
 mod coded;

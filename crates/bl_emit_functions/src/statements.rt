@@ -9,7 +9,7 @@ ghost use Rattle.bl_emit_functions.specs.Trees.{c_return, c_truth};
 use crate::coded::{Coded, Free};
 use crate::parts::{both, choice, flag as flag_at, looping, returning, set_flag, truth};
 use bl_emit_acts::parts::{joined, read, single, statement as stated};
-use bl_emit_acts::{Site, act, code, expression};
+use bl_emit_acts::{UnitSite, act, code, expression};
 use bl_tree::c::{CExpr, CStmt, CStmtKind};
 use bl_tree::tree::{Arm, Expr, Stmt, StmtKind};
 use bl_tree::{List, NoMemory};
@@ -48,7 +48,7 @@ fn only(code: List<CStmt>, free: Free) -> Coded
 }
 
 /// The C of an expression.
-fn value(alloc: Global, site: &Site, e: &Expr) -> Result<CExpr, NoMemory>
+fn value(alloc: Global, site: &UnitSite, e: &Expr) -> Result<CExpr, NoMemory>
     ensures { IfOk result (λ made. made ≡ code_made (site_in site.entry.now) e.now) }
 {
     Ok(code(expression(alloc, site, e)?))
@@ -56,7 +56,7 @@ fn value(alloc: Global, site: &Site, e: &Expr) -> Result<CExpr, NoMemory>
 
 /// The C of a statement of a function, from the numbers that are free before it. Fails only for want of memory.
 #[cycle(statements)]
-fn statement(alloc: Global, site: &Site, s: &Stmt, free: Free) -> Result<Coded, NoMemory>
+fn statement(alloc: Global, site: &UnitSite, s: &Stmt, free: Free) -> Result<Coded, NoMemory>
     ensures { IfOk result (λ coded. coded ≡ codes.codes_of (site_in site.entry.now) s.now free) }
 {
     match &s.what {
@@ -89,7 +89,7 @@ fn statement(alloc: Global, site: &Site, s: &Stmt, free: Free) -> Result<Coded, 
 
 /// The C of statements in order, from the numbers that are free before them. Fails only for want of memory.
 #[cycle(statements)]
-pub fn block(alloc: Global, site: &Site, body: &[Stmt], free: Free) -> Result<Coded, NoMemory>
+pub fn block(alloc: Global, site: &UnitSite, body: &[Stmt], free: Free) -> Result<Coded, NoMemory>
     ensures { IfOk result (λ coded. coded ≡ codes.block_codes (map (codes.codes_of (site_in site.entry.now)) body.now) free) }
 {
     let mut code = List::new(alloc);
@@ -131,7 +131,7 @@ fn flagged(alloc: Global, flag: u64, arms: Coded, other: Coded) -> Result<Coded,
 #[cycle(statements)]
 fn arms_taken(
     alloc: Global,
-    site: &Site,
+    site: &UnitSite,
     arms: &[Arm],
     flag: u64,
     free: Free,
@@ -152,7 +152,7 @@ fn arms_taken(
 #[cycle(statements)]
 fn arm_taken(
     alloc: Global,
-    site: &Site,
+    site: &UnitSite,
     arm: &Arm,
     flag: u64,
     free: Free,
@@ -180,7 +180,7 @@ fn untaken(alloc: Global, flag: u64, code: List<CStmt>) -> Result<List<CStmt>, N
 
 /// A loop that goes on until it returns or has too many turns.
 #[cycle(statements)]
-fn repeating(alloc: Global, site: &Site, body: &[Stmt], free: Free) -> Result<Coded, NoMemory>
+fn repeating(alloc: Global, site: &UnitSite, body: &[Stmt], free: Free) -> Result<Coded, NoMemory>
     ensures { IfOk result (λ coded. coded ≡ codes.loop_code free.turns (c_truth true) []
         (codes.block_codes (map (codes.codes_of (site_in site.entry.now)) body.now) (codes.turn_taken free))) }
 {
@@ -190,7 +190,13 @@ fn repeating(alloc: Global, site: &Site, body: &[Stmt], free: Free) -> Result<Co
 
 /// A loop that ends where the condition is true after its body.
 #[cycle(statements)]
-fn until(alloc: Global, site: &Site, body: &[Stmt], e: &Expr, free: Free) -> Result<Coded, NoMemory>
+fn until(
+    alloc: Global,
+    site: &UnitSite,
+    body: &[Stmt],
+    e: &Expr,
+    free: Free,
+) -> Result<Coded, NoMemory>
     ensures { IfOk result (λ coded. coded ≡ codes.loop_code free.turns (c_truth true) (codes.break_code (code_made (site_in site.entry.now) e.now))
         (codes.block_codes (map (codes.codes_of (site_in site.entry.now)) body.now) (codes.turn_taken free))) }
 {
@@ -203,7 +209,7 @@ fn until(alloc: Global, site: &Site, body: &[Stmt], e: &Expr, free: Free) -> Res
 #[cycle(statements)]
 fn while_true(
     alloc: Global,
-    site: &Site,
+    site: &UnitSite,
     body: &[Stmt],
     e: &Expr,
     free: Free,
@@ -239,7 +245,7 @@ fn breaking(alloc: Global, test: CExpr) -> Result<List<CStmt>, NoMemory>
 }
 
 /// A `return`.
-fn returned(alloc: Global, site: &Site, e: &Option<Expr>, free: Free) -> Result<Coded, NoMemory>
+fn returned(alloc: Global, site: &UnitSite, e: &Option<Expr>, free: Free) -> Result<Coded, NoMemory>
     ensures { IfOk result (λ coded. coded ≡ codes.only_code (c_return (option_map (code_made (site_in site.entry.now)) e.now) ∷ []) free) }
 {
     let value = match e {

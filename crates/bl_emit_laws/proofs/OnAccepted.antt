@@ -5,18 +5,18 @@ use Rattle.std.specs.Prelude.{slice_get}
 use Rattle.bl_tree.specs.declared.program.Program.{Program}
 use Rattle.bl_tree.specs.declared.tree.Unit.{Unit as UnitDef}
 use Rattle.bl_tree.specs.Program.{is_entry}
-use Rattle.bl_emit_laws.specs.Formed.{FilesFormed}
-use Rattle.bl_emit_laws.specs.Forms.{UnitsForm}
-use Rattle.bl_emit_pass_laws_bodies.specs.Structs.Laws.{FilesDeclare}
-use Rattle.bl_emit_laws.specs.Accepted.{ProgramsFormed}
+use Rattle.bl_emit_laws.specs.Formed.{FilesWellFormed}
+use Rattle.bl_emit_laws.specs.Forms.{UnitsMeetConditions}
+use Rattle.bl_emit_spec_laws_wellformed_bodies.specs.Structs.Laws.{FilesDeclare}
+use Rattle.bl_emit_laws.specs.Accepted.{ProgramsWellFormed}
 
 -- the entry is there
 entry_there : (o : Option UnitDef) → is_entry o ≡ true → (unit : UnitDef) × (o ≡ Some unit)
 entry_there None is = absurd (cc)
 entry_there (Some unit) is = (unit, refl)
 
-pub formed : (program : Program) → UnitsForm program.structs program.units program.entry → FilesDeclare program → FilesFormed program →
-    ProgramsFormed program
+pub formed : (program : Program) → UnitsMeetConditions program.structs program.units program.entry → FilesDeclare program → FilesWellFormed program →
+    ProgramsWellFormed program
 formed program forms declares files machine keeps passes limits agrees plain =
     let entry = entry_there (slice_get program.units program.entry) keeps.entry_stands in
     let structs = declares machine entry.0 keeps limits agrees plain entry.1 in

@@ -2,21 +2,21 @@
 use Rattle.std.proofs.Common.{List, sym, subst}
 use Rattle.bl_tree.specs.declared.c.CFunc.{CFunc}
 use Rattle.bl_tree.specs.declared.program.Program.{Program}
-use Rattle.bl_cmeaning.specs.Parts.{Parts}
-use Rattle.bl_cmeaning.specs.Tables.{no_entries}
+use Rattle.bl_ctext_semantics.specs.Parts.{Parts}
+use Rattle.bl_ctext_semantics.specs.Tables.{no_entries}
 use Rattle.bl_ctree.specs.Instances.{Setting, setting_of}
-use Rattle.bl_emit_pass.specs.Activities.{remembers_any}
-use Rattle.bl_emit_pass_laws.specs.Calls.Built.{Activities}
-use Rattle.bl_emit_pass_laws.specs.Calls.Calls.{ActivityComes}
-use Rattle.bl_emit_pass_laws_formed.specs.Closed.{NeededClosed}
-use Rattle.bl_emit_pass_laws_files.specs.Files.{FileStands, FilesShow, FilesStand, known_after, known_at_tick}
-use Rattle.bl_emit_laws.specs.Linked.{NeededCome}
-use Rattle.bl_emit_pass_laws_files.specs.States.States.{StateKept, StatesAreKept}
+use Rattle.bl_emit_spec.specs.Activities.{remembers_any}
+use Rattle.bl_emit_spec_laws.specs.Calls.Built.{Activities}
+use Rattle.bl_emit_spec_laws.specs.Calls.Calls.{ActivitySimulates}
+use Rattle.bl_emit_spec_laws_wellformed.specs.Closed.{NeededClosed}
+use Rattle.bl_emit_spec_laws_files.specs.Files.{FileStands, FilesShow, FilesStand, known_after, known_at_tick}
+use Rattle.bl_emit_laws.specs.Linked.{NeededSimulate}
+use Rattle.bl_emit_spec_laws_files.specs.States.States.{StateKept, StatesAreKept}
 use Rattle.bl_emit_laws.specs.Kept.{FileEnds, FilesEnd, FramesAreDeclared, RunsAreFound, activities_in, functions_before, structs_before, written_file}
 use Rattle.bl_emit_laws.specs.Shows.{WrittenShows}
 
 pub written_shows : (program : Program) → FramesAreDeclared program → RunsAreFound → FilesEnd program →
-    NeededClosed program.structs program.units program.entry → NeededCome program.structs program.units program.entry → StatesAreKept →
+    NeededClosed program.structs program.units program.entry → NeededSimulate program.structs program.units program.entry → StatesAreKept →
     FilesStand → FilesShow → WrittenShows program
 written_shows program declared found ends closed come states stand show machine unit compiled there apart all formed =
     show program.structs program.units program.entry machine activities unit (known_at_tick unit functions) file compiled there
@@ -37,7 +37,7 @@ written_shows program declared found ends closed come states stand show machine 
     over : FileEnds program machine unit
     over = ends machine unit compiled.keeps compiled.agrees there
 
-    comes : ActivityComes (setting_of program.structs program.units program.entry) (activities_in program machine) program.entry
+    comes : ActivitySimulates (setting_of program.structs program.units program.entry) (activities_in program machine) program.entry
         (known_after no_entries (functions_before program machine)) 0
     comes = come machine (activities_in program machine) program.entry 0 compiled apart all (closed.entry_is compiled.keeps)
 

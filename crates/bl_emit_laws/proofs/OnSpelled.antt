@@ -7,27 +7,27 @@ use Rattle.std.specs.Prelude.{slice_get, if◌then◌else◌}
 use Rattle.bl_tree.specs.declared.program.Program.{Program}
 use Rattle.bl_tree.specs.declared.tree.StructDef.{StructDef}
 use Rattle.bl_tree.specs.declared.tree.Unit.{Unit as UnitDef}
-use Rattle.bl_tree.specs.Program.{Keeps}
+use Rattle.bl_tree.specs.Program.{IsWellTyped}
 use Rattle.bl_tree.specs.Reduce.{joined}
 use Rattle.bl_tree.specs.Typing.{is_activity}
 use Rattle.bl_cause.specs.Activities.{EachTwo, activities}
 use Rattle.bl_ctext.specs.Spellable.{has_any}
 use Rattle.bl_effects.specs.Rules.{Passes}
 use Rattle.bl_limits.specs.Rules.{Passes as KeepsLimits}
-use Rattle.bl_nodes.specs.Plain.{plain_body}
+use Rattle.bl_graph_nodes.specs.Plain.{plain_body}
 use Rattle.bl_machine.specs.declared.machine.Activity.{Activity as InMachine}
 use Rattle.bl_machine.specs.Blocks.{up_to}
 use Rattle.bl_machine.specs.Machines.{IsActivityOf}
 use Rattle.bl_machine_laws.specs.Rests.{ActivitiesCount}
-use Rattle.bl_emit_functions_laws_formed.specs.Formed.{IsNumbered}
-use Rattle.bl_pass_listed_laws.proofs.Shared.{shared_many}
-use Rattle.bl_emit_pass.specs.Activities.{Activity, counter_member, frame_member, frame_struct, runs_in_body}
-use Rattle.bl_emit_pass.specs.Programs.{activity_of, needed_units, parts_of_function, parts_of_next}
-use Rattle.bl_emit_pass.specs.Shared.{IsSharedActivityOf}
-use Rattle.bl_emit_pass_laws_formed.specs.Machines.{IsModest, MachinesSpell}
-use Rattle.bl_emit_pass_laws_formed.specs.Needed.{NeededNumbered, NeededSmall}
-use Rattle.bl_emit_pass_laws_formed.specs.Spelled.{CanSpell}
-use Rattle.bl_emit_pass_laws_formed.specs.Texts.{AllWrite, FilesSpelled, UnitWrites, Where, Writes}
+use Rattle.bl_emit_functions_laws_wellformed.specs.Formed.{IsNumbered}
+use Rattle.bl_machine_transitions_laws.proofs.Shared.{shared_many}
+use Rattle.bl_emit_spec.specs.Activities.{Activity, counter_member, frame_member, frame_struct, runs_in_body}
+use Rattle.bl_emit_spec.specs.Programs.{activity_of, needed_units, parts_of_function, parts_of_next}
+use Rattle.bl_emit_spec.specs.Shared.{IsSharedActivityOf}
+use Rattle.bl_emit_spec_laws_wellformed.specs.Machines.{IsModest, MachinesSpell}
+use Rattle.bl_emit_spec_laws_wellformed.specs.Needed.{NeededNumbered, NeededSmall}
+use Rattle.bl_emit_spec_laws_wellformed.specs.Spelled.{CanSpell}
+use Rattle.bl_emit_spec_laws_wellformed.specs.Texts.{ActivityIsSpellable, AllWrite, FilesSpelled, UnitWrites, Where}
 use Rattle.bl_emit_laws.specs.Spelled.{ProgramsSpelled}
 
 -- ---- lists
@@ -72,7 +72,7 @@ frame_some a some =
 
 -- ---- units
 
-module _ (structs : List StructDef) (units : List UnitDef) (entry : ℕ) (keeps : Keeps structs units entry) (passes : Passes units)
+module _ (structs : List StructDef) (units : List UnitDef) (entry : ℕ) (keeps : IsWellTyped structs units entry) (passes : Passes units)
     (limits : KeepsLimits structs units entry) (counted : ActivitiesCount) (spell : MachinesSpell structs units entry)
     (small : NeededSmall structs units entry) (numbered : NeededNumbered structs units entry)
   where
@@ -94,7 +94,7 @@ module _ (structs : List StructDef) (units : List UnitDef) (entry : ℕ) (keeps 
       before = ap (take (length earlier)) (sym whole) ∙ take_front earlier (unit ∷ rest)
 
       activity_writes : (one : InMachine) → is_activity unit.kind ≡ true → slice_get (needed_units units entry) k ≡ Some true →
-          IsActivityOf unit one → IsSharedActivityOf unit one → Writes structs units k (activity_of structs earlier remember unit one)
+          IsActivityOf unit one → IsSharedActivityOf unit one → ActivityIsSpellable structs units k (activity_of structs earlier remember unit one)
       activity_writes one active needed own plain =
           let modest : IsModest structs units k unit one =
           record { there = there; of_unit = own; shared = plain; cells = small k keeps limits needed } in
@@ -133,7 +133,7 @@ module _ (structs : List StructDef) (units : List UnitDef) (entry : ℕ) (keeps 
           EachTwo IsSharedActivityOf (cond active (unit ∷ activities rest) (activities rest)) machine → Behind → Listed active test needed machine
       listed true test needed [] is told own plain behind = absurd own
       listed true test needed (one ∷ machine) is told own plain behind = (
-        where_writes test (Writes structs units k (activity_of structs earlier remember unit one))
+        where_writes test (ActivityIsSpellable structs units k (activity_of structs earlier remember unit one))
             (λ yes. activity_writes one is (own_needed test needed told yes) own.0 plain.0),
         behind _ needed machine (told_rest k test needed told) own.1 plain.1,
       )

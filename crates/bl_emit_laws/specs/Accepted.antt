@@ -1,21 +1,21 @@
 -- The C file of an accepted program is well formed.
 use Rattle.bl_tree.specs.declared.program.Program.{Program}
-use Rattle.bl_tree.specs.Program.{Keeps}
+use Rattle.bl_tree.specs.Program.{IsWellTyped}
 use Rattle.std.specs.Prelude.{List}
 use Rattle.bl_cause.specs.Activities.{EachTwo, activities}
-use Rattle.bl_cmeaning.specs.Faults.{WellFormed}
-use Rattle.bl_cmeaning.specs.Parts.{parts_from as file_from}
+use Rattle.bl_ctext_semantics.specs.Faults.{WellFormed}
+use Rattle.bl_ctext_semantics.specs.Parts.{parts_from as file_from}
 use Rattle.bl_effects.specs.Rules.{Passes}
 use Rattle.bl_limits.specs.Rules.{Passes as KeepsLimits}
 use Rattle.bl_machine.specs.declared.machine.Activity.{Activity as InMachine}
 use Rattle.bl_machine.specs.Machines.{AreActivitiesOf}
-use Rattle.bl_emit_pass.specs.Programs.{written}
-use Rattle.bl_emit_pass.specs.Shared.{IsSharedActivityOf}
+use Rattle.bl_emit_spec.specs.Programs.{written}
+use Rattle.bl_emit_spec.specs.Shared.{IsSharedActivityOf}
 
 -- no clause fails in what is written of a typed program with a machine that shares counters, where none of the rules Pause, Instant, Frames and Cells fails
-abbrev pub ProgramsFormed : Program → Type 0
-ProgramsFormed program =
-    (machine : List InMachine) → Keeps program.structs program.units program.entry → Passes program.units →
+abbrev pub ProgramsWellFormed : Program → Type 0
+ProgramsWellFormed program =
+    (machine : List InMachine) → IsWellTyped program.structs program.units program.entry → Passes program.units →
     KeepsLimits program.structs program.units program.entry → AreActivitiesOf program.units machine →
     EachTwo IsSharedActivityOf (activities program.units) machine →
     WellFormed (file_from (written program machine).structs (written program machine).funcs)

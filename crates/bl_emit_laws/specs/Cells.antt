@@ -2,17 +2,17 @@
 use Rattle.std.specs.Prelude.{◌≡◌, ◌≤◌, List, Some, slice_get}
 use Rattle.bl_tree.specs.declared.program.Program.{Program}
 use Rattle.bl_tree.specs.declared.tree.Unit.{Unit as UnitDef}
-use Rattle.bl_tree.specs.Program.{Keeps}
+use Rattle.bl_tree.specs.Program.{IsWellTyped}
 use Rattle.bl_cause.specs.Activities.{EachTwo, activities}
 use Rattle.bl_effects.specs.Rules.{Passes}
 use Rattle.bl_limits.specs.Rules.{Passes as KeepsLimits}
 use Rattle.bl_machine.specs.declared.machine.Activity.{Activity as InMachine}
 use Rattle.bl_machine.specs.Machines.{AreActivitiesOf}
-use Rattle.bl_measures.specs.Units.{cells_at}
-use Rattle.bl_cmeaning.specs.Parts.{Parts, parts_from as file_from}
-use Rattle.bl_cmeaning.specs.Sizes.{cells_needed}
-use Rattle.bl_emit_pass.specs.Programs.{written}
-use Rattle.bl_emit_pass.specs.Shared.{IsSharedActivityOf}
+use Rattle.bl_limits_measures.specs.Units.{cells_at}
+use Rattle.bl_ctext_semantics.specs.Parts.{Parts, parts_from as file_from}
+use Rattle.bl_ctext_semantics.specs.Sizes.{cells_needed}
+use Rattle.bl_emit_spec.specs.Programs.{written}
+use Rattle.bl_emit_spec.specs.Shared.{IsSharedActivityOf}
 
 -- what is written of a program with a machine
 abbrev pub file_of : Program → List InMachine → Parts
@@ -22,7 +22,7 @@ file_of program machine = file_from (written program machine).structs (written p
 -- rules Frames and Cells fails
 abbrev pub FilesCount : Program → Type 0
 FilesCount program =
-    (machine : List InMachine) (unit : UnitDef) → Keeps program.structs program.units program.entry →
+    (machine : List InMachine) (unit : UnitDef) → IsWellTyped program.structs program.units program.entry →
     KeepsLimits program.structs program.units program.entry → AreActivitiesOf program.units machine →
     EachTwo IsSharedActivityOf (activities program.units) machine → slice_get program.units program.entry ≡ Some unit →
     cells_needed (file_of program machine) ≤ cells_at program.structs program.units program.entry
@@ -30,7 +30,7 @@ FilesCount program =
 -- so it needs at most a million, where no rule fails
 abbrev pub FilesSmall : Program → Type 0
 FilesSmall program =
-    (machine : List InMachine) → Keeps program.structs program.units program.entry → Passes program.units →
+    (machine : List InMachine) → IsWellTyped program.structs program.units program.entry → Passes program.units →
     KeepsLimits program.structs program.units program.entry → AreActivitiesOf program.units machine →
     EachTwo IsSharedActivityOf (activities program.units) machine → (unit : UnitDef) → slice_get program.units program.entry ≡ Some unit →
     cells_needed (file_of program machine) ≤ 1_000_000

@@ -3,19 +3,19 @@ use Rattle.std.specs.Prelude.{◌≡◌, false, List, [], Some, slice_get, unwra
 use Rattle.bl_tree.specs.declared.c.CMember.{CMember}
 use Rattle.bl_tree.specs.declared.program.Program.{Program}
 use Rattle.bl_tree.specs.declared.tree.Unit.{Unit as UnitDef}
-use Rattle.bl_tree.specs.Program.{Keeps}
+use Rattle.bl_tree.specs.Program.{IsWellTyped}
 use Rattle.bl_limits.specs.Rules.{Passes}
-use Rattle.bl_cmeaning.specs.Faults.{WellFormed, struct_faults_after, struct_table}
-use Rattle.bl_cmeaning.specs.Parts.{parts_from as file_from}
-use Rattle.bl_cmeaning.specs.Tables.{Table, no_entries}
+use Rattle.bl_ctext_semantics.specs.Faults.{WellFormed, struct_faults_after, struct_table}
+use Rattle.bl_ctext_semantics.specs.Parts.{parts_from as file_from}
+use Rattle.bl_ctext_semantics.specs.Tables.{Table, no_entries}
 use Rattle.bl_machine.specs.declared.machine.Activity.{Activity as InMachine}
 use Rattle.bl_emit_structs.specs.Structs.{structs_for}
-use Rattle.bl_emit_acts_laws_formed.specs.Formed.Declared.{AreDeclared}
-use Rattle.bl_emit_pass.specs.Programs.{Parts, interface_structs, needed_units, parts_from, written}
-use Rattle.bl_emit_pass_laws_bodies.specs.Lists.{AllForm}
+use Rattle.bl_emit_acts_laws_wellformed.specs.Formed.Declared.{AreDeclared}
+use Rattle.bl_emit_spec.specs.Programs.{ProgramParts, interface_structs, needed_units, parts_from, written}
+use Rattle.bl_emit_spec_laws_wellformed_bodies.specs.Lists.{AllConditions}
 
 -- what is made of the units that the entry of a program needs
-abbrev pub parts_of : Program → List InMachine → Parts
+abbrev pub parts_of : Program → List InMachine → ProgramParts
 parts_of program machine = parts_from program.structs [] [] program.units (needed_units program.units program.entry) machine
 
 -- the structs of its file by name
@@ -31,9 +31,9 @@ pub record StructsSound (program : Program) (machine : List InMachine) (unit : U
       (interface_structs program.structs unit (unwrap_or (slice_get (parts_of program machine).remember program.entry) false))
 
 -- No clause fails in the file, where none fails in its structs, all is so that is asked of needed units, and neither rule Frames nor Cells fails
-abbrev pub FilesFormed : Program → Type 0
-FilesFormed program =
-    (machine : List InMachine) (unit : UnitDef) → Keeps program.structs program.units program.entry →
+abbrev pub FilesWellFormed : Program → Type 0
+FilesWellFormed program =
+    (machine : List InMachine) (unit : UnitDef) → IsWellTyped program.structs program.units program.entry →
     Passes program.structs program.units program.entry → slice_get program.units program.entry ≡ Some unit →
-    AllForm program.structs program.units [] [] program.units (needed_units program.units program.entry) machine →
+    AllConditions program.structs program.units [] [] program.units (needed_units program.units program.entry) machine →
     StructsSound program machine unit → WellFormed (file_from (written program machine).structs (written program machine).funcs)

@@ -2,18 +2,18 @@
 use Rattle.std.specs.Prelude.{ℕ, List, []}
 use Rattle.bl_tree.specs.declared.tree.StructDef.{StructDef}
 use Rattle.bl_tree.specs.declared.tree.Unit.{Unit as UnitDef}
-use Rattle.bl_tree.specs.Program.{Keeps}
+use Rattle.bl_tree.specs.Program.{IsWellTyped}
 use Rattle.bl_cause.specs.Activities.{EachTwo, activities}
 use Rattle.bl_effects.specs.Rules.{Passes}
 use Rattle.bl_limits.specs.Rules.{Passes as KeepsLimits}
 use Rattle.bl_machine.specs.declared.machine.Activity.{Activity as InMachine}
 use Rattle.bl_machine.specs.Machines.{AreActivitiesOf}
-use Rattle.bl_emit_pass.specs.Programs.{needed_units}
-use Rattle.bl_emit_pass.specs.Shared.{IsSharedActivityOf}
-use Rattle.bl_emit_pass_laws_bodies.specs.Lists.{AllForm}
+use Rattle.bl_emit_spec.specs.Programs.{needed_units}
+use Rattle.bl_emit_spec.specs.Shared.{IsSharedActivityOf}
+use Rattle.bl_emit_spec_laws_wellformed_bodies.specs.Lists.{AllConditions}
 
 -- so it is of each unit that the entry of a typed program needs, with a machine that shares counters, where none of the rules Pause, Instant and Cells fails
-abbrev pub UnitsForm : List StructDef → List UnitDef → ℕ → Type 0
-UnitsForm structs units entry =
-    (machine : List InMachine) → Keeps structs units entry → Passes units → KeepsLimits structs units entry → AreActivitiesOf units machine →
-    EachTwo IsSharedActivityOf (activities units) machine → AllForm structs units [] [] units (needed_units units entry) machine
+abbrev pub UnitsMeetConditions : List StructDef → List UnitDef → ℕ → Type 0
+UnitsMeetConditions structs units entry =
+    (machine : List InMachine) → IsWellTyped structs units entry → Passes units → KeepsLimits structs units entry → AreActivitiesOf units machine →
+    EachTwo IsSharedActivityOf (activities units) machine → AllConditions structs units [] [] units (needed_units units entry) machine

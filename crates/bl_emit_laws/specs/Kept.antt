@@ -5,20 +5,20 @@ use Rattle.bl_tree.specs.declared.c.CStruct.{CStruct}
 use Rattle.bl_tree.specs.declared.program.Program.{Program}
 use Rattle.bl_tree.specs.declared.tree.StructDef.{StructDef}
 use Rattle.bl_tree.specs.declared.tree.Unit.{Unit as UnitDef}
-use Rattle.bl_tree.specs.Program.{Keeps}
+use Rattle.bl_tree.specs.Program.{IsWellTyped}
 use Rattle.bl_effects.specs.Rules.{Passes}
-use Rattle.bl_cmeaning.specs.Parts.{Parts, parts_from}
+use Rattle.bl_ctext_semantics.specs.Parts.{Parts, parts_from}
 use Rattle.bl_machine.specs.declared.machine.Activity.{Activity as InMachine}
 use Rattle.bl_machine.specs.Machines.{AreActivitiesOf}
 use Rattle.bl_emit_structs.specs.Structs.{structs_of}
-use Rattle.bl_emit_pass.specs.Activities.{remembers_any}
-use Rattle.bl_emit_pass.specs.Programs.{needed_units, written}
-use Rattle.bl_emit_pass.specs.Programs as programs
-use Rattle.bl_emit_pass_laws.specs.Calls.Built.{Activities}
-use Rattle.bl_emit_pass_laws.specs.Calls.Laws.{Compiled}
-use Rattle.bl_emit_pass_laws_files.specs.Files.{NoneOfInterface, file_with}
-use Rattle.bl_emit_pass_laws_files.specs.States.States.{FramesDeclared, RunsFound}
-use Rattle.bl_emit_pass_laws.specs.Tables.Tables.{activities_of, functions_of_all, kept}
+use Rattle.bl_emit_spec.specs.Activities.{remembers_any}
+use Rattle.bl_emit_spec.specs.Programs.{needed_units, written}
+use Rattle.bl_emit_spec.specs.Programs as programs
+use Rattle.bl_emit_spec_laws.specs.Calls.Built.{Activities}
+use Rattle.bl_emit_spec_laws.specs.Calls.Laws.{CompilationContext}
+use Rattle.bl_emit_spec_laws_files.specs.Files.{NoneOfInterface, file_with}
+use Rattle.bl_emit_spec_laws_files.specs.States.States.{FramesDeclared, RunsFound}
+use Rattle.bl_emit_spec_laws.specs.Tables.Tables.{activities_of, functions_of_all, kept}
 
 -- ---- the file
 
@@ -46,7 +46,7 @@ functions_before program machine =
 -- the file declares the structs in which its program is kept from tick to tick
 abbrev pub FramesAreDeclared : Program → Type 0
 FramesAreDeclared program =
-    (machine : List InMachine) (unit : UnitDef) → Keeps program.structs program.units program.entry → Passes program.units →
+    (machine : List InMachine) (unit : UnitDef) → IsWellTyped program.structs program.units program.entry → Passes program.units →
     AreActivitiesOf program.units machine → slice_get program.units program.entry ≡ Some unit →
     FramesDeclared program.structs program.units program.entry (activities_in program machine) unit (written_file program machine)
 
@@ -54,7 +54,7 @@ FramesAreDeclared program =
 abbrev pub RunsAreFound : Type 0
 RunsAreFound =
     (structs : List StructDef) (units : List UnitDef) (entry : ℕ) (machine : List InMachine) (activities : Activities) →
-    Compiled structs units entry machine activities → RunsFound structs units entry
+    CompilationContext structs units entry machine activities → RunsFound structs units entry
 
 -- the file is that of its structs and functions with those of the interface behind them, which have other names
 pub record FileEnds (program : Program) (machine : List InMachine) (unit : UnitDef) : Type 0 where
@@ -66,5 +66,5 @@ pub record FileEnds (program : Program) (machine : List InMachine) (unit : UnitD
 -- so does the file of each typed program whose entry is this unit
 abbrev pub FilesEnd : Program → Type 0
 FilesEnd program =
-    (machine : List InMachine) (unit : UnitDef) → Keeps program.structs program.units program.entry → AreActivitiesOf program.units machine →
+    (machine : List InMachine) (unit : UnitDef) → IsWellTyped program.structs program.units program.entry → AreActivitiesOf program.units machine →
     slice_get program.units program.entry ≡ Some unit → FileEnds program machine unit

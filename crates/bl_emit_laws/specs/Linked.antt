@@ -3,23 +3,23 @@ use Rattle.std.specs.Prelude.{◌≡◌, ℕ, true, List, Some, codes, slice_get
 use Rattle.bl_tree.specs.declared.program.Program.{Program}
 use Rattle.bl_tree.specs.declared.tree.StructDef.{StructDef}
 use Rattle.bl_tree.specs.declared.tree.Unit.{Unit as UnitDef}
-use Rattle.bl_tree.specs.Program.{Keeps}
-use Rattle.bl_cmeaning.specs.Meaning.{Meaning, Passed, function_c}
-use Rattle.bl_cmeaning.specs.Memory.{Memory}
-use Rattle.bl_cmeaning.specs.Parts.{Parts}
-use Rattle.bl_cmeaning.specs.Tables.{Table, no_entries}
-use Rattle.bl_cmeaning.specs.Trace.{entered}
+use Rattle.bl_tree.specs.Program.{IsWellTyped}
+use Rattle.bl_ctext_semantics.specs.Meaning.{ArgumentValue, Meaning, function_c}
+use Rattle.bl_ctext_semantics.specs.Memory.{Memory}
+use Rattle.bl_ctext_semantics.specs.Parts.{Parts}
+use Rattle.bl_ctext_semantics.specs.Tables.{Table, no_entries}
+use Rattle.bl_ctext_semantics.specs.Trace.{entered}
 use Rattle.bl_ctree.specs.Instances.{setting_of}
 use Rattle.bl_machine.specs.declared.machine.Activity.{Activity as InMachine}
 use Rattle.bl_machine.specs.Machines.{AreActivitiesOf}
 use Rattle.bl_emit_acts.specs.Types.{unit_name}
-use Rattle.bl_emit_functions_laws.specs.Units.{NoneOverlaps, known_after}
-use Rattle.bl_emit_pass.specs.Activities.{remembers_any}
-use Rattle.bl_emit_pass.specs.Programs.{init_function, needed_units, tick_function, written}
-use Rattle.bl_emit_pass_laws.specs.Calls.Built.{Activities, AreBuilt}
-use Rattle.bl_emit_pass_laws.specs.Calls.Calls.{ActivityComes}
-use Rattle.bl_emit_pass_laws.specs.Calls.Laws.{ActivitiesCome, Compiled}
-use Rattle.bl_emit_pass_laws.specs.Tables.Tables.{activities_of, functions_of_all, kept, table_of_all}
+use Rattle.bl_emit_functions_laws_simulation.specs.Units.{NoneOverlaps, known_after}
+use Rattle.bl_emit_spec.specs.Activities.{remembers_any}
+use Rattle.bl_emit_spec.specs.Programs.{init_function, needed_units, tick_function, written}
+use Rattle.bl_emit_spec_laws.specs.Calls.Built.{Activities, AreBuilt}
+use Rattle.bl_emit_spec_laws.specs.Calls.Calls.{ActivitySimulates}
+use Rattle.bl_emit_spec_laws.specs.Calls.Laws.{ActivitiesSimulate, CompilationContext}
+use Rattle.bl_emit_spec_laws.specs.Tables.Tables.{activities_of, functions_of_all, kept, table_of_all}
 
 -- the table that the C functions of the units that the entry needs make
 abbrev pub table_of_needed : List StructDef → List UnitDef → ℕ → Activities → Table Meaning
@@ -29,29 +29,29 @@ table_of_needed structs units entry activities =
 -- under the name of each of these units it has what the table of all units has there
 abbrev pub NeededAreKnown : List StructDef → List UnitDef → ℕ → Type 0
 NeededAreKnown structs units entry =
-    (machine : List InMachine) (activities : Activities) (k : ℕ) (unit : UnitDef) → Keeps structs units entry →
+    (machine : List InMachine) (activities : Activities) (k : ℕ) (unit : UnitDef) → IsWellTyped structs units entry →
     AreBuilt structs units machine activities → slice_get units k ≡ Some unit → slice_get (needed_units units entry) k ≡ Some true →
     table_of_needed structs units entry activities (unit_name unit.name) ≡ table_of_all structs units activities (unit_name unit.name)
 
 -- so the functions of these activities do what the passes of their instances do, as wherever the functions of all units are known
-abbrev pub NeededCome : List StructDef → List UnitDef → ℕ → Type 0
-NeededCome structs units entry =
-    (machine : List InMachine) (activities : Activities) (u depth : ℕ) → Compiled structs units entry machine activities → NoneOverlaps units →
-    ActivitiesCome structs units entry machine activities → slice_get (needed_units units entry) u ≡ Some true →
-    ActivityComes (setting_of structs units entry) activities u (table_of_needed structs units entry activities) depth
+abbrev pub NeededSimulate : List StructDef → List UnitDef → ℕ → Type 0
+NeededSimulate structs units entry =
+    (machine : List InMachine) (activities : Activities) (u depth : ℕ) → CompilationContext structs units entry machine activities → NoneOverlaps units →
+    ActivitiesSimulate structs units entry machine activities → slice_get (needed_units units entry) u ≡ Some true →
+    ActivitySimulates (setting_of structs units entry) activities u (table_of_needed structs units entry activities) depth
 
 -- the file has the functions that are written of the program with its machine, whose entry is this unit
 pub record IsWritten (program : Program) (machine : List InMachine) (unit : UnitDef) (file : Parts) : Type 0 where
-  pub keeps : Keeps program.structs program.units program.entry
+  pub keeps : IsWellTyped program.structs program.units program.entry
   pub agrees : AreActivitiesOf program.units machine
   pub there : slice_get program.units program.entry ≡ Some unit
   pub funcs : file.funcs ≡ (written program machine).funcs
 
 -- where the table of the file's functions is this, the start and a tick do what these functions do over it
 pub record Enters (file : Parts) (known : Table Meaning) (unit : UnitDef) (activities : Activities) (entry : ℕ) : Type 0 where
-  pub init : (passed : List Passed) (memory : Memory) →
+  pub init : (passed : List ArgumentValue) (memory : Memory) →
       entered file (codes "bl_init") passed memory ≡ function_c known (init_function unit.name) 0 passed memory
-  pub tick : (passed : List Passed) (memory : Memory) →
+  pub tick : (passed : List ArgumentValue) (memory : Memory) →
       entered file (codes "bl_tick") passed memory ≡ function_c known (tick_function unit (remembers_any (activities entry))) 0 passed memory
 
 -- so it is entered over the functions of the units that are needed

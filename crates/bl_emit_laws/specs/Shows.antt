@@ -2,20 +2,20 @@
 use Rattle.std.specs.Prelude.{◌≡◌, List, Some, slice_get}
 use Rattle.bl_tree.specs.declared.program.Program.{Program}
 use Rattle.bl_tree.specs.declared.tree.Unit.{Unit as UnitDef}
-use Rattle.bl_cmeaning.specs.Faults.{WellFormed}
+use Rattle.bl_ctext_semantics.specs.Faults.{WellFormed}
 use Rattle.bl_ctree.specs.Instances.{setting_of}
 use Rattle.bl_machine.specs.declared.machine.Activity.{Activity as InMachine}
-use Rattle.bl_emit_functions_laws.specs.Units.{NoneOverlaps}
-use Rattle.bl_emit_pass_laws.specs.Calls.Laws.{ActivitiesCome, Compiled}
-use Rattle.bl_emit_pass_laws_files.specs.Files.{FileShows}
+use Rattle.bl_emit_functions_laws_simulation.specs.Units.{NoneOverlaps}
+use Rattle.bl_emit_spec_laws.specs.Calls.Laws.{ActivitiesSimulate, CompilationContext}
+use Rattle.bl_emit_spec_laws_files.specs.Files.{FileShows}
 use Rattle.bl_emit_laws.specs.Kept.{activities_in, written_file}
 
 -- where a program is compiled, its well-formed file shows what runs of passes by rules do, if the functions of all activities do what passes do
 abbrev pub WrittenShows : Program → Type 0
 WrittenShows program =
     (machine : List InMachine) (unit : UnitDef) →
-    Compiled program.structs program.units program.entry machine (activities_in program machine) →
+    CompilationContext program.structs program.units program.entry machine (activities_in program machine) →
     slice_get program.units program.entry ≡ Some unit → NoneOverlaps program.units →
-    ActivitiesCome program.structs program.units program.entry machine (activities_in program machine) →
+    ActivitiesSimulate program.structs program.units program.entry machine (activities_in program machine) →
     WellFormed (written_file program machine) →
     FileShows (setting_of program.structs program.units program.entry) (activities_in program machine) unit (written_file program machine)

@@ -8,11 +8,11 @@ use Rattle.bl_tree.specs.declared.tree.Unit.{Unit as UnitDef}
 use Rattle.bl_cause.specs.Activities.{EachTwo, activities}
 use Rattle.bl_effects.specs.Surface.{width}
 use Rattle.bl_ctree.specs.Instances.{setting_of, unit_at}
-use Rattle.bl_cmeaning.specs.Parts.{Parts}
+use Rattle.bl_ctext_semantics.specs.Parts.{Parts}
 use Rattle.bl_machine.specs.declared.machine.Activity.{Activity as InMachine}
-use Rattle.bl_emit_pass.specs.Names.{frame_name}
-use Rattle.bl_emit_pass.specs.Shared.{IsSharedActivityOf}
-use Rattle.bl_emit_pass_laws.specs.Calls.Laws.{Compiled}
+use Rattle.bl_emit_spec.specs.Names.{frame_name}
+use Rattle.bl_emit_spec.specs.Shared.{IsSharedActivityOf}
+use Rattle.bl_emit_spec_laws.specs.Calls.Laws.{CompilationContext}
 use Rattle.bl_emit_laws.specs.Kept.{activities_in, written_file}
 use Rattle.bl_emit_laws.specs.Counters.Own.{is_counter_name}
 
@@ -35,6 +35,6 @@ EachFrameHasWidth structs units entry file =
 -- and so has the file that is written of a compiled program with a machine that shares counters
 abbrev pub FramesHaveWidth : Program → Type 0
 FramesHaveWidth program =
-    (machine : List InMachine) → Compiled program.structs program.units program.entry machine (activities_in program machine) →
+    (machine : List InMachine) → CompilationContext program.structs program.units program.entry machine (activities_in program machine) →
     EachTwo IsSharedActivityOf (activities program.units) machine →
     EachFrameHasWidth program.structs program.units program.entry (written_file program machine)

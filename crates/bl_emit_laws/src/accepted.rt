@@ -1,16 +1,16 @@
 //! The C file of an accepted program is well formed. A law, as the contract of a function that does nothing: where no rule fails, no clause of a
-//! well-formed file fails in what is written of a program with a machine of it that shares counters (`specs/Accepted.antt`, `ProgramsFormed`).
+//! well-formed file fails in what is written of a program with a machine of it that shares counters (`specs/Accepted.antt`, `ProgramsWellFormed`).
 
-ghost use Rattle.bl_emit_laws.specs.Accepted.{ProgramsFormed};
+ghost use Rattle.bl_emit_laws.specs.Accepted.{ProgramsWellFormed};
 
 use crate::formed::files_formed;
 use crate::forms::all_form;
-use bl_emit_pass_laws_bodies::structs::files_declare;
+use bl_emit_spec_laws_wellformed_bodies::structs::files_declare;
 use bl_tree::Program;
 
 /// No clause fails in the C file that is written of an accepted program with a machine that shares counters.
-pub fn programs_formed(program: &Program)
-    ensures { ProgramsFormed program.now }
+pub fn programs_well_formed(program: &Program)
+    ensures { ProgramsWellFormed program.now }
 {
     all_form(program);
     files_declare(program);

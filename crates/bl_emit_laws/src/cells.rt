@@ -4,16 +4,16 @@
 
 ghost use Rattle.bl_emit_laws.specs.Cells.{FilesCount, FilesSmall};
 
-use bl_emit_functions_laws_formed::cells::{cells_follow, cells_grow, sizes_stand};
-use bl_emit_pass_laws_bodies::cells::{activity_cells, bodies_run};
-use bl_emit_pass_laws_bodies::structs::parts_stand;
-use bl_emit_pass_laws_formed::chains::activities_call_few;
-use bl_emit_pass_laws_formed::closed::needed_closed;
-use bl_emit_pass_laws_formed::machines::machines_spell;
-use bl_emit_pass_laws_formed::needed::needed_small;
-use bl_measures::laws::units_add_up;
-use bl_measures_laws::laws::units_use_earlier_ones;
-use bl_pass_laws::numbers::trees_stay_placed;
+use bl_emit_functions_laws_wellformed::cells::{cells_follow, cells_grow, sizes_stand};
+use bl_emit_spec_laws_wellformed::chains::activities_call_few;
+use bl_emit_spec_laws_wellformed::closed::needed_closed;
+use bl_emit_spec_laws_wellformed::machines::machines_spell;
+use bl_emit_spec_laws_wellformed::needed::needed_small;
+use bl_emit_spec_laws_wellformed_bodies::cells::{activity_cells, bodies_run};
+use bl_emit_spec_laws_wellformed_bodies::structs::parts_stand;
+use bl_limits_measures::laws::units_add_up;
+use bl_limits_measures_laws::laws::units_use_earlier_ones;
+use bl_machine_pass_laws::numbers::trees_stay_placed;
 use bl_tree::Program;
 
 /// The C file needs no more cells than the entry has.

@@ -10,10 +10,10 @@ ghost use Rattle.bl_emit_laws.specs.Counters.Laws.{FilesHaveIfs, FilesOwn};
 
 use crate::kept::{files_end, frames_are_declared};
 use bl_ctree_laws_confluence::deeds::accepted_programs_are_orderly;
-use bl_emit_pass_laws::tables::activities_built;
-use bl_emit_pass_laws_formed::closed::instances_needed;
-use bl_pass_laws::numbers::trees_stay_placed;
-use bl_pass_listed_laws::rules_are_listed;
+use bl_emit_spec_laws::tables::activities_built;
+use bl_emit_spec_laws_wellformed::closed::instances_needed;
+use bl_machine_pass_laws::numbers::trees_stay_placed;
+use bl_machine_transitions_laws::rules_are_listed;
 use bl_tree::Program;
 
 /// In the file that is written each activity has one function and one struct, and no other function names its counters.

@@ -5,11 +5,11 @@
 ghost use Rattle.bl_emit_laws.specs.Kept.{FilesEnd, FramesAreDeclared, RunsAreFound};
 
 use bl_ctree_laws_confluence::deeds::{accepted_programs_are_orderly, instances_have_callers};
-use bl_emit_pass_laws::tables::{activities_built, written_is_kept};
-use bl_emit_pass_laws_formed::closed::instances_needed;
-use bl_emit_structs_laws::names::types_apart;
-use bl_pass_laws::numbers::trees_stay_placed;
-use bl_pass_listed_laws::rules_are_listed;
+use bl_emit_spec_laws::tables::{activities_built, written_is_kept};
+use bl_emit_spec_laws_wellformed::closed::instances_needed;
+use bl_emit_structs_laws_wellformed::names::types_apart;
+use bl_machine_pass_laws::numbers::trees_stay_placed;
+use bl_machine_transitions_laws::rules_are_listed;
 use bl_tree::Program;
 
 /// The written file declares the structs in which its program is kept.

@@ -1,14 +1,14 @@
 //! Laws of the C functions of the file that is written of a program. None of these functions does anything: the contract is the law. The
 //! file leaves functions of units out that the entry doesn't need; those that it has call none of them, so each does what it does among
 //! the functions of all units (`specs/Linked.antt`, `NeededAreKnown`), and that of a needed activity does what passes of its instances do
-//! (`NeededCome`). What is called from outside are the two functions of the interface, which stand behind them (`FilesEnter`).
+//! (`NeededSimulate`). What is called from outside are the two functions of the interface, which stand behind them (`FilesEnter`).
 
-ghost use Rattle.bl_emit_laws.specs.Linked.{FilesEnter, NeededAreKnown, NeededCome};
+ghost use Rattle.bl_emit_laws.specs.Linked.{FilesEnter, NeededAreKnown, NeededSimulate};
 
-use bl_cmeaning_laws_known::known::calls_decide;
-use bl_emit_pass_laws::tables::{tables_know_all, written_is_kept};
-use bl_emit_pass_laws_formed::chains::activities_call_few;
-use bl_emit_pass_laws_formed::closed::needed_closed;
+use bl_ctext_semantics_laws_calls::known::calls_decide;
+use bl_emit_spec_laws::tables::{tables_know_all, written_is_kept};
+use bl_emit_spec_laws_wellformed::chains::activities_call_few;
+use bl_emit_spec_laws_wellformed::closed::needed_closed;
 use bl_tree::Program;
 
 /// The functions of needed units do in the file what they do among those of all units.
@@ -21,8 +21,8 @@ pub fn needed_are_known(program: &Program)
 }
 
 /// The functions of needed activities do in the file what passes of their instances do.
-pub fn needed_come(program: &Program)
-    ensures { NeededCome program.now.structs program.now.units program.now.entry }
+pub fn needed_simulate(program: &Program)
+    ensures { NeededSimulate program.now.structs program.now.units program.now.entry }
 {
     needed_are_known(program);
     tables_know_all();

@@ -5,10 +5,10 @@
 ghost use Rattle.bl_emit_laws.specs.Shows.{WrittenShows};
 
 use crate::kept::{files_end, frames_are_declared, runs_are_found};
-use crate::linked::needed_come;
-use bl_emit_pass_laws_files::files::{files_show, files_stand};
-use bl_emit_pass_laws_files::states::states_are_kept;
-use bl_emit_pass_laws_formed::closed::needed_closed;
+use crate::linked::needed_simulate;
+use bl_emit_spec_laws_files::files::{files_show, files_stand};
+use bl_emit_spec_laws_files::states::states_are_kept;
+use bl_emit_spec_laws_wellformed::closed::needed_closed;
 use bl_tree::Program;
 
 /// The written file shows the traces of runs of passes by rules.
@@ -19,7 +19,7 @@ pub fn written_shows(program: &Program)
     runs_are_found();
     files_end(program);
     needed_closed(program);
-    needed_come(program);
+    needed_simulate(program);
     states_are_kept();
     files_stand();
     files_show();

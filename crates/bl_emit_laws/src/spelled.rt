@@ -3,9 +3,9 @@
 
 ghost use Rattle.bl_emit_laws.specs.Spelled.{ProgramsSpelled};
 
-use bl_emit_pass_laws_formed::machines::machines_spell;
-use bl_emit_pass_laws_formed::needed::{needed_numbered, needed_small};
-use bl_emit_pass_laws_formed::texts::files_spelled;
+use bl_emit_spec_laws_wellformed::machines::machines_spell;
+use bl_emit_spec_laws_wellformed::needed::{needed_numbered, needed_small};
+use bl_emit_spec_laws_wellformed::texts::files_spelled;
 use bl_machine_laws::rests::activities_count;
 use bl_tree::Program;
 

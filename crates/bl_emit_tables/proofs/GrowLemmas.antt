@@ -9,7 +9,7 @@ use Rattle.std.specs.Prelude.{nat_eq, slice_get, unwrap_or}
 use Rattle.bl_tree.specs.Reduce.{greatest}
 use Rattle.bl_machine.specs.Blocks.{up_to}
 use Rattle.bl_machine.specs.Slots.{times}
-use Rattle.bl_pass.specs.Numbered.{sizes_for}
+use Rattle.bl_machine_pass.specs.Numbered.{sizes_for}
 use Rattle.bl_emit_tables.specs.Sizes.{all_counted, counted, grown}
 use Rattle.bl_emit_tables.proofs.SetLemmas.{length_up_to, no_eq}
 

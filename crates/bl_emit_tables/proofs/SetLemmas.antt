@@ -9,9 +9,9 @@ use Rattle.std.specs.List.{list_any}
 use Rattle.std.specs.Prelude.{nat_eq}
 use Rattle.bl_tree.specs.declared.tree.Unit.{Unit as UnitDef}
 use Rattle.bl_machine.specs.Blocks.{up_to}
-use Rattle.bl_prevs.specs.Prevs.{prevs_of}
-use Rattle.bl_emit_pass.specs.Activities.{copies_of}
-use Rattle.bl_emit_pass.specs.Programs.{set_from}
+use Rattle.bl_machine_prevs.specs.Prevs.{prevs_of}
+use Rattle.bl_emit_spec.specs.Activities.{copies_of}
+use Rattle.bl_emit_spec.specs.Programs.{set_from}
 
 -- ---- numbers
 

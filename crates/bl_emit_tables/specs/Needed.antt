@@ -1,7 +1,7 @@
 -- One step of finding which units are needed.
 use Rattle.std.specs.Prelude.{ℕ, Bool, false, List, if◌then◌else◌, slice_get, unwrap_or}
 use Rattle.bl_tree.specs.declared.tree.Unit.{Unit as UnitDef}
-use Rattle.bl_emit_pass.specs.Programs.{needs_at, set_from}
+use Rattle.bl_emit_spec.specs.Programs.{needs_at, set_from}
 
 -- what the unit at the position calls and runs is needed too, where it is needed itself
 abbrev pub needed_step : ℕ → List UnitDef → List Bool → List Bool

@@ -4,13 +4,13 @@ use Rattle.std.specs.List.{list_any}
 use Rattle.bl_tree.specs.declared.c.CLocal.{CLocal}
 use Rattle.bl_tree.specs.declared.scalar.Scalar.TheVariants.{Bool as OfBool}
 use Rattle.bl_tree.specs.Reduce.{joined}
-use Rattle.bl_pass_listed.specs.declared.rule.Asked.{Asked}
-use Rattle.bl_pass_listed.specs.declared.rule.Asked.TheVariants.{Ended, Flagged, Rested, RestedIn}
-use Rattle.bl_pass_listed.specs.declared.rule.Change.{Change}
-use Rattle.bl_pass_listed.specs.declared.rule.Change.TheVariants.{End, Finish, Flag, Forget, Free, Mark, Rest}
-use Rattle.bl_pass_listed.specs.Told.{Acts, Enters, Nothing, Resumes, Rule, Task, Tests}
-use Rattle.bl_emit_pass.specs.Activities.{RunAt, scalar_local}
-use Rattle.bl_emit_pass.specs.Names.{flag_name, mark_name}
+use Rattle.bl_machine_transitions.specs.declared.transition.Asked.{Asked}
+use Rattle.bl_machine_transitions.specs.declared.transition.Asked.TheVariants.{Ended, Flagged, Rested, RestedIn}
+use Rattle.bl_machine_transitions.specs.declared.transition.Change.{Change}
+use Rattle.bl_machine_transitions.specs.declared.transition.Change.TheVariants.{ClearBoth, ClearCounter, EndWhen, Finish, SetCounter, SetFlag, SetMark}
+use Rattle.bl_machine_transitions.specs.Told.{Acts, Enters, Nothing, NumberedTransition, Resumes, Task, Tests}
+use Rattle.bl_emit_spec.specs.Activities.{RunAt, scalar_local}
+use Rattle.bl_emit_spec.specs.Names.{flag_name, mark_name}
 
 -- ---- counters
 
@@ -22,7 +22,7 @@ asks_counter k (RestedIn slots) = list_any (λ slot. nat_eq k slot.counter) slot
 asks_counter k (Ended age needed) = false
 
 -- whether some rule asks what the counter held
-abbrev pub read_told : List Rule → ℕ → Bool
+abbrev pub read_told : List NumberedTransition → ℕ → Bool
 read_told rules k = list_any (λ rule. asks_counter k rule.asked) rules
 
 -- ---- runs
@@ -36,7 +36,7 @@ run_told (Enters k a arguments) = record { number = k; unit = a } ∷ []
 run_told (Resumes k a arguments) = []
 
 -- the `run`s of an activity, in source order
-abbrev pub runs_told : List Rule → List RunAt
+abbrev pub runs_told : List NumberedTransition → List RunAt
 runs_told rules = joined (map (λ rule. run_told rule.task) rules)
 
 -- ---- flags and marks
@@ -49,27 +49,27 @@ asks_flag (RestedIn slots) = false
 asks_flag (Ended age needed) = false
 
 -- the local for the flag of a node that waits by one
-abbrev pub flag_told : Rule → List CLocal
+abbrev pub flag_told : NumberedTransition → List CLocal
 flag_told rule = if asks_flag rule.asked then scalar_local OfBool (flag_name rule.number) ∷ [] else []
 
 -- those of all nodes
-abbrev pub flags_told : List Rule → List CLocal
+abbrev pub flags_told : List NumberedTransition → List CLocal
 flags_told rules = joined (map flag_told rules)
 
 -- the local for a mark that a change sets
 abbrev pub mark_told : Change → List CLocal
-mark_told (Flag k) = []
-mark_told (Rest slot) = []
-mark_told (Free k) = []
-mark_told (Forget k) = []
-mark_told (Mark k) = scalar_local OfBool (mark_name k) ∷ []
-mark_told (End start surface depth) = []
+mark_told (SetFlag k) = []
+mark_told (SetCounter slot) = []
+mark_told (ClearCounter k) = []
+mark_told (ClearBoth k) = []
+mark_told (SetMark k) = scalar_local OfBool (mark_name k) ∷ []
+mark_told (EndWhen start surface depth) = []
 mark_told Finish = []
 
 -- the locals for the marks that a rule sets
-abbrev pub rule_marks_told : Rule → List CLocal
+abbrev pub rule_marks_told : NumberedTransition → List CLocal
 rule_marks_told rule = joined (map mark_told rule.so)
 
 -- for those that all rules set
-abbrev pub marks_told : List Rule → List CLocal
+abbrev pub marks_told : List NumberedTransition → List CLocal
 marks_told rules = joined (map rule_marks_told rules)

@@ -2,7 +2,7 @@
 
 ghost use Rattle.std.specs.Prelude.{◌≡◌, ◌∷◌, [], IfOk, false, map};
 ghost use Rattle.bl_machine.specs.Blocks.{up_to};
-ghost use Rattle.bl_emit_pass.specs.Programs.{set_from};
+ghost use Rattle.bl_emit_spec.specs.Programs.{set_from};
 
 use bl_tree::{List, NoMemory};
 use std::alloc::Global;

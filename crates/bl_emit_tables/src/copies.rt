@@ -1,7 +1,7 @@
 //! Which variables of a unit have a copy of what they were when the tick began.
 
 ghost use Rattle.std.specs.Prelude.{◌≡◌, IfOk};
-ghost use Rattle.bl_emit_pass.specs.Activities as activities;
+ghost use Rattle.bl_emit_spec.specs.Activities as activities;
 
 use crate::bools::{set_all, unset};
 use crate::prevs::prevs_of;

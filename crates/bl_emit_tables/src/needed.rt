@@ -2,11 +2,11 @@
 
 ghost use Rattle.std.specs.Prelude.{◌≡◌, IfOk, OnOk, false, map, nat_eq, option_map, slice_get, unwrap_or};
 ghost use Rattle.bl_machine.specs.Blocks.{up_to};
-ghost use Rattle.bl_emit_pass.specs.Programs as programs;
+ghost use Rattle.bl_emit_spec.specs.Programs as programs;
 ghost use Rattle.bl_emit_tables.specs.Needed.{needed_step};
 
 use crate::bools::set_all;
-use bl_measures::{calls_of, runs_of};
+use bl_limits_measures::{calls_of, runs_of};
 use bl_tree::slices::element;
 use bl_tree::tree::Unit;
 use bl_tree::{List, NoMemory};

@@ -1,15 +1,15 @@
-//! The functions that a unit prevs.
+//! The variables that a unit reads with `prev`.
 
 ghost use Rattle.std.specs.Prelude.{◌≡◌, ◌++◌, map, IfOk, OnOk};
 ghost use Rattle.bl_tree.specs.Reduce.{joined};
-ghost use Rattle.bl_prevs.specs.Prevs.{argument_prevs, prevs_in, prevs_in_arm, prevs_in_branch, prevs_in_expr, prevs_in_part, prevs_in_path};
-ghost use Rattle.bl_prevs.specs.Prevs.{prevs_of, optional_prevs, target_prevs};
+ghost use Rattle.bl_machine_prevs.specs.Prevs.{argument_prevs, prevs_in, prevs_in_arm, prevs_in_branch, prevs_in_expr, prevs_in_part, prevs_in_path};
+ghost use Rattle.bl_machine_prevs.specs.Prevs.{prevs_of, optional_prevs, target_prevs};
 
 use bl_tree::tree::{Arm, Branch, Expr, ExprKind, Part, Path, Stmt, StmtKind, Unit};
 use bl_tree::{List, NoMemory};
 use std::alloc::Global;
 
-/// Appends the functions that the expression prevs.
+/// Appends the variables that the expression reads with `prev`.
 #[cycle(expressions)]
 fn in_expr(e: &Expr, into: &mut List<u32>) -> Result<(), NoMemory>
     ensures { OnOk result (into.new ≡ into.old ++ prevs_in_expr e.now) }

@@ -1,13 +1,13 @@
 //! Of which counters an activity's rules ask what they held when the tick began.
 
 ghost use Rattle.std.specs.Prelude.{◌≡◌, ℕ, suc, IfOk, OnOk, false, ◌||◌, map, nat_eq, slice_get, unwrap_or};
-ghost use Rattle.bl_pass_listed.specs.Told.{rule_in};
+ghost use Rattle.bl_machine_transitions.specs.Told.{rule_in};
 ghost use Rattle.bl_emit_tables.specs.Sizes.{grown};
 ghost use Rattle.bl_emit_tables.specs.Told.{asks_counter, read_told};
 ghost use Rattle.std.specs.List.{list_any};
 
 use bl_machine::Slot;
-use bl_pass_listed::{Asked, Rule};
+use bl_machine_transitions::{Asked, Transition};
 use bl_tree::{List, NoMemory};
 use std::alloc::Global;
 
@@ -58,7 +58,7 @@ fn note_asked(tests: &mut List<bool>, asked: &Asked) -> Result<(), NoMemory>
 
 /// For each counter whether some rule asks what it held when the tick began; those for which none does may be left out at the end. Fails
 /// only for want of memory.
-pub fn read_by(alloc: Global, rules: &[Rule]) -> Result<List<bool>, NoMemory>
+pub fn read_by(alloc: Global, rules: &[Transition]) -> Result<List<bool>, NoMemory>
     ensures { IfOk result (λ tests. (k : ℕ) → unwrap_or (slice_get tests k) false ≡ read_told (map rule_in rules.now) k) }
 {
     let mut tests = List::new(alloc);

@@ -1,7 +1,7 @@
 //! How many values the counters of an activity have.
 
 ghost use Rattle.std.specs.Prelude.{◌≡◌, [], suc, IfOk, OnOk};
-ghost use Rattle.bl_pass.specs.Numbered as numbered;
+ghost use Rattle.bl_machine_pass.specs.Numbered as numbered;
 ghost use Rattle.bl_machine.specs.Slots.{counters_at};
 ghost use Rattle.bl_emit_tables.specs.Sizes.{all_counted, counted, grown};
 

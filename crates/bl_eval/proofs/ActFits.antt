@@ -38,7 +38,7 @@ use Rattle.bl_tree.specs.declared.value.Value.{Value}
 use Rattle.bl_tree.specs.Program.{parameters_of}
 use Rattle.bl_tree.specs.Types.{same_type, type_stands}
 use Rattle.bl_tree.specs.Typing.{
-  Site,
+  TypingContext,
   are_same,
   arguments_fit,
   call_fits,
@@ -107,7 +107,7 @@ reading_all scope (path ∷ paths) = ap (λ rest. reading (path_meaning_of scope
 
 module _ (structs : List StructDef) (earlier : List UnitDef) (unit : UnitDef) (callees : List Callee) (sound : Sound structs earlier unit callees) (view : View)
     (now_fits : values_fit structs unit.vars view.now ≡ true) (before_fits : values_fit structs unit.vars view.before ≡ true) where
-  abbrev site : Site
+  abbrev site : TypingContext
   site = site_of structs earlier unit
 
   abbrev scope : Scope

@@ -47,7 +47,7 @@ use Rattle.bl_tree.specs.Program.{parameters_of, structs_stand_from}
 use Rattle.bl_tree.specs.Scalar.{in_range}
 use Rattle.bl_tree.specs.Types.{same_type, scalar, scalar_in, type_stands}
 use Rattle.bl_tree.specs.Typing.{
-  Site,
+  TypingContext,
   after_parts,
   call_type,
   cast_type,
@@ -194,7 +194,7 @@ reading_fits structs vars view ty spot fit found =
 
 module _ (structs : List StructDef) (earlier : List UnitDef) (unit : UnitDef) (callees : List Callee) (sound : Sound structs earlier unit callees) (view : View)
     (now_fits : values_fit structs unit.vars view.now ≡ true) (before_fits : values_fit structs unit.vars view.before ≡ true) where
-  abbrev site : Site
+  abbrev site : TypingContext
   site = site_of structs earlier unit
 
   abbrev scope : Scope

@@ -6,8 +6,8 @@ use Rattle.bl_tree.specs.declared.tree.Stmt.{Stmt}
 use Rattle.bl_tree.specs.declared.tree.StructDef.{StructDef}
 use Rattle.bl_tree.specs.declared.tree.Ty.{Ty}
 use Rattle.bl_tree.specs.declared.tree.Unit.{Unit as UnitDef}
-use Rattle.bl_tree.specs.Program.{Keeps}
-use Rattle.bl_tree.specs.Typing.{Site, site_of, type_of}
+use Rattle.bl_tree.specs.Program.{IsWellTyped}
+use Rattle.bl_tree.specs.Typing.{TypingContext, site_of, type_of}
 use Rattle.bl_eval.specs.Functions.{callees_of}
 use Rattle.bl_eval.specs.Meaning.{View, meaning_of, plain}
 use Rattle.bl_eval.specs.Standing.{ActStandsInUnit, ExprStandsInUnit, outcome_in_unit, outcome_of, scope_of, type_in_unit, value_in_unit, value_of}
@@ -18,9 +18,9 @@ use Rattle.bl_eval.proofs.OperatorFits.{DatumFits, plain_fits}
 use Rattle.bl_eval.proofs.PartFits.{Fits, if_map, if_some}
 use Rattle.bl_eval.proofs.UnitFits.{sound_at}
 
-module _ (structs : List StructDef) (units : List UnitDef) (entry k : ℕ) (view : View) (keeps : Keeps structs units entry) where
+module _ (structs : List StructDef) (units : List UnitDef) (entry k : ℕ) (view : View) (keeps : IsWellTyped structs units entry) where
   module _ (e : Expr) (stands : ExprStandsInUnit structs units k view e) where
-    abbrev site : Site
+    abbrev site : TypingContext
     site = site_of structs (take k units) stands.unit
 
     of_type : (typed : Option Ty) → type_of site e ≡ typed → IfSome (value_of site e view) (λ value. IfSome typed (λ ty. Fits structs ty value))

@@ -53,8 +53,8 @@ use Rattle.bl_eval.specs.declared.datum.Put.{Put}
 use Rattle.bl_eval.specs.declared.datum.Target.{Target}
 use Rattle.bl_eval.specs.Changes.{all_changed, choice_of, current_of, part_of_path, puts_of, targets_of, with_element_at}
 use Rattle.bl_eval.specs.Functions.{
-  Choice,
-  Does,
+  GuardedBlock,
+  StmtMeaning,
   Flow,
   arm_does,
   branch_does,
@@ -79,7 +79,7 @@ use Rattle.bl_eval.specs.Functions.{
 use Rattle.bl_eval.specs.Meaning.{
   Callee,
   Meaning,
-  Position,
+  PathPosition,
   Scope,
   PathMeaning,
   expr_means,
@@ -105,25 +105,25 @@ use Rattle.bl_eval.proofs.PassLemmas.{get_front, get_seam}
 
 pub choice_out : (scope : Scope) (arm : Arm) → choice_of scope arm
     ≡ record { test = truth scope (out-Arm arm).test; body = in_order (map (does scope) (out-Arm arm).body) }
-choice_out scope arm = fold_out-Arm Does Choice Does Does (kind_does scope) (arm_does scope) branch_does stmt_does arm
+choice_out scope arm = fold_out-Arm StmtMeaning GuardedBlock StmtMeaning StmtMeaning (kind_does scope) (arm_does scope) branch_does stmt_does arm
 
 pub spot_out : (scope : Scope) (path : Path) → path_meaning_of scope path
     ≡ record { root = (out-Path path).root; ty = (out-Path path).ty; positions = positions_of (map (part_of_path scope) (out-Path path).parts) }
-spot_out scope path = fold_out-Path Meaning Position Meaning PathMeaning (kind_means scope) part_means expr_means path_means path
+spot_out scope path = fold_out-Path Meaning PathPosition Meaning PathMeaning (kind_means scope) part_means expr_means path_means path
 
 module _ (scope : Scope) where
-  abbrev kind : StmtKind → Does
-  kind = fold-StmtKind Does Choice Does Does (kind_does scope) (arm_does scope) branch_does stmt_does
+  abbrev kind : StmtKind → StmtMeaning
+  kind = fold-StmtKind StmtMeaning GuardedBlock StmtMeaning StmtMeaning (kind_does scope) (arm_does scope) branch_does stmt_does
 
-  abbrev done : StmtKind-F StmtKind Arm Branch Stmt → StmtKind-F Does Choice Does Does
-  done = map-StmtKind StmtKind Arm Branch Stmt Does Choice Does Does kind (choice_of scope)
-      (fold-Branch Does Choice Does Does (kind_does scope) (arm_does scope) branch_does stmt_does) (does scope)
+  abbrev done : StmtKind-F StmtKind Arm Branch Stmt → StmtKind-F StmtMeaning GuardedBlock StmtMeaning StmtMeaning
+  done = map-StmtKind StmtKind Arm Branch Stmt StmtMeaning GuardedBlock StmtMeaning StmtMeaning kind (choice_of scope)
+      (fold-Branch StmtMeaning GuardedBlock StmtMeaning StmtMeaning (kind_does scope) (arm_does scope) branch_does stmt_does) (does scope)
 
   does_at : (s : Stmt) (layer : StmtKind-F StmtKind Arm Branch Stmt) → out-StmtKind (out-Stmt s).what ≡ layer →
       does scope s ≡ kind_does scope (done layer)
   does_at s layer is =
-      fold_out-Stmt Does Choice Does Does (kind_does scope) (arm_does scope) branch_does stmt_does s
-      ∙ fold_out-StmtKind Does Choice Does Does (kind_does scope) (arm_does scope) branch_does stmt_does (out-Stmt s).what
+      fold_out-Stmt StmtMeaning GuardedBlock StmtMeaning StmtMeaning (kind_does scope) (arm_does scope) branch_does stmt_does s
+      ∙ fold_out-StmtKind StmtMeaning GuardedBlock StmtMeaning StmtMeaning (kind_does scope) (arm_does scope) branch_does stmt_does (out-Stmt s).what
       ∙ ap (λ layer. kind_does scope (done layer)) is
 
   pub repeat_is : (s : Stmt) (made body : List Stmt) (now : List Value) → (out-Stmt s).what ≡ Repeat body → made ≡ body

@@ -45,7 +45,7 @@ use Rattle.bl_tree.specs.declared.value.Value.TheVariants.{Parts, outs-Parts}
 use Rattle.bl_tree.specs.Program.{structs_stand_from}
 use Rattle.bl_tree.specs.Scalar.{is_whole}
 use Rattle.bl_tree.specs.Types.{scalar_in, type_stands}
-use Rattle.bl_tree.specs.Typing.{Site, after_parts, element_in, expr_type, field_in, kind_type, part_type, path_type, type_of, where_whole}
+use Rattle.bl_tree.specs.Typing.{TypingContext, after_parts, element_in, expr_type, field_in, kind_type, part_type, path_type, type_of, where_whole}
 use Rattle.bl_eval.specs.Changes.{part_of_path}
 use Rattle.bl_eval.specs.Meaning.{Scope, View, meaning_of, operand, position_in, positions_of, read_at}
 use Rattle.bl_eval.specs.Values.{
@@ -223,7 +223,7 @@ positions_if structs a c b (Some k) (Some ks) one more = leads_step structs a c 
 
 -- ---- the parts of a path
 
-abbrev pub type_of_part : Site → Part → Ty → Option Ty
+abbrev pub type_of_part : TypingContext → Part → Ty → Option Ty
 type_of_part site = fold-Part (Option Ty) (Ty → Option Ty) (Option Ty) (Option Ty) (kind_type site) (part_type site) expr_type (path_type site)
 
 where_true : (holds : Bool) (t : Option Ty) (c : Ty) → (if holds then t else None) ≡ Some c → t ≡ Some c
@@ -238,7 +238,7 @@ where_whole_is : (index t : Option Ty) (c : Ty) → where_whole index t ≡ Some
 where_whole_is None t c is = absurd (cc)
 where_whole_is (Some ty) t c is = where_scalar (scalar_in ty) t c is
 
-module _ (site : Site) (scope : Scope) (view : View) (stand : structs_stand_from 0 site.structs ≡ true) where
+module _ (site : TypingContext) (scope : Scope) (view : View) (stand : structs_stand_from 0 site.structs ≡ true) where
   part_at : (layer : Part-F ExprKind Part Expr Path) (a c : Ty) → type_of_part site (roll-Part layer) a ≡ Some c
       → IfSome (part_of_path scope (roll-Part layer) view) (λ k. OnePart site.structs a k c)
   part_at (Part-F.Field k) a c is = rw fold-roll-Part (field_part site.structs stand a c k (rw fold-roll-Part at is))

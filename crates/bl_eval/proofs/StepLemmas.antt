@@ -38,8 +38,8 @@ use Rattle.bl_eval.specs.declared.datum.Target.{Target}
 use Rattle.bl_eval.specs.declared.evaluation.Flow.{Flow as Ended}
 use Rattle.bl_eval.specs.declared.evaluation.Flow.TheVariants as Ending
 use Rattle.bl_eval.specs.Changes.{ended, targets_of}
-use Rattle.bl_eval.specs.Functions.{Choice, Does, Flow, first_true_choice, flow_then, in_order, looped, most_turns}
-use Rattle.bl_eval.specs.Meaning.{Meaning, PathMeaning, Position, View, plain, positions_of, values_of}
+use Rattle.bl_eval.specs.Functions.{Flow, GuardedBlock, StmtMeaning, first_true_choice, flow_then, in_order, looped, most_turns}
+use Rattle.bl_eval.specs.Meaning.{Meaning, PathMeaning, PathPosition, View, plain, positions_of, values_of}
 
 put_behind : {A : Type 0} (made : List A) (x : A) (rest : Option (List A))
     → option_map (λ xs. (made ++ x ∷ []) ++ xs) rest ≡ option_map (λ xs. made ++ xs) (option_map (λ xs. x ∷ xs) rest)
@@ -67,7 +67,7 @@ module _ {E : Type 0} (means : E → Meaning) (view : View) where
 
 -- ---- positions of parts
 
-module _ {P : Type 0} (means : P → Position) (view : View) where
+module _ {P : Type 0} (means : P → PathPosition) (view : View) where
   positions_first : (p : P) (rest : List P) (k : ℕ) → means p view ≡ Some k
       → positions_of (map means (p ∷ rest)) view ≡ option_map (λ ks. k ∷ ks) (positions_of (map means rest) view)
   positions_first p rest k is = rw is
@@ -127,14 +127,14 @@ module _ {P : Type 0} (leads : P → PathMeaning) (view : View) where
 
 -- ---- statements in order
 
-module _ {S : Type 0} (runs : S → Does) where
+module _ {S : Type 0} (runs : S → StmtMeaning) where
   pub order_step : (body : List S) (i : ℕ) (s : S) (now : List Value) → i < length body → s ≡ get_or body i s
       → in_order (map runs (drop i body)) now ≡ flow_then (runs s now) (in_order (map runs (drop (i + 1) body)))
   order_step body i s now within is =
       let here : drop i body ≡ s ∷ drop (i + 1) body = rw (add-one) (drop-cons body i s within ∙ ap (λ x. x ∷ drop (suc i) body) (sym is)) in
       ap (λ body. in_order (map runs body) now) here
 
-module _ {S : Type 0} (offers : S → Choice) (other : Does) where
+module _ {S : Type 0} (offers : S → GuardedBlock) (other : StmtMeaning) where
   pub choice_step : (arms : List S) (i : ℕ) (arm : S) (now : List Value) → i < length arms → arm ≡ get_or arms i arm
       → first_true_choice (map offers (drop i arms)) other now
       ≡ option_and_then (λ holds. if holds then (offers arm).body now else first_true_choice (map offers (drop (i + 1) arms)) other now)
@@ -145,8 +145,8 @@ module _ {S : Type 0} (offers : S → Choice) (other : Does) where
 
 -- ---- turns of a loop
 
-module _ (goes : List Value → Option Bool) (body : Does) (ends : List Value → Option Bool) where
-  abbrev turn : Does → Does
+module _ (goes : List Value → Option Bool) (body : StmtMeaning) (ends : List Value → Option Bool) where
+  abbrev turn : StmtMeaning → StmtMeaning
   turn again now =
       option_and_then (λ more.
       if more then flow_then (body now) (λ new. option_and_then (λ is_over. if is_over then Some (Flow.On new) else again new) (ends new)) else
@@ -172,17 +172,17 @@ module _ (goes : List Value → Option Bool) (body : Does) (ends : List Value �
       is ∙ ap (option_and_then (λ more. if more then None else Some (Flow.On now))) is_given ∙ sym (turn_last counter now past) ∙ inv
 
   -- how a turn goes, by its condition, its body and its end
-  turn_over : (again : Does) (now : List Value) → goes now ≡ None → turn again now ≡ None
+  turn_over : (again : StmtMeaning) (now : List Value) → goes now ≡ None → turn again now ≡ None
   turn_over again now none = ap (option_and_then (λ more.
       if more then flow_then (body now) (λ new. option_and_then (λ is_over. if is_over then Some (Flow.On new) else again new) (ends new)) else
       Some (Flow.On now))) none
 
-  turn_gone : (again : Does) (now : List Value) → goes now ≡ Some false → turn again now ≡ Some (Flow.On now)
+  turn_gone : (again : StmtMeaning) (now : List Value) → goes now ≡ Some false → turn again now ≡ Some (Flow.On now)
   turn_gone again now ended_now = ap (option_and_then (λ more.
       if more then flow_then (body now) (λ new. option_and_then (λ is_over. if is_over then Some (Flow.On new) else again new) (ends new)) else
       Some (Flow.On now))) ended_now
 
-  turn_begun : (again : Does) (now : List Value) (r : Option Flow) → goes now ≡ Some true → r ≡ body now
+  turn_begun : (again : StmtMeaning) (now : List Value) (r : Option Flow) → goes now ≡ Some true → r ≡ body now
       → turn again now ≡ flow_then r (λ new. option_and_then (λ is_over. if is_over then Some (Flow.On new) else again new) (ends new))
   turn_begun again now r begun is =
       ap (option_and_then (λ more.
@@ -192,7 +192,7 @@ module _ (goes : List Value → Option Bool) (body : Does) (ends : List Value �
 
   module _ (counter : ℕ) (now : List Value) (target : Option Flow) (within : counter < 65536)
       (inv : looped goes body ends (most_turns - counter) now ≡ target) where
-    abbrev next : Does
+    abbrev next : StmtMeaning
     next = looped goes body ends (most_turns - (counter + 1))
 
     start : turn next now ≡ target
@@ -229,7 +229,7 @@ module _ (goes : List Value → Option Bool) (body : Does) (ends : List Value �
         ends new ≡ Some false → next new ≡ target
     turns_again flow new begun is on more = ended_turn flow new (Some false) begun is on more
 
-module _ {S : Type 0} (runs : S → Does) where
+module _ {S : Type 0} (runs : S → StmtMeaning) where
   pub order_on : (body : List S) (i : ℕ) (s : S) (now new : List Value) (flow : Ended) → i < length body → s ≡ get_or body i s →
       flow ≡ Ending.On → ended flow new ≡ runs s now
       → in_order (map runs (drop (i + 1) body)) new ≡ in_order (map runs (drop i body)) now
@@ -237,7 +237,7 @@ module _ {S : Type 0} (runs : S → Does) where
       sym (order_step runs body i s now within is ∙ ap (λ r. flow_then r (in_order (map runs (drop (i + 1) body))))
       (sym gives ∙ ap (λ flow. ended flow new) on))
 
-module _ {S : Type 0} (offers : S → Choice) (other : Does) (arms : List S) (i : ℕ) (arm : S) (now : List Value) (within : i < length arms)
+module _ {S : Type 0} (offers : S → GuardedBlock) (other : StmtMeaning) (arms : List S) (i : ℕ) (arm : S) (now : List Value) (within : i < length arms)
     (is : arm ≡ get_or arms i arm) where
   abbrev picked : Option Bool → Option Flow
   picked test = option_and_then (λ holds. if holds then (offers arm).body now else first_true_choice (map offers (drop (i + 1) arms)) other now) test

@@ -35,7 +35,7 @@ use Rattle.bl_tree.specs.declared.value.Value.{Value}
 use Rattle.bl_tree.specs.Reduce.{all_of}
 use Rattle.bl_tree.specs.Types.{scalar}
 use Rattle.bl_tree.specs.Typing.{
-  Site,
+  TypingContext,
   are_same,
   arm_fits,
   branch_fits,
@@ -52,9 +52,9 @@ use Rattle.bl_tree.specs.Typing.{
 use Rattle.bl_tree.proofs.StmtInduction.{Cases, Each, EachArm, induct}
 use Rattle.bl_eval.specs.Changes.{choice_of}
 use Rattle.bl_eval.specs.Functions.{
-  Choice,
-  Does,
   Flow,
+  GuardedBlock,
+  StmtMeaning,
   condition,
   declared,
   does,
@@ -84,22 +84,22 @@ FlowFits structs vars result (Flow.Back now given) = AllFit structs vars now × 
 
 module _ (structs : List StructDef) (vars : List Var) (result : Option ScalarType) where
   -- it ends so from any values of their types
-  abbrev pub EndsFit : Does → Type 0
+  abbrev pub EndsFit : StmtMeaning → Type 0
   EndsFit ends = (now : List Value) → AllFit structs vars now → IfSome (ends now) (FlowFits structs vars result)
 
-  pub after_fits : (first : Option Flow) (next : Does) → IfSome first (FlowFits structs vars result) → EndsFit next →
+  pub after_fits : (first : Option Flow) (next : StmtMeaning) → IfSome first (FlowFits structs vars result) → EndsFit next →
       IfSome (flow_then first next) (FlowFits structs vars result)
   after_fits None next one more = tt
   after_fits (Some (Flow.On now)) next one more = more now one
   after_fits (Some (Flow.Back now given)) next one more = one
 
-  chosen_by : (holds : Option Bool) (body : Does) (rest : Does) (now : List Value) → AllFit structs vars now → EndsFit body → EndsFit rest
+  chosen_by : (holds : Option Bool) (body : StmtMeaning) (rest : StmtMeaning) (now : List Value) → AllFit structs vars now → EndsFit body → EndsFit rest
       → IfSome (option_and_then (λ holds. if holds then body now else rest now) holds) (FlowFits structs vars result)
   chosen_by None body rest now all one more = tt
   chosen_by (Some true) body rest now all one more = one now all
   chosen_by (Some false) body rest now all one more = more now all
 
-  pub choice_fits : (choice : Choice) (choices : List Choice) (other : Does) → EndsFit choice.body → EndsFit (first_true_choice choices other) →
+  pub choice_fits : (choice : GuardedBlock) (choices : List GuardedBlock) (other : StmtMeaning) → EndsFit choice.body → EndsFit (first_true_choice choices other) →
       EndsFit (first_true_choice (choice ∷ choices) other)
   choice_fits choice choices other one more now all = chosen_by (choice.test now) choice.body (first_true_choice choices other) now all one more
 
@@ -109,14 +109,14 @@ module _ (structs : List StructDef) (vars : List Var) (result : Option ScalarTyp
   last_fits (Some true) now all = tt
   last_fits (Some false) now all = all
 
-  module _ (body : Does) (ends : List Value → Option Bool) (one : EndsFit body) where
-    ended_by : (is_over : Option Bool) (again : Does) (new : List Value) → AllFit structs vars new → EndsFit again
+  module _ (body : StmtMeaning) (ends : List Value → Option Bool) (one : EndsFit body) where
+    ended_by : (is_over : Option Bool) (again : StmtMeaning) (new : List Value) → AllFit structs vars new → EndsFit again
         → IfSome (option_and_then (λ is_over. if is_over then Some (Flow.On new) else again new) is_over) (FlowFits structs vars result)
     ended_by None again new all more = tt
     ended_by (Some true) again new all more = all
     ended_by (Some false) again new all more = more new all
 
-    turn_by : (more : Option Bool) (again : Does) (now : List Value) → AllFit structs vars now → EndsFit again
+    turn_by : (more : Option Bool) (again : StmtMeaning) (now : List Value) → AllFit structs vars now → EndsFit again
         → IfSome (option_and_then (λ more. if more then flow_then (body now)
         (λ new. option_and_then (λ is_over. if is_over then Some (Flow.On new) else again new) (ends new)) else Some (Flow.On now))
         more) (FlowFits structs vars result)
@@ -133,13 +133,13 @@ module _ (structs : List StructDef) (vars : List Var) (result : Option ScalarTyp
 -- ---- statements
 
 module _ (structs : List StructDef) (earlier : List UnitDef) (unit : UnitDef) (callees : List Callee) (sound : Sound structs earlier unit callees) where
-  abbrev site : Site
+  abbrev site : TypingContext
   site = site_of structs earlier unit
 
   abbrev scope : Scope
   scope = scope_among structs callees unit
 
-  abbrev Ends : Does → Type 0
+  abbrev Ends : StmtMeaning → Type 0
   Ends = EndsFit structs unit.vars unit.result
 
   abbrev S : Stmt → Type 0
@@ -163,12 +163,12 @@ module _ (structs : List StructDef) (earlier : List UnitDef) (unit : UnitDef) (c
   abbrev OfArm : Arm → Type 0
   OfArm arm = Each S (out-Arm arm).body
 
-  arms_fit : (arms : List Arm) (other : Does) → EachArm S arms → all_of (map arm_fitted arms) ≡ true → Ends other →
+  arms_fit : (arms : List Arm) (other : StmtMeaning) → EachArm S arms → all_of (map arm_fitted arms) ≡ true → Ends other →
       Ends (first_true_choice (map (choice_of scope) arms) other)
   arms_fit [] other each fitted last = last
   arms_fit (arm ∷ arms) other each fitted last =
       choice_fits structs unit.vars unit.result (choice_of scope arm) (map (choice_of scope) arms) other
-      (subst (λ (choice : Choice). Ends choice.body) (sym (choice_out scope arm))
+      (subst (λ (choice : GuardedBlock). Ends choice.body) (sym (choice_out scope arm))
       (block_fits (out-Arm arm).body (All-head OfArm arm arms each) (arm_block arm (and_left (arm_fitted arm) (all_of (map arm_fitted arms)) fitted))))
       (arms_fit arms other (All-tail OfArm arm arms each) (and_right (arm_fitted arm) (all_of (map arm_fitted arms)) fitted) last)
 

@@ -33,7 +33,7 @@ use Rattle.bl_tree.specs.declared.tree.StructDef.{StructDef}
 use Rattle.bl_tree.specs.declared.tree.Unit.{Unit as UnitDef}
 use Rattle.bl_tree.specs.declared.tree.Var.{Var}
 use Rattle.bl_tree.specs.declared.value.Value.{Value}
-use Rattle.bl_tree.specs.Program.{Keeps, locals_of, parameters_of, structs_stand_from, unit_stands, units_stand_after}
+use Rattle.bl_tree.specs.Program.{IsWellTyped, locals_of, parameters_of, structs_stand_from, unit_stands, units_stand_after}
 use Rattle.bl_tree.specs.Reduce.{all_of}
 use Rattle.bl_tree.specs.Types.{type_stands}
 use Rattle.bl_tree.specs.Typing.{fits, site_of}
@@ -152,7 +152,7 @@ unit_at structs earlier (first ∷ units) (suc k) unit stand there =
     (and_right (unit_stands structs earlier first) (units_stand_after structs (earlier ++ first ∷ []) units) stand) there)
 
 -- what the statements of a unit of a typed program stand on
-pub sound_at : (structs : List StructDef) (units : List UnitDef) (entry k : ℕ) (unit : UnitDef) → Keeps structs units entry
+pub sound_at : (structs : List StructDef) (units : List UnitDef) (entry k : ℕ) (unit : UnitDef) → IsWellTyped structs units entry
     → slice_get units k ≡ Some unit
     → Sound structs (take k units) unit (callees_of structs (take k units))
 sound_at structs units entry k unit keeps there = record {

@@ -10,8 +10,8 @@ use Rattle.bl_eval.specs.declared.evaluation.Flow.{Flow as Ended}
 use Rattle.bl_eval.specs.declared.evaluation.Flow.TheVariants.{On, Back, Trap}
 use Rattle.bl_eval.specs.declared.evaluation.Site.{Site}
 use Rattle.bl_eval.specs.declared.evaluation.View.{View as Seen}
-use Rattle.bl_eval.specs.Functions.{Choice, Does, Flow, arm_does, branch_does, callees_of, kind_does, stmt_does}
-use Rattle.bl_eval.specs.Meaning.{View, Scope, Meaning, Position, PathMeaning, kind_means, part_means, expr_means, path_means, read_at}
+use Rattle.bl_eval.specs.Functions.{Flow, GuardedBlock, StmtMeaning, arm_does, branch_does, callees_of, kind_does, stmt_does}
+use Rattle.bl_eval.specs.Meaning.{View, Scope, Meaning, PathPosition, PathMeaning, kind_means, part_means, expr_means, path_means, read_at}
 use Rattle.bl_eval.specs.Values.{with_value_at}
 
 -- the scope of a site that the code has: its unit's variables, and the functions before its unit
@@ -23,8 +23,8 @@ abbrev pub view_in : Seen → View
 view_in view = record { now = view.now.now; before = view.before.now }
 
 -- what a part of a path means
-abbrev pub part_of_path : Scope → Part → Position
-part_of_path scope = fold-Part Meaning Position Meaning PathMeaning (kind_means scope) part_means expr_means path_means
+abbrev pub part_of_path : Scope → Part → PathPosition
+part_of_path scope = fold-Part Meaning PathPosition Meaning PathMeaning (kind_means scope) part_means expr_means path_means
 
 -- a statement's end, with the variables that it left
 abbrev pub ended : Ended → List Value → Option Flow
@@ -71,5 +71,5 @@ abbrev pub puts_of : List Target → List Value → List Put
 puts_of targets values = map put_of (zip targets values)
 
 -- what an arm of an `if` does
-abbrev pub choice_of : Scope → Arm → Choice
-choice_of scope = fold-Arm Does Choice Does Does (kind_does scope) (arm_does scope) branch_does stmt_does
+abbrev pub choice_of : Scope → Arm → GuardedBlock
+choice_of scope = fold-Arm StmtMeaning GuardedBlock StmtMeaning StmtMeaning (kind_does scope) (arm_does scope) branch_does stmt_does

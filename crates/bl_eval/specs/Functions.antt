@@ -90,28 +90,28 @@ pub data Flow : Type 0 where
   Back : List Value → Option Datum → Flow
 
 -- from the values before a statement; none where it traps
-abbrev pub Does : Type 0
-Does = List Value → Option Flow
+abbrev pub StmtMeaning : Type 0
+StmtMeaning = List Value → Option Flow
 
 -- a function has no `prev`: what its variables were before is never asked for
 abbrev pub own : List Value → View
 own now = record { now = now; before = now }
 
 -- what follows a statement that ended so: it is done where the statement went on, and else left out
-abbrev pub flow_then : Option Flow → Does → Option Flow
+abbrev pub flow_then : Option Flow → StmtMeaning → Option Flow
 flow_then None next = None
 flow_then (Some (Flow.On now)) next = next now
 flow_then (Some (Flow.Back now result)) next = Some (Flow.Back now result)
 
 -- statements one after another, until one returns or traps
-abbrev pub in_order : List Does → Does
+abbrev pub in_order : List StmtMeaning → StmtMeaning
 in_order [] now = Some (Flow.On now)
 in_order (first ∷ rest) now = flow_then (first now) (in_order rest)
 
 -- a condition, and what is done where it is true
-pub record Choice : Type 0 where
+pub record GuardedBlock : Type 0 where
   pub test : List Value → Option Bool
-  pub body : Does
+  pub body : StmtMeaning
 
 -- whether a condition is true; none where it traps
 abbrev pub truth : Scope → Expr → List Value → Option Bool
@@ -123,7 +123,7 @@ condition scope (Some e) without now = truth scope e now
 condition scope None without now = Some without
 
 -- the first choice whose condition is true, and else the other
-abbrev pub first_true_choice : List Choice → Does → Does
+abbrev pub first_true_choice : List GuardedBlock → StmtMeaning → StmtMeaning
 first_true_choice [] other now = other now
 first_true_choice (choice ∷ rest) other now =
     option_and_then (λ holds. if holds then choice.body now else first_true_choice rest other now) (choice.test now)
@@ -134,7 +134,7 @@ most_turns = 65536
 
 -- a loop of which n turns may still begin: it ends where `goes` is false before a turn or `ends` is true after one, and
 -- traps where a turn more would begin
-abbrev pub looped : (List Value → Option Bool) → Does → (List Value → Option Bool) → ℕ → Does
+abbrev pub looped : (List Value → Option Bool) → StmtMeaning → (List Value → Option Bool) → ℕ → StmtMeaning
 looped goes body ends zero now = option_and_then (λ more. if more then None else Some (Flow.On now)) (goes now)
 looped goes body ends (suc n) now =
     option_and_then (λ more.
@@ -143,12 +143,12 @@ looped goes body ends (suc n) now =
     else Some (Flow.On now)) (goes now)
 
 -- a `return`: the function is over, with the value of the expression where there is one
-abbrev pub returned : Scope → Option Expr → Does
+abbrev pub returned : Scope → Option Expr → StmtMeaning
 returned scope (Some e) now = option_map (λ datum. Flow.Back now (Some datum)) (meaning_of scope e (own now))
 returned scope None now = Some (Flow.Back now None)
 
 -- `await`, `run`, `cobegin` and `when` stand in no function
-abbrev pub kind_does : Scope → StmtKind-F Does Choice Does Does → Does
+abbrev pub kind_does : Scope → StmtKind-F StmtMeaning GuardedBlock StmtMeaning StmtMeaning → StmtMeaning
 kind_does scope (StmtKind-F.Declare k initial) now = option_map Flow.On (declared scope k initial (own now))
 kind_does scope (StmtKind-F.Assign path e) now = option_map Flow.On (assigned (path_meaning_of scope path) (value_in scope e (own now)) (own now))
 kind_does scope (StmtKind-F.Call f inputs outputs) now = option_map Flow.On (call_of scope f inputs outputs (own now))
@@ -163,20 +163,20 @@ kind_does scope (StmtKind-F.While e body) now = looped (condition scope (Some e)
 kind_does scope (StmtKind-F.Return e) now = returned scope e now
 
 -- an arm: its condition, and what its statements do in order
-abbrev pub arm_does : Scope → Arm-F Does Choice Does Does → Choice
+abbrev pub arm_does : Scope → Arm-F StmtMeaning GuardedBlock StmtMeaning StmtMeaning → GuardedBlock
 arm_does scope arm = record { test = truth scope arm.test; body = in_order arm.body }
 
 -- a branch: no function has one
-abbrev pub branch_does : Branch-F Does Choice Does Does → Does
+abbrev pub branch_does : Branch-F StmtMeaning GuardedBlock StmtMeaning StmtMeaning → StmtMeaning
 branch_does branch now = None
 
 -- a statement does what its kind does
-abbrev pub stmt_does : Stmt-F Does Choice Does Does → Does
+abbrev pub stmt_does : Stmt-F StmtMeaning GuardedBlock StmtMeaning StmtMeaning → StmtMeaning
 stmt_does s = s.what
 
 -- what a statement of a function does in a scope
-abbrev pub does : Scope → Stmt → Does
-does scope = fold-Stmt Does Choice Does Does (kind_does scope) (arm_does scope) branch_does stmt_does
+abbrev pub does : Scope → Stmt → StmtMeaning
+does scope = fold-Stmt StmtMeaning GuardedBlock StmtMeaning StmtMeaning (kind_does scope) (arm_does scope) branch_does stmt_does
 
 -- ---- functions
 

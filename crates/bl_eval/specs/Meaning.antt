@@ -137,11 +137,11 @@ call_datum inputs callee = option_and_then (λ values. option_and_then (λ left.
 -- ---- paths
 
 -- the position that a part of a path stands for
-abbrev pub Position : Type 0
-Position = View → Option ℕ
+abbrev pub PathPosition : Type 0
+PathPosition = View → Option ℕ
 
 -- the positions of all parts; none where one traps
-abbrev pub positions_of : List Position → View → Option (List ℕ)
+abbrev pub positions_of : List PathPosition → View → Option (List ℕ)
 positions_of [] view = Some []
 positions_of (part ∷ rest) view = option_and_then (λ k. option_map (λ ks. k ∷ ks) (positions_of rest view)) (part view)
 
@@ -160,7 +160,7 @@ abbrev pub scalar_of : Option Var → Option ScalarType
 scalar_of var = option_and_then (λ var. scalar_in var.ty) var
 
 -- what a kind of expression means, from what its parts mean
-abbrev pub kind_means : Scope → ExprKind-F Meaning Position Meaning PathMeaning → Meaning
+abbrev pub kind_means : Scope → ExprKind-F Meaning PathPosition Meaning PathMeaning → Meaning
 kind_means scope (ExprKind-F.Literal n s) view = Some (OfScalar s n)
 kind_means scope (ExprKind-F.Read path) view = reading path view
 kind_means scope (ExprKind-F.Prev k) view = option_map (datum_of (scalar_of (slice_get scope.vars k))) (slice_get view.before k)
@@ -174,25 +174,25 @@ abbrev pub position_in : Operand → Option ℕ
 position_in a = position_of a.n
 
 -- what a part of a path means: a field's position, or that of an index
-abbrev pub part_means : Part-F Meaning Position Meaning PathMeaning → Position
+abbrev pub part_means : Part-F Meaning PathPosition Meaning PathMeaning → PathPosition
 part_means (Part-F.Field k) view = Some k
 part_means (Part-F.Index e) view = option_and_then position_in (operand e view)
 
 -- an expression means what its kind means
-abbrev pub expr_means : Expr-F Meaning Position Meaning PathMeaning → Meaning
+abbrev pub expr_means : Expr-F Meaning PathPosition Meaning PathMeaning → Meaning
 expr_means e = e.what
 
 -- a path means its variable, its type and the positions of its parts
-abbrev pub path_means : Path-F Meaning Position Meaning PathMeaning → PathMeaning
+abbrev pub path_means : Path-F Meaning PathPosition Meaning PathMeaning → PathMeaning
 path_means path = record { root = path.root; ty = path.ty; positions = positions_of path.parts }
 
 -- what an expression means in a scope
 abbrev pub meaning_of : Scope → Expr → Meaning
-meaning_of scope = fold-Expr Meaning Position Meaning PathMeaning (kind_means scope) part_means expr_means path_means
+meaning_of scope = fold-Expr Meaning PathPosition Meaning PathMeaning (kind_means scope) part_means expr_means path_means
 
 -- what a path means in a scope
 abbrev pub path_meaning_of : Scope → Path → PathMeaning
-path_meaning_of scope = fold-Path Meaning Position Meaning PathMeaning (kind_means scope) part_means expr_means path_means
+path_meaning_of scope = fold-Path Meaning PathPosition Meaning PathMeaning (kind_means scope) part_means expr_means path_means
 
 -- the value of an expression; none where it traps
 abbrev pub value_in : Scope → Expr → View → Option Value

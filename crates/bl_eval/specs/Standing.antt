@@ -7,7 +7,7 @@ use Rattle.bl_tree.specs.declared.tree.StructDef.{StructDef}
 use Rattle.bl_tree.specs.declared.tree.Ty.{Ty}
 use Rattle.bl_tree.specs.declared.tree.Unit.{Unit as UnitDef}
 use Rattle.bl_tree.specs.declared.value.Value.{Value}
-use Rattle.bl_tree.specs.Typing.{Site, fits, site_of, type_of}
+use Rattle.bl_tree.specs.Typing.{TypingContext, fits, site_of, type_of}
 use Rattle.bl_eval.specs.declared.values.Did.{Did}
 use Rattle.bl_eval.specs.declared.values.Did.TheVariants.{Done}
 use Rattle.bl_eval.specs.declared.values.Got.{Got}
@@ -18,19 +18,19 @@ use Rattle.bl_eval.specs.Meaning.{Scope, View, value_in}
 use Rattle.bl_eval.specs.Values.{values_fit}
 
 -- the scope of a site: its unit's variables, and the functions before its unit
-abbrev pub scope_of : Site → Scope
+abbrev pub scope_of : TypingContext → Scope
 scope_of site = record { structs = site.structs; vars = site.vars; callees = callees_of site.structs site.earlier }
 
 -- the value of an expression that stands at the site; none where it traps
-abbrev pub value_of : Site → Expr → View → Option Value
+abbrev pub value_of : TypingContext → Expr → View → Option Value
 value_of site e view = value_in (scope_of site) e view
 
 -- the variables of the site's unit after an assignment, a declaration or a call; none where it traps
-abbrev pub outcome_of : Site → Stmt → View → Option (List Value)
+abbrev pub outcome_of : TypingContext → Stmt → View → Option (List Value)
 outcome_of site s view = acted (scope_of site) (out-StmtKind (out-Stmt s).what) view
 
 -- where the statements of the unit at the position stand
-abbrev pub site_at : List StructDef → List UnitDef → ℕ → Option Site
+abbrev pub site_at : List StructDef → List UnitDef → ℕ → Option TypingContext
 site_at structs units k = option_map (site_of structs (take k units)) (slice_get units k)
 
 -- the value of an expression of the unit at the position, from the values of that unit's variables; none where it traps
@@ -60,7 +60,7 @@ left_values Done now = Some now.list
 left_values Did.Trap now = None
 
 -- both lists have one value for each variable of the unit, of its type
-pub record ViewFits (site : Site) (view : View) : Type 0 where
+pub record ViewFits (site : TypingContext) (view : View) : Type 0 where
   pub now : IsTrue (values_fit site.structs site.vars view.now)
   pub before : IsTrue (values_fit site.structs site.vars view.before)
 

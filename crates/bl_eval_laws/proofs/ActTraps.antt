@@ -14,7 +14,7 @@ use Rattle.bl_tree.specs.declared.value.Value.{Value}
 use Rattle.bl_tree.specs.Program.{parameters_of}
 use Rattle.bl_tree.specs.Types.{same_type, scalar_in}
 use Rattle.bl_tree.specs.Typing.{
-  Site,
+  TypingContext,
   are_same,
   arguments_fit,
   call_fits,
@@ -49,7 +49,7 @@ use Rattle.bl_eval_laws.proofs.ExprTraps.{Calls, called_at, expr_traps, path_los
 module _ (structs : List StructDef) (home : Home) (sound : Sound structs home.earlier home.unit (callees_of structs home.earlier))
     (calls : Calls structs home) (view : View)
     (now_fits : values_fit structs home.unit.vars view.now ≡ true) (before_fits : values_fit structs home.unit.vars view.before ≡ true) where
-  abbrev site : Site
+  abbrev site : TypingContext
   site = site_of structs home.earlier home.unit
 
   abbrev scope : Scope

@@ -45,9 +45,9 @@ use Rattle.bl_eval.specs.declared.datum.Left.{Left}
 use Rattle.bl_eval.specs.declared.datum.Operand.{Operand}
 use Rattle.bl_eval.specs.Changes.{choice_of, part_of_path, with_element_at}
 use Rattle.bl_eval.specs.Functions.{
-  Choice,
-  Does,
   Flow,
+  GuardedBlock,
+  StmtMeaning,
   acted,
   assigned,
   callees_of,
@@ -325,19 +325,19 @@ truth_gone : (scope : Scope) (e : Expr) (now : List Value) → meaning_of scope 
 truth_gone scope e now none = map_gone (λ (a : Operand). is_one a.n) (operand (meaning_of scope e) (own now)) (number_gone scope (own now) e none)
 
 -- an arm
-arm_chosen : (scope : Scope) (arm : Arm) (arms : List Arm) (other : Does) (now : List Value) (holds : Option Bool) →
+arm_chosen : (scope : Scope) (arm : Arm) (arms : List Arm) (other : StmtMeaning) (now : List Value) (holds : Option Bool) →
     truth scope (out-Arm arm).test now ≡ holds
     → option_and_then (λ holds. if holds then in_order (map (does scope) (out-Arm arm).body) now else first_true_choice
     (map (choice_of scope) arms) other now) holds ≡ None
     → first_true_choice (map (choice_of scope) (arm ∷ arms)) other now ≡ None
 arm_chosen scope arm arms other now holds is none =
-    ap (λ (choice : Choice). option_and_then (λ holds. if holds then choice.body now else first_true_choice (map (choice_of scope) arms) other now)
+    ap (λ (choice : GuardedBlock). option_and_then (λ holds. if holds then choice.body now else first_true_choice (map (choice_of scope) arms) other now)
     (choice.test now)) (choice_out scope arm)
     ∙ (ap (option_and_then (λ holds. if holds then in_order (map (does scope) (out-Arm arm).body) now else first_true_choice
     (map (choice_of scope) arms) other now)) is ∙ none)
 
 -- a turn
-module _ (goes ends : List Value → Option Bool) (body : Does) where
+module _ (goes ends : List Value → Option Bool) (body : StmtMeaning) where
   never_goes : (n : ℕ) (now : List Value) → goes now ≡ None → looped goes body ends n now ≡ None
   never_goes zero now none = ap (option_and_then (λ more. if more then None else Some (Flow.On now))) none
   never_goes (suc n) now none =

@@ -44,7 +44,7 @@ use Rattle.bl_tree.specs.Program.{parameters_of}
 use Rattle.bl_tree.specs.Scalar.{is_whole}
 use Rattle.bl_tree.specs.Types.{same_scalar, same_type, scalar, scalar_in}
 use Rattle.bl_tree.specs.Typing.{
-  Site,
+  TypingContext,
   after_parts,
   call_type,
   cast_type,
@@ -126,7 +126,7 @@ whole_index (Some ty) c b is = by_scalar (scalar_in ty) refl is
 module _ (structs : List StructDef) (home : Home) (sound : Sound structs home.earlier home.unit (callees_of structs home.earlier))
     (calls : Calls structs home) (view : View)
     (now_fits : values_fit structs home.unit.vars view.now ≡ true) (before_fits : values_fit structs home.unit.vars view.before ≡ true) where
-  abbrev site : Site
+  abbrev site : TypingContext
   site = site_of structs home.earlier home.unit
 
   abbrev scope : Scope

@@ -31,11 +31,11 @@ use Rattle.bl_tree.specs.declared.tree.StmtKind.{fold-roll-StmtKind}
 use Rattle.bl_tree.specs.declared.value.Value.{Value}
 use Rattle.bl_tree.specs.Reduce.{all_of}
 use Rattle.bl_tree.specs.Returns.{arm_returns, branch_returns, kind_returns, last_of, stmt_returns, surely_returns}
-use Rattle.bl_tree.specs.Typing.{Site, arm_fits, branch_fits, fits, is_inhabited, is_truth, kind_fits, return_fits, stmt_fits, type_of}
+use Rattle.bl_tree.specs.Typing.{TypingContext, arm_fits, branch_fits, fits, is_inhabited, is_truth, kind_fits, return_fits, stmt_fits, type_of}
 use Rattle.bl_tree.proofs.StmtInduction.{Cases, Each, EachArm, induct}
 use Rattle.bl_eval.specs.declared.datum.Datum.{Datum}
 use Rattle.bl_eval.specs.Changes.{choice_of}
-use Rattle.bl_eval.specs.Functions.{Choice, Does, Flow, condition, does, first_true_choice, flow_then, in_order, looped, most_turns, own, returned}
+use Rattle.bl_eval.specs.Functions.{Flow, GuardedBlock, StmtMeaning, condition, does, first_true_choice, flow_then, in_order, looped, most_turns, own, returned}
 use Rattle.bl_eval.specs.Meaning.{Scope, meaning_of}
 use Rattle.bl_eval.proofs.MeaningLemmas.{choice_out}
 use Rattle.bl_eval.proofs.PassLemmas.{and_left, and_right}
@@ -49,10 +49,10 @@ weaken : (sure other : Bool) (flow : Flow) → (sure ≡ false → other ≡ fal
 weaken sure other (Flow.On now) less h = less h
 weaken sure other (Flow.Back now given) less h = h
 
-abbrev pub EndsSo : Bool → Does → Type 0
+abbrev pub EndsSo : Bool → StmtMeaning → Type 0
 EndsSo sure ends = (now : List Value) → IfSome (ends now) (Ends sure)
 
-weaken_all : (sure other : Bool) (ends : Does) → (sure ≡ false → other ≡ false) → EndsSo sure ends → EndsSo other ends
+weaken_all : (sure other : Bool) (ends : StmtMeaning) → (sure ≡ false → other ≡ false) → EndsSo sure ends → EndsSo other ends
 weaken_all sure other ends less h now = by_end (ends now) (h now)
   where
     by_end : (end : Option Flow) → IfSome end (Ends sure) → IfSome end (Ends other)
@@ -61,13 +61,13 @@ weaken_all sure other ends less h now = by_end (ends now) (h now)
 
 -- ---- one after another
 
-after_first : (sure : Bool) (first : Option Flow) (next : Does) (other : Bool) → IfSome first (Ends other) →
+after_first : (sure : Bool) (first : Option Flow) (next : StmtMeaning) (other : Bool) → IfSome first (Ends other) →
     ((now : List Value) → other ≡ false → IfSome (next now) (Ends sure)) → IfSome (flow_then first next) (Ends sure)
 after_first sure None next other h more = tt
 after_first sure (Some (Flow.On now)) next other h more = more now h
 after_first sure (Some (Flow.Back now given)) next other h more = h
 
-choice_by : (sure first rest : Bool) (holds : Option Bool) (body next : Does) (now : List Value) → (first ≡ false → sure ≡ false) →
+choice_by : (sure first rest : Bool) (holds : Option Bool) (body next : StmtMeaning) (now : List Value) → (first ≡ false → sure ≡ false) →
     (rest ≡ false → sure ≡ false) → EndsSo first body → EndsSo rest next
     → IfSome (option_and_then (λ holds. if holds then body now else next now) holds) (Ends sure)
 choice_by sure first rest None body next now less other one more = tt
@@ -87,19 +87,19 @@ no_middle false b c is = refl
 
 -- ---- loops
 
-module _ (goes ends : List Value → Option Bool) (body : Does) (sure : Bool) (one : EndsSo sure body) where
+module _ (goes ends : List Value → Option Bool) (body : StmtMeaning) (sure : Bool) (one : EndsSo sure body) where
   last_ends : (more : Option Bool) (now : List Value) → IfSome (option_and_then (λ more. if more then None else Some (Flow.On now)) more) (Ends false)
   last_ends None now = tt
   last_ends (Some true) now = tt
   last_ends (Some false) now = refl
 
-  over_ends : (is_over : Option Bool) (again : Does) (new : List Value) → EndsSo false again →
+  over_ends : (is_over : Option Bool) (again : StmtMeaning) (new : List Value) → EndsSo false again →
       IfSome (option_and_then (λ is_over. if is_over then Some (Flow.On new) else again new) is_over) (Ends false)
   over_ends None again new more = tt
   over_ends (Some true) again new more = refl
   over_ends (Some false) again new more = more new
 
-  turn_ends : (more : Option Bool) (again : Does) (now : List Value) → EndsSo false again
+  turn_ends : (more : Option Bool) (again : StmtMeaning) (now : List Value) → EndsSo false again
       → IfSome (option_and_then (λ more. if more then flow_then (body now)
       (λ new. option_and_then (λ is_over. if is_over then Some (Flow.On new) else again new) (ends new)) else Some (Flow.On now)) more) (Ends false)
   turn_ends None again now next = tt
@@ -114,7 +114,7 @@ module _ (goes ends : List Value → Option Bool) (body : Does) (sure : Bool) (o
 
 -- ---- statements
 
-module _ (site : Site) (scope : Scope) (r : ScalarType) (gives : site.result ≡ Some r) where
+module _ (site : TypingContext) (scope : Scope) (r : ScalarType) (gives : site.result ≡ Some r) where
   abbrev S : Stmt → Type 0
   S s = fits site s ≡ true → EndsSo (surely_returns s) (does scope s)
 
@@ -141,12 +141,12 @@ module _ (site : Site) (scope : Scope) (r : ScalarType) (gives : site.result ≡
   arm_ends : (arm : Arm) → OfArm arm → arm_fitted arm ≡ true → EndsSo (arm_sure arm) (choice_of scope arm).body
   arm_ends arm each fitted =
       subst (λ sure. EndsSo sure (choice_of scope arm).body) (sym (fold_out-Arm Bool Bool Bool Bool kind_returns arm_returns branch_returns stmt_returns arm))
-      (subst (λ (choice : Choice). EndsSo (last_of (map surely_returns (out-Arm arm).body)) choice.body) (sym (choice_out scope arm))
+      (subst (λ (choice : GuardedBlock). EndsSo (last_of (map surely_returns (out-Arm arm).body)) choice.body) (sym (choice_out scope arm))
       (block_ends (out-Arm arm).body each
       (and_right (is_truth (type_of site (out-Arm arm).test)) (all_of (map (fits site) (out-Arm arm).body))
       (sym (fold_out-Arm Bool Bool Bool Bool (kind_fits site) (arm_fits site) branch_fits stmt_fits arm) ∙ fitted))))
 
-  arms_end : (arms : List Arm) (other : Does) (last : Bool) → EachArm S arms → all_of (map arm_fitted arms) ≡ true → EndsSo last other
+  arms_end : (arms : List Arm) (other : StmtMeaning) (last : Bool) → EachArm S arms → all_of (map arm_fitted arms) ≡ true → EndsSo last other
       → EndsSo (all_of (map arm_sure arms) && last) (first_true_choice (map (choice_of scope) arms) other)
   arms_end [] other last each fitted h now = h now
   arms_end (arm ∷ arms) other last each fitted h now =

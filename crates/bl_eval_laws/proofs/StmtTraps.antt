@@ -43,7 +43,7 @@ use Rattle.bl_tree.specs.Reduce.{all_of}
 use Rattle.bl_tree.specs.Scalar.{is_bool}
 use Rattle.bl_tree.specs.Types.{scalar, scalar_in}
 use Rattle.bl_tree.specs.Typing.{
-  Site,
+  TypingContext,
   are_same,
   arguments_fit,
   run_fits,
@@ -66,9 +66,9 @@ use Rattle.bl_tree.proofs.StmtInduction.{Cases, Each, EachArm, induct, stmt}
 use Rattle.bl_eval.specs.declared.datum.Operand.{Operand}
 use Rattle.bl_eval.specs.Changes.{choice_of}
 use Rattle.bl_eval.specs.Functions.{
-  Choice,
-  Does,
   Flow,
+  GuardedBlock,
+  StmtMeaning,
   assigned,
   call_of,
   callees_of,
@@ -116,7 +116,7 @@ truth_type (Some ty) is = by_scalar (scalar_in ty) refl is
 
 module _ (structs : List StructDef) (home : Home) (sound : Sound structs home.earlier home.unit (callees_of structs home.earlier)) (calls : Calls structs home)
     (function : is_function home.unit.kind ≡ true) where
-  abbrev site : Site
+  abbrev site : TypingContext
   site = site_of structs home.earlier home.unit
 
   abbrev scope : Scope
@@ -220,7 +220,7 @@ module _ (structs : List StructDef) (home : Home) (sound : Sound structs home.ea
       (block_traps body (All-head OfArm arm arms each) (and_right (is_truth (type_of site test)) (all_of (map (fits site) body)) here) now fit)
       (arms_trap arms other (All-tail OfArm arm arms each) others (and_right (arm_fitted arm) (all_of (map arm_fitted arms)) fitted) other_fitted now fit)
       (truth scope test now) refl
-      (subst (λ (choice : Choice). option_and_then (λ holds. if holds then choice.body now else first_true_choice (map (choice_of scope) arms)
+      (subst (λ (choice : GuardedBlock). option_and_then (λ holds. if holds then choice.body now else first_true_choice (map (choice_of scope) arms)
       (in_order (map (does scope) other)) now) (choice.test now) ≡ None) (choice_out scope arm) none)
 
   -- ---- loops
@@ -238,7 +238,7 @@ module _ (structs : List StructDef) (home : Home) (sound : Sound structs home.ea
 
   module _ (goes ends : Option Expr) (body : List Stmt) (goes_fit : ConditionFits goes) (ends_fit : ConditionFits ends) (each : Each S body)
       (fitted : all_of (map (fits site) body) ≡ true) where
-    abbrev turned : ℕ → Does
+    abbrev turned : ℕ → StmtMeaning
     turned = looped (condition scope goes true) (in_order (map (does scope) body)) (condition scope ends false)
 
     last_by : (now : List Value) → Fit now → (more : Option Bool) → condition scope goes true now ≡ more →

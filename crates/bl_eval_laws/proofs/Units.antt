@@ -44,7 +44,7 @@ use Rattle.bl_tree.specs.declared.tree.Var.{Var}
 use Rattle.bl_tree.specs.declared.value.Value.{Value}
 use Rattle.bl_tree.specs.Apart.{is_apart}
 use Rattle.bl_tree.specs.Depths.{is_shallow}
-use Rattle.bl_tree.specs.Program.{Keeps, locals_of, names_of, parameters_of, roles_stand, structs_stand_from, unit_stands, units_stand_after}
+use Rattle.bl_tree.specs.Program.{IsWellTyped, locals_of, names_of, parameters_of, roles_stand, structs_stand_from, unit_stands, units_stand_after}
 use Rattle.bl_tree.specs.Reduce.{all_of}
 use Rattle.bl_tree.specs.Returns.{activity_returns, function_returns, last_of, surely_returns, unit_returns}
 use Rattle.bl_tree.specs.Types.{type_stands}
@@ -137,7 +137,7 @@ left_gives unit (Some (Flow.Back now given)) left h is none =
 
 -- ---- calls
 
-module _ (structs : List StructDef) (units : List UnitDef) (entry : ℕ) (keeps : Keeps structs units entry) where
+module _ (structs : List StructDef) (units : List UnitDef) (entry : ℕ) (keeps : IsWellTyped structs units entry) where
   stands_at : (k : ℕ) (unit : UnitDef) → slice_get units k ≡ Some unit → unit_stands structs (take k units) unit ≡ true
   stands_at k unit there = unit_at structs [] units k unit keeps.units_stand there
 

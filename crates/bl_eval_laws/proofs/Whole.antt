@@ -10,8 +10,8 @@ use Rattle.bl_tree.specs.declared.tree.StmtKind.TheOpen.{StmtKind-F}
 use Rattle.bl_tree.specs.declared.tree.StructDef.{StructDef}
 use Rattle.bl_tree.specs.declared.tree.Ty.{Ty}
 use Rattle.bl_tree.specs.declared.tree.Unit.{Unit as UnitDef}
-use Rattle.bl_tree.specs.Program.{Keeps}
-use Rattle.bl_tree.specs.Typing.{Site, are_same, fits, is_assignable, site_of, type_of, type_of_path}
+use Rattle.bl_tree.specs.Program.{IsWellTyped}
+use Rattle.bl_tree.specs.Typing.{TypingContext, are_same, fits, is_assignable, site_of, type_of, type_of_path}
 use Rattle.bl_tree.proofs.StmtInduction.{stmt}
 use Rattle.bl_eval.specs.Functions.{acted}
 use Rattle.bl_eval.specs.Meaning.{View, meaning_of, plain}
@@ -30,7 +30,7 @@ typed_at : (typed : Option Ty) → is_some typed ≡ true → (ty : Ty) × (type
 typed_at None is = absurd (cc)
 typed_at (Some ty) is = (ty, refl)
 
-module _ (structs : List StructDef) (units : List UnitDef) (entry k : ℕ) (view : View) (keeps : Keeps structs units entry) where
+module _ (structs : List StructDef) (units : List UnitDef) (entry k : ℕ) (view : View) (keeps : IsWellTyped structs units entry) where
   -- ---- expressions
 
   value_here : (e : Expr) (unit : UnitDef) → slice_get units k ≡ Some unit →
@@ -63,7 +63,7 @@ module _ (structs : List StructDef) (units : List UnitDef) (entry k : ℕ) (view
     abbrev home : Home
     home = home_at units k stands.unit
 
-    abbrev site : Site
+    abbrev site : TypingContext
     site = site_of structs (take k units) stands.unit
 
     fitted_as : (layer : StmtKind-F StmtKind Arm Branch Stmt) → says s ≡ layer → fits site (stmt (out-Stmt s).place layer) ≡ true

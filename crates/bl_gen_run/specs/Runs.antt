@@ -1,6 +1,6 @@
 -- Runs of the generated program.
 use Rattle.std.specs.Prelude.{◌≡◌, ◌↔◌, ℕ, ◌<◌, ◌≤◌, ℤ, List, codes}
-use Rattle.bl_ctree.specs.Means.{Means, Shown, shown}
+use Rattle.bl_ctree.specs.Means.{Means, ShownTrace, shown_trace}
 use Rattle.bl_gen.specs.Outputs.{input_rows, report_text}
 use Rattle.bl_gen.specs.Text.{most_stages, program_text}
 use Rattle.bl_gen_run.specs.declared.unrun.Unrun.{Unrun}
@@ -17,7 +17,7 @@ use Rattle.bl_tree.specs.Rules.{IsCause}
 pub record HasTrace (stages : ℕ) (trace : Trace) : Type 0 where
   pub program : Program
   pub has : HasProgram (program_text stages) program
-  pub one : (shows : Shown) → Means program.structs program.units program.entry input_rows shows ↔ (shows ≡ shown trace)
+  pub one : (shows : ShownTrace) → Means program.structs program.units program.entry input_rows shows ↔ (shows ≡ shown_trace trace)
 
 -- what is told of the rows of outputs of a run that stands so after them: four lines, unless it trapped
 abbrev pub run_text : ℕ → List (List ℤ) → Last → List ℕ
@@ -26,7 +26,7 @@ run_text stages rows Ended = report_text stages rows
 run_text stages rows Trap = codes "trap\n"
 
 -- there are no more than 2,000 stages, the text tells the one trace of their program, and so it stands
-pub record IsRun (stages : ℕ) (text : List ℕ) (last : Last) : Type 0 where
+pub record IsGeneratedRun (stages : ℕ) (text : List ℕ) (last : Last) : Type 0 where
   pub within : stages ≤ most_stages
   pub trace : Trace
   pub has : HasTrace stages trace

@@ -2,12 +2,12 @@
 
 ghost use Rattle.std.specs.Prelude.{◌≡◌, ◌<◌, ◌≤◌, ◌^◌, length, IfErr, IfOk, OnOk};
 ghost use Rattle.bl_ctree.specs.Instances.{instances_of};
-ghost use Rattle.bl_ctree.specs.Means.{Means, shown};
+ghost use Rattle.bl_ctree.specs.Means.{Means, shown_trace};
 ghost use Rattle.bl_ctree.specs.Measure.{steps};
 ghost use Rattle.bl_ctree.specs.Reaches.{Bounded, NeverStuck};
 ghost use Rattle.bl_gen.specs.Outputs.{input_rows};
 ghost use Rattle.bl_gen.specs.Text.{most_stages, program_text};
-ghost use Rattle.bl_gen_run.specs.Runs.{IsRun, IsUnrun};
+ghost use Rattle.bl_gen_run.specs.Runs.{IsGeneratedRun, IsUnrun};
 ghost use Rattle.bl_rules.specs.Accepted.{HasProgram};
 
 use crate::text::{Run, text_of};
@@ -21,7 +21,7 @@ use std::alloc::Global;
 /// Makes the program of so many stages and runs it over its rows: what its one trace comes to, or why it isn't run.
 pub fn run(alloc: Global, stages: u32) -> Result<Run, Unrun>
     requires { 1 ≤ stages }
-    ensures ran { IfOk result (λ run. IsRun stages run.text.items run.last) }
+    ensures ran { IfOk result (λ run. IsGeneratedRun stages run.text.items run.last) }
     ensures unrun { IfErr result (IsUnrun stages) }
 {
     let accepted = match accepted_of(alloc, stages) {
@@ -56,7 +56,7 @@ fn accepted_of(alloc: Global, stages: u32) -> Result<Accepted, Unrun>
 fn run_of(alloc: Global, stages: u32, accepted: &Accepted) -> Result<Run, NoMemory>
     requires within { stages ≤ most_stages }
     requires program { HasProgram (program_text stages) accepted.now.program }
-    ensures { IfOk result (λ run. IsRun stages run.text.items run.last) }
+    ensures { IfOk result (λ run. IsGeneratedRun stages run.text.items run.last) }
 {
     accepted_texts_have_one_trace();
     accepted_texts_have_few_instances();
@@ -75,7 +75,7 @@ fn trace_of(alloc: Global, accepted: &Accepted) -> Result<Trace, NoMemory>
         accepted.now.program.structs accepted.now.program.units accepted.now.program.entry }
     requires never_stuck { NeverStuck accepted.now.program.structs accepted.now.program.units accepted.now.program.entry }
     ensures { IfOk result (λ trace. Means accepted.now.program.structs accepted.now.program.units accepted.now.program.entry
-        input_rows (shown trace)) }
+        input_rows (shown_trace trace)) }
 {
     let rows = input_rows(alloc)?;
     let mut places = List::new(alloc);

@@ -7,13 +7,13 @@ use Rattle.bl_grammar.specs.Derivations.{Begins}
 use Rattle.bl_grammar.specs.Derivations.Derives.{terminal}
 use Rattle.bl_grammar.specs.Predictive
 use Rattle.bl_grammar.specs.Predictive.{Tables, IsPredictive, Good}
-use Rattle.bl_grammar.specs.Runs.{Spells, StackStands, StackExpands, StackTakes, StackRefuses}
+use Rattle.bl_grammar.specs.Runs.{Spells, StackCompletes, StackExpands, StackTakes, StackRefuses}
 use Rattle.bl_grammar.proofs.Predictive.{leads, same_some, no_some, not_both, fold_in, terminal_first, good_expand, step, vanish_end, spells_end, complete}
 
 module _ {K P T : Type 0} (Produces : P → Option T → List (Symbol K P) → Type 0) (matches : K → T → Bool) (tables : Tables K P T)
     (right : IsPredictive Produces matches tables) where
   -- before any token the stack is the part alone
-  pub starts : (A : P) → StackStands Produces matches tables A [] (Nonterminal A ∷ [])
+  pub starts : (A : P) → StackCompletes Produces matches tables A [] (Nonterminal A ∷ [])
   starts A = record { good = ((λ t none. absurd (no_some t (sym none))), tt); there = λ more d. d; back = λ more d. d }
 
   pub opened : (t : T) (stack : List (Symbol K P)) → Good Produces matches tables stack → StackExpands Produces matches tables t stack stack
@@ -55,8 +55,8 @@ module _ {K P T : Type 0} (Produces : P → Option T → List (Symbol K P) → T
   refuse_more t stack now more d = no_some t (sym (leads Produces matches tables right (now.there more d)))
 
   -- one token more
-  pub next : (A : P) (front : List T) (t : T) (stack rest : List (Symbol K P)) → StackStands Produces matches tables A front stack →
-      StackTakes Produces matches tables t stack rest → StackStands Produces matches tables A (front ++ t ∷ []) rest
+  pub next : (A : P) (front : List T) (t : T) (stack rest : List (Symbol K P)) → StackCompletes Produces matches tables A front stack →
+      StackTakes Produces matches tables t stack rest → StackCompletes Produces matches tables A (front ++ t ∷ []) rest
   next A front t stack rest stands takes = record {
     good = takes.good;
     there = λ more d. takes.there more (stands.there (t ∷ more)
@@ -66,21 +66,21 @@ module _ {K P T : Type 0} (Produces : P → Option T → List (Symbol K P) → T
   }
 
   -- the tokens before are the front of a text, and with a token that is refused they aren't
-  pub begins : (A : P) (front : List T) (stack : List (Symbol K P)) → StackStands Produces matches tables A front stack → Begins Produces matches A front
+  pub begins : (A : P) (front : List T) (stack : List (Symbol K P)) → StackCompletes Produces matches tables A front stack → Begins Produces matches A front
   begins A front stack stands = let h = complete Produces matches tables right stack in (h.tokens, stands.back h.tokens h.spells)
 
-  pub begins_not : (A : P) (front : List T) (t : T) (stack : List (Symbol K P)) → StackStands Produces matches tables A front stack →
+  pub begins_not : (A : P) (front : List T) (t : T) (stack : List (Symbol K P)) → StackCompletes Produces matches tables A front stack →
       StackRefuses Produces matches tables t stack → ¬ Begins Produces matches A (front ++ t ∷ [])
   begins_not A front t stack stands refuses b = refuses b.0
       (stands.there (t ∷ b.0) (subst (Spells Produces matches tables (Nonterminal A ∷ [])) (append_assoc front (t ∷ []) b.0) b.1))
 
   -- the whole is a text exactly where the stack that is left may stand for nothing
-  pub accepts : (A : P) (tokens : List T) (stack : List (Symbol K P)) → StackStands Produces matches tables A tokens stack →
+  pub accepts : (A : P) (tokens : List T) (stack : List (Symbol K P)) → StackCompletes Produces matches tables A tokens stack →
       Predictive.vanish Produces matches tables stack ≡ true → Spells Produces matches tables (Nonterminal A ∷ []) tokens
   accepts A tokens stack stands vanish = subst (Spells Produces matches tables (Nonterminal A ∷ [])) (append-nil tokens)
       (stands.back [] (spells_end Produces matches tables right stack vanish))
 
-  pub rejects : (A : P) (tokens : List T) (stack : List (Symbol K P)) → StackStands Produces matches tables A tokens stack →
+  pub rejects : (A : P) (tokens : List T) (stack : List (Symbol K P)) → StackCompletes Produces matches tables A tokens stack →
       Predictive.vanish Produces matches tables stack ≡ false → ¬ Spells Produces matches tables (Nonterminal A ∷ []) tokens
   rejects A tokens stack stands vanish d = not_both _
       (vanish_end Produces matches tables right stack (stands.there []

@@ -14,7 +14,7 @@ module _ {K P T : Type 0}
   Spells symbols tokens = Derives Produces matches symbols tokens []
 
   -- after these tokens the stack stands for just what completes a text of the part
-  pub record StackStands (A : P) (front : List T) (stack : List (Symbol K P)) : Type 0 where
+  pub record StackCompletes (A : P) (front : List T) (stack : List (Symbol K P)) : Type 0 where
     pub good : Good Produces matches tables stack
     pub there : (more : List T) → Spells (Nonterminal A ∷ []) (front ++ more) → Spells stack more
     pub back : (more : List T) → Spells stack more → Spells (Nonterminal A ∷ []) (front ++ more)

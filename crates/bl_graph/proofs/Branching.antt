@@ -48,11 +48,11 @@ use Rattle.bl_tree.specs.declared.tree.StmtKind.TheVariants as kinds
 use Rattle.bl_tree.specs.Effects.{argument_mentions, optional_mentions, reads, target_mentions, target_static, writes}
 use Rattle.bl_tree.specs.Instant.{branches_instant, instant as ends_at_once}
 use Rattle.bl_tree.specs.Static.{index_mentions, mentions, set_of, static_of, whole}
-use Rattle.bl_nodes.specs.Laws.{plain_branch, stmt}
-use Rattle.bl_nodes.specs.Nodes.{ActAt, DepthJoinAt, ForkAt, Node, SurfaceJoinAt, is_instant, nodes_in, nodes_in_each, nodes_of, where_so}
-use Rattle.bl_nodes.specs.Plain.{Act, Await, Block, Bodies, Body, Cobegin, Label, Last, Position, Run, bodies_from, inside, label_at, plain, plain_block}
-use Rattle.bl_nodes.proofs.Equations.{plain_statements}
-use Rattle.bl_nodes.proofs.Instants.{instant_is}
+use Rattle.bl_graph_nodes.specs.Laws.{plain_branch, stmt}
+use Rattle.bl_graph_nodes.specs.Nodes.{ActAt, DepthJoinAt, ForkAt, Node, SurfaceJoinAt, is_instant, nodes_in, nodes_in_each, nodes_of, where_so}
+use Rattle.bl_graph_nodes.specs.Plain.{Act, Await, Block, Bodies, Body, Cobegin, Label, Last, Position, Run, bodies_from, inside, label_at, plain, plain_block}
+use Rattle.bl_graph_nodes.proofs.Equations.{plain_statements}
+use Rattle.bl_graph_nodes.proofs.Instants.{instant_is}
 use Rattle.bl_graph.specs.declared.part.Branches.{Branches}
 use Rattle.bl_graph.specs.declared.part.Links.{Links}
 use Rattle.bl_graph.specs.declared.part.Part.{Part as Made}

@@ -53,8 +53,8 @@ use Rattle.bl_tree.specs.Effects.{reads}
 use Rattle.bl_tree.specs.Instant.{is_instant_block}
 use Rattle.bl_tree.specs.Static.{mentions, set_of}
 use Rattle.bl_tree.proofs.StmtInduction.{Cases, induct}
-use Rattle.bl_nodes.specs.Laws.{plain_arm, stmt}
-use Rattle.bl_nodes.specs.Nodes.{
+use Rattle.bl_graph_nodes.specs.Laws.{plain_arm, stmt}
+use Rattle.bl_graph_nodes.specs.Nodes.{
   CheckAt,
   DepthEndAt,
   HeadAt,
@@ -68,7 +68,7 @@ use Rattle.bl_nodes.specs.Nodes.{
   nodes_of,
   where_so,
 }
-use Rattle.bl_nodes.specs.Plain.{
+use Rattle.bl_graph_nodes.specs.Plain.{
   Block,
   Done,
   If,
@@ -90,8 +90,8 @@ use Rattle.bl_nodes.specs.Plain.{
   plain,
   plain_block,
 }
-use Rattle.bl_nodes.proofs.Equations.{plain_statements}
-use Rattle.bl_nodes.proofs.Instants.{blocks_are_instant}
+use Rattle.bl_graph_nodes.proofs.Equations.{plain_statements}
+use Rattle.bl_graph_nodes.proofs.Instants.{blocks_are_instant}
 use Rattle.bl_graph.specs.declared.flow.Flow.{Flow}
 use Rattle.bl_graph.specs.declared.part.Links.{Links}
 use Rattle.bl_graph.specs.declared.part.Part.{Part as Made}
@@ -104,9 +104,9 @@ use Rattle.bl_graph.specs.inner.Made.{
   ChoiceMade,
   Closing,
   IsNode,
-  Leads,
   Makes,
   Names,
+  NamesEntry,
   Naming,
   Open,
   Pairwise,
@@ -224,7 +224,7 @@ module _ (naming : Naming) where
       let named : Names naming n ((entry (plain s at) ∷ first.further) ++ more) = subst (λ ns. Names naming n (ns ++ more)) first.is names in
       named.0
 
-  pub leads_in : (body : List Stmt) (at : Position) (n : ℕ) → Names naming n (nodes_in (plain_block body at)) → Leads naming n (plain_block body at)
+  pub leads_in : (body : List Stmt) (at : Position) (n : ℕ) → Names naming n (nodes_in (plain_block body at)) → NamesEntry naming n (plain_block body at)
   leads_in [] at n names = tt
   leads_in (s ∷ body) at n names = leads_at s (at ++ 0 ∷ []) n _ names
 
@@ -350,7 +350,7 @@ choice_made place reads body more empty first start next inside result l0 l1 one
     let back : Names naming next (nodes_in rest) = names_back naming start next (nodes_in b) (nodes_in rest) after_b both in
     let opens : Open naming (whole_of whole) rest next (choice_part place (set_of (mentions e)) (empty || not more) first inside) l0 last =
     choice_opens naming l place e b rest first next more empty inside l0 l1 two (empty_at body at empty bare) empty_rest named.0
-    (subst (λ n. Leads naming n b) is (leads_in naming body at start front)) (leads_rest next back) back makes
+    (subst (λ n. NamesEntry naming n b) is (leads_in naming body at start front)) (leads_rest next back) back makes
     (more_grows ∙ ap (λ es. es ++ link_if more first next) (grows ∙ ap (λ n. l1.control ++ link_if (not empty) first n) is)) in
     let results : result ≡ choice_part place (set_of (mentions e)) (empty || not more) first inside =
     same ∙ ap (λ reads. choice_part place reads (empty || not more) first inside) read in
@@ -389,7 +389,7 @@ module _ (naming : Naming) where
   }
 
   leads_else : (l : Label) (arms : List Arm) (other : List Stmt) (n : ℕ) → Names naming n (nodes_in (else_at l (map plain_arm arms) (plain_block other)))
-      → Leads naming n (else_at l (map plain_arm arms) (plain_block other))
+      → NamesEntry naming n (else_at l (map plain_arm arms) (plain_block other))
   leads_else l [] other n names = leads_in naming other (inside_at l l.passed) n names
   leads_else l (arm ∷ arms) other n names = names.0
 
@@ -544,7 +544,7 @@ guarded_made place guard e body instant empty first check start reads inside res
     (subst (λ made. Makes naming (whole_of (When l place guard e b)) made l0 last)
     (sym (same ∙ ap (λ reads. guarded_part place guard reads empty instant first check inside) read))
     (guarded_makes naming l place guard e b first check empty instant inside l0 l1 control (empty_at body (inside_at l 0) empty bare) instant_is
-    frame.start frame.surface frame.tests frame.last (subst (λ n. Leads naming n b) is (leads_in naming body (inside_at l 0) start inner))
+    frame.start frame.surface frame.tests frame.last (subst (λ n. NamesEntry naming n b) is (leads_in naming body (inside_at l 0) start inner))
     (made (inside_at l 0) naming inner) grows))
 
 -- one more condition, by how many nodes there are

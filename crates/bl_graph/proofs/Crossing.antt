@@ -39,8 +39,8 @@ use Rattle.std.specs.Prelude.{◌≢◌, Contains, slice_get}
 use Rattle.std.proofs.lemmas.List.Elements.{All-contains, Contains-append_cases, Contains-append_left, Contains-append_right}
 use Rattle.bl_tree.specs.declared.graph.Edge.{Edge}
 use Rattle.bl_tree.specs.Static.{meets}
-use Rattle.bl_nodes.specs.Nodes.{Node, node_reads, node_writes, nodes_in, nodes_in_each}
-use Rattle.bl_nodes.specs.Plain.{Bodies, Body, Last}
+use Rattle.bl_graph_nodes.specs.Nodes.{Node, node_reads, node_writes, nodes_in, nodes_in_each}
+use Rattle.bl_graph_nodes.specs.Plain.{Bodies, Body, Last}
 use Rattle.bl_graph.specs.declared.flow.Flow.{Flow}
 use Rattle.bl_graph.specs.declared.flow.Span.{Span}
 use Rattle.bl_graph.specs.Graph.{edge_between}

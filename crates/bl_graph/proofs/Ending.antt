@@ -38,15 +38,15 @@ use Rattle.bl_tree.specs.declared.graph.Node.{Node as GraphNode}
 use Rattle.bl_tree.specs.declared.tree.Stmt.{Stmt}
 use Rattle.bl_tree.specs.declared.tree.Unit.{Unit as UnitDef}
 use Rattle.bl_tree.specs.Graph.{JoinsNodes}
-use Rattle.bl_nodes.specs.Laws.{EachOnce, NodesDiffer}
-use Rattle.bl_nodes.specs.Nodes.{Node, nodes_in}
-use Rattle.bl_nodes.specs.Plain.{Block, plain_block, plain_body}
+use Rattle.bl_graph_nodes.specs.Laws.{EachOnce, NodesDiffer}
+use Rattle.bl_graph_nodes.specs.Nodes.{Node, nodes_in}
+use Rattle.bl_graph_nodes.specs.Plain.{Block, plain_block, plain_body}
 use Rattle.bl_graph.specs.declared.flow.Flow.{Flow}
 use Rattle.bl_graph.specs.declared.part.Links.{Links}
 use Rattle.bl_graph.specs.declared.part.Part.{Part as Made}
 use Rattle.bl_graph.specs.DataEdges.{DataEdge}
 use Rattle.bl_graph.specs.Edges.{EdgeAll}
-use Rattle.bl_graph.specs.Graph.{Between, IsTickGraph, edge_between, shown}
+use Rattle.bl_graph.specs.Graph.{EdgeBetween, IsTickGraph, edge_between, graph_node}
 use Rattle.bl_graph.specs.Listed.{Pair, edges_in, flows_in, pair}
 use Rattle.bl_graph.specs.Marks.{Marked, part_in}
 use Rattle.bl_graph.specs.inner.Made.{Adds, BlockMade, HasPair, Makes, Names, flow_of, whole_in}
@@ -57,9 +57,9 @@ use Rattle.bl_graph.proofs.Listing.{edges_are_listed}
 use Rattle.bl_graph.proofs.Marking.{names, names_in}
 use Rattle.bl_graph.proofs.Numbering.{head_there, tail_there}
 
-shown_all : (ms : List Marked) → map (λ (flow : Flow). flow.node) (map flow_of ms) ≡ map shown (names ms)
+shown_all : (ms : List Marked) → map (λ (flow : Flow). flow.node) (map flow_of ms) ≡ map graph_node (names ms)
 shown_all [] = refl
-shown_all (m ∷ ms) = ap (λ ns. shown m.node ∷ ns) (shown_all ms)
+shown_all (m ∷ ms) = ap (λ ns. graph_node m.node ∷ ns) (shown_all ms)
 
 -- the numbers of a list name its elements
 itself : (nodes : List Node) → Names (slice_get nodes) 0 nodes
@@ -74,7 +74,7 @@ not_false is = cc
 module _ (nodes : List Node) (E : Node → Node → Type 0) (kind : Bool) (pairs : List Pair) (es : List GraphEdge) where
   -- edges that were added are those between nodes
   pub adds_between : EachOnce nodes → ((n m : Node) → Contains pairs (pair n m) ↔ E n m) → Adds kind (slice_get nodes) pairs [] es → (i j : ℕ)
-      → Contains es (edge_between i j kind) ↔ Between nodes E i j
+      → Contains es (edge_between i j kind) ↔ EdgeBetween nodes E i j
   adds_between once listed adds i j = (
     λ there.
         let has : HasPair kind (slice_get nodes) pairs (edge_between i j kind) = adds.there (edge_between i j kind) (subst (λ es. Contains es
@@ -136,14 +136,14 @@ is_tick_graph differ body made links block nodes edges nodes_are edges_are =
     let makes : Makes (slice_get all) (whole_in b) made (record { control = []; by_data = [] }) links = block [] (slice_get all) (itself all) in
     let once : EachOnce all = differ.blocks body [] in
     record {
-      in_order = nodes_are ∙ ap (map (λ (flow : Flow). flow.node)) makes.flows ∙ shown_all (part_in b).nodes ∙ ap (map shown) (names_in b);
+      in_order = nodes_are ∙ ap (map (λ (flow : Flow). flow.node)) makes.flows ∙ shown_all (part_in b).nodes ∙ ap (map graph_node) (names_in b);
       control = λ i j.
-          subst (λ es. Contains es (edge_between i j false) ↔ Between all (EdgeAll b) i j) (sym edges_are)
-          (control_only links.control links.by_data (of_kind all (DataEdge b) true (flows_in b) links.by_data makes.by_data) (Between all (EdgeAll b) i j) i j
+          subst (λ es. Contains es (edge_between i j false) ↔ EdgeBetween all (EdgeAll b) i j) (sym edges_are)
+          (control_only links.control links.by_data (of_kind all (DataEdge b) true (flows_in b) links.by_data makes.by_data) (EdgeBetween all (EdgeAll b) i j) i j
           (adds_between all (EdgeAll b) false (edges_in b) links.control once (λ n m. edges_are_listed differ body [] n m) makes.control i j));
       by_data = λ i j.
-          subst (λ es. Contains es (edge_between i j true) ↔ Between all (DataEdge b) i j) (sym edges_are)
-          (data_only links.control links.by_data (of_kind all (EdgeAll b) false (edges_in b) links.control makes.control) (Between all (DataEdge b) i j) i j
+          subst (λ es. Contains es (edge_between i j true) ↔ EdgeBetween all (DataEdge b) i j) (sym edges_are)
+          (data_only links.control links.by_data (of_kind all (EdgeAll b) false (edges_in b) links.control makes.control) (EdgeBetween all (DataEdge b) i j) i j
           (adds_between all (DataEdge b) true (flows_in b) links.by_data once (λ n m. flows_are_listed differ body [] n m) makes.by_data i j));
     }
 
@@ -156,8 +156,8 @@ joins_nodes body made links block nodes edges nodes_are edges_are =
     let all : List Node = nodes_in b in
     let makes : Makes (slice_get all) (whole_in b) made (record { control = []; by_data = [] }) links = block [] (slice_get all) (itself all) in
     let size : length all ≡ length nodes =
-    sym (length-map all shown) ∙ ap length (sym (nodes_are ∙ ap (map (λ (flow : Flow). flow.node)) makes.flows
-    ∙ shown_all (part_in b).nodes ∙ ap (map shown) (names_in b))) in
+    sym (length-map all graph_node) ∙ ap length (sym (nodes_are ∙ ap (map (λ (flow : Flow). flow.node)) makes.flows
+    ∙ shown_all (part_in b).nodes ∙ ap (map graph_node) (names_in b))) in
     record {
       ends = lists_all _ edges (λ edge there.
           let both : (edge.from < length all) × (edge.to < length all) =

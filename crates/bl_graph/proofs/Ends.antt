@@ -30,7 +30,7 @@ use Rattle.std.proofs.Common.{
 }
 use Rattle.bl_tree.specs.declared.tree.Arm.{Arm, fold_out-Arm, out-Arm}
 use Rattle.bl_tree.specs.declared.tree.Branch.{Branch, fold_out-Branch, out-Branch}
-use Rattle.bl_tree.specs.Instant.{Ends, arm_instant, branch_ends, branches_instant, instant, kind_instant, stmt_instant}
+use Rattle.bl_tree.specs.Instant.{BranchInstant, arm_instant, branch_ends, branches_instant, instant, kind_instant, stmt_instant}
 use Rattle.bl_tree.specs.Reduce.{all_of, any_of}
 use Rattle.bl_graph.specs.inner.Instants.{ends_of_branch, instant_of_arm}
 
@@ -76,11 +76,11 @@ module _ {A : Type 0} (f : A → Bool) (xs : List A) (k : ℕ) where
   all_end now over all = sym (and_yes now) ∙ ap (λ rest. now && all_of (map f rest)) (sym (drop_of_length-le xs over)) ∙ all
 
 pub instant_arm_out : (arm : Arm) → instant_of_arm arm ≡ all_of (map instant (out-Arm arm).body)
-instant_arm_out = fold_out-Arm Bool Bool Ends Bool kind_instant arm_instant branch_ends stmt_instant
+instant_arm_out = fold_out-Arm Bool Bool BranchInstant Bool kind_instant arm_instant branch_ends stmt_instant
 
 pub ends_branch_out : (branch : Branch) → ends_of_branch branch
     ≡ record { weak = (out-Branch branch).weak; instant = all_of (map instant (out-Branch branch).body) }
-ends_branch_out = fold_out-Branch Bool Bool Ends Bool kind_instant arm_instant branch_ends stmt_instant
+ends_branch_out = fold_out-Branch Bool Bool BranchInstant Bool kind_instant arm_instant branch_ends stmt_instant
 
 pub branches_end : (all : List Branch) (k : ℕ) (is_strong strong some : Bool) → length all ≤ k
     → (is_strong || any_of (map (λ branch. not (ends_of_branch branch).weak) (drop k all)))
@@ -96,6 +96,6 @@ branches_end all k is_strong strong some over strongs alls somes =
     let third = any_end (λ branch. (ends_of_branch branch).instant) all k some over somes ∙ ap any_of (sym (twice (λ ends. ends.instant) all)) in
     λ i. cond (first i) (second i) (third i)
   where
-    twice : (f : Ends → Bool) (all : List Branch) → map f (map ends_of_branch all) ≡ map (λ branch. f (ends_of_branch branch)) all
+    twice : (f : BranchInstant → Bool) (all : List Branch) → map f (map ends_of_branch all) ≡ map (λ branch. f (ends_of_branch branch)) all
     twice f [] = refl
     twice f (branch ∷ all) = ap (λ rest. f (ends_of_branch branch) ∷ rest) (twice f all)

@@ -26,7 +26,7 @@ use Rattle.bl_tree.specs.declared.place.Place.{Place}
 use Rattle.bl_tree.specs.declared.tree.Expr.{Expr}
 use Rattle.bl_tree.specs.declared.tree.Path.{Path}
 use Rattle.bl_tree.specs.declared.tree.Stmt.{Stmt}
-use Rattle.bl_nodes.specs.Nodes.{
+use Rattle.bl_graph_nodes.specs.Nodes.{
   ActAt,
   EnterAt,
   HeadAt,
@@ -39,8 +39,8 @@ use Rattle.bl_nodes.specs.Nodes.{
   nodes_in,
   nodes_of,
 }
-use Rattle.bl_nodes.specs.Plain.{Act, Again, Await, Block, If, Label, Plain, Repeat, Run, Until, While, is_empty}
-use Rattle.bl_graph.specs.Edges.{Edge, EdgeAll, Entry, Out, OutAll, Resume, ResumeAll, Turn}
+use Rattle.bl_graph_nodes.specs.Plain.{Act, Again, Await, Block, If, Label, Plain, Repeat, Run, Until, While, is_empty}
+use Rattle.bl_graph.specs.Edges.{Edge, EdgeAll, Entry, LoopEdge, Out, OutAll, Resume, ResumeAll}
 use Rattle.bl_graph.specs.Marks.{
   Mark,
   Marked,
@@ -278,7 +278,7 @@ pub turn_closed : (body : Block) (first last : Node) (first_mark last_mark : Mar
     (first_mark.depth ≡ true → (some_of (part_in body).outs).depth ≡ true) → (is_empty body ≡ true → last_mark.surface ≡ true) →
     ((some_of (part_in body).outs).surface ≡ true → last_mark.surface ≡ true) →
     ((some_of (part_in body).outs).depth ≡ true → last_mark.depth ≡ true) →
-    (deep : Bool) → Closed deep zs (Turn body first last)
+    (deep : Bool) → Closed deep zs (LoopEdge body first last)
 turn_closed body first last fm lm zs full d sub at_first at_last first_deep empty_last some_last deep_last false n m is (inl h) = elim h.1 [
   | inl into ↦ is_in false (moved (again_by (some_of (part_in body).outs)) (part_in body).nodes) zs m sub
       (to_surface (again_by (some_of (part_in body).outs)) (part_in body).nodes m refl (full.enters m into))

@@ -19,9 +19,9 @@ use Rattle.std.proofs.Common.{
   ◌∙◌,
 }
 use Rattle.bl_tree.specs.Static.{meets}
-use Rattle.bl_nodes.specs.Laws.{NodesDiffer}
-use Rattle.bl_nodes.specs.Nodes.{Node, node_reads, node_writes}
-use Rattle.bl_nodes.specs.Plain.{
+use Rattle.bl_graph_nodes.specs.Laws.{NodesDiffer}
+use Rattle.bl_graph_nodes.specs.Nodes.{Node, node_reads, node_writes}
+use Rattle.bl_graph_nodes.specs.Plain.{
   Act,
   Again,
   Await,

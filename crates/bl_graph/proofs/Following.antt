@@ -28,8 +28,8 @@ use Rattle.std.proofs.Common.{
 }
 use Rattle.std.specs.Prelude.{Contains}
 use Rattle.std.proofs.lemmas.List.Elements.{Contains-append_left, Contains-append_right, Contains-append_cases}
-use Rattle.bl_nodes.specs.Nodes.{Node, entry, nodes_in, nodes_of}
-use Rattle.bl_nodes.specs.Plain.{
+use Rattle.bl_graph_nodes.specs.Nodes.{Node, entry, nodes_in, nodes_of}
+use Rattle.bl_graph_nodes.specs.Plain.{
   Act,
   Again,
   Await,

@@ -57,7 +57,7 @@ use Rattle.bl_graph.specs.inner.Found.{
   writes_in,
   writes_to,
 }
-use Rattle.bl_graph.specs.inner.Noted.{Note, Tells, front, kept, numbers_at, numbers_met, numbers_to}
+use Rattle.bl_graph.specs.inner.Noted.{HasNotesAndFronts, Note, front, kept, numbers_at, numbers_met, numbers_to}
 use Rattle.bl_graph.proofs.MemberLemmas.{each-append, is_one, one_in}
 use Rattle.bl_graph.proofs.NoteLemmas.{tells_same}
 
@@ -148,13 +148,13 @@ fronts_end a b to ns path k n is = subst (λ n. Gains a b (links to (numbers_to 
 
 -- from the nodes at a front
 pub front_linked : (a b : Found) (to : ℕ) (notes : Notes) (ns : List Note) (at path : Static) (nodes : List ℕ) → at ≡ path →
-    nodes ≡ kept notes.exactly at → Tells notes ns → Gains a b (links to nodes) → Gains a b (links to (numbers_at path ns))
+    nodes ≡ kept notes.exactly at → HasNotesAndFronts notes ns → Gains a b (links to nodes) → Gains a b (links to (numbers_at path ns))
 front_linked a b to notes ns at path nodes same is tells =
     gains_same a b (links to nodes) (links to (numbers_at path ns)) (ap (links to) (is ∙ ap (kept notes.exactly) same ∙ tells.exactly path))
 
 -- from the nodes below a path, and from those at its fronts
 pub met_both : (a b c : Found) (to : ℕ) (notes : Notes) (ns : List Note) (path : Static) (near : List ℕ) → near ≡ kept notes.within path →
-    Tells notes ns → Gains a b (links to near) → Gains b c (links to (numbers_to ns path (length path.fields))) →
+    HasNotesAndFronts notes ns → Gains a b (links to near) → Gains b c (links to (numbers_to ns path (length path.fields))) →
     Gains a c (links to (numbers_met ns path))
 met_both a b c to notes ns path near is tells one two =
     subst (λ xs. Gains a c (links to (xs ++ numbers_to ns path (length path.fields)))) (is ∙ tells.within path)
@@ -204,22 +204,22 @@ pub nodes_end : (a b : Found) (ns : List Note) (nodes : List Flow) (deep : Bool)
 nodes_end a b ns nodes deep from k n is = subst (λ n. Gains a b (links_to ns nodes deep from n)) is
 
 pub noted_step : (a : Notes) (ns : List Note) (nodes : List Flow) (deep : Bool) (from i : ℕ) (flow : Flow) → from ≤ i → i < length nodes →
-    flow ≡ get_or nodes i flow → Tells a ((ns ++ writes_to nodes deep from (i - from)) ++ writes_at deep i (Some flow)) →
-    Tells a (ns ++ writes_to nodes deep from (i + 1 - from))
+    flow ≡ get_or nodes i flow → HasNotesAndFronts a ((ns ++ writes_to nodes deep from (i - from)) ++ writes_at deep i (Some flow)) →
+    HasNotesAndFronts a (ns ++ writes_to nodes deep from (i + 1 - from))
 noted_step a ns nodes deep from i flow le lt is tells =
     let next : i + 1 - from ≡ suc (i - from) = omega arith in
     let same : from + (i - from) ≡ i = omega arith in
-    subst (λ n. Tells a (ns ++ writes_to nodes deep from n)) (sym next)
-    (subst (λ found. Tells a (ns ++ (writes_to nodes deep from (i - from) ++ writes_at deep (from + (i - from)) found)))
+    subst (λ n. HasNotesAndFronts a (ns ++ writes_to nodes deep from n)) (sym next)
+    (subst (λ found. HasNotesAndFronts a (ns ++ (writes_to nodes deep from (i - from) ++ writes_at deep (from + (i - from)) found)))
     (sym (node_at nodes from i flow le lt is))
-    (subst (λ j. Tells a (ns ++ (writes_to nodes deep from (i - from) ++ writes_at deep j (Some flow)))) (sym same)
+    (subst (λ j. HasNotesAndFronts a (ns ++ (writes_to nodes deep from (i - from) ++ writes_at deep j (Some flow)))) (sym same)
     (tells_same a ((ns ++ writes_to nodes deep from (i - from)) ++ writes_at deep i (Some flow))
     (ns ++ (writes_to nodes deep from (i - from) ++ writes_at deep i (Some flow)))
     (append_assoc ns (writes_to nodes deep from (i - from)) (writes_at deep i (Some flow))) tells)))
 
 pub noted_end : (a : Notes) (ns : List Note) (nodes : List Flow) (deep : Bool) (from k n : ℕ) → k ≡ n →
-    Tells a (ns ++ writes_to nodes deep from k) → Tells a (ns ++ writes_to nodes deep from n)
-noted_end a ns nodes deep from k n is = subst (λ n. Tells a (ns ++ writes_to nodes deep from n)) is
+    HasNotesAndFronts a (ns ++ writes_to nodes deep from k) → HasNotesAndFronts a (ns ++ writes_to nodes deep from n)
+noted_end a ns nodes deep from k n is = subst (λ n. HasNotesAndFronts a (ns ++ writes_to nodes deep from n)) is
 
 -- one more branch
 pub branch_found : (a b c : Found) (nodes : List Flow) (deep : Bool) (branches : List Span) (k : ℕ) (d : Span) → k < length branches →
@@ -236,15 +236,15 @@ branch_found a b c nodes deep branches k d lt one two =
     (gains_then a b c (swept nodes deep branches k) (links_in (writes_before nodes deep branches k) nodes deep (Some span)) one two))
 
 pub branch_noted : (a : Notes) (nodes : List Flow) (deep : Bool) (branches : List Span) (k : ℕ) (d : Span) → k < length branches →
-    Tells a (writes_before nodes deep branches k ++ writes_to nodes deep (get_or branches k d).first
+    HasNotesAndFronts a (writes_before nodes deep branches k ++ writes_to nodes deep (get_or branches k d).first
     ((get_or branches k d).end - (get_or branches k d).first)) →
-    Tells a (writes_before nodes deep branches (k + 1))
+    HasNotesAndFronts a (writes_before nodes deep branches (k + 1))
 branch_noted a nodes deep branches k d lt tells =
     let next : k + 1 ≡ suc k = omega arith in
     let span = get_or branches k d in
     let there : slice_get branches k ≡ Some span = slice_get-get_or branches k d lt in
-    subst (λ n. Tells a (writes_before nodes deep branches n)) (sym next)
-    (subst (λ found. Tells a (writes_before nodes deep branches k ++ writes_in nodes deep found)) (sym there) tells)
+    subst (λ n. HasNotesAndFronts a (writes_before nodes deep branches n)) (sym next)
+    (subst (λ found. HasNotesAndFronts a (writes_before nodes deep branches k ++ writes_in nodes deep found)) (sym there) tells)
 
 pub swept_end : (a b : Found) (nodes : List Flow) (deep : Bool) (branches : List Span) (k n : ℕ) → k ≡ n →
     Gains a b (swept nodes deep branches k) → Gains a b (swept nodes deep branches n)

@@ -29,8 +29,8 @@ use Rattle.std.proofs.Common.{
 use Rattle.std.proofs.lemmas.List.{length-append, length-map}
 use Rattle.bl_tree.specs.declared.graph.Edge.{Edge}
 use Rattle.bl_tree.specs.declared.place.Place.{Place}
-use Rattle.bl_nodes.specs.Nodes.{DepthJoinAt, ForkAt, Node, SurfaceJoinAt, nodes_in, nodes_in_each, where_so}
-use Rattle.bl_nodes.specs.Plain.{Block, Bodies, Body, Branch, Label, Last, bodies_from, inside, is_empty}
+use Rattle.bl_graph_nodes.specs.Nodes.{DepthJoinAt, ForkAt, Node, SurfaceJoinAt, nodes_in, nodes_in_each, where_so}
+use Rattle.bl_graph_nodes.specs.Plain.{Block, Bodies, Body, Branch, Label, Last, bodies_from, inside, is_empty}
 use Rattle.bl_graph.specs.declared.flow.Span.{Span}
 use Rattle.bl_graph.specs.declared.part.Branches.{Branches}
 use Rattle.bl_graph.specs.declared.part.Links.{Links}
@@ -43,10 +43,10 @@ use Rattle.bl_graph.specs.inner.Made.{
   IsEdge,
   IsNode,
   IsOut,
-  Leads,
   Makes,
   MakesEach,
   Names,
+  NamesEntry,
   Naming,
   Pairwise,
   flow_of,
@@ -189,7 +189,7 @@ module _ (naming : Naming) where
   pub branch_makes : (bodies : Bodies) (weak : Bool) (b : Block) (l : Label) (at : Place) (instant : Bool) (first join start : ℕ) (empty : Bool)
       (made : Branches) (body : Made) (l0 l1 l2 : Links) (after : List Edge) → empty ≡ is_empty b → naming first ≡ Some (ForkAt l at)
       → (instant ≡ true → naming (first + 1) ≡ Some (SurfaceJoinAt l at)) → naming join ≡ Some (DepthJoinAt l at)
-      → Names naming start (nodes_in b) → Leads naming start b
+      → Names naming start (nodes_in b) → NamesEntry naming start b
       → MakesEach naming bodies l at instant made l0 l1 → Makes naming (whole_in b) body l1 l2
       → after ≡ l2.control ++ branch_links empty instant first join start (leaving_outs weak start body)
       → MakesEach naming (with_branch bodies weak b) l at instant (joined_branch made (leaving_outs weak start body) body) l0

@@ -28,8 +28,8 @@ use Rattle.bl_tree.specs.declared.place.Place.{Place}
 use Rattle.bl_tree.specs.declared.tree.Expr.{Expr}
 use Rattle.bl_tree.specs.declared.tree.Guard.{Guard}
 use Rattle.bl_tree.specs.declared.tree.Guard.TheVariants.{Abort, Reset}
-use Rattle.bl_nodes.specs.Laws.{NodesDiffer}
-use Rattle.bl_nodes.specs.Nodes.{
+use Rattle.bl_graph_nodes.specs.Laws.{NodesDiffer}
+use Rattle.bl_graph_nodes.specs.Nodes.{
   CheckAt,
   DepthEndAt,
   DepthJoinAt,
@@ -44,7 +44,7 @@ use Rattle.bl_nodes.specs.Nodes.{
   is_instant,
   where_so,
 }
-use Rattle.bl_nodes.specs.Plain.{
+use Rattle.bl_graph_nodes.specs.Plain.{
   Act,
   Again,
   Await,
@@ -74,13 +74,13 @@ use Rattle.bl_graph.specs.Edges.{
   Guarded,
   Into,
   Joins,
+  LoopEdge,
   Out,
   OutAll,
   Resume,
   ResumeAll,
   ResumeEach,
   SurfaceJoin,
-  Turn,
 }
 use Rattle.bl_graph.specs.Laws.{EdgesAreListed}
 use Rattle.bl_graph.specs.Listed.{
@@ -326,7 +326,7 @@ out_holds body full n out =
 holds_out : (body : Block) (n : Node) → Holds (part_in body).outs n → OutAll body n
 holds_out body n held = ((sound_in body).outs n held.mark held.there).1
 
-turn_listed : (body : Block) (first last n m : Node) → FullIn body → Turn body first last n m → HasPair (turn_of body first last) n m
+turn_listed : (body : Block) (first last n m : Node) → FullIn body → LoopEdge body first last n m → HasPair (turn_of body first last) n m
 turn_listed body first last n m full (inl h) = p_left (from_to first (entry_of body (last ∷ []))) (each_to (part_in body).outs last) n m
     (node_from first (entry_of body (last ∷ [])) n m h.0 (into_listed body (last ∷ []) (λ k. k ≡ last) m (λ k same. inl same) h.1))
 turn_listed body first last n m full (inr h) = let held = out_holds body full n h.0 in
@@ -337,7 +337,7 @@ only : (last k : Node) → Has (last ∷ []) k → k ≡ last
 only last k (inl h) = h
 only last k (inr h) = elim h [ ]
 
-listed_turn : (body : Block) (first last n m : Node) → HasPair (turn_of body first last) n m → Turn body first last n m
+listed_turn : (body : Block) (first last n m : Node) → HasPair (turn_of body first last) n m → LoopEdge body first last n m
 listed_turn body first last n m h =
     elim (p_cases (from_to first (entry_of body (last ∷ []))) (each_to (part_in body).outs last) n m h) [
       | inl a ↦ let is = from_node first (entry_of body (last ∷ [])) n m a in

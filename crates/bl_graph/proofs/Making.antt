@@ -33,7 +33,7 @@ use Rattle.bl_tree.specs.declared.tree.Path.{Path}
 use Rattle.bl_tree.specs.declared.tree.Stmt.{Stmt, out-Stmt}
 use Rattle.bl_tree.specs.Effects.{argument_mentions, reads, target_mentions, target_static, writes}
 use Rattle.bl_tree.specs.Static.{mentions, set_of, static_of}
-use Rattle.bl_nodes.specs.Nodes.{
+use Rattle.bl_graph_nodes.specs.Nodes.{
   ActAt,
   CheckAt,
   DepthEndAt,
@@ -49,7 +49,7 @@ use Rattle.bl_nodes.specs.Nodes.{
   nodes_in,
   where_so,
 }
-use Rattle.bl_nodes.specs.Plain.{Act, Await, Block, Done, If, Label, Plain, Repeat, Run, Then, Until, When, While, is_empty}
+use Rattle.bl_graph_nodes.specs.Plain.{Act, Await, Block, Done, If, Label, Plain, Repeat, Run, Then, Until, When, While, is_empty}
 use Rattle.bl_graph.specs.declared.part.Links.{Links}
 use Rattle.bl_graph.specs.declared.part.Out.{Out}
 use Rattle.bl_graph.specs.declared.part.Part.{Part as Made}
@@ -86,7 +86,7 @@ use Rattle.bl_graph.specs.Marks.{
   turn_ends,
   where_marked,
 }
-use Rattle.bl_graph.specs.inner.Made.{Adds, IsEdge, IsNode, IsOut, Leads, Makes, Names, Naming, Open, Pairwise, flow_of, turning, whole_in, whole_of}
+use Rattle.bl_graph.specs.inner.Made.{Adds, IsEdge, IsNode, IsOut, Makes, Names, NamesEntry, Naming, Open, Pairwise, flow_of, turning, whole_in, whole_of}
 use Rattle.bl_graph.specs.inner.Parts.{
   act_part,
   again_of,
@@ -246,7 +246,7 @@ module _ (naming : Naming) where
   }
 
   -- an edge to a block
-  to_block : (i k : ℕ) (n : Node) (b : Block) (empty : Bool) → empty ≡ is_empty b → naming i ≡ Some n → Leads naming k b
+  to_block : (i k : ℕ) (n : Node) (b : Block) (empty : Bool) → empty ≡ is_empty b → naming i ≡ Some n → NamesEntry naming k b
       → Pairwise (IsEdge false naming) (link_if (not empty) i k) (from_to n (entry_of b []))
   to_block i k n Done true is from to = tt
   to_block i k n Done false is from to = cc
@@ -262,8 +262,8 @@ module _ (naming : Naming) where
   -- the condition of an `if` and its block
   pub choice_opens : (l : Label) (at : Place) (e : Expr) (b rest : Block) (first next : ℕ) (more empty : Bool) (inside : Made) (l0 l1 : Links)
       (after : List Edge)
-      → empty ≡ is_empty b → is_empty rest ≡ not more → naming first ≡ Some (TestAt l at e) → Leads naming (first + 1) b
-      → Leads naming next rest
+      → empty ≡ is_empty b → is_empty rest ≡ not more → naming first ≡ Some (TestAt l at e) → NamesEntry naming (first + 1) b
+      → NamesEntry naming next rest
       → Names naming next (nodes_in rest) → Makes naming (whole_in b) inside l0 l1
       → after ≡ (l1.control ++ link_if (not empty) first (first + 1)) ++ link_if more first next
       → Open naming (whole_of (If l at e b rest)) rest next (choice_part at (set_of (mentions e)) (empty || not more) first inside) l0
@@ -305,7 +305,7 @@ module _ (naming : Naming) where
 
   -- the body of a loop and the edges of its turn
   pub turn_makes : (b : Block) (start first last : ℕ) (n m : Node) (empty : Bool) (inside : Made) (l0 l1 : Links) (after : List Edge) → empty ≡ is_empty b
-      → Leads naming start b → naming first ≡ Some n → naming last ≡ Some m → Makes naming (whole_in b) inside l0 l1
+      → NamesEntry naming start b → naming first ≡ Some n → naming last ≡ Some m → Makes naming (whole_in b) inside l0 l1
       → after ≡ (l1.control ++ links_from first (into_block empty start (last ∷ []))) ++ links_each inside.outs last
       → Makes naming (turning b n m) inside l0 (record { control = after; by_data = l1.by_data })
   turn_makes b start first last n m empty inside l0 l1 after is leads from to makes grows = record {
@@ -393,7 +393,7 @@ module _ (naming : Naming) where
       λ i. cond (is i) (begun_by guard) (marks i)
 
   guard_pairs : (guard : Guard) (l : Label) (at : Place) (b : Block) (empty : Bool) (check : ℕ) (ends : List ℕ) → empty ≡ is_empty b
-      → Leads naming (check + 2) b → naming (check + 1) ≡ Some (DepthEndAt l at) → Pairwise (IsNode naming) ends (ends_of l at b)
+      → NamesEntry naming (check + 2) b → naming (check + 1) ≡ Some (DepthEndAt l at) → Pairwise (IsNode naming) ends (ends_of l at b)
       → Pairwise (IsNode naming) (guarded_to guard empty check ends) (guard_to guard l at b)
   guard_pairs Abort l at b empty check ends is leads last all = (last, tt)
   guard_pairs Reset l at b empty check ends is leads last all = into_pairs naming b empty (check + 2) ends (ends_of l at b) is leads all
@@ -401,7 +401,7 @@ module _ (naming : Naming) where
   pub guarded_makes : (l : Label) (at : Place) (guard : Guard) (e : Expr) (b : Block) (first check : ℕ) (empty instant : Bool) (inside : Made) (l0 l1 : Links)
       (after : List Edge) → empty ≡ is_empty b → instant ≡ are_instant b → naming first ≡ Some (StartAt l at)
       → (instant ≡ true → naming (first + 1) ≡ Some (SurfaceEndAt l at)) → naming check ≡ Some (CheckAt l at e)
-      → naming (check + 1) ≡ Some (DepthEndAt l at) → Leads naming (check + 2) b → Makes naming (whole_in b) inside l0 l1
+      → naming (check + 1) ≡ Some (DepthEndAt l at) → NamesEntry naming (check + 2) b → Makes naming (whole_in b) inside l0 l1
       → after ≡ l1.control ++ guarded_links guard empty instant first check inside
       → Makes naming (whole_of (When l at guard e b)) (guarded_part at guard (set_of (mentions e)) empty instant first check inside) l0
       (record { control = after; by_data = l1.by_data })

@@ -20,11 +20,11 @@ use Rattle.std.proofs.Common.{
   subst,
 }
 use Rattle.std.specs.Prelude.{slice_get, Some, ⊤, ℕ, zero, suc}
-use Rattle.bl_nodes.specs.Laws.{EachOnce}
+use Rattle.bl_graph_nodes.specs.Laws.{EachOnce}
 use Rattle.bl_tree.specs.declared.place.Place.{Place}
 use Rattle.bl_tree.specs.declared.tree.Expr.{Expr}
 use Rattle.bl_tree.specs.declared.tree.Guard.{Guard}
-use Rattle.bl_nodes.specs.Nodes.{
+use Rattle.bl_graph_nodes.specs.Nodes.{
   CheckAt,
   DepthEndAt,
   DepthJoinAt,
@@ -42,7 +42,7 @@ use Rattle.bl_nodes.specs.Nodes.{
   nodes_of,
   where_so,
 }
-use Rattle.bl_nodes.specs.Plain.{
+use Rattle.bl_graph_nodes.specs.Plain.{
   Act,
   Again,
   Await,

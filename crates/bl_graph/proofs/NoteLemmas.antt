@@ -48,7 +48,7 @@ use Rattle.bl_tree.specs.Order.{static_cmp}
 use Rattle.bl_tree.specs.declared.static_path.Static.{Static}
 use Rattle.bl_graph.specs.declared.flow.notes.Notes.{Notes}
 use Rattle.bl_graph.specs.inner.Found.{notes_of}
-use Rattle.bl_graph.specs.inner.Noted.{Keeps, Note, Tells, front, fronts_of, fronts_to, kept, note, numbers_at, with_fronts}
+use Rattle.bl_graph.specs.inner.Noted.{HasNotes, HasNotesAndFronts, Note, front, fronts_of, fronts_to, kept, note, numbers_at, with_fronts}
 use Rattle.bl_graph.proofs.MemberLemmas.{each-append}
 
 -- ---- equal keys are equal paths
@@ -90,7 +90,7 @@ numbers-append path = each-append (λ n. cond (is_at (static_cmp n.path) path) (
 pub keeps_one : (old between new : Table) (path : Static) (node : ℕ) (nodes : List ℕ) → nodes ≡ kept old path ++ node ∷ [] →
     ((q : Static) → lookup (is_at (static_cmp q)) between ≡ cond (is_at (static_cmp path) q) None (lookup (is_at (static_cmp q)) old)) →
     ((q : Static) → lookup (is_at (static_cmp q)) new ≡ cond (is_at (static_cmp path) q) (Some nodes) (lookup (is_at (static_cmp q)) between)) →
-    (ns : List Note) → Keeps old ns → Keeps new (ns ++ note node path ∷ [])
+    (ns : List Note) → HasNotes old ns → HasNotes new (ns ++ note node path ∷ [])
 keeps_one old between new path node nodes is_nodes is_between is_new ns keeps q =
     ap (λ found. unwrap_or found []) (is_new q
     ∙ ap (λ found. cond (is_at (static_cmp path) q) (Some nodes) found) (is_between q))
@@ -101,8 +101,8 @@ keeps_one old between new path node nodes is_nodes is_between is_new ns keeps q 
     step true is = is_nodes ∙ ap (λ p. kept old p ++ node ∷ []) (same_path path q is) ∙ ap (λ xs. xs ++ node ∷ []) (keeps q)
     step false is = keeps q ∙ sym (append-nil (numbers_at q ns))
 
-pub keeps_same : (table : Table) (xs ys : List Note) → xs ≡ ys → Keeps table xs → Keeps table ys
-keeps_same table xs ys is = subst (Keeps table) is
+pub keeps_same : (table : Table) (xs ys : List Note) → xs ≡ ys → HasNotes table xs → HasNotes table ys
+keeps_same table xs ys is = subst (HasNotes table) is
 
 -- ---- fronts
 
@@ -121,10 +121,10 @@ with_fronts_one ns n =
 
 -- a path with all its fronts in the one table, and itself in the other
 pub tells_one : (old new : Notes) (fronts : Table) (node : ℕ) (path : Static) →
-    ((ns : List Note) → Keeps old.within ns → Keeps fronts (ns ++ fronts_to node path (length path.fields))) →
-    ((ns : List Note) → Keeps fronts ns → Keeps new.within (ns ++ note node path ∷ [])) →
-    ((ns : List Note) → Keeps old.exactly ns → Keeps new.exactly (ns ++ note node path ∷ [])) →
-    (ns : List Note) → Tells old ns → Tells new (ns ++ note node path ∷ [])
+    ((ns : List Note) → HasNotes old.within ns → HasNotes fronts (ns ++ fronts_to node path (length path.fields))) →
+    ((ns : List Note) → HasNotes fronts ns → HasNotes new.within (ns ++ note node path ∷ [])) →
+    ((ns : List Note) → HasNotes old.exactly ns → HasNotes new.exactly (ns ++ note node path ∷ [])) →
+    (ns : List Note) → HasNotesAndFronts old ns → HasNotesAndFronts new (ns ++ note node path ∷ [])
 tells_one old new fronts node path first second third ns tells = record {
   within = keeps_same new.within ((with_fronts ns ++ fronts_to node path (length path.fields)) ++ note node path ∷ [])
       (with_fronts (ns ++ note node path ∷ [])) (with_fronts_one ns (note node path))
@@ -132,15 +132,15 @@ tells_one old new fronts node path first second third ns tells = record {
   exactly = third ns tells.exactly;
 }
 
-pub tells_same : (notes : Notes) (xs ys : List Note) → xs ≡ ys → Tells notes xs → Tells notes ys
-tells_same notes xs ys is = subst (Tells notes) is
+pub tells_same : (notes : Notes) (xs ys : List Note) → xs ≡ ys → HasNotesAndFronts notes xs → HasNotesAndFronts notes ys
+tells_same notes xs ys is = subst (HasNotesAndFronts notes) is
 
 pub notes-append : (node : ℕ) (xs ys : List Static) → notes_of node (xs ++ ys) ≡ notes_of node xs ++ notes_of node ys
 notes-append node = each-append (λ path. note node path ∷ [])
 
 pub tells_step : (notes : Notes) (ns : List Note) (node : ℕ) (paths : List Static) (i : ℕ) (path : Static) → i < length paths →
-    path ≡ get_or paths i path → Tells notes ((ns ++ notes_of node (take i paths)) ++ note node path ∷ []) →
-    Tells notes (ns ++ notes_of node (take (i + 1) paths))
+    path ≡ get_or paths i path → HasNotesAndFronts notes ((ns ++ notes_of node (take i paths)) ++ note node path ∷ []) →
+    HasNotesAndFronts notes (ns ++ notes_of node (take (i + 1) paths))
 tells_step notes ns node paths i path lt is =
     tells_same notes ((ns ++ notes_of node (take i paths)) ++ note node path ∷ []) (ns ++ notes_of node (take (i + 1) paths))
     (append_assoc ns (notes_of node (take i paths)) (note node path ∷ [])
@@ -148,17 +148,17 @@ tells_step notes ns node paths i path lt is =
     ∙ ap (λ p. notes_of node (take i paths ++ p ∷ [])) is ∙ ap (notes_of node) (sym (take_more paths i path lt))))
 
 pub tells_end : (notes : Notes) (ns : List Note) (node : ℕ) (paths all : List Static) → paths ≡ all →
-    Tells notes (ns ++ notes_of node paths) → Tells notes (ns ++ notes_of node all)
-tells_end notes ns node paths all is = subst (λ ps. Tells notes (ns ++ notes_of node ps)) is
+    HasNotesAndFronts notes (ns ++ notes_of node paths) → HasNotesAndFronts notes (ns ++ notes_of node all)
+tells_end notes ns node paths all is = subst (λ ps. HasNotesAndFronts notes (ns ++ notes_of node ps)) is
 
 pub keeps_end : (table : Table) (ns : List Note) (node : ℕ) (path : Static) (k n : ℕ) → k ≡ n →
-    Keeps table (ns ++ fronts_to node path k) → Keeps table (ns ++ fronts_to node path n)
-keeps_end table ns node path k n is = subst (λ n. Keeps table (ns ++ fronts_to node path n)) is
+    HasNotes table (ns ++ fronts_to node path k) → HasNotes table (ns ++ fronts_to node path n)
+keeps_end table ns node path k n is = subst (λ n. HasNotes table (ns ++ fronts_to node path n)) is
 
 pub keeps_at : (table : Table) (ns : List Note) (node : ℕ) (made path : Static) → made ≡ path →
-    Keeps table (ns ++ note node made ∷ []) → Keeps table (ns ++ note node path ∷ [])
-keeps_at table ns node made path is = subst (λ p. Keeps table (ns ++ note node p ∷ [])) is
+    HasNotes table (ns ++ note node made ∷ []) → HasNotes table (ns ++ note node path ∷ [])
+keeps_at table ns node made path is = subst (λ p. HasNotes table (ns ++ note node p ∷ [])) is
 
-pub noted_where : (notes : Notes) (ns : List Note) (test : Bool) (more : List Note) → test ≡ true → Tells notes (ns ++ more) →
-    Tells notes (ns ++ cond test more [])
-noted_where notes ns test more is = subst (λ t. Tells notes (ns ++ cond t more [])) (sym is)
+pub noted_where : (notes : Notes) (ns : List Note) (test : Bool) (more : List Note) → test ≡ true → HasNotesAndFronts notes (ns ++ more) →
+    HasNotesAndFronts notes (ns ++ cond test more [])
+noted_where notes ns test more is = subst (λ t. HasNotesAndFronts notes (ns ++ cond t more [])) (sym is)

@@ -32,13 +32,13 @@ use Rattle.std.proofs.Common.{
 use Rattle.std.specs.Prelude.{Contains}
 use Rattle.std.proofs.lemmas.List.Elements.{Contains-append_left, Contains-append_right, Contains-append_cases, Contains-push, Contains-push_cases}
 use Rattle.bl_tree.specs.declared.graph.Edge.{Edge}
-use Rattle.bl_nodes.specs.Nodes.{Node, where_so}
-use Rattle.bl_nodes.specs.Plain.{Block, Done, Then, is_empty}
+use Rattle.bl_graph_nodes.specs.Nodes.{Node, where_so}
+use Rattle.bl_graph_nodes.specs.Plain.{Block, Done, Then, is_empty}
 use Rattle.bl_graph.specs.declared.part.Out.{Out}
 use Rattle.bl_graph.specs.Graph.{edge_between}
 use Rattle.bl_graph.specs.Listed.{Pair, depth_to, each_to, each_to_all, entry_of, from_to, pair, surface_to}
 use Rattle.bl_graph.specs.Marks.{Mark, Marked, either, inner, leaves, leaving, marked, moved, some_of, unreached, where_marked}
-use Rattle.bl_graph.specs.inner.Made.{Adds, HasEdge, HasPair, IsEdge, IsNode, IsOut, Leads, Names, Naming, Pairwise, flow_of}
+use Rattle.bl_graph.specs.inner.Made.{Adds, HasEdge, HasPair, IsEdge, IsNode, IsOut, Names, NamesEntry, Naming, Pairwise, flow_of}
 use Rattle.bl_graph.specs.inner.Parts.{
   depth_links,
   into_block,
@@ -271,7 +271,7 @@ module _ (naming : Naming) where
   out_pairs true k mark n is = (record { names = is refl; mark = refl }, tt)
   out_pairs false k mark n is = tt
 
-  pub into_pairs : (body : Block) (empty : Bool) (n : ℕ) (ks : List ℕ) (ns : List Node) → empty ≡ is_empty body → Leads naming n body
+  pub into_pairs : (body : Block) (empty : Bool) (n : ℕ) (ks : List ℕ) (ns : List Node) → empty ≡ is_empty body → NamesEntry naming n body
       → Pairwise (IsNode naming) ks ns
       → Pairwise (IsNode naming) (into_block empty n ks) (entry_of body ns)
   into_pairs Done true n ks ns is leads all = all

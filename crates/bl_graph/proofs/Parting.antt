@@ -26,9 +26,9 @@ use Rattle.bl_tree.specs.declared.tree.Stmt.{Stmt, fold-roll-Stmt}
 use Rattle.bl_tree.specs.declared.tree.StmtKind.{fold-roll-StmtKind}
 use Rattle.bl_tree.specs.declared.tree.StmtKind.TheOpen.{StmtKind-F}
 use Rattle.bl_tree.proofs.StmtInduction.{Cases, Each, EachArm, EachBranch, induct, stmt}
-use Rattle.bl_nodes.specs.Laws.{Begins, Below, LabelsAreBelow, PlainStatements, PositionsPart, plain_arm, plain_branch}
-use Rattle.bl_nodes.specs.Nodes.{Node, label_of, nodes_in, nodes_in_each}
-use Rattle.bl_nodes.specs.Plain.{
+use Rattle.bl_graph_nodes.specs.Laws.{Begins, Below, LabelsAreBelow, PlainStatements, PositionsPart, plain_arm, plain_branch}
+use Rattle.bl_graph_nodes.specs.Nodes.{Node, label_of, nodes_in, nodes_in_each}
+use Rattle.bl_graph_nodes.specs.Plain.{
   Label,
   Plain,
   Position,

@@ -5,7 +5,7 @@ use Rattle.bl_tree.specs.declared.tree.Expr.{Expr}
 use Rattle.bl_tree.specs.declared.tree.Guard.{Guard}
 use Rattle.bl_tree.specs.declared.tree.Guard.TheVariants.{Abort, Reset}
 use Rattle.bl_tree.specs.declared.tree.Stmt.{Stmt}
-use Rattle.bl_nodes.specs.Nodes.{
+use Rattle.bl_graph_nodes.specs.Nodes.{
   ActAt,
   CheckAt,
   DepthEndAt,
@@ -25,7 +25,7 @@ use Rattle.bl_nodes.specs.Nodes.{
   entry,
   is_instant,
 }
-use Rattle.bl_nodes.specs.Plain.{
+use Rattle.bl_graph_nodes.specs.Plain.{
   Act,
   Again,
   Await,
@@ -54,12 +54,12 @@ use Rattle.bl_graph.specs.Edges.{
   Entry,
   Guarded,
   Into,
+  LoopEdge,
   Out,
   OutAll,
   Resume,
   ResumeAll,
   ResumeEach,
-  Turn,
 }
 use Rattle.bl_graph.specs.Marks.{
   Mark,
@@ -169,7 +169,7 @@ out_is deep body sound some =
 -- a body in a loop with these edges, from its first node and to its last
 record Looped (body : Block) (first last : Node) (G : Node → Node → Type 0) : Type 0 where
   inside : (n m : Node) → EdgeAll body n m → G n m
-  turn : (n m : Node) → Turn body first last n m → G n m
+  turn : (n m : Node) → LoopEdge body first last n m → G n m
 
 last_deep : {G : Node → Node → Type 0} (body : Block) (first last : Node) → SoundIn body → Looped body first last G →
     (some_of (part_in body).outs).depth ≡ true → Reached (ResumeAll body) G last

@@ -6,7 +6,7 @@ use Rattle.bl_tree.specs.declared.place.Place.{Place}
 use Rattle.bl_tree.specs.declared.tree.Expr.{Expr}
 use Rattle.bl_tree.specs.declared.tree.Guard.{Guard}
 use Rattle.bl_tree.specs.declared.tree.Guard.TheVariants.{Abort, Reset}
-use Rattle.bl_nodes.specs.Nodes.{
+use Rattle.bl_graph_nodes.specs.Nodes.{
   CheckAt,
   DepthEndAt,
   DepthJoinAt,
@@ -24,7 +24,7 @@ use Rattle.bl_nodes.specs.Nodes.{
   nodes_of,
   where_so,
 }
-use Rattle.bl_nodes.specs.Plain.{
+use Rattle.bl_graph_nodes.specs.Plain.{
   Act,
   Again,
   Await,
@@ -55,13 +55,13 @@ use Rattle.bl_graph.specs.Edges.{
   In,
   InEach,
   Into,
+  LoopEdge,
   Out,
   OutAll,
   Resume,
   ResumeAll,
   ResumeEach,
   SurfaceJoin,
-  Turn,
 }
 use Rattle.bl_graph.specs.Laws.{StaysWithin}
 use Rattle.bl_graph.proofs.Walking.{reached_keeps}
@@ -200,7 +200,7 @@ into_has H body F inside follows n (inl e) = inside n (entry_in body n e)
 into_has H body F inside follows n (inr h) = follows n h.1
 
 turn_has : (H : Node → Type 0) (body : Block) (first last n m : Node) → H first → H last → ((n : Node) → Has (nodes_in body) n → H n) →
-    Turn body first last n m → H n × H m
+    LoopEdge body first last n m → H n × H m
 turn_has H body first last n m begins ends inside (inl h) =
     (subst H (sym h.0) begins, into_has H body (λ k. k ≡ last) inside (λ k is. subst H (sym is) ends) m h.1)
 turn_has H body first last n m begins ends inside (inr h) = (inside n (out_in body n h.0), subst H (sym h.1) ends)

@@ -1,5 +1,5 @@
 -- Walks one after another, and along more edges.
-use Rattle.bl_nodes.specs.Nodes.{Node}
+use Rattle.bl_graph_nodes.specs.Nodes.{Node}
 use Rattle.bl_graph.specs.Walks.{Reached, Walk, on, stay}
 
 pub walk_on : {E : Node → Node → Type 0} {a b c : Node} → Walk E a b → Walk E b c → Walk E a c

@@ -4,7 +4,7 @@ use Rattle.std.specs.Prelude.{Contains}
 use Rattle.std.proofs.lemmas.List.Elements.{Contains-append_cases}
 use Rattle.bl_tree.specs.declared.place.Place.{Place}
 use Rattle.bl_tree.specs.declared.static_path.Static.{Static}
-use Rattle.bl_nodes.specs.Nodes.{
+use Rattle.bl_graph_nodes.specs.Nodes.{
   ActAt,
   EnterAt,
   ForkAt,
@@ -17,7 +17,7 @@ use Rattle.bl_nodes.specs.Nodes.{
   is_instant,
   node_writes,
 }
-use Rattle.bl_nodes.specs.Plain.{
+use Rattle.bl_graph_nodes.specs.Plain.{
   Act,
   Again,
   Await,
@@ -37,7 +37,7 @@ use Rattle.bl_nodes.specs.Plain.{
   When,
   While,
 }
-use Rattle.bl_nodes.specs.Writes.{surface_writes, surface_writes_in, surface_writes_in_each}
+use Rattle.bl_graph_nodes.specs.Writes.{surface_writes, surface_writes_in, surface_writes_in_each}
 use Rattle.bl_graph.specs.Edges.{EdgeAll, EdgeEach, Entry}
 use Rattle.bl_graph.specs.Laws.{WayThrough, WayToWriter, WriterIn, WritersAreReached}
 use Rattle.bl_graph.specs.Walks.{Walk, on, stay}

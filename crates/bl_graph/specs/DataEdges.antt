@@ -1,8 +1,8 @@
 -- The data edges of a tick graph: the first node, in one branch, writes what the second, in another, reads.
 use Rattle.std.specs.Prelude.{◌≡◌, true, false, ◌⊎◌}
 use Rattle.bl_tree.specs.Static.{meets}
-use Rattle.bl_nodes.specs.Nodes.{Node, node_reads, node_writes}
-use Rattle.bl_nodes.specs.Plain.{
+use Rattle.bl_graph_nodes.specs.Nodes.{Node, node_reads, node_writes}
+use Rattle.bl_graph_nodes.specs.Plain.{
   Act,
   Again,
   Await,

@@ -4,7 +4,7 @@ use Rattle.std.specs.Prelude.{◌≡◌, Bool, true, false, ◌⊎◌}
 use Rattle.bl_tree.specs.declared.place.Place.{Place}
 use Rattle.bl_tree.specs.declared.tree.Guard.{Guard}
 use Rattle.bl_tree.specs.declared.tree.Guard.TheVariants.{Abort, Reset}
-use Rattle.bl_nodes.specs.Nodes.{
+use Rattle.bl_graph_nodes.specs.Nodes.{
   ActAt,
   CheckAt,
   DepthEndAt,
@@ -22,7 +22,7 @@ use Rattle.bl_nodes.specs.Nodes.{
   entry,
   is_instant,
 }
-use Rattle.bl_nodes.specs.Plain.{
+use Rattle.bl_graph_nodes.specs.Plain.{
   Act,
   Again,
   Await,
@@ -125,8 +125,8 @@ Guarded Abort l at body n = n ≡ DepthEndAt l at
 Guarded Reset l at body n = Into body (BodyEnd l at body) n
 
 -- an edge of a loop: from its first node to the body, from the body to its last node
-abbrev pub Turn : Block → Node → Node → Node → Node → Type 0
-Turn body first last n m = ((n ≡ first) × Into body (λ k. k ≡ last) m) ⊎ (OutAll body n × (m ≡ last))
+abbrev pub LoopEdge : Block → Node → Node → Node → Node → Type 0
+LoopEdge body first last n m = ((n ≡ first) × Into body (λ k. k ≡ last) m) ⊎ (OutAll body n × (m ≡ last))
 
 abbrev mutual
   -- the edges in a statement: between its own nodes, and from and to what stands in it
@@ -141,10 +141,10 @@ abbrev mutual
       ⊎ ((n ≡ CheckAt l at e) × ResumeAll body m)
       ⊎ ((n ≡ CheckAt l at e) × Guarded guard l at body m)
       ⊎ (OutAll body n × BodyEnd l at body m)
-  Edge (Repeat l at body) n m = EdgeAll body n m ⊎ Turn body (HeadAt l at) (HeadAt l at) n m
-  Edge (Until l at body e) n m = EdgeAll body n m ⊎ Turn body (HeadAt l at) (TestAt l at e) n m ⊎ ((n ≡ TestAt l at e) × (m ≡ HeadAt l at))
-  Edge (While l at e body) n m = EdgeAll body n m ⊎ Turn body (TestAt l at e) (TestAt l at e) n m
-  Edge (Again l at body e) n m = EdgeAll body n m ⊎ Turn body (HeadAt l at) (TestAt l at e) n m ⊎ ((n ≡ TestAt l at e) × (m ≡ HeadAt l at))
+  Edge (Repeat l at body) n m = EdgeAll body n m ⊎ LoopEdge body (HeadAt l at) (HeadAt l at) n m
+  Edge (Until l at body e) n m = EdgeAll body n m ⊎ LoopEdge body (HeadAt l at) (TestAt l at e) n m ⊎ ((n ≡ TestAt l at e) × (m ≡ HeadAt l at))
+  Edge (While l at e body) n m = EdgeAll body n m ⊎ LoopEdge body (TestAt l at e) (TestAt l at e) n m
+  Edge (Again l at body e) n m = EdgeAll body n m ⊎ LoopEdge body (HeadAt l at) (TestAt l at e) n m ⊎ ((n ≡ TestAt l at e) × (m ≡ HeadAt l at))
 
   -- the edges in a block: those in its statements, and from each statement to the next
   pub EdgeAll : Block → Node → Node → Type 0

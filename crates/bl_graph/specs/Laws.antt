@@ -2,9 +2,9 @@
 use Rattle.std.specs.Prelude.{◌≡◌, true, false, ◌⊎◌, List, map, Contains, ◌↔◌}
 use Rattle.bl_tree.specs.declared.static_path.Static.{Static}
 use Rattle.bl_tree.specs.declared.tree.Stmt.{Stmt}
-use Rattle.bl_nodes.specs.Nodes.{Node, are_instant, entry, is_instant, label_of, node_writes, nodes_in}
-use Rattle.bl_nodes.specs.Plain.{Block, Plain, Position, is_empty, plain_block}
-use Rattle.bl_nodes.specs.Writes.{surface_writes, surface_writes_in}
+use Rattle.bl_graph_nodes.specs.Nodes.{Node, are_instant, entry, is_instant, label_of, node_writes, nodes_in}
+use Rattle.bl_graph_nodes.specs.Plain.{Block, Plain, Position, is_empty, plain_block}
+use Rattle.bl_graph_nodes.specs.Writes.{surface_writes, surface_writes_in}
 use Rattle.bl_graph.specs.DataEdges.{BesideAll, DataEdge}
 use Rattle.bl_graph.specs.Edges.{Edge, EdgeAll, Entry, In, Out, OutAll, ResumeAll}
 use Rattle.bl_graph.specs.Listed.{edges_in, flows_in, pair}

@@ -4,7 +4,7 @@ use Rattle.bl_tree.specs.declared.place.Place.{Place}
 use Rattle.bl_tree.specs.declared.tree.Guard.{Guard}
 use Rattle.bl_tree.specs.declared.tree.Guard.TheVariants.{Abort, Reset}
 use Rattle.bl_tree.specs.Static.{meets}
-use Rattle.bl_nodes.specs.Nodes.{
+use Rattle.bl_graph_nodes.specs.Nodes.{
   CheckAt,
   DepthEndAt,
   DepthJoinAt,
@@ -24,7 +24,7 @@ use Rattle.bl_nodes.specs.Nodes.{
   node_writes,
   where_so,
 }
-use Rattle.bl_nodes.specs.Plain.{
+use Rattle.bl_graph_nodes.specs.Plain.{
   Act,
   Again,
   Await,

@@ -2,7 +2,7 @@
 use Rattle.std.specs.Prelude.{Bool, true, false, not, ◌&&◌, ◌||◌, List, [], ◌∷◌, ◌++◌, if◌then◌else◌}
 use Rattle.bl_tree.specs.declared.tree.Guard.{Guard}
 use Rattle.bl_tree.specs.declared.tree.Guard.TheVariants.{Abort, Reset}
-use Rattle.bl_nodes.specs.Nodes.{
+use Rattle.bl_graph_nodes.specs.Nodes.{
   ActAt,
   CheckAt,
   DepthEndAt,
@@ -21,7 +21,7 @@ use Rattle.bl_nodes.specs.Nodes.{
   arguments_of,
   is_instant,
 }
-use Rattle.bl_nodes.specs.Plain.{
+use Rattle.bl_graph_nodes.specs.Plain.{
   Act,
   Again,
   Await,
@@ -101,12 +101,12 @@ where_marked test m = if test then m ∷ [] else []
 -- ---- parts
 
 -- the nodes of a statement or a block, in their order, and those that lead on
-pub record Part : Type 0 where
+pub record GraphPart : Type 0 where
   pub nodes : List Marked
   pub outs : List Marked
 
 -- the nodes of branches, and how the depth join is reached from them
-pub record Parts : Type 0 where
+pub record BranchParts : Type 0 where
   pub nodes : List Marked
   pub left : Mark
 
@@ -142,7 +142,7 @@ join_mark left = record { surface = true; depth = left.surface }
 
 abbrev mutual
   -- of a statement: its nodes with their marks in it
-  pub part_of : Plain → Part
+  pub part_of : Plain → GraphPart
   part_of (Act l s) = record { nodes = marked entered (ActAt l s) ∷ []; outs = marked entered (ActAt l s) ∷ [] }
   part_of (Await l at e) = record {
     nodes = marked entered (PauseAt l at) ∷ marked resumed (TestAt l at e) ∷ [];
@@ -189,7 +189,7 @@ abbrev mutual
   }
 
   -- of a block: what follows a statement is reached as some node is that leads on from it
-  pub part_in : Block → Part
+  pub part_in : Block → GraphPart
   part_in Done = record { nodes = []; outs = [] }
   part_in (Then s rest) = record {
     nodes = (part_of s).nodes ++ moved (some_of (part_of s).outs) (part_in rest).nodes;
@@ -197,7 +197,7 @@ abbrev mutual
   }
 
   -- of branches: each node has its mark in its own branch. A weak branch may be left at any node
-  pub parts_of : Bodies → Parts
+  pub parts_of : Bodies → BranchParts
   parts_of Last = record { nodes = []; left = unreached }
   parts_of (Body weak body rest) = record {
     nodes = (part_in body).nodes ++ (parts_of rest).nodes;

@@ -1,6 +1,6 @@
 -- Walks along the edges of a graph.
 use Rattle.std.specs.Prelude.{ℕ, ◌<◌}
-use Rattle.bl_nodes.specs.Nodes.{Node}
+use Rattle.bl_graph_nodes.specs.Nodes.{Node}
 
 -- one edge after another leads from the first node to the second; none leads from a node to itself
 pub data Walk (E : Node → Node → Type 0) : Node → Node → Type 0 where

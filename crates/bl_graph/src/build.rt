@@ -4,7 +4,7 @@ ghost use Rattle.std.specs.Prelude.{◌≡◌, ◌+◌, ◌∷◌, [], ◌++◌,
 ghost use Rattle.bl_tree.specs.declared.tree.StmtKind.TheOpen.{StmtKind-F};
 ghost use Rattle.bl_tree.specs.Effects.{argument_mentions, optional_mentions, target_mentions, target_static};
 ghost use Rattle.bl_tree.specs.Static.{index_mentions, mentions, set_of, static_of, whole};
-ghost use Rattle.bl_nodes.specs.Laws.{stmt};
+ghost use Rattle.bl_graph_nodes.specs.Laws.{stmt};
 ghost use Rattle.bl_graph.specs.Marks.{entered, resumed};
 ghost use Rattle.bl_graph.specs.inner.Flows.{InOrder};
 ghost use Rattle.bl_graph.specs.inner.Made.{BlockMade, BranchAdded, BranchesMade, ChainMade, ChoiceMade, Crossed};

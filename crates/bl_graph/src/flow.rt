@@ -3,7 +3,7 @@
 ghost use Rattle.std.specs.Prelude.{◌≡◌, ◌≤◌, ◌++◌, ◌-◌, ◌^◌, Some, List as Elements, length, IfOk, OnOk, reverse};
 ghost use Rattle.bl_graph.specs.inner.Flows.{FlowsAdded, InOrder};
 ghost use Rattle.bl_graph.specs.inner.Found.{EndBy, Gains, is_reached as reached_by, links_at, links_to, swept, writes_at, writes_to};
-ghost use Rattle.bl_graph.specs.inner.Noted.{Note, Tells};
+ghost use Rattle.bl_graph.specs.inner.Noted.{HasNotesAndFronts, Note};
 
 mod found;
 mod notes;
@@ -133,7 +133,7 @@ fn find_all(
 ) -> Result<(), NoMemory>
     requires in_order { span.first ≤ span.end }
     requires within { span.end ≤ length nodes.now }
-    ensures { OnOk result ((ns : Elements Note) → Tells notes.now ns
+    ensures { OnOk result ((ns : Elements Note) → HasNotesAndFronts notes.now ns
         → Gains found.old found.new (links_to ns nodes.now deep span.first (span.end - span.first))) }
 {
     for i in span.first..span.end {
@@ -150,7 +150,7 @@ fn find(
     deep: bool,
     found: &mut Found,
 ) -> Result<(), NoMemory>
-    ensures { OnOk result ((ns : Elements Note) → Tells notes.now ns → Gains found.old found.new (links_at ns deep i (Some node.now))) }
+    ensures { OnOk result ((ns : Elements Note) → HasNotesAndFronts notes.now ns → Gains found.old found.new (links_at ns deep i (Some node.now))) }
 {
     if is_reached(node.mark, deep) {
         return found.link_all_met(alloc, notes, &node.reads, i);
@@ -168,8 +168,8 @@ fn note_all(
 ) -> Result<(), NoMemory>
     requires in_order { span.first ≤ span.end }
     requires within { span.end ≤ length nodes.now }
-    ensures { OnOk result ((ns : Elements Note) → Tells notes.old ns
-        → Tells notes.new (ns ++ writes_to nodes.now deep span.first (span.end - span.first))) }
+    ensures { OnOk result ((ns : Elements Note) → HasNotesAndFronts notes.old ns
+        → HasNotesAndFronts notes.new (ns ++ writes_to nodes.now deep span.first (span.end - span.first))) }
 {
     for i in span.first..span.end {
         note(alloc, notes, &nodes[i as usize], i, deep)?;
@@ -178,7 +178,7 @@ fn note_all(
 }
 
 fn note(alloc: Global, notes: &mut Notes, node: &Flow, i: u32, deep: bool) -> Result<(), NoMemory>
-    ensures { OnOk result ((ns : Elements Note) → Tells notes.old ns → Tells notes.new (ns ++ writes_at deep i (Some node.now))) }
+    ensures { OnOk result ((ns : Elements Note) → HasNotesAndFronts notes.old ns → HasNotesAndFronts notes.new (ns ++ writes_at deep i (Some node.now))) }
 {
     if is_reached(node.mark, deep) {
         return notes.note_all(alloc, &node.writes, i);

@@ -3,14 +3,14 @@
 ghost use Rattle.std.specs.Prelude.{◌≡◌, ◌<◌, ◌++◌, length, map, slice_get, IfOk, OnOk, Some};
 ghost use Rattle.bl_effects.specs.Table.{TableTellsEffects};
 ghost use Rattle.bl_graph.specs.Graph.{IsTickGraph};
-ghost use Rattle.bl_nodes.specs.Plain.{plain_body};
+ghost use Rattle.bl_graph_nodes.specs.Plain.{plain_body};
 ghost use Rattle.bl_tree.specs.declared.tree.Unit.{Unit as UnitDef};
 
 use crate::build::block;
 use crate::flow::Flow;
 use crate::part::Links;
 use bl_effects::Effects;
-use bl_nodes::nodes_differ;
+use bl_graph_nodes::nodes_differ;
 use bl_tree::graph::{Edge, Graph, Node};
 use bl_tree::{List, NoMemory, Program};
 use std::alloc::Global;

@@ -10,7 +10,7 @@
 //! tell nodes of different branches apart; marks tell surfaces and depths, and the listed edges are the edges.
 #![tactic(auto)]
 
-ghost use Rattle.bl_nodes.specs.Plain.{Block};
+ghost use Rattle.bl_graph_nodes.specs.Plain.{Block};
 ghost use Rattle.bl_graph.specs.Laws.{BranchesPart, EdgesAreListed, FlowsAreListed, InstantsPass, MarksTell, StaysWithin, WritersAreReached};
 
 mod build;
@@ -21,7 +21,7 @@ mod instant;
 mod link;
 mod part;
 
-use bl_nodes::{labels_tell_apart, nodes_differ, plain_statements};
+use bl_graph_nodes::{labels_tell_apart, nodes_differ, plain_statements};
 pub use graph::graph_of;
 
 /// The edges of a body join nodes of it, and its surface and depth are made of such.

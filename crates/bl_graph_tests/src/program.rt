@@ -3,8 +3,8 @@
 use bl_lex::lex;
 use bl_parse::parse;
 use bl_parse_laws::kept::what_is_spelled_keeps;
-use bl_program::check;
 use bl_tree::Program;
+use bl_types_program::check;
 use std::alloc::Global;
 
 /// The program that a short text spells; none where a rule up to Entry refuses it or memory ends.

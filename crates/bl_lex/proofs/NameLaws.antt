@@ -45,7 +45,7 @@ use Rattle.bl_lex.specs.Spelling.{keywords, words_outside, is_word_byte, begins_
 use Rattle.bl_lex.specs.Pieces.{IsPiece, kind_of}
 use Rattle.bl_lex.specs.Pieces.WordIs.{name}
 use Rattle.bl_lex.specs.Pieces.IsPiece.{word}
-use Rattle.bl_lex.specs.Tokens.{Part, place_of, IsLongest, Covers, line_at, tokens_of, Lexes}
+use Rattle.bl_lex.specs.Tokens.{LexedPiece, place_of, IsLongest, Covers, line_at, tokens_of, Lexes}
 use Rattle.bl_lex.proofs.ReservedWords.{found_by, false_unless}
 use Rattle.bl_lex.proofs.Signs.{range_length}
 
@@ -76,9 +76,9 @@ module _ (text : List ℕ) where
       (not_among keywords _ no_keyword) (not_among words_outside _ not_outside)
 
   -- what holds of the token of each part holds of each token
-  of_tokens : (P : Lexed → Type 0) → ((part : Part) (kind : TokenKind) → IsLongest text part → kind_of part.form ≡ Some kind →
+  of_tokens : (P : Lexed → Type 0) → ((part : LexedPiece) (kind : TokenKind) → IsLongest text part → kind_of part.form ≡ Some kind →
       P (record { kind = kind; place = place_of part; line = line_at text part.start }))
-      → (start : ℕ) (parts : List Part) (end : ℕ) → Covers text start parts end → (k : ℕ) (d : Lexed) →
+      → (start : ℕ) (parts : List LexedPiece) (end : ℕ) → Covers text start parts end → (k : ℕ) (d : Lexed) →
       k < length (tokens_of text parts) → P (get_or (tokens_of text parts) k d)
   of_tokens P here start [] end covers k d inside = absurd (omega arith)
   of_tokens P here start (p ∷ ps) end covers k d inside = by_kind (kind_of p.form) refl (of_tokens P here p.end ps end covers.2) k inside
@@ -105,7 +105,7 @@ names_are_names text tokens is = rw is.are_tokens (of_tokens text IsNamed here 0
     IsNamed : Lexed → Type 0
     IsNamed token = token.kind ≡ Name → is_name (slice_range text token.place.start token.place.end) ≡ true
 
-    here : (part : Part) (kind : TokenKind) → IsLongest text part → kind_of part.form ≡ Some kind → kind ≡ Name →
+    here : (part : LexedPiece) (kind : TokenKind) → IsLongest text part → kind_of part.form ≡ Some kind → kind ≡ Name →
         is_name (slice_range text part.start part.end) ≡ true
     here part kind longest is_kind is_name = name_piece text part.start part.end
         (subst (IsPiece text part.start part.end) (kind_form part.form kind is_kind ∙ ap Token is_name) longest.piece)

@@ -48,18 +48,18 @@ use Rattle.bl_lex.specs.Spelling.{is_word_byte}
 use Rattle.bl_lex.specs.Spelling.IsNumber.{decimal}
 use Rattle.bl_lex.specs.Pieces.{WordIs, IsPiece, NoPieceAt, kind_of, is_between}
 use Rattle.bl_lex.specs.Pieces.WordIs.{keyword, name, number, outside, octal, fraction}
-use Rattle.bl_lex.specs.Tokens.{Part, place_of, IsLongest, Covers, line_at, tokens_of, without_between, Lexes}
+use Rattle.bl_lex.specs.Tokens.{LexedPiece, place_of, IsLongest, Covers, line_at, tokens_of, without_between, Lexes}
 use Rattle.bl_lex.specs.Rules.{FailsSize, FailsLex, FailsProfile, IsStrayByte, IsUnclosedComment, IsMalformedNumber, IsFault, Fails, FailsFirst, Passes}
 use Rattle.bl_lex.specs.Rules.IsLeftOut.{outside as left_outside}
 use Rattle.bl_lex.specs.inner.Walk.{NoneLeftOut, IsFirstLeftOut}
 use Rattle.bl_lex.proofs.WordLaws.{keyword_begins, outside_begins}
 use Rattle.bl_lex.proofs.PieceLaws.{clash, one_word, one_form, of_slash, of_word, piece_forward, piece_inside}
 
-same_part : (p q : Part) → p.start ≡ q.start → p.end ≡ q.end → p.form ≡ q.form → p ≡ q
+same_part : (p q : LexedPiece) → p.start ≡ q.start → p.end ≡ q.end → p.form ≡ q.form → p ≡ q
 same_part p q s e f = λ i. record { start = s i; end = e i; form = f i }
 
 -- the longest piece at a place is one
-one_longest : (text : List ℕ) (p q : Part) → p.start ≡ q.start → IsLongest text p → IsLongest text q → p ≡ q
+one_longest : (text : List ℕ) (p q : LexedPiece) → p.start ≡ q.start → IsLongest text p → IsLongest text q → p ≡ q
 one_longest text p q at a b =
     let q_here : IsPiece text p.start q.end q.form = subst (λ (s : ℕ). IsPiece text s q.end q.form) (sym at) b.piece in
     let p_there : IsPiece text q.start p.end p.form = subst (λ (s : ℕ). IsPiece text s p.end p.form) at a.piece in
@@ -69,7 +69,7 @@ one_longest text p q at a b =
     same_part p q at ends (one_form text p.start a.piece (subst (λ (e : ℕ). IsPiece text p.start e q.form) (sym ends) q_here))
 
 -- two covers from one place, to where nothing begins, are one
-one_cover : (text : List ℕ) (start : ℕ) (ps qs : List Part) (a b : ℕ) → Covers text start ps a → Covers text start qs b →
+one_cover : (text : List ℕ) (start : ℕ) (ps qs : List LexedPiece) (a b : ℕ) → Covers text start ps a → Covers text start qs b →
     NoPieceAt text a → NoPieceAt text b → (ps ≡ qs) × (a ≡ b)
 one_cover text start [] [] a b p q none_a none_b = (refl, sym p ∙ q)
 one_cover text start [] (q ∷ qs) a b p c none_a none_b =
@@ -78,7 +78,7 @@ one_cover text start (p ∷ ps) [] a b c q none_a none_b =
     absurd (none_b p.end p.form (subst (λ (s : ℕ). IsPiece text s p.end p.form) (c.0 ∙ q) c.1.piece))
 one_cover text start (p ∷ ps) (q ∷ qs) a b c d none_a none_b =
     let first = one_longest text p q (c.0 ∙ sym d.0) c.1 d.1 in
-    let rest = one_cover text p.end ps qs a b c.2 (subst (λ (e : ℕ). Covers text e qs b) (ap (λ (r : Part). r.end) (sym first)) d.2) none_a none_b in
+    let rest = one_cover text p.end ps qs a b c.2 (subst (λ (e : ℕ). Covers text e qs b) (ap (λ (r : LexedPiece). r.end) (sym first)) d.2) none_a none_b in
     ((λ i. first i ∷ rest.0 i), rest.1)
 
 nothing_at_end : (text : List ℕ) → NoPieceAt text (length text)
@@ -179,7 +179,7 @@ first_size text place fails = record { fails = (fails, refl); least_rule = least
 
 -- Lex
 
-pub first_lex : (text : List ℕ) (parts : List Part) (place : Place) → length text ≤ 1048576 → Covers text 0 parts place.start → IsFault text place
+pub first_lex : (text : List ℕ) (parts : List LexedPiece) (place : Place) → length text ≤ 1048576 → Covers text 0 parts place.start → IsFault text place
     → FailsFirst text rule.Lex place []
 first_lex text parts place short covers fault = record {
   fails = (record { parts = parts; covers = covers; fault = fault }, refl);
@@ -200,7 +200,7 @@ first_lex text parts place short covers fault = record {
         no_later place elsewhere further start (fault_end text place elsewhere fault f.0.fault start)
 
 -- a text that parts cover doesn't fail rule Lex
-no_lex : (text : List ℕ) (parts : List Part) → Covers text 0 parts (length text) → (place : Place) → ¬ FailsLex text place
+no_lex : (text : List ℕ) (parts : List LexedPiece) → Covers text 0 parts (length text) → (place : Place) → ¬ FailsLex text place
 no_lex text parts covers place fails =
     let ends = (one_cover text 0 parts fails.parts (length text) place.start covers fails.covers (nothing_at_end text)
     (fault_begins_nothing text place fails.fault)).1 in
@@ -221,21 +221,21 @@ which (a ∷ xs) (b ∷ ys) x y us vs e =
     (which xs ys x y us vs rest)
 
 -- the parts rise, from a place on
-Ascends : ℕ → List Part → Type 0
+Ascends : ℕ → List LexedPiece → Type 0
 Ascends low [] = Unit {0}
 Ascends low (p ∷ ps) = (low ≤ p.start) × (p.start < p.end) × Ascends p.end ps
 
-covers_ascend : (text : List ℕ) (start : ℕ) (parts : List Part) (end : ℕ) → Covers text start parts end → Ascends start parts
+covers_ascend : (text : List ℕ) (start : ℕ) (parts : List LexedPiece) (end : ℕ) → Covers text start parts end → Ascends start parts
 unfolding Ascends
 covers_ascend text start [] end c = tt
 covers_ascend text start (p ∷ ps) end c = (omega (arith, c.0), piece_forward text p.start c.1.piece, covers_ascend text p.end ps end c.2)
 
-ascends_from : (low more : ℕ) (parts : List Part) → low ≤ more → Ascends more parts → Ascends low parts
+ascends_from : (low more : ℕ) (parts : List LexedPiece) → low ≤ more → Ascends more parts → Ascends low parts
 unfolding Ascends
 ascends_from low more [] less a = tt
 ascends_from low more (p ∷ ps) less a = (omega (arith, a.0), a.1, a.2)
 
-tokens_ascend : (low : ℕ) (parts : List Part) → Ascends low parts → Ascends low (without_between parts)
+tokens_ascend : (low : ℕ) (parts : List LexedPiece) → Ascends low parts → Ascends low (without_between parts)
 unfolding Ascends
 tokens_ascend low [] a = tt
 tokens_ascend low (p ∷ ps) a = by_form (not (is_between p.form)) (tokens_ascend p.end ps a.2)
@@ -244,19 +244,19 @@ tokens_ascend low (p ∷ ps) a = by_form (not (is_between p.form)) (tokens_ascen
     by_form true rest = (a.0, a.1, rest)
     by_form false rest = ascends_from low p.end (without_between ps) (omega (arith, a.0, a.1)) rest
 
-low_before : (low : ℕ) (xs : List Part) (y : Part) (vs : List Part) → Ascends low (xs ++ y ∷ vs) → low ≤ y.start
+low_before : (low : ℕ) (xs : List LexedPiece) (y : LexedPiece) (vs : List LexedPiece) → Ascends low (xs ++ y ∷ vs) → low ≤ y.start
 unfolding Ascends
 low_before low [] y vs a = a.0
 low_before low (x ∷ xs) y vs a = let h = low_before x.end xs y vs a.2 in omega (arith, a.0, a.1)
 
 -- of two parts that rise, the first begins first
-begins_first : (low : ℕ) (xs : List Part) (x : Part) (rest : List Part) (y : Part) (vs : List Part) →
+begins_first : (low : ℕ) (xs : List LexedPiece) (x : LexedPiece) (rest : List LexedPiece) (y : LexedPiece) (vs : List LexedPiece) →
     Ascends low (xs ++ x ∷ (rest ++ y ∷ vs)) → x.start < y.start
 unfolding Ascends
 begins_first low [] x rest y vs a = let h = low_before x.end rest y vs a.2 in omega (arith, a.1)
 begins_first low (z ∷ zs) x rest y vs a = begins_first z.end zs x rest y vs a.2
 
-module _ (text : List ℕ) (short : length text ≤ 1048576) (parts : List Part) (covers : Covers text 0 parts (length text)) where
+module _ (text : List ℕ) (short : length text ≤ 1048576) (parts : List LexedPiece) (covers : Covers text 0 parts (length text)) where
   -- the tokens that a failing place of rule Profile has are those of the parts
   same_tokens : (place : Place) (fails : FailsProfile text place) → without_between parts ≡ fails.before ++ fails.part ∷ fails.after
   same_tokens place fails = ap without_between (one_cover text 0 parts fails.parts (length text) (length text) covers fails.covers
@@ -266,8 +266,8 @@ module _ (text : List ℕ) (short : length text ≤ 1048576) (parts : List Part)
       → AreNoLater (place ∷ []) (elsewhere ∷ further)
   no_earlier place elsewhere further first fails = ⊎_elim
       (λ same. no_later place elsewhere further
-      (ap (λ (p : Place). p.start) first.at ∙ ap (λ (p : Part). p.start) same.1 ∙ sym (ap (λ (p : Place). p.start) fails.at))
-      (ap (λ (p : Place). p.end) first.at ∙ ap (λ (p : Part). p.end) same.1 ∙ sym (ap (λ (p : Place). p.end) fails.at)))
+      (ap (λ (p : Place). p.start) first.at ∙ ap (λ (p : LexedPiece). p.start) same.1 ∙ sym (ap (λ (p : Place). p.start) fails.at))
+      (ap (λ (p : Place). p.end) first.at ∙ ap (λ (p : LexedPiece). p.end) same.1 ∙ sym (ap (λ (p : Place). p.end) fails.at)))
       (⊎_elim
       (λ earlier. absurd (first.first fails.before fails.part earlier.0 earlier.1 fails.left_out))
       (λ later.
@@ -312,18 +312,18 @@ module _ (text : List ℕ) (short : length text ≤ 1048576) (parts : List Part)
   passes none _ place also f = f
 
 -- a part that isn't white space or a comment stands among the tokens
-stands_in : (parts : List Part) (k : ℕ) (d : Part) → k < length parts → is_between (get_or parts k d).form ≡ false →
-    (before : List Part) × ((after : List Part) × (without_between parts ≡ before ++ get_or parts k d ∷ after))
+stands_in : (parts : List LexedPiece) (k : ℕ) (d : LexedPiece) → k < length parts → is_between (get_or parts k d).form ≡ false →
+    (before : List LexedPiece) × ((after : List LexedPiece) × (without_between parts ≡ before ++ get_or parts k d ∷ after))
 stands_in [] k d inside token = absurd (omega arith)
 stands_in (p ∷ ps) zero d inside token = ([], (without_between ps, rw token refl))
 stands_in (p ∷ ps) (suc k) d inside token = by_form (not (is_between p.form)) (stands_in ps k d (omega arith) token)
   where
-    by_form : (b : Bool) → ((before : List Part) × ((after : List Part) × (without_between ps ≡ before ++ get_or ps k d ∷ after))) →
-        (before : List Part) × ((after : List Part) × (cond b (p ∷ without_between ps) (without_between ps) ≡ before ++ get_or ps k d ∷ after))
+    by_form : (b : Bool) → ((before : List LexedPiece) × ((after : List LexedPiece) × (without_between ps ≡ before ++ get_or ps k d ∷ after))) →
+        (before : List LexedPiece) × ((after : List LexedPiece) × (cond b (p ∷ without_between ps) (without_between ps) ≡ before ++ get_or ps k d ∷ after))
     by_form true h = (p ∷ h.0, (h.1.0, ap (λ l. p ∷ l) h.1.1))
     by_form false h = h
 
-pub each_has_a_kind : (text : List ℕ) (parts : List Part) → NoneLeftOut text (without_between parts) → All (λ part. part.form ≢ Outside) parts
+pub each_has_a_kind : (text : List ℕ) (parts : List LexedPiece) → NoneLeftOut text (without_between parts) → All (λ part. part.form ≢ Outside) parts
 each_has_a_kind text parts none k d inside is =
     let h = stands_in parts k d inside (ap is_between is) in
     none h.0 (get_or parts k d) h.1.0 h.1.1 (left_outside is)
@@ -338,7 +338,7 @@ unfolding ArePlaced
 placed_from size low more [] less a = tt
 placed_from size low more (t ∷ ts) less a = (omega (arith, a.0), a.1, a.2, a.3)
 
-tokens_placed : (text : List ℕ) (start : ℕ) (parts : List Part) (end : ℕ) → Covers text start parts end →
+tokens_placed : (text : List ℕ) (start : ℕ) (parts : List LexedPiece) (end : ℕ) → Covers text start parts end →
     ArePlaced (length text) start (tokens_of text parts)
 unfolding ArePlaced
 tokens_placed text start [] end c = tt

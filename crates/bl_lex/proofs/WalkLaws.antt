@@ -39,7 +39,7 @@ use Rattle.bl_lex.specs.declared.scan.Before.{Before}
 use Rattle.bl_lex.specs.declared.scan.Before.TheVariants.{Other, At, AtBracket}
 use Rattle.bl_lex.specs.declared.scan.Scan.{Scan}
 use Rattle.bl_lex.specs.Pieces.{is_between, line_feed}
-use Rattle.bl_lex.specs.Tokens.{Part, place_of, IsLongest, Covers, line_at, token_of, tokens_of, without_between}
+use Rattle.bl_lex.specs.Tokens.{LexedPiece, place_of, IsLongest, Covers, line_at, token_of, tokens_of, without_between}
 use Rattle.bl_lex.specs.Rules.{IsLeftOut}
 use Rattle.bl_lex.specs.Rules.IsLeftOut.{outside, open_brace, close_brace, attribute}
 use Rattle.bl_lex.specs.inner.Walk.{
@@ -61,20 +61,20 @@ use Rattle.bl_lex.proofs.PieceLaws.{piece_forward}
 -- how the tokens end
 
 -- the last token is `@` if the tokens end so
-last_at : (tokens : List Part) (part : Part) → EndsAt (tokens ++ part ∷ []) → part.form ≡ Token (Sign 25)
-last_at tokens part ends = let e = (snoc_parts tokens ends.front part ends.at ends.stands).1 in ap (λ (p : Part). p.form) e ∙ ends.is_at
+last_at : (tokens : List LexedPiece) (part : LexedPiece) → EndsAt (tokens ++ part ∷ []) → part.form ≡ Token (Sign 25)
+last_at tokens part ends = let e = (snoc_parts tokens ends.front part ends.at ends.stands).1 in ap (λ (p : LexedPiece). p.form) e ∙ ends.is_at
 
-last_two : (tokens : List Part) (part : Part) → EndsAtBracket (tokens ++ part ∷ []) → EndsAt tokens × (part.form ≡ Token (Sign 2))
+last_two : (tokens : List LexedPiece) (part : LexedPiece) → EndsAtBracket (tokens ++ part ∷ []) → EndsAt tokens × (part.form ≡ Token (Sign 2))
 last_two tokens part ends =
     let e = snoc_parts tokens (ends.front ++ ends.at ∷ []) part ends.bracket
     (ends.stands ∙ sym (append_assoc ends.front (ends.at ∷ []) (ends.bracket ∷ []))) in
-    (record { front = ends.front; at = ends.at; stands = e.0; is_at = ends.is_at }, ap (λ (p : Part). p.form) e.1 ∙ ends.is_bracket)
+    (record { front = ends.front; at = ends.at; stands = e.0; is_at = ends.is_at }, ap (λ (p : LexedPiece). p.form) e.1 ∙ ends.is_bracket)
 
 at_no_bracket : ◌≡◌ {A = Form} (Token (Sign 25)) (Token (Sign 2)) → ⊥
 at_no_bracket e = let n : ◌≡◌ {A = ℕ} 25 2 = cc in omega arith
 
 -- tokens that end in `@` don't end in `@ [`
-not_both_ends : (tokens : List Part) → EndsAt tokens → EndsAtBracket tokens → ⊥
+not_both_ends : (tokens : List LexedPiece) → EndsAt tokens → EndsAtBracket tokens → ⊥
 not_both_ends tokens a b =
     let e = last_two a.front a.at (record {
       front = b.front;
@@ -88,7 +88,7 @@ not_both_ends tokens a b =
     at_no_bracket (sym a.is_at ∙ e.1)
 
 -- `[` after no `@`
-pub next_bracket : (before : Before) (tokens : List Part) (part : Part) → part.form ≡ Token (Sign 2) → before ≢ At →
+pub next_bracket : (before : Before) (tokens : List LexedPiece) (part : LexedPiece) → part.form ≡ Token (Sign 2) → before ≢ At →
     IsBefore before tokens → IsBefore Other (tokens ++ without_between (part ∷ []))
 next_bracket before tokens part is no_at ends = let token : is_between part.form ≡ false = ap is_between is in rw token (
   λ a. at_no_bracket (sym (last_at tokens part a) ∙ is),
@@ -102,12 +102,12 @@ next_bracket before tokens part is no_at ends = let token : is_between part.form
 
 -- what the profile leaves out
 
-bracket_before : (before : Before) (tokens : List Part) → IsBefore before tokens → EndsAtBracket tokens → before ≡ AtBracket
+bracket_before : (before : Before) (tokens : List LexedPiece) → IsBefore before tokens → EndsAtBracket tokens → before ≡ AtBracket
 bracket_before Other tokens is ends = absurd (is.1 ends)
 bracket_before At tokens is ends = absurd (not_both_ends tokens is ends)
 bracket_before AtBracket tokens is ends = refl
 
-left_out_after : (text : List ℕ) (before : Before) (tokens : List Part) (part : Part) → IsBefore before tokens →
+left_out_after : (text : List ℕ) (before : Before) (tokens : List LexedPiece) (part : LexedPiece) → IsBefore before tokens →
     IsLeftOut text tokens part → IsLeftOutAfter before part.form (slice_range text part.start part.end)
 left_out_after text before tokens part ends (outside e) = inl e
 left_out_after text before tokens part ends (open_brace e) = inr (inl e)
@@ -127,21 +127,21 @@ left_out_after text before tokens part ends (attribute front at bracket stands i
       differs,
     )))
 
-left_out_by : (text : List ℕ) (before : Before) (tokens : List Part) (part : Part) → IsBefore before tokens →
+left_out_by : (text : List ℕ) (before : Before) (tokens : List LexedPiece) (part : LexedPiece) → IsBefore before tokens →
     IsLeftOutAfter before part.form (slice_range text part.start part.end) → IsLeftOut text tokens part
 left_out_by text before tokens part ends is = ⊎_elim (λ e. outside e) (⊎_elim (λ e. open_brace e) (⊎_elim (λ e. close_brace e)
     (λ a. let b : EndsAtBracket tokens = subst (λ (x : Before). IsBefore x tokens) a.0 ends in
     attribute b.front b.at b.bracket b.stands b.is_at b.is_bracket a.1 a.2))) is
 
-none_push : (text : List ℕ) (tokens : List Part) (part : Part) → NoneLeftOut text tokens → ¬ IsLeftOut text tokens part →
+none_push : (text : List ℕ) (tokens : List LexedPiece) (part : LexedPiece) → NoneLeftOut text tokens → ¬ IsLeftOut text tokens part →
     NoneLeftOut text (tokens ++ part ∷ [])
 none_push text tokens part none kept before p after stands left_out =
     ⊎_elim
-    (λ l. kept (subst (λ (q : Part). IsLeftOut text tokens q) (sym l.2) (subst (λ (ts : List Part). IsLeftOut text ts p) (sym l.1) left_out)))
+    (λ l. kept (subst (λ (q : LexedPiece). IsLeftOut text tokens q) (sym l.2) (subst (λ (ts : List LexedPiece). IsLeftOut text ts p) (sym l.1) left_out)))
     (λ r. none before p r.0 r.2 left_out)
     (where_in tokens before part p after stands)
 
-first_push : (text : List ℕ) (tokens : List Part) (part : Part) (place : Place) → IsFirstLeftOut text tokens place →
+first_push : (text : List ℕ) (tokens : List LexedPiece) (part : LexedPiece) (place : Place) → IsFirstLeftOut text tokens place →
     IsFirstLeftOut text (tokens ++ part ∷ []) place
 first_push text tokens part place is = record {
   before = is.before;
@@ -154,7 +154,7 @@ first_push text tokens part place is = record {
 }
 
 -- one token more
-left_out_push : (text : List ℕ) (before : Before) (tokens : List Part) (part : Part) (found : Option Place) (left_out : Bool) →
+left_out_push : (text : List ℕ) (before : Before) (tokens : List LexedPiece) (part : LexedPiece) (found : Option Place) (left_out : Bool) →
     IsBefore before tokens → (IsTrue left_out ↔ IsLeftOutAfter before part.form (slice_range text part.start part.end)) →
     IsLeftOutPlace text tokens found → IsLeftOutPlace text (tokens ++ part ∷ []) (earlier found left_out (place_of part))
 left_out_push text before tokens part (Some place) left_out ends is was = first_push text tokens part place was
@@ -184,7 +184,7 @@ earlier_kept None true other not_out = absurd (not_out refl)
 earlier_kept None false other not_out = refl
 
 -- one part more
-pub left_out_next : (text : List ℕ) (before : Before) (tokens : List Part) (part : Part) (found : Option Place) (left_out : Bool) →
+pub left_out_next : (text : List ℕ) (before : Before) (tokens : List LexedPiece) (part : LexedPiece) (found : Option Place) (left_out : Bool) →
     IsBefore before tokens → (IsTrue left_out ↔ IsLeftOutAfter before part.form (slice_range text part.start part.end)) →
     IsLeftOutPlace text tokens found → IsLeftOutPlace text (tokens ++ without_between (part ∷ [])) (earlier found left_out (place_of part))
 left_out_next text before tokens part found left_out ends is was = by_form (is_between part.form) refl
@@ -200,7 +200,7 @@ left_out_next text before tokens part found left_out ends is was = by_form (is_b
 
 -- the parts and what covers them
 
-pub Covers-push : (text : List ℕ) (start : ℕ) (parts : List Part) (middle : ℕ) (part : Part) → Covers text start parts middle →
+pub Covers-push : (text : List ℕ) (start : ℕ) (parts : List LexedPiece) (middle : ℕ) (part : LexedPiece) → Covers text start parts middle →
     part.start ≡ middle → IsLongest text part → Covers text start (parts ++ part ∷ []) part.end
 Covers-push text start [] middle part covers at longest = (at ∙ sym covers, longest, refl)
 Covers-push text start (p ∷ ps) middle part covers at longest = (covers.0, covers.1, Covers-push text p.end ps middle part covers.2 at longest)
@@ -209,7 +209,7 @@ list_of_option : {X : Type 0} (o : Option X) → cons_option o [] ≡ option_to_
 list_of_option None = refl
 list_of_option (Some x) = refl
 
-tokens-push : (text : List ℕ) (parts : List Part) (part : Part) →
+tokens-push : (text : List ℕ) (parts : List LexedPiece) (part : LexedPiece) →
     tokens_of text (parts ++ part ∷ []) ≡ tokens_of text parts ++ token_with part.form (place_of part) (line_at text part.start)
 tokens-push text parts part = filter_map-append (token_of text) parts (part ∷ [])
     ∙ ap (λ ts. tokens_of text parts ++ ts) (list_of_option (token_of text part))
@@ -236,7 +236,7 @@ scanned_start text scan tokens line before left_out = record {
 
 -- one part more
 module _ (text : List ℕ) (start end : ℕ) (form : Form) (scan next : Scan) (left_out : Bool) where
-  part : Part
+  part : LexedPiece
   part = record { start = start; end = end; form = form }
 
   pub scanned_next : IsScanned text start scan → IsLongest text (record { start = start; end = end; form = form })
@@ -254,9 +254,9 @@ module _ (text : List ℕ) (start end : ℕ) (form : Form) (scan next : Scan) (l
         ∙ ap (λ n. tokens_of text is.parts ++ token_with form (place_of part) n) is.line ∙ sym (tokens-push text is.parts part);
     line = line ∙ ap (λ n. n + count_by (λ byte. byte == line_feed) (slice_range text start end)) is.line
         ∙ line-push text start end (let forward = piece_forward _ _ longest.piece in omega arith);
-    before = subst (λ (ts : List Part). IsBefore next.before ts) (sym (filter-append _ is.parts (part ∷ [])))
+    before = subst (λ (ts : List LexedPiece). IsBefore next.before ts) (sym (filter-append _ is.parts (part ∷ [])))
         (before (without_between is.parts) part refl is.before);
     left_out = let here = left_out_next text scan.before (without_between is.parts) part scan.left_out left_out is.before out is.left_out in
-        subst (λ (ts : List Part). IsLeftOutPlace text ts next.left_out) (sym (filter-append _ is.parts (part ∷ [])))
+        subst (λ (ts : List LexedPiece). IsLeftOutPlace text ts next.left_out) (sym (filter-append _ is.parts (part ∷ [])))
         (subst (λ (o : Option Place). IsLeftOutPlace text (without_between is.parts ++ without_between (part ∷ [])) o) (sym found) here);
   }

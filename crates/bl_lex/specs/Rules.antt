@@ -27,7 +27,7 @@ use Rattle.bl_lex.specs.declared.piece.Form.TheVariants.{Token, Outside}
 use Rattle.bl_lex.specs.declared.sign.TheConstants.{OPEN_BRACKET, AT, OPEN_BRACE, CLOSE_BRACE}
 use Rattle.bl_lex.specs.Spelling.{is_word_byte, begins_with_digit, IsNumber, IsOctal}
 use Rattle.bl_lex.specs.Pieces.{OpensComment, ClosesComment, IsWord, NoPieceAt}
-use Rattle.bl_lex.specs.Tokens.{Part, place_of, Covers, without_between}
+use Rattle.bl_lex.specs.Tokens.{LexedPiece, place_of, Covers, without_between}
 
 -- Size: the text has more than 1,048,576 bytes; the place is the first beyond
 pub record FailsSize (text : List ℕ) (place : Place) : Type 0 where
@@ -61,27 +61,27 @@ IsFault text place = IsStrayByte text place ⊎ (IsUnclosedComment text place �
 
 -- Lex: pieces cover the text as far as this place, and none stands here
 pub record FailsLex (text : List ℕ) (place : Place) : Type 0 where
-  pub parts : List Part
+  pub parts : List LexedPiece
   pub covers : Covers text 0 parts place.start
   pub fault : IsFault text place
 
 -- a token, where `before` are those before it, that the profile leaves out: some words and numbers, braces,
 -- and a name other than `EntryPoint` directly after `@ [`
-pub data IsLeftOut (text : List ℕ) (before : List Part) (part : Part) : Type 0 where
+pub data IsLeftOut (text : List ℕ) (before : List LexedPiece) (part : LexedPiece) : Type 0 where
   outside : part.form ≡ Outside → IsLeftOut text before part
   open_brace : part.form ≡ Token (Sign OPEN_BRACE) → IsLeftOut text before part
   close_brace : part.form ≡ Token (Sign CLOSE_BRACE) → IsLeftOut text before part
-  attribute : (front : List Part) (at bracket : Part) → before ≡ front ++ (at ∷ bracket ∷ []) → at.form ≡ Token (Sign AT)
+  attribute : (front : List LexedPiece) (at bracket : LexedPiece) → before ≡ front ++ (at ∷ bracket ∷ []) → at.form ≡ Token (Sign AT)
       → bracket.form ≡ Token (Sign OPEN_BRACKET) → part.form ≡ Token Name →
       slice_range text part.start part.end ≢ codes "EntryPoint" → IsLeftOut text before part
 
 -- Profile: pieces cover the whole text, and the profile leaves out the token at this place
 pub record FailsProfile (text : List ℕ) (place : Place) : Type 0 where
-  pub parts : List Part
+  pub parts : List LexedPiece
   pub covers : Covers text 0 parts (length text)
-  pub before : List Part
-  pub part : Part
-  pub after : List Part
+  pub before : List LexedPiece
+  pub part : LexedPiece
+  pub after : List LexedPiece
   pub stands : without_between parts ≡ before ++ part ∷ after
   pub left_out : IsLeftOut text before part
   pub at : place ≡ place_of part

@@ -4,7 +4,7 @@ ghost use Rattle.std.specs.Prelude.{◌≡◌, ℕ, ◌≤◌, ◌==◌, ◌↔�
 ghost use Rattle.std.specs.Prelude.{IfOk, IfErr, OnOk, MatchResult};
 ghost use Rattle.bl_lex.specs.declared.sign.TheConstants.{OPEN_BRACKET};
 ghost use Rattle.bl_lex.specs.Pieces.{line_feed};
-ghost use Rattle.bl_lex.specs.Tokens.{Part, Lexes};
+ghost use Rattle.bl_lex.specs.Tokens.{LexedPiece, Lexes};
 ghost use Rattle.bl_tree.specs.Rules.{IsCause};
 ghost use Rattle.bl_lex.specs.Rules.{Fails, Passes};
 ghost use Rattle.bl_lex.specs.inner.Steps.{IsLongestAt};

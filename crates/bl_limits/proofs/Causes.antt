@@ -8,10 +8,10 @@ use Rattle.bl_tree.specs.declared.rule.Rule.{Rule}
 use Rattle.bl_tree.specs.declared.rule.Rule.TheVariants as rule
 use Rattle.bl_tree.specs.declared.tree.StructDef.{StructDef}
 use Rattle.bl_tree.specs.declared.tree.Unit.{Unit as UnitDef}
-use Rattle.bl_tree.specs.Rules.{Among, IsCause, Refuses, first_of, further_places}
+use Rattle.bl_tree.specs.Rules.{FailsAmong, IsCause, Refuses, first_of, further_places}
 use Rattle.bl_tree.proofs.FirstLemmas.{In, alike_first, alike_passes, contains_in, first_fails, in_contains, is_cause, none_passes}
-use Rattle.bl_measures.specs.Types.{nesting, struct_nestings}
-use Rattle.bl_measures.specs.Units.{all_chains, cells_at, instances_at}
+use Rattle.bl_limits_measures.specs.Types.{nesting, struct_nestings}
+use Rattle.bl_limits_measures.specs.Units.{all_chains, cells_at, instances_at}
 use Rattle.bl_limits.specs.Rules.{Fails, FailsCells, FailsFrames, Passes}
 use Rattle.bl_limits.specs.inner.Failures.{
   chain_failures,
@@ -131,7 +131,7 @@ module _ (structs : List StructDef) (units : List UnitDef) (entry : ℕ) where
       (in_append x (chain_failures units) after_chains h))
       (in_append x (many_instances units entry) after_instances h)
 
-  to : (r : Rule) (p : Place) (a : List Place) → Among all r p a → Fails structs units entry r p a
+  to : (r : Rule) (p : Place) (a : List Place) → FailsAmong all r p a → Fails structs units entry r p a
   to r p a among =
       let it = found among.failure (contains_in among.failure all among.is_there) in
       let of_rule : r ≡ it.rule = among.of_rule ∙ ap (λ (f : Failure). f.rule) it.is in
@@ -140,7 +140,7 @@ module _ (structs : List StructDef) (units : List UnitDef) (entry : ℕ) where
       subst (λ r. Fails structs units entry r p a) (sym of_rule)
       (subst (λ p. Fails structs units entry it.rule p a) (sym at_place) (subst (λ a. Fails structs units entry it.rule it.at a) (sym further) it.fails))
 
-  among : (r : Rule) (p q : Place) (a : List Place) → In (failure_at r q) all → p ≡ q → a ≡ [] → Among all r p a
+  among : (r : Rule) (p q : Place) (a : List Place) → In (failure_at r q) all → p ≡ q → a ≡ [] → FailsAmong all r p a
   among r p q a there at none = record {
     failure = failure_at r q;
     is_there = in_contains (failure_at r q) all there;
@@ -149,7 +149,7 @@ module _ (structs : List StructDef) (units : List UnitDef) (entry : ℕ) where
     further = none;
   }
 
-  from_frames : (p : Place) (a : List Place) → FailsFrames units entry p → a ≡ [] → Among all rule.Frames p a
+  from_frames : (p : Place) (a : List Place) → FailsFrames units entry p → a ≡ [] → FailsAmong all rule.Frames p a
   from_frames p a h none =
       ⊎_elim
       (λ many. among rule.Frames p many.unit.place a
@@ -165,7 +165,7 @@ module _ (structs : List StructDef) (units : List UnitDef) (entry : ℕ) where
   behind : (x : Failure) → In x after_chains → In x all
   behind x h = append_right x (many_instances units entry) after_instances (append_right x (chain_failures units) after_chains h)
 
-  from_cells : (p : Place) (a : List Place) → FailsCells structs units entry p → a ≡ [] → Among all rule.Cells p a
+  from_cells : (p : Place) (a : List Place) → FailsCells structs units entry p → a ≡ [] → FailsAmong all rule.Cells p a
   from_cells p a h none =
       ⊎_elim
       (λ large. among rule.Cells p large.unit.place a
@@ -189,15 +189,15 @@ module _ (structs : List StructDef) (units : List UnitDef) (entry : ℕ) where
       (above_in 100 (nesting structs var.var.ty) (failure_at rule.Cells var.var.place) var.deep))))))
       var.at_name none) deep) h
 
-  from : (r : Rule) (p : Place) (a : List Place) → Fails structs units entry r p a → Among all r p a
+  from : (r : Rule) (p : Place) (a : List Place) → Fails structs units entry r p a → FailsAmong all r p a
   from rule.Frames p a h = from_frames p a h.0 h.1
   from rule.Cells p a h = from_cells p a h.0 h.1
   from _ p a h = absurd h
 
   pub passes : first_of None all ≡ None → Passes structs units entry
-  passes is = alike_passes (Among all) (Fails structs units entry) to from (none_passes all is)
+  passes is = alike_passes (FailsAmong all) (Fails structs units entry) to from (none_passes all is)
 
   pub cause : (first : Failure) (told : Refusal) → first_of None all ≡ Some first → Refuses first told → IsCause (Fails structs units entry) told
   cause first told is tells =
       is_cause (Fails structs units entry) first told
-      (alike_first (Among all) (Fails structs units entry) to from first.rule first.at (further_places first.further) (first_fails all first is)) tells
+      (alike_first (FailsAmong all) (Fails structs units entry) to from first.rule first.at (further_places first.further) (first_fails all first is)) tells

@@ -37,7 +37,7 @@ use Rattle.bl_tree.specs.declared.rule.Rule.{Rule}
 use Rattle.bl_tree.specs.declared.tree.Unit.{Unit as UnitDef}
 use Rattle.bl_tree.specs.Reduce.{joined}
 use Rattle.bl_tree.specs.Rules.{first_of, lesser}
-use Rattle.bl_measures.specs.Saturated.{saturated}
+use Rattle.bl_limits_measures.specs.Saturated.{saturated}
 use Rattle.bl_limits.specs.inner.Failures.{above, at_unit, failure_at, numbered}
 
 pub first-append : (best : Option Failure) (xs ys : List Failure) → first_of best (xs ++ ys) ≡ first_of (first_of best xs) ys

@@ -7,8 +7,8 @@ use Rattle.bl_tree.specs.declared.tree.StructDef.{StructDef}
 use Rattle.bl_tree.specs.declared.tree.Unit.{Unit as UnitDef}
 use Rattle.bl_tree.specs.declared.tree.Var.{Var}
 use Rattle.bl_tree.specs.Rules.{FailsFirst as FirstOf, Passes as NoneOf}
-use Rattle.bl_measures.specs.Types.{nesting, struct_nestings}
-use Rattle.bl_measures.specs.Units.{cells_at, chain_at, instances_at}
+use Rattle.bl_limits_measures.specs.Types.{nesting, struct_nestings}
+use Rattle.bl_limits_measures.specs.Units.{cells_at, chain_at, instances_at}
 
 -- ---- Frames
 

@@ -1,12 +1,12 @@
 //! Rule Cells: too large a state, and types that are nested too deep.
 
 ghost use Rattle.std.specs.Prelude.{◌≡◌};
-ghost use Rattle.bl_measures.specs.Tells.{MeasuresTell};
+ghost use Rattle.bl_limits_measures.specs.Tells.{MeasuresTell};
 ghost use Rattle.bl_tree.specs.Rules.{first_of};
 ghost use Rattle.bl_limits.specs.inner.Failures.{large_state, struct_failures, unit_variable_failures, variable_failures};
 
 use crate::limit::Limit;
-use bl_measures::Measures;
+use bl_limits_measures::Measures;
 use bl_tree::tree::{StructDef, Unit, Var};
 use bl_tree::{Failure, Rule};
 

@@ -1,12 +1,12 @@
 //! Rule Frames: too many activity instances, and too long a chain of units that call or run one another.
 
 ghost use Rattle.std.specs.Prelude.{◌≡◌};
-ghost use Rattle.bl_measures.specs.Tells.{MeasuresTell};
+ghost use Rattle.bl_limits_measures.specs.Tells.{MeasuresTell};
 ghost use Rattle.bl_tree.specs.Rules.{first_of};
 ghost use Rattle.bl_limits.specs.inner.Failures.{chain_failures, many_instances};
 
 use crate::limit::Limit;
-use bl_measures::Measures;
+use bl_limits_measures::Measures;
 use bl_tree::tree::{StructDef, Unit};
 use bl_tree::{Failure, Rule};
 

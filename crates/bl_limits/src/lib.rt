@@ -12,7 +12,7 @@ mod cells;
 mod frames;
 mod limit;
 
-use bl_measures::Measures;
+use bl_limits_measures::Measures;
 use bl_tree::tree::{StructDef, Unit};
 use bl_tree::{Failure, NoMemory, Program, Refusal};
 use std::alloc::Global;

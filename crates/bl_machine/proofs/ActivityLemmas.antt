@@ -4,8 +4,8 @@ use Rattle.std.specs.Prelude.{All, slice_index}
 use Rattle.std.proofs.lemmas.List.Elements.{All-weaker}
 use Rattle.bl_tree.specs.declared.tree.Stmt.{Stmt}
 use Rattle.bl_tree.specs.Reduce.{greatest}
-use Rattle.bl_nodes.specs.Laws.{PlainStatements}
-use Rattle.bl_nodes.specs.Plain.{Block, plain_body}
+use Rattle.bl_graph_nodes.specs.Laws.{PlainStatements}
+use Rattle.bl_graph_nodes.specs.Plain.{Block, plain_body}
 use Rattle.bl_machine.specs.declared.slots.Slot.{Slot}
 use Rattle.bl_machine.specs.Counters.{AllRestAt}
 use Rattle.bl_machine.specs.Layout.{counters_in, width_in}

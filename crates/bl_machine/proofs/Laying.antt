@@ -27,7 +27,7 @@ use Rattle.bl_tree.specs.declared.tree.StmtKind.{fold-roll-StmtKind}
 use Rattle.bl_tree.specs.declared.tree.StmtKind.TheOpen.{StmtKind-F}
 use Rattle.bl_tree.specs.Reduce.{greatest, total}
 use Rattle.bl_tree.proofs.StmtInduction.{Cases, Each, EachArm, EachBranch, induct, stmt}
-use Rattle.bl_nodes.specs.Plain.{
+use Rattle.bl_graph_nodes.specs.Plain.{
   Label,
   Plain,
   Position,
@@ -40,7 +40,7 @@ use Rattle.bl_nodes.specs.Plain.{
   plain,
   plain_block,
 }
-use Rattle.bl_nodes.specs.Laws.{PlainStatements, plain_arm, plain_branch}
+use Rattle.bl_graph_nodes.specs.Laws.{PlainStatements, plain_arm, plain_branch}
 use Rattle.bl_machine.specs.Layout.{counters_in, counters_in_each, counters_of, width_in, width_in_each, width_of}
 use Rattle.bl_machine.specs.inner.Laid.{
   Laid,

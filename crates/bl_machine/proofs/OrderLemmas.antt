@@ -34,11 +34,11 @@ use Rattle.std.proofs.lemmas.Option.{get_or_from_slice_get, slice_get_within}
 use Rattle.bl_tree.specs.declared.graph.Edge.{Edge as GraphEdge}
 use Rattle.bl_tree.specs.declared.graph.Node.{Node as GraphNode}
 use Rattle.bl_tree.specs.Reduce.{joined}
-use Rattle.bl_nodes.specs.Nodes.{nodes_in}
-use Rattle.bl_nodes.specs.Plain.{Block}
-use Rattle.bl_graph.specs.Graph.{Between, IsTickGraph, edge_between, shown}
+use Rattle.bl_graph_nodes.specs.Nodes.{nodes_in}
+use Rattle.bl_graph_nodes.specs.Plain.{Block}
+use Rattle.bl_graph.specs.Graph.{EdgeBetween, IsTickGraph, edge_between, graph_node}
 use Rattle.bl_cause.specs.Ranks.{Ranks}
-use Rattle.bl_machine.specs.Blocks.{Leads, Ordered, up_to}
+use Rattle.bl_machine.specs.Blocks.{EdgeLeads, Ordered, up_to}
 
 -- what has the lesser number in a list that ascends by it stands before the other
 rises_by : (rank : ℕ → ℕ) (order : List ℕ) → IsNonDecreasingBy rank order → (p q i j : ℕ) → slice_get order p ≡ Some i →
@@ -74,10 +74,10 @@ single_blocks order block there = All-contains (λ block. length block ≡ 1) (o
 
 -- an edge leads to a node with a greater rank
 leads_up : (body : Block) (nodes : List GraphNode) (edges : List GraphEdge) (ranks : List ℕ) → IsTickGraph body nodes edges → Ranks edges ranks →
-    (i j : ℕ) → Between (nodes_in body) (Leads body) i j → slice_index ranks i < slice_index ranks j
+    (i j : ℕ) → EdgeBetween (nodes_in body) (EdgeLeads body) i j → slice_index ranks i < slice_index ranks j
 leads_up body nodes edges ranks graph up i j between = by_edge between.edge
   where
-    by_edge : Leads body between.first between.second → slice_index ranks i < slice_index ranks j
+    by_edge : EdgeLeads body between.first between.second → slice_index ranks i < slice_index ranks j
     by_edge (inl edge) =
         up (edge_between i j false) ((graph.control i j).1
         (record { first = between.first; second = between.second; is_first = between.is_first; is_second = between.is_second; edge = edge }))
@@ -89,7 +89,7 @@ pub ordered_by_rank : (body : Block) (nodes : List GraphNode) (edges : List Grap
     Ranks edges ranks → IsPermutation (up_to (length nodes)) order → IsNonDecreasingBy (slice_index ranks) order → Ordered body (one_each order)
 ordered_by_rank body nodes edges ranks order graph up all ascends =
     let flat = joined_one order in
-    let many : length nodes ≡ length (nodes_in body) = ap length graph.in_order ∙ length-map (nodes_in body) shown in record {
+    let many : length nodes ≡ length (nodes_in body) = ap length graph.in_order ∙ length-map (nodes_in body) graph_node in record {
       all = subst (λ n. IsPermutation (up_to n) (joined (one_each order))) many (subst (IsPermutation (up_to (length nodes))) (sym flat) all);
       rises = λ p q i j first second between.
           rises_by (slice_index ranks) order ascends p q i j (ap (λ xs. slice_get xs p) (sym flat) ∙ first)

@@ -20,7 +20,7 @@ use Rattle.std.specs.Prelude.{
   slice_get,
 }
 use Rattle.bl_tree.specs.Reduce.{joined}
-use Rattle.bl_nodes.specs.Nodes.{
+use Rattle.bl_graph_nodes.specs.Nodes.{
   ActAt,
   DepthJoinAt,
   HeadAt,
@@ -28,10 +28,10 @@ use Rattle.bl_nodes.specs.Nodes.{
   SurfaceJoinAt,
   nodes_in,
 }
-use Rattle.bl_nodes.specs.Plain.{Block}
+use Rattle.bl_graph_nodes.specs.Plain.{Block}
 use Rattle.bl_graph.specs.DataEdges.{DataEdge}
 use Rattle.bl_graph.specs.Edges.{EdgeAll, Entry, ResumeAll}
-use Rattle.bl_graph.specs.Graph.{Between}
+use Rattle.bl_graph.specs.Graph.{EdgeBetween}
 
 -- ---- nodes that could stand in one block
 
@@ -66,8 +66,8 @@ up_to zero = []
 up_to (suc count) = up_to count ++ count ∷ []
 
 -- an edge leads from the first node to the second: a control edge or a data edge
-abbrev pub Leads : Block → Node → Node → Type 0
-Leads body n m = EdgeAll body n m ⊎ DataEdge body n m
+abbrev pub EdgeLeads : Block → Node → Node → Type 0
+EdgeLeads body n m = EdgeAll body n m ⊎ DataEdge body n m
 
 -- these blocks list the nodes of the body by their numbers, in an order in which each can be taken once
 pub record Ordered (body : Block) (blocks : List (List ℕ)) : Type 0 where
@@ -75,9 +75,9 @@ pub record Ordered (body : Block) (blocks : List (List ℕ)) : Type 0 where
   pub all : IsPermutation (up_to (length (nodes_in body))) (joined blocks)
   -- before all to which an edge leads from it
   pub rises : (p q i j : ℕ) → slice_get (joined blocks) p ≡ Some i → slice_get (joined blocks) q ≡ Some j →
-      Between (nodes_in body) (Leads body) i j → p < q
+      EdgeBetween (nodes_in body) (EdgeLeads body) i j → p < q
   -- no block is empty
   pub filled : (block : List ℕ) → Contains blocks block → 0 < length block
   -- and what follows a node in its block could stand in one block with it
   pub straight : (block : List ℕ) (k i j : ℕ) → Contains blocks block → slice_get block k ≡ Some i → slice_get block (suc k) ≡ Some j →
-      Between (nodes_in body) (CouldFollow body) i j
+      EdgeBetween (nodes_in body) (CouldFollow body) i j

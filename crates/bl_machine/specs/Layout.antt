@@ -1,6 +1,6 @@
 -- Where the statements of a body may rest between ticks, and a counter for each of these places: how an activity is laid out.
 use Rattle.std.specs.Prelude.{ℕ, suc, ◌+◌, max, List, [], ◌∷◌, ◌++◌}
-use Rattle.bl_nodes.specs.Plain.{
+use Rattle.bl_graph_nodes.specs.Plain.{
   Act,
   Again,
   Await,

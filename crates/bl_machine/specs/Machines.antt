@@ -3,7 +3,7 @@ use Rattle.std.specs.Prelude.{◌≡◌, ℕ, List, Contains, length}
 use Rattle.bl_tree.specs.declared.program.Program.{Program}
 use Rattle.bl_tree.specs.declared.tree.Unit.{Unit as UnitDef}
 use Rattle.bl_cause.specs.Activities.{EachTwo, activities}
-use Rattle.bl_nodes.specs.Plain.{plain_body}
+use Rattle.bl_graph_nodes.specs.Plain.{plain_body}
 use Rattle.bl_machine.specs.declared.machine.Activity.{Activity}
 use Rattle.bl_machine.specs.Blocks.{Ordered}
 use Rattle.bl_machine.specs.Layout.{counters_in}

@@ -1,6 +1,6 @@
 -- Numbers for resting places: a counter, and the value that it has while the activity rests there.
 use Rattle.std.specs.Prelude.{◌≡◌, ℕ, suc, List, [], ◌∷◌, ◌++◌, count_by, length, map, nat_eq, slice_index}
-use Rattle.bl_nodes.specs.Plain.{Block}
+use Rattle.bl_graph_nodes.specs.Plain.{Block}
 use Rattle.bl_machine.specs.declared.slots.Slot.{Slot}
 use Rattle.bl_machine.specs.Counters.{AllRestAt}
 use Rattle.bl_machine.specs.Layout.{places_in}

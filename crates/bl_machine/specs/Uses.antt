@@ -1,6 +1,6 @@
 -- The numbers of an activity's resting places by the labels of their statements, and which counters a part of its body uses.
 use Rattle.std.specs.Prelude.{ℕ, suc, Bool, false, ◌||◌, nat_eq}
-use Rattle.bl_nodes.specs.Plain.{
+use Rattle.bl_graph_nodes.specs.Plain.{
   Act,
   Again,
   Await,

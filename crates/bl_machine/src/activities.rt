@@ -11,7 +11,7 @@ use crate::order::{by_rank, single};
 use crate::slots::numbered;
 use bl_cause::Order;
 use bl_cause::laws::graphs_are_found;
-use bl_nodes::plain_statements;
+use bl_graph_nodes::plain_statements;
 use bl_tree::graph::Graph;
 use bl_tree::tree::{Unit, UnitKind};
 use bl_tree::{List, NoMemory, Program};

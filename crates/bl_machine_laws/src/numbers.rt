@@ -12,7 +12,7 @@ ghost use Rattle.bl_machine_laws.specs.Numbers.Sleeping.{SleepersWait, TurnsOnly
 ghost use Rattle.bl_machine_laws.specs.Numbers.Steps.{TurnsAreWalks, TurnsWait};
 ghost use Rattle.bl_machine_laws.specs.Numbers.Width.{TakesItsWidth};
 
-use bl_nodes::plain_statements;
+use bl_graph_nodes::plain_statements;
 
 /// An activity takes as many counters as its width, and uses each of them.
 pub fn activities_take_their_width()

@@ -21,8 +21,8 @@ use bl_ctree_laws::runs::reached_trees_are_armed;
 use bl_ctree_laws::shrinking::{acting_is_open, steps_shrink};
 use bl_ctree_laws_confluence::deeds::{accepted_programs_are_orderly, instances_nest};
 use bl_ctree_laws_traces::progress::{
-    accepted_trees_are_live, bodies_begin_live, nodes_are_in_part, programs_are_callable,
-    steps_keep_live, unsettled_could,
+    accepted_trees_fit_graphs, bodies_fit_graph, nodes_are_in_part, programs_are_callable,
+    steps_keep_fits_graph, unsettled_could,
 };
 use bl_ctree_laws_traces::ready::{orders_give_ranks, reached_lowest_may_act};
 use bl_graph::graphs_stay_within;
@@ -43,8 +43,8 @@ pub fn instances_have_passes()
     steps_shrink();
     turns_are_walks();
     turns_wait();
-    bodies_begin_live();
-    steps_keep_live();
+    bodies_fit_graph();
+    steps_keep_fits_graph();
     turns_lead_on();
     waits_in_part();
     graphs_stay_within();
@@ -66,7 +66,7 @@ pub fn ticks_are_passes()
     statements_are_plain();
     nodes_are_in_part();
     unsettled_could();
-    accepted_trees_are_live();
+    accepted_trees_fit_graphs();
     programs_are_callable();
     accepted_programs_are_orderly();
     instances_have_passes();

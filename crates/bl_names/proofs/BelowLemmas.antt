@@ -26,13 +26,13 @@ use Rattle.std.proofs.Common.{
 }
 use Rattle.std.specs.Prelude.{bytes_eq, ⊤}
 use Rattle.std.specs.Option.{option_or}
-use Rattle.bl_scopes.specs.declared.kind.Kind.{Kind}
-use Rattle.bl_scopes.specs.declared.kind.Kind.TheVariants as kind
-use Rattle.bl_scopes.specs.declared.scopes.Counts.{Counts}
-use Rattle.bl_scopes.specs.declared.scopes.Declaration.{Declaration}
-use Rattle.bl_scopes.specs.Marks.{declares}
-use Rattle.bl_scopes.specs.Scopes.{Declared, Scopes, bound, bound_around, count_of, counted, declaration_of, declared, enter, found}
-use Rattle.bl_raw.specs.declared.name.Name.{Name}
+use Rattle.bl_names_scopes.specs.declared.kind.Kind.{Kind}
+use Rattle.bl_names_scopes.specs.declared.kind.Kind.TheVariants as kind
+use Rattle.bl_names_scopes.specs.declared.scopes.Counts.{Counts}
+use Rattle.bl_names_scopes.specs.declared.scopes.Declaration.{Declaration}
+use Rattle.bl_names_scopes.specs.Marks.{declares}
+use Rattle.bl_names_scopes.specs.Scopes.{Declared, Scopes, bound, bound_around, count_of, counted, declaration_of, declared, enter, found}
+use Rattle.bl_parse_tree.specs.declared.name.Name.{Name}
 
 -- no use is bound to a field
 abbrev pub DeclarationBelow : Counts → Declaration → Type 0

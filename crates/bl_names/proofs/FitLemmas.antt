@@ -2,14 +2,14 @@
 use Rattle.std.proofs.Common.{◌≡◌, true, false, List, [], ◌∷◌, ◌++◌, inl, inr, Some, None, refl, sym, subst, ◌∙◌, append_assoc}
 use Rattle.std.specs.Prelude.{⊤}
 use Rattle.bl_tree.specs.declared.rule.Rule.TheVariants as rule
-use Rattle.bl_scopes.specs.declared.kind.Wanted.{Wanted}
-use Rattle.bl_scopes.specs.declared.scopes.Declaration.{Declaration}
-use Rattle.bl_scopes.specs.Kinds.{suits}
-use Rattle.bl_scopes.specs.Marks.{Mark, Marks, opens, closes, declares, uses, marks_of}
-use Rattle.bl_scopes.specs.Rules.{MarkStands, Passes}
-use Rattle.bl_scopes.specs.Scopes.{Scopes, after, bound, enter, file_scope}
-use Rattle.bl_raw.specs.declared.item.RawItem.{RawItem}
-use Rattle.bl_raw.specs.declared.name.Name.{Name}
+use Rattle.bl_names_scopes.specs.declared.kind.Wanted.{Wanted}
+use Rattle.bl_names_scopes.specs.declared.scopes.Declaration.{Declaration}
+use Rattle.bl_names_scopes.specs.Kinds.{suits}
+use Rattle.bl_names_scopes.specs.Marks.{Mark, Marks, opens, closes, declares, uses, marks_of}
+use Rattle.bl_names_scopes.specs.Rules.{MarkStands, Passes}
+use Rattle.bl_names_scopes.specs.Scopes.{Scopes, after, bound, enter, file_scope}
+use Rattle.bl_parse_tree.specs.declared.item.RawItem.{RawItem}
+use Rattle.bl_parse_tree.specs.declared.name.Name.{Name}
 use Rattle.bl_names.proofs.StillLemmas.{Still, after-append}
 
 -- a name is bound to a declaration of a kind that is wanted

@@ -23,12 +23,12 @@ use Rattle.std.specs.Prelude.{Option, Some, option_map}
 use Rattle.bl_tree.specs.declared.tree.Role.{Role}
 use Rattle.bl_tree.specs.declared.tree.Role.TheVariants as role
 use Rattle.bl_tree.specs.Reduce.{joined}
-use Rattle.bl_named.specs.declared.item.NamedUnit.{NamedUnit}
-use Rattle.bl_named.specs.declared.item.NamedVar.{NamedVar}
-use Rattle.bl_named.specs.declared.stmt.NamedStmt.{NamedStmt}
-use Rattle.bl_named.specs.declared.types.NamedType.{NamedType}
-use Rattle.bl_scopes.specs.declared.kind.Kind.TheVariants as kind
-use Rattle.bl_scopes.specs.Marks.{
+use Rattle.bl_names_tree.specs.declared.item.NamedUnit.{NamedUnit}
+use Rattle.bl_names_tree.specs.declared.item.NamedVar.{NamedVar}
+use Rattle.bl_names_tree.specs.declared.stmt.NamedStmt.{NamedStmt}
+use Rattle.bl_names_tree.specs.declared.types.NamedType.{NamedType}
+use Rattle.bl_names_scopes.specs.declared.kind.Kind.TheVariants as kind
+use Rattle.bl_names_scopes.specs.Marks.{
   closes,
   declares,
   field_mark,
@@ -45,19 +45,19 @@ use Rattle.bl_scopes.specs.Marks.{
   type_marks,
   unit_marks,
 }
-use Rattle.bl_scopes.specs.Scopes.{Scopes, after, enter, left}
-use Rattle.bl_raw.specs.declared.item.RawField.{RawField}
-use Rattle.bl_raw.specs.declared.item.RawItem.{RawItem}
-use Rattle.bl_raw.specs.declared.item.RawParam.{RawParam}
-use Rattle.bl_raw.specs.declared.item.RawStruct.{RawStruct}
-use Rattle.bl_raw.specs.declared.item.RawUnit.{RawUnit}
-use Rattle.bl_raw.specs.declared.name.Name.{Name}
-use Rattle.bl_raw.specs.declared.stmt.RawStmt.{RawStmt}
+use Rattle.bl_names_scopes.specs.Scopes.{Scopes, after, enter, scopes_outside}
+use Rattle.bl_parse_tree.specs.declared.item.RawField.{RawField}
+use Rattle.bl_parse_tree.specs.declared.item.RawItem.{RawItem}
+use Rattle.bl_parse_tree.specs.declared.item.RawParam.{RawParam}
+use Rattle.bl_parse_tree.specs.declared.item.RawStruct.{RawStruct}
+use Rattle.bl_parse_tree.specs.declared.item.RawUnit.{RawUnit}
+use Rattle.bl_parse_tree.specs.declared.name.Name.{Name}
+use Rattle.bl_parse_tree.specs.declared.stmt.RawStmt.{RawStmt}
 use Rattle.bl_names.specs.declared.state.State.{State}
 use Rattle.bl_names.specs.Named.{along, block_piece, inside_piece, named_var, opened, param_piece, params_piece, role_piece, unit_inside}
 use Rattle.bl_names.specs.Naming.{named_type}
 use Rattle.bl_names.specs.inner.Past.{past, with_unit, with_variable}
-use Rattle.bl_scopes.proofs.WalkLemmas.{next_of}
+use Rattle.bl_names_scopes.proofs.WalkLemmas.{next_of}
 use Rattle.bl_names.proofs.PastLemmas.{enter-behind, past-followed}
 use Rattle.bl_names.proofs.PieceLemmas.{block_marks, role_marks}
 use Rattle.bl_names.proofs.StillLemmas.{Still, after-append, still_append, still_optional, still_type}
@@ -80,7 +80,7 @@ fields_counts (field ∷ fields) scopes = fields_counts fields (enter scopes (fi
 still_fields : (fields : List RawField) → Still (in_scope (map field_mark fields))
 still_fields fields scopes =
     after-append (opened scopes) (map field_mark fields) (closes ∷ [])
-    ∙ (λ i. left (fields_outer fields (opened scopes) i) (fields_counts fields (opened scopes) i))
+    ∙ (λ i. scopes_outside (fields_outer fields (opened scopes) i) (fields_counts fields (opened scopes) i))
 
 -- a struct is visible behind its fields
 pub struct_scopes : (scopes : Scopes) (def : RawStruct) → enter scopes (declares def.name kind.Struct) ≡ after scopes (struct_marks def)

@@ -21,12 +21,12 @@ use Rattle.std.proofs.Common.{
 }
 use Rattle.std.proofs.lemmas.List.{length-append}
 use Rattle.std.specs.Prelude.{Result, Ok, Err, OnOk}
-use Rattle.bl_named.specs.declared.stmt.NamedStmt.{NamedStmt}
-use Rattle.bl_scopes.specs.declared.kind.Kind.{Kind}
-use Rattle.bl_scopes.specs.Marks.{Marks, closes, declared_after, declares, in_scope, opens}
-use Rattle.bl_scopes.specs.Scopes.{Scopes, after, enter}
-use Rattle.bl_scopes.proofs.WalkLemmas.{next_of}
-use Rattle.bl_raw.specs.declared.name.Name.{Name}
+use Rattle.bl_names_tree.specs.declared.stmt.NamedStmt.{NamedStmt}
+use Rattle.bl_names_scopes.specs.declared.kind.Kind.{Kind}
+use Rattle.bl_names_scopes.specs.Marks.{Marks, closes, declared_after, declares, in_scope, opens}
+use Rattle.bl_names_scopes.specs.Scopes.{Scopes, after, enter}
+use Rattle.bl_names_scopes.proofs.WalkLemmas.{next_of}
+use Rattle.bl_parse_tree.specs.declared.name.Name.{Name}
 use Rattle.bl_names.specs.declared.state.State.{State}
 use Rattle.bl_names.specs.Named.{Piece, all, constants_of_all, followed, marks_of_all, none, opened, own_scope, scoped, vars_of_all}
 use Rattle.bl_names.specs.inner.Past.{past}

@@ -5,11 +5,11 @@ use Rattle.std.proofs.lemmas.List.Elements.{All-head, All-tail}
 use Rattle.bl_tree.specs.declared.place.Place.{Place}
 use Rattle.bl_tree.specs.declared.tree.Role.{Role}
 use Rattle.bl_tree.specs.Reduce.{joined}
-use Rattle.bl_named.specs.declared.stmt.NamedArm.{NamedArm}
-use Rattle.bl_named.specs.declared.stmt.NamedBranch.{NamedBranch}
-use Rattle.bl_named.specs.declared.stmt.NamedStmt.{NamedStmt}
-use Rattle.bl_named.specs.declared.stmt.NamedStmtKind.{NamedStmtKind}
-use Rattle.bl_scopes.specs.Marks.{
+use Rattle.bl_names_tree.specs.declared.stmt.NamedArm.{NamedArm}
+use Rattle.bl_names_tree.specs.declared.stmt.NamedBranch.{NamedBranch}
+use Rattle.bl_names_tree.specs.declared.stmt.NamedStmt.{NamedStmt}
+use Rattle.bl_names_tree.specs.declared.stmt.NamedStmtKind.{NamedStmtKind}
+use Rattle.bl_names_scopes.specs.Marks.{
   Marks,
   arm_layer_marks,
   branch_layer_marks,
@@ -22,13 +22,13 @@ use Rattle.bl_scopes.specs.Marks.{
   stmt_layer_marks,
   stmt_marks,
 }
-use Rattle.bl_raw.specs.declared.expr.RawExpr.{RawExpr}
-use Rattle.bl_raw.specs.declared.item.RawParam.{RawParam}
-use Rattle.bl_raw.specs.declared.stmt.RawArm.{RawArm, fold-roll-RawArm, roll-RawArm}
-use Rattle.bl_raw.specs.declared.stmt.RawBranch.{RawBranch, fold-roll-RawBranch, roll-RawBranch}
-use Rattle.bl_raw.specs.declared.stmt.RawStmt.{RawStmt, fold-roll-RawStmt}
-use Rattle.bl_raw.specs.declared.stmt.RawStmtKind.{RawStmtKind, fold-RawStmtKind, fold-roll-RawStmtKind, fold_out-RawStmtKind, map-RawStmtKind, out-RawStmtKind}
-use Rattle.bl_raw.specs.declared.stmt.RawStmtKind.TheOpen.{RawStmtKind-F}
+use Rattle.bl_parse_tree.specs.declared.expr.RawExpr.{RawExpr}
+use Rattle.bl_parse_tree.specs.declared.item.RawParam.{RawParam}
+use Rattle.bl_parse_tree.specs.declared.stmt.RawArm.{RawArm, fold-roll-RawArm, roll-RawArm}
+use Rattle.bl_parse_tree.specs.declared.stmt.RawBranch.{RawBranch, fold-roll-RawBranch, roll-RawBranch}
+use Rattle.bl_parse_tree.specs.declared.stmt.RawStmt.{RawStmt, fold-roll-RawStmt}
+use Rattle.bl_parse_tree.specs.declared.stmt.RawStmtKind.{RawStmtKind, fold-RawStmtKind, fold-roll-RawStmtKind, fold_out-RawStmtKind, map-RawStmtKind, out-RawStmtKind}
+use Rattle.bl_parse_tree.specs.declared.stmt.RawStmtKind.TheOpen.{RawStmtKind-F}
 use Rattle.bl_names.specs.Named.{
   Piece,
   arm_piece,

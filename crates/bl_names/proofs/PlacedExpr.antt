@@ -30,26 +30,26 @@ use Rattle.std.proofs.lemmas.Bool.{lt-ltb}
 use Rattle.std.proofs.lemmas.List.Elements.{All-head, All-tail}
 use Rattle.bl_tree.specs.declared.place.Place.{Place}
 use Rattle.bl_tree.specs.Reduce.{all_of, joined}
-use Rattle.bl_named.specs.declared.expr.NamedExpr.{NamedExpr, fold-roll-NamedExpr, roll-NamedExpr}
-use Rattle.bl_named.specs.declared.expr.NamedExprKind.{NamedExprKind, fold-NamedExprKind, fold_out-NamedExprKind, map-NamedExprKind, out-NamedExprKind}
-use Rattle.bl_named.specs.declared.expr.NamedExprKind.TheOpen.{NamedExprKind-F, NamedPart-F}
-use Rattle.bl_named.specs.declared.expr.NamedExprKind.TheVariants as what
-use Rattle.bl_named.specs.declared.expr.NamedPart.{NamedPart, fold_out-NamedPart, map-NamedPart, out-NamedPart}
-use Rattle.bl_named.specs.declared.expr.NamedPart.TheVariants as part
-use Rattle.bl_named.specs.declared.expr.NamedTarget.{NamedTarget, fold-roll-NamedTarget}
-use Rattle.bl_named.specs.declared.types.NamedType.{NamedType, fold_out-NamedType, map-NamedType, out-NamedType}
-use Rattle.bl_named.specs.declared.types.NamedType.TheOpen.{NamedType-F}
-use Rattle.bl_named.specs.declared.types.NamedType.TheVariants as type
-use Rattle.bl_named.specs.Placed.{Earlier, expr_layer_placed, expr_placed, holds_if, kind_placed, length_placed, part_placed, path_placed}
-use Rattle.bl_named.specs.Placed.{root_placed, target_layer_placed, target_placed, type_level_placed, type_placed}
-use Rattle.bl_named.specs.inner.Placed.{step_placed}
-use Rattle.bl_scopes.specs.declared.kind.Kind.{Kind}
-use Rattle.bl_scopes.specs.declared.kind.Kind.TheVariants as kinds
-use Rattle.bl_scopes.specs.declared.kind.Wanted.{Wanted}
-use Rattle.bl_scopes.specs.declared.kind.Wanted.TheVariants as wants
-use Rattle.bl_scopes.specs.declared.scopes.Counts.{Counts}
-use Rattle.bl_scopes.specs.Kinds.{suits}
-use Rattle.bl_scopes.specs.Marks.{
+use Rattle.bl_names_tree.specs.declared.expr.NamedExpr.{NamedExpr, fold-roll-NamedExpr, roll-NamedExpr}
+use Rattle.bl_names_tree.specs.declared.expr.NamedExprKind.{NamedExprKind, fold-NamedExprKind, fold_out-NamedExprKind, map-NamedExprKind, out-NamedExprKind}
+use Rattle.bl_names_tree.specs.declared.expr.NamedExprKind.TheOpen.{NamedExprKind-F, NamedPart-F}
+use Rattle.bl_names_tree.specs.declared.expr.NamedExprKind.TheVariants as what
+use Rattle.bl_names_tree.specs.declared.expr.NamedPart.{NamedPart, fold_out-NamedPart, map-NamedPart, out-NamedPart}
+use Rattle.bl_names_tree.specs.declared.expr.NamedPart.TheVariants as part
+use Rattle.bl_names_tree.specs.declared.expr.NamedTarget.{NamedTarget, fold-roll-NamedTarget}
+use Rattle.bl_names_tree.specs.declared.types.NamedType.{NamedType, fold_out-NamedType, map-NamedType, out-NamedType}
+use Rattle.bl_names_tree.specs.declared.types.NamedType.TheOpen.{NamedType-F}
+use Rattle.bl_names_tree.specs.declared.types.NamedType.TheVariants as type
+use Rattle.bl_names_tree.specs.Placed.{DeclaredBefore, expr_layer_placed, expr_placed, holds_if, kind_placed, length_placed, part_placed, path_placed}
+use Rattle.bl_names_tree.specs.Placed.{root_placed, target_layer_placed, target_placed, type_level_placed, type_placed}
+use Rattle.bl_names_tree.specs.inner.Placed.{step_placed}
+use Rattle.bl_names_scopes.specs.declared.kind.Kind.{Kind}
+use Rattle.bl_names_scopes.specs.declared.kind.Kind.TheVariants as kinds
+use Rattle.bl_names_scopes.specs.declared.kind.Wanted.{Wanted}
+use Rattle.bl_names_scopes.specs.declared.kind.Wanted.TheVariants as wants
+use Rattle.bl_names_scopes.specs.declared.scopes.Counts.{Counts}
+use Rattle.bl_names_scopes.specs.Kinds.{suits}
+use Rattle.bl_names_scopes.specs.Marks.{
   Marks,
   expr_layer_marks,
   expr_marks,
@@ -64,18 +64,18 @@ use Rattle.bl_scopes.specs.Marks.{
   type_marks,
   uses,
 }
-use Rattle.bl_scopes.specs.Scopes.{Scopes, count_of}
-use Rattle.bl_raw.specs.declared.expr.RawExpr.{RawExpr, fold-roll-RawExpr}
-use Rattle.bl_raw.specs.declared.expr.RawExprKind.{RawExprKind, fold-RawExprKind, fold-roll-RawExprKind, map-RawExprKind}
-use Rattle.bl_raw.specs.declared.expr.RawExprKind.TheOpen.{RawExprKind-F, RawPart-F}
-use Rattle.bl_raw.specs.declared.expr.RawPart.{RawPart, fold_out-RawPart, map-RawPart, out-RawPart}
-use Rattle.bl_raw.specs.declared.expr.RawTarget.{RawTarget, fold-roll-RawTarget, roll-RawTarget}
-use Rattle.bl_raw.specs.declared.name.Name.{Name}
-use Rattle.bl_raw.specs.declared.stmt.RawPath.{RawPath}
-use Rattle.bl_raw.specs.declared.types.RawLength.{RawLength}
-use Rattle.bl_raw.specs.declared.types.RawLength.TheVariants as raw_length
-use Rattle.bl_raw.specs.declared.types.RawType.{RawType, fold-roll-RawType, ind-RawType, map-RawType, roll-RawType}
-use Rattle.bl_raw.specs.declared.types.RawType.TheOpen.{RawType-F}
+use Rattle.bl_names_scopes.specs.Scopes.{Scopes, count_of}
+use Rattle.bl_parse_tree.specs.declared.expr.RawExpr.{RawExpr, fold-roll-RawExpr}
+use Rattle.bl_parse_tree.specs.declared.expr.RawExprKind.{RawExprKind, fold-RawExprKind, fold-roll-RawExprKind, map-RawExprKind}
+use Rattle.bl_parse_tree.specs.declared.expr.RawExprKind.TheOpen.{RawExprKind-F, RawPart-F}
+use Rattle.bl_parse_tree.specs.declared.expr.RawPart.{RawPart, fold_out-RawPart, map-RawPart, out-RawPart}
+use Rattle.bl_parse_tree.specs.declared.expr.RawTarget.{RawTarget, fold-roll-RawTarget, roll-RawTarget}
+use Rattle.bl_parse_tree.specs.declared.name.Name.{Name}
+use Rattle.bl_parse_tree.specs.declared.stmt.RawPath.{RawPath}
+use Rattle.bl_parse_tree.specs.declared.types.RawLength.{RawLength}
+use Rattle.bl_parse_tree.specs.declared.types.RawLength.TheVariants as raw_length
+use Rattle.bl_parse_tree.specs.declared.types.RawType.{RawType, fold-roll-RawType, ind-RawType, map-RawType, roll-RawType}
+use Rattle.bl_parse_tree.specs.declared.types.RawType.TheOpen.{RawType-F}
 use Rattle.bl_names.specs.Naming.{
   named_expr,
   named_expr_layer,
@@ -98,10 +98,10 @@ use Rattle.bl_names.proofs.FitLemmas.{Fits, IsFit, fits_behind, fits_first}
 use Rattle.bl_names.proofs.RawExprInduction.{Cases, EachIndex, OfIndex, expr, induct, induct_target}
 use Rattle.bl_names.proofs.StillLemmas.{Still, still_expr, still_length}
 
-abbrev pub earlier_of : Counts → Earlier
+abbrev pub earlier_of : Counts → DeclaredBefore
 earlier_of counts = record { structs = counts.structs; constants = counts.constants; units = counts.units; variables = counts.variables }
 
-abbrev pub earlier : Scopes → Earlier
+abbrev pub earlier : Scopes → DeclaredBefore
 earlier scopes = earlier_of scopes.counts
 
 pub both : (a b : Bool) → a ≡ true → b ≡ true → (a && b) ≡ true

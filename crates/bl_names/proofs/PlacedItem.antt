@@ -41,13 +41,13 @@ use Rattle.bl_tree.specs.declared.tree.UnitKind.{UnitKind}
 use Rattle.bl_tree.specs.declared.tree.UnitKind.TheVariants as unit
 use Rattle.bl_tree.specs.Program.{is_input, is_output}
 use Rattle.bl_tree.specs.Reduce.{joined}
-use Rattle.bl_named.specs.declared.item.NamedConstant.{NamedConstant}
-use Rattle.bl_named.specs.declared.item.NamedUnit.{NamedUnit}
-use Rattle.bl_named.specs.declared.item.NamedVar.{NamedVar}
-use Rattle.bl_named.specs.declared.stmt.NamedStmt.{NamedStmt}
-use Rattle.bl_named.specs.declared.types.NamedType.{NamedType}
-use Rattle.bl_named.specs.Placed.{
-  Earlier,
+use Rattle.bl_names_tree.specs.declared.item.NamedConstant.{NamedConstant}
+use Rattle.bl_names_tree.specs.declared.item.NamedUnit.{NamedUnit}
+use Rattle.bl_names_tree.specs.declared.item.NamedVar.{NamedVar}
+use Rattle.bl_names_tree.specs.declared.stmt.NamedStmt.{NamedStmt}
+use Rattle.bl_names_tree.specs.declared.types.NamedType.{NamedType}
+use Rattle.bl_names_tree.specs.Placed.{
+  DeclaredBefore,
   behind_unit,
   head_placed,
   holds_if,
@@ -59,9 +59,9 @@ use Rattle.bl_named.specs.Placed.{
   var_placed,
   with_parameters,
 }
-use Rattle.bl_scopes.specs.declared.kind.Kind.TheVariants as kinds
-use Rattle.bl_scopes.specs.declared.scopes.Counts.{Counts}
-use Rattle.bl_scopes.specs.Marks.{
+use Rattle.bl_names_scopes.specs.declared.kind.Kind.TheVariants as kinds
+use Rattle.bl_names_scopes.specs.declared.scopes.Counts.{Counts}
+use Rattle.bl_names_scopes.specs.Marks.{
   Marks,
   closes,
   declares,
@@ -76,12 +76,12 @@ use Rattle.bl_scopes.specs.Marks.{
   type_marks,
   unit_marks,
 }
-use Rattle.bl_scopes.specs.Scopes.{Scopes, after, count_of, counted, declaration_of, enter, found}
-use Rattle.bl_raw.specs.declared.item.RawField.{RawField}
-use Rattle.bl_raw.specs.declared.item.RawParam.{RawParam}
-use Rattle.bl_raw.specs.declared.item.RawStruct.{RawStruct}
-use Rattle.bl_raw.specs.declared.item.RawUnit.{RawUnit}
-use Rattle.bl_raw.specs.declared.name.Name.{Name}
+use Rattle.bl_names_scopes.specs.Scopes.{Scopes, after, count_of, counted, declaration_of, enter, found}
+use Rattle.bl_parse_tree.specs.declared.item.RawField.{RawField}
+use Rattle.bl_parse_tree.specs.declared.item.RawParam.{RawParam}
+use Rattle.bl_parse_tree.specs.declared.item.RawStruct.{RawStruct}
+use Rattle.bl_parse_tree.specs.declared.item.RawUnit.{RawUnit}
+use Rattle.bl_parse_tree.specs.declared.name.Name.{Name}
 use Rattle.bl_names.specs.Named.{block_piece, constants_in_unit, named_field, named_struct, named_unit, opened, params_piece, role_piece}
 use Rattle.bl_names.specs.Naming.{named_type}
 use Rattle.bl_names.proofs.BelowLemmas.{Below, DeclarationBelow, Grown, declared_below, outer_grown, scope_grown, variable_below}
@@ -112,17 +112,17 @@ struct_is scopes def below fits =
 -- ---- parameters
 
 -- a type names structs and constants alone
-abbrev of_types : ℕ → ℕ → Earlier
+abbrev of_types : ℕ → ℕ → DeclaredBefore
 of_types structs constants = record { structs = structs; constants = constants; units = 0; variables = 0 }
 
-same_types : (e : Earlier) (ty : NamedType) → type_placed e ty ≡ type_placed (of_types e.structs e.constants) ty
+same_types : (e : DeclaredBefore) (ty : NamedType) → type_placed e ty ≡ type_placed (of_types e.structs e.constants) ty
 same_types e ty = refl
 
-type_as : (e other : Earlier) (ty : NamedType) → e.structs ≡ other.structs → e.constants ≡ other.constants → type_placed e ty ≡ type_placed other ty
+type_as : (e other : DeclaredBefore) (ty : NamedType) → e.structs ≡ other.structs → e.constants ≡ other.constants → type_placed e ty ≡ type_placed other ty
 type_as e other ty structs constants = same_types e ty ∙ (λ i. type_placed (of_types (structs i) (constants i)) ty) ∙ sym (same_types other ty)
 
 -- behind parameters of a role, which passes a test
-pub record ParamsHold (e : Earlier) (test : Role → Bool) (scopes new : Scopes) (vars : List NamedVar) (count : ℕ) : Type 0 where
+pub record ParamsHold (e : DeclaredBefore) (test : Role → Bool) (scopes new : Scopes) (vars : List NamedVar) (count : ℕ) : Type 0 where
   pub below : Below new
   pub outer : new.outer ≡ scopes.outer
   pub more_vars : new.counts.variables ≡ scopes.counts.variables + count
@@ -136,7 +136,7 @@ pub record ParamsHold (e : Earlier) (test : Role → Bool) (scopes new : Scopes)
 counted_on : (a b c n : ℕ) → b ≡ a + 1 → c ≡ b + n → c ≡ a + suc n
 counted_on a b c n one two = omega arith
 
-params_hold : (e : Earlier) (role : Role) (test : Role → Bool) → test role ≡ true → (params : List RawParam) (scopes : Scopes)
+params_hold : (e : DeclaredBefore) (role : Role) (test : Role → Bool) → test role ≡ true → (params : List RawParam) (scopes : Scopes)
     → e.structs ≡ scopes.counts.structs → e.constants ≡ scopes.counts.constants →
     Below scopes → Fits scopes (role_piece role params).marks
     → ParamsHold e test scopes (after scopes (role_piece role params).marks) ((role_piece role params).vars scopes) (length params)
@@ -305,7 +305,7 @@ unit_grown old new structs m constants units variables kinds.Activity = omega ar
 unit_grown old new structs m constants units variables kinds.Field = omega arith
 
 -- behind a unit
-pub record UnitHolds (reached : Option Earlier) (scopes new : Scopes) (constants : List NamedConstant) : Type 0 where
+pub record UnitHolds (reached : Option DeclaredBefore) (scopes new : Scopes) (constants : List NamedConstant) : Type 0 where
   pub steps : reached ≡ Some (earlier new)
   pub below : Below new
   pub no_variables : new.counts.variables ≡ 0

@@ -21,21 +21,21 @@ use Rattle.std.proofs.Common.{
   arith,
 }
 use Rattle.std.specs.Prelude.{option_and_then, if◌then◌else◌}
-use Rattle.bl_named.specs.declared.item.Item.TheVariants as next
-use Rattle.bl_named.specs.declared.item.NamedConstant.{NamedConstant}
-use Rattle.bl_named.specs.declared.item.NamedStruct.{NamedStruct}
-use Rattle.bl_named.specs.declared.item.NamedUnit.{NamedUnit}
-use Rattle.bl_named.specs.declared.named.Named.{Named}
-use Rattle.bl_named.specs.Placed.{Earlier, IsPlaced, holds_of, in_turn, item_step, struct_placed, unit_step, with_constant}
-use Rattle.bl_scopes.specs.declared.kind.Kind.TheVariants as kinds
-use Rattle.bl_scopes.specs.Marks.{constant_marks, declares, expr_marks, item_marks, marks_of, optional, struct_marks, type_marks, unit_marks}
-use Rattle.bl_scopes.specs.Rules.{Passes}
-use Rattle.bl_scopes.specs.Scopes.{Scopes, after, file_scope}
-use Rattle.bl_raw.specs.declared.item.RawItem.{RawItem}
-use Rattle.bl_raw.specs.declared.item.RawItem.TheVariants as item
-use Rattle.bl_raw.specs.declared.item.RawStruct.{RawStruct}
-use Rattle.bl_raw.specs.declared.item.RawUnit.{RawUnit}
-use Rattle.bl_raw.specs.declared.stmt.RawConstant.{RawConstant}
+use Rattle.bl_names_tree.specs.declared.item.Item.TheVariants as next
+use Rattle.bl_names_tree.specs.declared.item.NamedConstant.{NamedConstant}
+use Rattle.bl_names_tree.specs.declared.item.NamedStruct.{NamedStruct}
+use Rattle.bl_names_tree.specs.declared.item.NamedUnit.{NamedUnit}
+use Rattle.bl_names_tree.specs.declared.named.Named.{Named}
+use Rattle.bl_names_tree.specs.Placed.{DeclaredBefore, IsPlaced, holds_of, in_turn, item_step, struct_placed, unit_step, with_constant}
+use Rattle.bl_names_scopes.specs.declared.kind.Kind.TheVariants as kinds
+use Rattle.bl_names_scopes.specs.Marks.{constant_marks, declares, expr_marks, item_marks, marks_of, optional, struct_marks, type_marks, unit_marks}
+use Rattle.bl_names_scopes.specs.Rules.{Passes}
+use Rattle.bl_names_scopes.specs.Scopes.{Scopes, after, file_scope}
+use Rattle.bl_parse_tree.specs.declared.item.RawItem.{RawItem}
+use Rattle.bl_parse_tree.specs.declared.item.RawItem.TheVariants as item
+use Rattle.bl_parse_tree.specs.declared.item.RawStruct.{RawStruct}
+use Rattle.bl_parse_tree.specs.declared.item.RawUnit.{RawUnit}
+use Rattle.bl_parse_tree.specs.declared.stmt.RawConstant.{RawConstant}
 use Rattle.bl_names.specs.Named.{along, constants_in_unit, constants_of, named_constant, named_program, named_struct, named_unit, structs_of, units_of}
 use Rattle.bl_names.specs.Order.{kind_of_item}
 use Rattle.bl_names.proofs.BelowLemmas.{Below, constant_below, struct_below}
@@ -48,7 +48,7 @@ use Rattle.bl_names.proofs.PlacedStmt.{Within, constant_is, within_first, within
 use Rattle.bl_names.proofs.StillLemmas.{after-append, still_value}
 
 -- behind items, which give these structs, constants and units
-pub record ItemsHold (reached : Option Earlier) (scopes new : Scopes) (structs : List NamedStruct) (constants : List NamedConstant)
+pub record ItemsHold (reached : Option DeclaredBefore) (scopes new : Scopes) (structs : List NamedStruct) (constants : List NamedConstant)
     (units : List NamedUnit) : Type 0 where
   pub steps : reached ≡ Some (earlier new)
   pub below : Below new

@@ -34,32 +34,32 @@ use Rattle.bl_tree.specs.declared.tree.Role.{Role}
 use Rattle.bl_tree.specs.declared.tree.Role.TheVariants as role
 use Rattle.bl_tree.specs.Reduce.{joined}
 use Rattle.bl_tree.specs.Typing.{is_fixed, is_variable}
-use Rattle.bl_named.specs.declared.expr.NamedExpr.{NamedExpr}
-use Rattle.bl_named.specs.declared.item.NamedConstant.{NamedConstant}
-use Rattle.bl_named.specs.declared.item.NamedVar.{NamedVar}
-use Rattle.bl_named.specs.declared.stmt.NamedArm.{NamedArm, fold-roll-NamedArm, roll-NamedArm}
-use Rattle.bl_named.specs.declared.stmt.NamedBranch.{NamedBranch, fold-roll-NamedBranch, roll-NamedBranch}
-use Rattle.bl_named.specs.declared.stmt.NamedStmt.{NamedStmt, fold-roll-NamedStmt, roll-NamedStmt}
-use Rattle.bl_named.specs.declared.stmt.NamedStmtKind.{NamedStmtKind, fold-NamedStmtKind, fold_out-NamedStmtKind, map-NamedStmtKind, out-NamedStmtKind}
-use Rattle.bl_named.specs.declared.stmt.NamedStmtKind.TheOpen.{NamedStmtKind-F}
-use Rattle.bl_named.specs.declared.stmt.NamedStmtKind.TheVariants as what
-use Rattle.bl_named.specs.Placed.{Earlier, Step, arm_step, branch_step, constant_placed, declares_none, expr_placed, holds_of, in_turn, path_placed}
-use Rattle.bl_named.specs.Placed.{stmt_kind_step, stmt_layer_step, stmt_step, tested, type_placed, var_placed, with_constant, with_variable}
-use Rattle.bl_named.specs.inner.Placed.{step_of_arm, step_of_branch}
-use Rattle.bl_scopes.specs.declared.kind.Kind.TheVariants as kind
-use Rattle.bl_scopes.specs.declared.kind.Wanted.TheVariants as wanted
-use Rattle.bl_scopes.specs.Marks.{Marks, argument_marks, closes, declares, expr_marks, in_scope, optional, path_marks, target_marks, type_marks, uses}
-use Rattle.bl_scopes.specs.Scopes.{Scopes, after, enter, left}
-use Rattle.bl_raw.specs.declared.expr.RawExpr.{RawExpr}
-use Rattle.bl_raw.specs.declared.name.Name.{Name}
-use Rattle.bl_raw.specs.declared.stmt.RawArm.{RawArm, roll-RawArm}
-use Rattle.bl_raw.specs.declared.stmt.RawBranch.{RawBranch, roll-RawBranch}
-use Rattle.bl_raw.specs.declared.stmt.RawConstant.{RawConstant}
-use Rattle.bl_raw.specs.declared.stmt.RawPath.{RawPath}
-use Rattle.bl_raw.specs.declared.stmt.RawStmt.{RawStmt}
-use Rattle.bl_raw.specs.declared.stmt.RawStmtKind.{RawStmtKind}
-use Rattle.bl_raw.specs.declared.stmt.RawStmtKind.TheOpen.{RawStmtKind-F}
-use Rattle.bl_raw.specs.declared.types.RawType.{RawType}
+use Rattle.bl_names_tree.specs.declared.expr.NamedExpr.{NamedExpr}
+use Rattle.bl_names_tree.specs.declared.item.NamedConstant.{NamedConstant}
+use Rattle.bl_names_tree.specs.declared.item.NamedVar.{NamedVar}
+use Rattle.bl_names_tree.specs.declared.stmt.NamedArm.{NamedArm, fold-roll-NamedArm, roll-NamedArm}
+use Rattle.bl_names_tree.specs.declared.stmt.NamedBranch.{NamedBranch, fold-roll-NamedBranch, roll-NamedBranch}
+use Rattle.bl_names_tree.specs.declared.stmt.NamedStmt.{NamedStmt, fold-roll-NamedStmt, roll-NamedStmt}
+use Rattle.bl_names_tree.specs.declared.stmt.NamedStmtKind.{NamedStmtKind, fold-NamedStmtKind, fold_out-NamedStmtKind, map-NamedStmtKind, out-NamedStmtKind}
+use Rattle.bl_names_tree.specs.declared.stmt.NamedStmtKind.TheOpen.{NamedStmtKind-F}
+use Rattle.bl_names_tree.specs.declared.stmt.NamedStmtKind.TheVariants as what
+use Rattle.bl_names_tree.specs.Placed.{DeclaredBefore, PlacedStep, arm_step, branch_step, constant_placed, declares_none, expr_placed, holds_of, in_turn, path_placed}
+use Rattle.bl_names_tree.specs.Placed.{stmt_kind_step, stmt_layer_step, stmt_step, tested, type_placed, var_placed, with_constant, with_variable}
+use Rattle.bl_names_tree.specs.inner.Placed.{step_of_arm, step_of_branch}
+use Rattle.bl_names_scopes.specs.declared.kind.Kind.TheVariants as kind
+use Rattle.bl_names_scopes.specs.declared.kind.Wanted.TheVariants as wanted
+use Rattle.bl_names_scopes.specs.Marks.{Marks, argument_marks, closes, declares, expr_marks, in_scope, optional, path_marks, target_marks, type_marks, uses}
+use Rattle.bl_names_scopes.specs.Scopes.{Scopes, after, enter, scopes_outside}
+use Rattle.bl_parse_tree.specs.declared.expr.RawExpr.{RawExpr}
+use Rattle.bl_parse_tree.specs.declared.name.Name.{Name}
+use Rattle.bl_parse_tree.specs.declared.stmt.RawArm.{RawArm, roll-RawArm}
+use Rattle.bl_parse_tree.specs.declared.stmt.RawBranch.{RawBranch, roll-RawBranch}
+use Rattle.bl_parse_tree.specs.declared.stmt.RawConstant.{RawConstant}
+use Rattle.bl_parse_tree.specs.declared.stmt.RawPath.{RawPath}
+use Rattle.bl_parse_tree.specs.declared.stmt.RawStmt.{RawStmt}
+use Rattle.bl_parse_tree.specs.declared.stmt.RawStmtKind.{RawStmtKind}
+use Rattle.bl_parse_tree.specs.declared.stmt.RawStmtKind.TheOpen.{RawStmtKind-F}
+use Rattle.bl_parse_tree.specs.declared.types.RawType.{RawType}
 use Rattle.bl_names.specs.Named.{
   Piece,
   all,
@@ -149,7 +149,7 @@ abbrev pub is_local : NamedVar → Bool
 is_local var = is_variable var.role || is_fixed var.role
 
 -- from the scopes before a part to those behind it, with the variables and constants that it declares
-pub record Holds (reached : Option Earlier) (scopes new : Scopes) (vars : List NamedVar) (constants : List NamedConstant) : Type 0 where
+pub record Holds (reached : Option DeclaredBefore) (scopes new : Scopes) (vars : List NamedVar) (constants : List NamedConstant) : Type 0 where
   pub steps : reached ≡ Some (earlier new)
   pub below : Below new
   pub outer : new.outer ≡ scopes.outer
@@ -160,7 +160,7 @@ pub record Holds (reached : Option Earlier) (scopes new : Scopes) (vars : List N
   pub locals : list_all is_local vars ≡ true
 
 -- one part and then another
-pub holds_then : (reached : Option Earlier) (step : Step) (scopes middle new : Scopes) (vars more_vars : List NamedVar)
+pub holds_then : (reached : Option DeclaredBefore) (step : PlacedStep) (scopes middle new : Scopes) (vars more_vars : List NamedVar)
     (constants more_constants : List NamedConstant) →
     Holds reached scopes middle vars constants → Holds (step (earlier middle)) middle new more_vars more_constants →
     Holds (option_and_then step reached) scopes new (vars ++ more_vars) (constants ++ more_constants)
@@ -196,9 +196,9 @@ holds_plain placed scopes marks still below is =
 
 -- behind a scope of its own
 pub closed_is : (scopes inner : Scopes) → inner.outer ≡ scopes.inner ∷ scopes.outer → enter inner closes ≡ record scopes { counts = inner.counts }
-closed_is scopes inner is = ap (λ outer. left outer inner.counts) is
+closed_is scopes inner is = ap (λ outer. scopes_outside outer inner.counts) is
 
-holds_closed : (reached : Option Earlier) (scopes inner : Scopes) (vars : List NamedVar) (constants : List NamedConstant) →
+holds_closed : (reached : Option DeclaredBefore) (scopes inner : Scopes) (vars : List NamedVar) (constants : List NamedConstant) →
     Holds reached (opened scopes) inner vars constants → Holds reached scopes (record scopes { counts = inner.counts }) vars constants
 holds_closed reached scopes inner vars constants holds = record {
   steps = holds.steps;
@@ -217,7 +217,7 @@ scope_is scopes marks is = after-append (opened scopes) marks (closes ∷ []) �
 
 module _ (all_vars : List NamedVar) (all_constants : List NamedConstant) where
   -- a part that takes this step
-  abbrev pub Good : {A : Type 0} → (A → Step) → Piece A → Type 0
+  abbrev pub Good : {A : Type 0} → (A → PlacedStep) → Piece A → Type 0
   Good step piece =
       (scopes : Scopes) → Below scopes → Fits scopes piece.marks → Within all_vars scopes.counts.variables (piece.vars scopes)
       → Within all_constants scopes.counts.constants (piece.constants scopes) →
@@ -232,11 +232,11 @@ module _ (all_vars : List NamedVar) (all_constants : List NamedConstant) where
   abbrev pub BranchGood : RawBranch → Type 0
   BranchGood branch = Good (step_of_branch all_vars all_constants) (piece_of_branch branch)
 
-  abbrev pub steps : {A : Type 0} → (A → Step) → List A → Step
+  abbrev pub steps : {A : Type 0} → (A → PlacedStep) → List A → PlacedStep
   steps step made = in_turn (map step made)
 
   -- one part and then another
-  good_then : {A B : Type 0} (first : Piece A) (second : Piece B) (step : A → Step) (next : B → Step) (scopes : Scopes) →
+  good_then : {A B : Type 0} (first : Piece A) (second : Piece B) (step : A → PlacedStep) (next : B → PlacedStep) (scopes : Scopes) →
       Good step first → Good next second →
       Below scopes → Fits scopes (first.marks ++ second.marks) →
       Within all_vars scopes.counts.variables (first.vars scopes ++ second.vars (after scopes first.marks)) →
@@ -259,7 +259,7 @@ module _ (all_vars : List NamedVar) (all_constants : List NamedConstant) where
       (holds_then (step (first.made scopes) (earlier scopes)) (next (second.made middle)) scopes middle (after middle second.marks)
       (first.vars scopes) (second.vars middle) (first.constants scopes) (second.constants middle) there behind)
 
-  pub good_all : {X A : Type 0} (piece : X → Piece A) (step : A → Step) (xs : List X) → All (λ x. Good step (piece x)) xs
+  pub good_all : {X A : Type 0} (piece : X → Piece A) (step : A → PlacedStep) (xs : List X) → All (λ x. Good step (piece x)) xs
       → Good (steps step) (all (map piece xs))
   good_all piece step [] each scopes below fits vars constants = holds_none scopes below
   good_all piece step (x ∷ xs) each scopes below fits vars constants =
@@ -267,7 +267,7 @@ module _ (all_vars : List NamedVar) (all_constants : List NamedConstant) where
       (good_all piece step xs (All-tail (λ x. Good step (piece x)) x xs each)) below fits vars constants
 
   -- in a scope of its own
-  good_own : {A : Type 0} (piece : Piece A) (step : A → Step) (scopes : Scopes) → Good step piece → Below scopes →
+  good_own : {A : Type 0} (piece : Piece A) (step : A → PlacedStep) (scopes : Scopes) → Good step piece → Below scopes →
       Fits scopes (in_scope piece.marks) →
       Within all_vars scopes.counts.variables (piece.vars (opened scopes)) →
       Within all_constants scopes.counts.constants (piece.constants (opened scopes)) →
@@ -283,7 +283,7 @@ module _ (all_vars : List NamedVar) (all_constants : List NamedConstant) where
   abbrev body_of : List RawStmt → List (Piece NamedStmt)
   body_of body = map stmt_piece body
 
-  abbrev body_steps : List NamedStmt → Step
+  abbrev body_steps : List NamedStmt → PlacedStep
   body_steps = steps (stmt_step all_vars all_constants)
 
   good_block : (body : List RawStmt) → All StmtGood body → Good body_steps (all (body_of body))
@@ -344,30 +344,30 @@ module _ (all_vars : List NamedVar) (all_constants : List NamedConstant) where
 
   -- ---- each kind
 
-  abbrev stmt_takes : NamedStmt → Step
+  abbrev stmt_takes : NamedStmt → PlacedStep
   stmt_takes = stmt_step all_vars all_constants
 
-  abbrev arm_takes : NamedArm → Step
+  abbrev arm_takes : NamedArm → PlacedStep
   arm_takes = step_of_arm all_vars all_constants
 
-  abbrev branch_takes : NamedBranch → Step
+  abbrev branch_takes : NamedBranch → PlacedStep
   branch_takes = step_of_branch all_vars all_constants
 
-  abbrev kind_takes : NamedStmtKind → Step
-  kind_takes = fold-NamedStmtKind Step Step Step Step (stmt_kind_step all_vars all_constants) arm_step branch_step stmt_layer_step
+  abbrev kind_takes : NamedStmtKind → PlacedStep
+  kind_takes = fold-NamedStmtKind PlacedStep PlacedStep PlacedStep PlacedStep (stmt_kind_step all_vars all_constants) arm_step branch_step stmt_layer_step
 
   abbrev Layer : Type 0
   Layer = NamedStmtKind-F NamedStmtKind NamedArm NamedBranch NamedStmt
 
-  abbrev layer_takes : Layer → Step
+  abbrev layer_takes : Layer → PlacedStep
   layer_takes layer =
-      stmt_kind_step all_vars all_constants (map-NamedStmtKind NamedStmtKind NamedArm NamedBranch NamedStmt Step Step Step Step kind_takes arm_takes
+      stmt_kind_step all_vars all_constants (map-NamedStmtKind NamedStmtKind NamedArm NamedBranch NamedStmt PlacedStep PlacedStep PlacedStep PlacedStep kind_takes arm_takes
       branch_takes stmt_takes layer)
 
   takes_at : (place : Place) (kind : NamedStmtKind) (layer : Layer) → out-NamedStmtKind kind ≡ layer
       → stmt_takes (roll-NamedStmt (record { place = place; what = kind })) ≡ layer_takes layer
   takes_at place kind layer is =
-      rw fold-roll-NamedStmt (fold_out-NamedStmtKind Step Step Step Step (stmt_kind_step all_vars all_constants) arm_step branch_step stmt_layer_step kind
+      rw fold-roll-NamedStmt (fold_out-NamedStmtKind PlacedStep PlacedStep PlacedStep PlacedStep (stmt_kind_step all_vars all_constants) arm_step branch_step stmt_layer_step kind
       ∙ ap layer_takes is)
 
   -- a statement whose kind becomes this

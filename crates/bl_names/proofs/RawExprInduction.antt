@@ -4,13 +4,13 @@ use Rattle.std.specs.Prelude.{All}
 use Rattle.bl_tree.specs.declared.place.Place.{Place}
 use Rattle.bl_tree.specs.declared.scalar.Op.{Op}
 use Rattle.bl_tree.specs.declared.scalar.Scalar.{Scalar}
-use Rattle.bl_raw.specs.declared.expr.RawExpr.{RawExpr, ind-RawExpr, roll-RawExpr}
-use Rattle.bl_raw.specs.declared.expr.RawExprKind.{RawExprKind, roll-RawExprKind}
-use Rattle.bl_raw.specs.declared.expr.RawExprKind.TheFolds.{map-RawExprKind, map-RawPart}
-use Rattle.bl_raw.specs.declared.expr.RawExprKind.TheOpen.{RawExprKind-F, RawPart-F}
-use Rattle.bl_raw.specs.declared.expr.RawPart.{RawPart, out-RawPart, out-roll-RawPart}
-use Rattle.bl_raw.specs.declared.expr.RawTarget.{RawTarget, ind-RawTarget, roll-RawTarget}
-use Rattle.bl_raw.specs.declared.name.Name.{Name}
+use Rattle.bl_parse_tree.specs.declared.expr.RawExpr.{RawExpr, ind-RawExpr, roll-RawExpr}
+use Rattle.bl_parse_tree.specs.declared.expr.RawExprKind.{RawExprKind, roll-RawExprKind}
+use Rattle.bl_parse_tree.specs.declared.expr.RawExprKind.TheFolds.{map-RawExprKind, map-RawPart}
+use Rattle.bl_parse_tree.specs.declared.expr.RawExprKind.TheOpen.{RawExprKind-F, RawPart-F}
+use Rattle.bl_parse_tree.specs.declared.expr.RawPart.{RawPart, out-RawPart, out-roll-RawPart}
+use Rattle.bl_parse_tree.specs.declared.expr.RawTarget.{RawTarget, ind-RawTarget, roll-RawTarget}
+use Rattle.bl_parse_tree.specs.declared.name.Name.{Name}
 use Rattle.bl_tree.proofs.StmtInduction.{each_such}
 
 -- an expression by its place and its kind's parts

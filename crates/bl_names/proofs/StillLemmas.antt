@@ -3,20 +3,20 @@ use Rattle.std.proofs.Common.{◌≡◌, List, [], ◌∷◌, ◌++◌, map, ref
 use Rattle.std.specs.Prelude.{All, Option, Some, None}
 use Rattle.std.proofs.lemmas.List.Elements.{All-head, All-tail}
 use Rattle.bl_tree.specs.Reduce.{joined}
-use Rattle.bl_raw.specs.declared.expr.RawExpr.{RawExpr, fold-roll-RawExpr}
-use Rattle.bl_raw.specs.declared.expr.RawExprKind.{RawExprKind, fold-roll-RawExprKind}
-use Rattle.bl_raw.specs.declared.expr.RawExprKind.TheOpen.{RawPart-F}
-use Rattle.bl_raw.specs.declared.expr.RawPart.{RawPart, fold_out-RawPart, out-RawPart}
-use Rattle.bl_raw.specs.declared.expr.RawTarget.{RawTarget, fold-roll-RawTarget}
-use Rattle.bl_raw.specs.declared.name.Name.{Name}
-use Rattle.bl_raw.specs.declared.stmt.RawPath.{RawPath}
-use Rattle.bl_raw.specs.declared.types.RawLength.{RawLength}
-use Rattle.bl_raw.specs.declared.types.RawLength.TheVariants as raw_length
-use Rattle.bl_raw.specs.declared.types.RawType.{RawType, fold-roll-RawType, ind-RawType, map-RawType, roll-RawType}
-use Rattle.bl_raw.specs.declared.types.RawType.TheOpen.{RawType-F}
-use Rattle.bl_scopes.specs.declared.kind.Wanted.{Wanted}
-use Rattle.bl_scopes.specs.declared.kind.Wanted.TheVariants as wanted
-use Rattle.bl_scopes.specs.Marks.{
+use Rattle.bl_parse_tree.specs.declared.expr.RawExpr.{RawExpr, fold-roll-RawExpr}
+use Rattle.bl_parse_tree.specs.declared.expr.RawExprKind.{RawExprKind, fold-roll-RawExprKind}
+use Rattle.bl_parse_tree.specs.declared.expr.RawExprKind.TheOpen.{RawPart-F}
+use Rattle.bl_parse_tree.specs.declared.expr.RawPart.{RawPart, fold_out-RawPart, out-RawPart}
+use Rattle.bl_parse_tree.specs.declared.expr.RawTarget.{RawTarget, fold-roll-RawTarget}
+use Rattle.bl_parse_tree.specs.declared.name.Name.{Name}
+use Rattle.bl_parse_tree.specs.declared.stmt.RawPath.{RawPath}
+use Rattle.bl_parse_tree.specs.declared.types.RawLength.{RawLength}
+use Rattle.bl_parse_tree.specs.declared.types.RawLength.TheVariants as raw_length
+use Rattle.bl_parse_tree.specs.declared.types.RawType.{RawType, fold-roll-RawType, ind-RawType, map-RawType, roll-RawType}
+use Rattle.bl_parse_tree.specs.declared.types.RawType.TheOpen.{RawType-F}
+use Rattle.bl_names_scopes.specs.declared.kind.Wanted.{Wanted}
+use Rattle.bl_names_scopes.specs.declared.kind.Wanted.TheVariants as wanted
+use Rattle.bl_names_scopes.specs.Marks.{
   Marks,
   argument_marks,
   expr_layer_marks,
@@ -32,7 +32,7 @@ use Rattle.bl_scopes.specs.Marks.{
   type_marks,
   uses,
 }
-use Rattle.bl_scopes.specs.Scopes.{Scopes, after, enter}
+use Rattle.bl_names_scopes.specs.Scopes.{Scopes, after, enter}
 use Rattle.bl_names.proofs.RawExprInduction.{Cases, OfIndex, induct, induct_target}
 
 pub after-append : (scopes : Scopes) (first second : Marks) → after scopes (first ++ second) ≡ after (after scopes first) second

@@ -1,32 +1,32 @@
 -- Types and expressions with positions in place of names, where these scopes are open.
 use Rattle.std.specs.Prelude.{ℕ, Option, Some, None}
-use Rattle.bl_raw.specs.declared.expr.RawExpr.{RawExpr, fold-RawExpr}
-use Rattle.bl_raw.specs.declared.expr.RawExprKind.TheOpen.{RawExprKind-F, RawPart-F, RawExpr-F, RawTarget-F}
-use Rattle.bl_raw.specs.declared.expr.RawPart.{RawPart, fold-RawPart}
-use Rattle.bl_raw.specs.declared.expr.RawTarget.{RawTarget, fold-RawTarget}
-use Rattle.bl_raw.specs.declared.name.Name.{Name}
-use Rattle.bl_raw.specs.declared.stmt.RawPath.{RawPath}
-use Rattle.bl_raw.specs.declared.types.RawLength.{RawLength}
-use Rattle.bl_raw.specs.declared.types.RawLength.TheVariants as raw_length
-use Rattle.bl_raw.specs.declared.types.RawType.{RawType, fold-RawType}
-use Rattle.bl_raw.specs.declared.types.RawType.TheOpen.{RawType-F}
-use Rattle.bl_named.specs.declared.expr.NamedExpr.{NamedExpr, roll-NamedExpr}
-use Rattle.bl_named.specs.declared.expr.NamedExprKind.{NamedExprKind}
-use Rattle.bl_named.specs.declared.expr.NamedExprKind.TheVariants as what
-use Rattle.bl_named.specs.declared.expr.NamedPart.{NamedPart}
-use Rattle.bl_named.specs.declared.expr.NamedPart.TheVariants as part
-use Rattle.bl_named.specs.declared.expr.NamedTarget.{NamedTarget, roll-NamedTarget}
-use Rattle.bl_named.specs.declared.expr.Root.{Root}
-use Rattle.bl_named.specs.declared.expr.Root.TheVariants as root
-use Rattle.bl_named.specs.declared.stmt.NamedPath.{NamedPath}
-use Rattle.bl_named.specs.declared.types.NamedLength.{NamedLength}
-use Rattle.bl_named.specs.declared.types.NamedLength.TheVariants as named_count
-use Rattle.bl_named.specs.declared.types.NamedType.{NamedType}
-use Rattle.bl_named.specs.declared.types.NamedType.TheVariants as type
-use Rattle.bl_scopes.specs.declared.kind.Kind.{Kind}
-use Rattle.bl_scopes.specs.declared.kind.Kind.TheVariants as kind
-use Rattle.bl_scopes.specs.declared.scopes.Declaration.{Declaration}
-use Rattle.bl_scopes.specs.Scopes.{Scopes, bound}
+use Rattle.bl_parse_tree.specs.declared.expr.RawExpr.{RawExpr, fold-RawExpr}
+use Rattle.bl_parse_tree.specs.declared.expr.RawExprKind.TheOpen.{RawExprKind-F, RawPart-F, RawExpr-F, RawTarget-F}
+use Rattle.bl_parse_tree.specs.declared.expr.RawPart.{RawPart, fold-RawPart}
+use Rattle.bl_parse_tree.specs.declared.expr.RawTarget.{RawTarget, fold-RawTarget}
+use Rattle.bl_parse_tree.specs.declared.name.Name.{Name}
+use Rattle.bl_parse_tree.specs.declared.stmt.RawPath.{RawPath}
+use Rattle.bl_parse_tree.specs.declared.types.RawLength.{RawLength}
+use Rattle.bl_parse_tree.specs.declared.types.RawLength.TheVariants as raw_length
+use Rattle.bl_parse_tree.specs.declared.types.RawType.{RawType, fold-RawType}
+use Rattle.bl_parse_tree.specs.declared.types.RawType.TheOpen.{RawType-F}
+use Rattle.bl_names_tree.specs.declared.expr.NamedExpr.{NamedExpr, roll-NamedExpr}
+use Rattle.bl_names_tree.specs.declared.expr.NamedExprKind.{NamedExprKind}
+use Rattle.bl_names_tree.specs.declared.expr.NamedExprKind.TheVariants as what
+use Rattle.bl_names_tree.specs.declared.expr.NamedPart.{NamedPart}
+use Rattle.bl_names_tree.specs.declared.expr.NamedPart.TheVariants as part
+use Rattle.bl_names_tree.specs.declared.expr.NamedTarget.{NamedTarget, roll-NamedTarget}
+use Rattle.bl_names_tree.specs.declared.expr.Root.{Root}
+use Rattle.bl_names_tree.specs.declared.expr.Root.TheVariants as root
+use Rattle.bl_names_tree.specs.declared.stmt.NamedPath.{NamedPath}
+use Rattle.bl_names_tree.specs.declared.types.NamedLength.{NamedLength}
+use Rattle.bl_names_tree.specs.declared.types.NamedLength.TheVariants as named_count
+use Rattle.bl_names_tree.specs.declared.types.NamedType.{NamedType}
+use Rattle.bl_names_tree.specs.declared.types.NamedType.TheVariants as type
+use Rattle.bl_names_scopes.specs.declared.kind.Kind.{Kind}
+use Rattle.bl_names_scopes.specs.declared.kind.Kind.TheVariants as kind
+use Rattle.bl_names_scopes.specs.declared.scopes.Declaration.{Declaration}
+use Rattle.bl_names_scopes.specs.Scopes.{Scopes, bound}
 
 -- the position of a declaration; 0 where there is none
 abbrev pub position_of : Option Declaration → ℕ

@@ -3,15 +3,15 @@
 ghost use Rattle.std.specs.Prelude.{◌≡◌, IfOk, map, option_map};
 ghost use Rattle.bl_names.specs.Naming.{named_expr, named_length, named_path, named_root, named_step, named_target, named_type, position};
 
-use bl_named::expr::{NamedExpr, NamedExprKind, NamedPart, NamedTarget, Root};
-use bl_named::stmt::NamedPath;
-use bl_named::types::{NamedLength, NamedType};
-use bl_raw::expr::{RawExpr, RawExprKind, RawPart, RawTarget};
-use bl_raw::name::Name;
-use bl_raw::stmt::RawPath;
-use bl_raw::types::{RawLength, RawType};
-use bl_scopes::kind::Kind;
-use bl_scopes::scopes::Scopes;
+use bl_names_scopes::kind::Kind;
+use bl_names_scopes::scopes::Scopes;
+use bl_names_tree::expr::{NamedExpr, NamedExprKind, NamedPart, NamedTarget, Root};
+use bl_names_tree::stmt::NamedPath;
+use bl_names_tree::types::{NamedLength, NamedType};
+use bl_parse_tree::expr::{RawExpr, RawExprKind, RawPart, RawTarget};
+use bl_parse_tree::name::Name;
+use bl_parse_tree::stmt::RawPath;
+use bl_parse_tree::types::{RawLength, RawType};
 use bl_tree::{Box, List, NoMemory, Text};
 use std::alloc::Global;
 

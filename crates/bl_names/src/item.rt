@@ -2,8 +2,8 @@
 
 ghost use Rattle.std.specs.Prelude.{◌≡◌, ◌++◌, ◌∷◌, [], IfOk, OnOk, length, map};
 ghost use Rattle.bl_tree.specs.Reduce.{joined};
-ghost use Rattle.bl_scopes.specs.Marks.{item_marks, marks_of};
-ghost use Rattle.bl_scopes.specs.Scopes.{after};
+ghost use Rattle.bl_names_scopes.specs.Marks.{item_marks, marks_of};
+ghost use Rattle.bl_names_scopes.specs.Scopes.{after};
 ghost use Rattle.bl_names.specs.Named.{along, constants_of, inside_piece, named_field, param_piece, role_piece, structs_of, unit_inside, units_of};
 ghost use Rattle.bl_names.specs.Order.{kind_of_item, order_of};
 ghost use Rattle.bl_names.specs.inner.Past.{past, with_struct, with_unit};
@@ -11,10 +11,10 @@ ghost use Rattle.bl_names.specs.inner.Past.{past, with_struct, with_unit};
 use crate::expr::{copy_of, optional_ty, ty};
 use crate::state::State;
 use crate::stmt::{block, constant};
-use bl_named::item::{Item, NamedField, NamedStruct, NamedUnit, NamedVar};
-use bl_raw::item::{RawField, RawItem, RawParam, RawStruct, RawUnit};
-use bl_scopes::kind::{Kind, of_unit};
-use bl_scopes::scopes::Scopes;
+use bl_names_scopes::kind::{Kind, of_unit};
+use bl_names_scopes::scopes::Scopes;
+use bl_names_tree::item::{Item, NamedField, NamedStruct, NamedUnit, NamedVar};
+use bl_parse_tree::item::{RawField, RawItem, RawParam, RawStruct, RawUnit};
 use bl_tree::tree::Role;
 use bl_tree::{List, NoMemory};
 use std::alloc::Global;

@@ -1,20 +1,20 @@
 //! The rules on names, and the program with positions in place of names.
 
 ghost use Rattle.std.specs.Prelude.{◌≡◌, IfErr, IfOk, OnOk};
-ghost use Rattle.bl_named.specs.Placed.{IsPlaced};
-ghost use Rattle.bl_scopes.specs.Cause.{IsCause};
-ghost use Rattle.bl_scopes.specs.Rules.{Passes};
+ghost use Rattle.bl_names_tree.specs.Placed.{IsPlaced};
+ghost use Rattle.bl_names_scopes.specs.Cause.{IsCause};
+ghost use Rattle.bl_names_scopes.specs.Rules.{Passes};
 ghost use Rattle.bl_names.specs.Named.{named_program};
 
 use crate::item::{items, order};
 use crate::state::State;
-use bl_named::Named;
-use bl_raw::Raw;
-use bl_scopes::check;
+use bl_names_scopes::check;
+use bl_names_tree::Named;
+use bl_parse_tree::Raw;
 use bl_tree::{NoMemory, Refusal};
 use std::alloc::Global;
 
-/// Judges the rules Duplicate, Unknown and Kind, as `bl_scopes::check` does, and puts positions in place of the names of a program
+/// Judges the rules Duplicate, Unknown and Kind, as `bl_names_scopes::check` does, and puts positions in place of the names of a program
 /// that passes. An error tells the first of them that fails, at its first places, or that there was no memory.
 pub fn resolve(alloc: Global, raw: &Raw) -> Result<Named, Refusal>
     ensures passes { OnOk result (Passes raw.now.items) }

@@ -1,14 +1,14 @@
 //! What is made on the way through a program.
 
 ghost use Rattle.std.specs.Prelude.{◌≡◌, ◌++◌, ◌∷◌, [], IfOk, OnOk};
-ghost use Rattle.bl_scopes.specs.Marks.{declares};
-ghost use Rattle.bl_scopes.specs.Scopes.{enter};
+ghost use Rattle.bl_names_scopes.specs.Marks.{declares};
+ghost use Rattle.bl_names_scopes.specs.Scopes.{enter};
 ghost use Rattle.bl_names.specs.inner.Past.{begun, with_constant, with_variable};
 
-use bl_named::item::{NamedConstant, NamedStruct, NamedUnit, NamedVar};
-use bl_raw::name::Name;
-use bl_scopes::kind::Kind;
-use bl_scopes::scopes::Scopes;
+use bl_names_scopes::kind::Kind;
+use bl_names_scopes::scopes::Scopes;
+use bl_names_tree::item::{NamedConstant, NamedStruct, NamedUnit, NamedVar};
+use bl_parse_tree::name::Name;
 use bl_tree::{List, NoMemory};
 use std::alloc::Global;
 

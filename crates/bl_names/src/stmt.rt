@@ -1,7 +1,7 @@
 //! Statements with positions in place of names.
 
 ghost use Rattle.std.specs.Prelude.{◌≡◌, IfOk, OnOk, Some, map, option_map};
-ghost use Rattle.bl_scopes.specs.Scopes.{enter};
+ghost use Rattle.bl_names_scopes.specs.Scopes.{enter};
 ghost use Rattle.bl_names.specs.Named.{arms_piece, block_piece, branches_piece, constant_piece, named_var, own_scope, piece_of_arm, piece_of_branch};
 ghost use Rattle.bl_names.specs.Named.{piece_of_kind, stmt_piece};
 ghost use Rattle.bl_names.specs.Naming.{named_expr, named_path, named_target, position};
@@ -11,14 +11,14 @@ use crate::expr::{
     copy_of, expr, exprs, optional_expr, optional_path, optional_ty, paths, position, target,
 };
 use crate::state::State;
-use bl_named::expr::NamedExpr;
-use bl_named::item::{NamedConstant, NamedVar};
-use bl_named::stmt::{NamedArm, NamedBranch, NamedStmt, NamedStmtKind};
-use bl_raw::expr::{RawExpr, RawTarget};
-use bl_raw::name::Name;
-use bl_raw::stmt::{RawArm, RawBranch, RawConstant, RawPath, RawStmt, RawStmtKind};
-use bl_raw::types::RawType;
-use bl_scopes::scopes::Scopes;
+use bl_names_scopes::scopes::Scopes;
+use bl_names_tree::expr::NamedExpr;
+use bl_names_tree::item::{NamedConstant, NamedVar};
+use bl_names_tree::stmt::{NamedArm, NamedBranch, NamedStmt, NamedStmtKind};
+use bl_parse_tree::expr::{RawExpr, RawTarget};
+use bl_parse_tree::name::Name;
+use bl_parse_tree::stmt::{RawArm, RawBranch, RawConstant, RawPath, RawStmt, RawStmtKind};
+use bl_parse_tree::types::RawType;
 use bl_tree::tree::Role;
 use bl_tree::{List, NoMemory};
 use std::alloc::Global;

@@ -5,12 +5,12 @@ use Rattle.std.specs.List.{list_all}
 use Rattle.std.proofs.lemmas.List.Folds.{list_all-append}
 use Rattle.bl_tree.specs.declared.tree.UnitKind.{UnitKind}
 use Rattle.bl_tree.specs.declared.tree.UnitKind.TheVariants as unit
-use Rattle.bl_raw.specs.declared.item.RawItem.{RawItem}
-use Rattle.bl_raw.specs.declared.item.RawItem.TheVariants as item
-use Rattle.bl_scopes.specs.declared.kind.Kind.TheVariants as kind
-use Rattle.bl_scopes.specs.declared.scopes.Counts.{Counts}
-use Rattle.bl_scopes.specs.Marks.{closes, expr_marks, item_marks, kind_of_unit, optional, type_marks}
-use Rattle.bl_scopes.specs.Scopes.{Scopes, after, counted, enter}
+use Rattle.bl_parse_tree.specs.declared.item.RawItem.{RawItem}
+use Rattle.bl_parse_tree.specs.declared.item.RawItem.TheVariants as item
+use Rattle.bl_names_scopes.specs.declared.kind.Kind.TheVariants as kind
+use Rattle.bl_names_scopes.specs.declared.scopes.Counts.{Counts}
+use Rattle.bl_names_scopes.specs.Marks.{closes, expr_marks, item_marks, kind_of_unit, optional, type_marks}
+use Rattle.bl_names_scopes.specs.Scopes.{Scopes, after, counted, enter}
 use Rattle.bl_names.specs.Named.{along, inside_piece, opened}
 use Rattle.bl_names.proofs.ItemLemmas.{struct_scopes, unit_scopes}
 use Rattle.bl_names.proofs.PastLemmas.{enter-behind}

@@ -28,20 +28,20 @@ use Rattle.std.proofs.lemmas.Bool.{le-leb, leb-true, lt-ltb, ltb-true}
 use Rattle.std.proofs.lemmas.List.Elements.{All-head, All-tail}
 use Rattle.bl_tree.specs.declared.place.Place.{Place}
 use Rattle.bl_tree.specs.Apart.{Naming, Roots, all_apart, and_naming, declares as naming_declared, keep_apart, naming, of_branches, together}
-use Rattle.bl_named.specs.declared.stmt.NamedStmtKind.{out-NamedStmtKind}
-use Rattle.bl_named.specs.declared.stmt.NamedStmtKind.TheOpen.{NamedStmtKind-F}
-use Rattle.bl_named.specs.declared.stmt.NamedStmtKind.TheVariants as what
-use Rattle.bl_raw.specs.declared.expr.RawExpr.{RawExpr}
-use Rattle.bl_raw.specs.declared.name.Name.{Name}
-use Rattle.bl_raw.specs.declared.stmt.RawArm.{RawArm}
-use Rattle.bl_raw.specs.declared.stmt.RawBranch.{RawBranch}
-use Rattle.bl_raw.specs.declared.stmt.RawConstant.{RawConstant}
-use Rattle.bl_raw.specs.declared.stmt.RawStmt.{RawStmt}
-use Rattle.bl_raw.specs.declared.stmt.RawStmtKind.TheOpen.{RawStmtKind-F}
-use Rattle.bl_raw.specs.declared.types.RawType.{RawType}
-use Rattle.bl_scopes.specs.declared.kind.Kind.TheVariants as kind
-use Rattle.bl_scopes.specs.declared.kind.Wanted.TheVariants as wanted
-use Rattle.bl_scopes.specs.Marks.{
+use Rattle.bl_names_tree.specs.declared.stmt.NamedStmtKind.{out-NamedStmtKind}
+use Rattle.bl_names_tree.specs.declared.stmt.NamedStmtKind.TheOpen.{NamedStmtKind-F}
+use Rattle.bl_names_tree.specs.declared.stmt.NamedStmtKind.TheVariants as what
+use Rattle.bl_parse_tree.specs.declared.expr.RawExpr.{RawExpr}
+use Rattle.bl_parse_tree.specs.declared.name.Name.{Name}
+use Rattle.bl_parse_tree.specs.declared.stmt.RawArm.{RawArm}
+use Rattle.bl_parse_tree.specs.declared.stmt.RawBranch.{RawBranch}
+use Rattle.bl_parse_tree.specs.declared.stmt.RawConstant.{RawConstant}
+use Rattle.bl_parse_tree.specs.declared.stmt.RawStmt.{RawStmt}
+use Rattle.bl_parse_tree.specs.declared.stmt.RawStmtKind.TheOpen.{RawStmtKind-F}
+use Rattle.bl_parse_tree.specs.declared.types.RawType.{RawType}
+use Rattle.bl_names_scopes.specs.declared.kind.Kind.TheVariants as kind
+use Rattle.bl_names_scopes.specs.declared.kind.Wanted.TheVariants as wanted
+use Rattle.bl_names_scopes.specs.Marks.{
   Marks,
   argument_marks,
   closes,
@@ -55,7 +55,7 @@ use Rattle.bl_scopes.specs.Marks.{
   type_marks,
   uses,
 }
-use Rattle.bl_scopes.specs.Scopes.{Scopes, after}
+use Rattle.bl_names_scopes.specs.Scopes.{Scopes, after}
 use Rattle.bl_names.specs.Named.{Piece, all, kind_piece, made_of_all, marks_of_all, opened, own_scope, piece_of_arm, piece_of_branch, stmt_piece, vars_of_all}
 use Rattle.bl_names.specs.Naming.{named_expr, named_path, named_target, position}
 use Rattle.bl_names.proofs.FitLemmas.{Fits, fits_behind, fits_first, fits_second}

@@ -7,14 +7,14 @@ use Rattle.bl_tree.specs.declared.tree.Role.TheVariants as role
 use Rattle.bl_tree.specs.declared.tree.UnitKind.{UnitKind}
 use Rattle.bl_tree.specs.declared.tree.UnitKind.TheVariants as unit
 use Rattle.bl_tree.specs.Reduce.{all_of, joined}
-use Rattle.bl_named.specs.declared.stmt.NamedStmt.{NamedStmt}
-use Rattle.bl_raw.specs.declared.item.RawItem.{RawItem}
-use Rattle.bl_raw.specs.declared.item.RawItem.TheVariants as item
-use Rattle.bl_raw.specs.declared.item.RawParam.{RawParam}
-use Rattle.bl_raw.specs.declared.item.RawUnit.{RawUnit}
-use Rattle.bl_raw.specs.declared.name.Name.{Name}
-use Rattle.bl_scopes.specs.declared.kind.Kind.TheVariants as kind
-use Rattle.bl_scopes.specs.Marks.{
+use Rattle.bl_names_tree.specs.declared.stmt.NamedStmt.{NamedStmt}
+use Rattle.bl_parse_tree.specs.declared.item.RawItem.{RawItem}
+use Rattle.bl_parse_tree.specs.declared.item.RawItem.TheVariants as item
+use Rattle.bl_parse_tree.specs.declared.item.RawParam.{RawParam}
+use Rattle.bl_parse_tree.specs.declared.item.RawUnit.{RawUnit}
+use Rattle.bl_parse_tree.specs.declared.name.Name.{Name}
+use Rattle.bl_names_scopes.specs.declared.kind.Kind.TheVariants as kind
+use Rattle.bl_names_scopes.specs.Marks.{
   closes,
   declares,
   expr_marks,
@@ -29,8 +29,8 @@ use Rattle.bl_scopes.specs.Marks.{
   type_marks,
   unit_marks,
 }
-use Rattle.bl_scopes.specs.Rules.{Passes}
-use Rattle.bl_scopes.specs.Scopes.{Scopes, after, enter, file_scope}
+use Rattle.bl_names_scopes.specs.Rules.{Passes}
+use Rattle.bl_names_scopes.specs.Scopes.{Scopes, after, enter, file_scope}
 use Rattle.bl_names.specs.Named.{block_piece, inside_piece, named_program, named_unit, opened, params_piece, role_piece, stmt_piece, units_of}
 use Rattle.bl_names.proofs.FitLemmas.{Fits, fits_behind, fits_first, fits_second, program_fits}
 use Rattle.bl_names.proofs.ItemLemmas.{struct_scopes, unit_scopes}
@@ -38,7 +38,7 @@ use Rattle.bl_names.proofs.PastLemmas.{enter-behind}
 use Rattle.bl_names.proofs.PieceLemmas.{block_marks, role_marks}
 use Rattle.bl_names.proofs.StillLemmas.{after-append, still_optional, still_type, still_value}
 use Rattle.bl_names_laws.specs.Apart.{is_apart, naming_of}
-use Rattle.bl_names_laws.specs.Keeps.{body_apart}
+use Rattle.bl_names_laws.specs.WellFormed.{body_apart}
 use Rattle.bl_names_laws.proofs.Along.{along_under}
 use Rattle.bl_names_laws.proofs.Apart.{every_of, good_all}
 use Rattle.bl_names_laws.proofs.Filled.{params_move}

@@ -1,21 +1,21 @@
 -- What the uses among marks are bound to.
 use Rattle.std.proofs.Common.{◌≡◌, List, [], ◌∷◌, ◌++◌, map, refl, sym, ap, subst, ◌∙◌, append-nil, append_assoc}
 use Rattle.std.specs.Prelude.{option_map}
-use Rattle.bl_raw.specs.declared.item.RawField.{RawField}
-use Rattle.bl_raw.specs.declared.item.RawItem.{RawItem}
-use Rattle.bl_raw.specs.declared.name.Name.{Name}
-use Rattle.bl_scopes.specs.declared.kind.Kind.{Kind}
-use Rattle.bl_scopes.specs.Marks.{Marks, closes, declared_after, declares, field_mark, in_scope, marks_of, opens, uses}
-use Rattle.bl_scopes.specs.Scopes.{Scopes, after, enter, file_scope}
+use Rattle.bl_parse_tree.specs.declared.item.RawField.{RawField}
+use Rattle.bl_parse_tree.specs.declared.item.RawItem.{RawItem}
+use Rattle.bl_parse_tree.specs.declared.name.Name.{Name}
+use Rattle.bl_names_scopes.specs.declared.kind.Kind.{Kind}
+use Rattle.bl_names_scopes.specs.Marks.{Marks, closes, declared_after, declares, field_mark, in_scope, marks_of, opens, uses}
+use Rattle.bl_names_scopes.specs.Scopes.{Scopes, after, enter, file_scope}
 use Rattle.bl_names.specs.Named.{opened}
 use Rattle.bl_names.proofs.FitLemmas.{Fits}
 use Rattle.bl_names.proofs.StillLemmas.{Still, after-append}
 use Rattle.bl_names_laws.specs.Bound.{EachLeads, uses_behind}
-use Rattle.bl_names_laws.specs.Leads.{Leads}
+use Rattle.bl_names_laws.specs.Referents.{Referents}
 use Rattle.bl_names_laws.proofs.Listed.{bound_name, name_at}
 
 -- the names of the declarations to which the uses among marks are bound, where these scopes are open
-abbrev pub bindings : Scopes → Marks → Leads
+abbrev pub bindings : Scopes → Marks → Referents
 bindings scopes [] = []
 bindings scopes (opens ∷ rest) = bindings (enter scopes opens) rest
 bindings scopes (closes ∷ rest) = bindings (enter scopes closes) rest

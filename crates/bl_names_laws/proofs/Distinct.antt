@@ -8,16 +8,16 @@ use Rattle.bl_tree.specs.declared.tree.Role.{Role}
 use Rattle.bl_tree.specs.declared.tree.Role.TheVariants as role
 use Rattle.bl_tree.specs.Reduce.{joined}
 use Rattle.bl_tree.specs.Words.{are_distinct}
-use Rattle.bl_named.specs.declared.item.NamedVar.{NamedVar}
-use Rattle.bl_raw.specs.declared.item.RawField.{RawField}
-use Rattle.bl_raw.specs.declared.item.RawItem.{RawItem}
-use Rattle.bl_raw.specs.declared.item.RawItem.TheVariants as item
-use Rattle.bl_raw.specs.declared.item.RawParam.{RawParam}
-use Rattle.bl_raw.specs.declared.item.RawStruct.{RawStruct}
-use Rattle.bl_raw.specs.declared.item.RawUnit.{RawUnit}
-use Rattle.bl_raw.specs.declared.stmt.RawConstant.{RawConstant}
-use Rattle.bl_scopes.specs.declared.kind.Kind.TheVariants as kind
-use Rattle.bl_scopes.specs.Marks.{
+use Rattle.bl_names_tree.specs.declared.item.NamedVar.{NamedVar}
+use Rattle.bl_parse_tree.specs.declared.item.RawField.{RawField}
+use Rattle.bl_parse_tree.specs.declared.item.RawItem.{RawItem}
+use Rattle.bl_parse_tree.specs.declared.item.RawItem.TheVariants as item
+use Rattle.bl_parse_tree.specs.declared.item.RawParam.{RawParam}
+use Rattle.bl_parse_tree.specs.declared.item.RawStruct.{RawStruct}
+use Rattle.bl_parse_tree.specs.declared.item.RawUnit.{RawUnit}
+use Rattle.bl_parse_tree.specs.declared.stmt.RawConstant.{RawConstant}
+use Rattle.bl_names_scopes.specs.declared.kind.Kind.TheVariants as kind
+use Rattle.bl_names_scopes.specs.Marks.{
   closes,
   constant_marks,
   declares,
@@ -36,8 +36,8 @@ use Rattle.bl_scopes.specs.Marks.{
   type_marks,
   unit_marks,
 }
-use Rattle.bl_scopes.specs.Rules.{Passes}
-use Rattle.bl_scopes.specs.Scopes.{Scopes, after, enter, file_scope}
+use Rattle.bl_names_scopes.specs.Rules.{Passes}
+use Rattle.bl_names_scopes.specs.Scopes.{Scopes, after, enter, file_scope}
 use Rattle.bl_names.specs.Named.{
   along,
   block_piece,
@@ -56,7 +56,7 @@ use Rattle.bl_names.specs.Named.{
 use Rattle.bl_names.proofs.ItemLemmas.{inside_scopes}
 use Rattle.bl_names.proofs.PieceLemmas.{role_marks}
 use Rattle.bl_names.proofs.StillLemmas.{Still, after-append, still_all, still_type, still_value}
-use Rattle.bl_names_laws.specs.Keeps.{all_names, fields_differ, names_of, parameters_differ}
+use Rattle.bl_names_laws.specs.WellFormed.{all_names, fields_differ, names_of, parameters_differ}
 use Rattle.bl_names_laws.proofs.Along.{along_under}
 use Rattle.bl_names_laws.proofs.ApartProgram.{inside_moves}
 use Rattle.bl_names_laws.proofs.Fresh.{

@@ -4,16 +4,16 @@ use Rattle.std.specs.Prelude.{All, max, Option, Some, None, option_map}
 use Rattle.std.proofs.lemmas.List.Elements.{All-head, All-tail}
 use Rattle.bl_tree.specs.declared.place.Place.{Place}
 use Rattle.bl_tree.specs.Reduce.{greatest}
-use Rattle.bl_named.specs.declared.expr.NamedExprKind.TheOpen.{NamedExprKind-F}
-use Rattle.bl_named.specs.declared.expr.NamedExprKind.TheVariants as what
-use Rattle.bl_raw.specs.declared.expr.RawExpr.{RawExpr, fold-roll-RawExpr}
-use Rattle.bl_raw.specs.declared.expr.RawExprKind.{RawExprKind, fold-RawExprKind, fold-roll-RawExprKind, map-RawExprKind}
-use Rattle.bl_raw.specs.declared.expr.RawExprKind.TheOpen.{RawExprKind-F, RawPart-F}
-use Rattle.bl_raw.specs.declared.expr.RawPart.{RawPart, fold-RawPart, fold_out-RawPart, map-RawPart, out-RawPart}
-use Rattle.bl_raw.specs.declared.expr.RawTarget.{RawTarget, fold-roll-RawTarget, roll-RawTarget}
-use Rattle.bl_raw.specs.declared.name.Name.{Name}
-use Rattle.bl_raw.specs.Depths as raw
-use Rattle.bl_scopes.specs.Scopes.{Scopes}
+use Rattle.bl_names_tree.specs.declared.expr.NamedExprKind.TheOpen.{NamedExprKind-F}
+use Rattle.bl_names_tree.specs.declared.expr.NamedExprKind.TheVariants as what
+use Rattle.bl_parse_tree.specs.declared.expr.RawExpr.{RawExpr, fold-roll-RawExpr}
+use Rattle.bl_parse_tree.specs.declared.expr.RawExprKind.{RawExprKind, fold-RawExprKind, fold-roll-RawExprKind, map-RawExprKind}
+use Rattle.bl_parse_tree.specs.declared.expr.RawExprKind.TheOpen.{RawExprKind-F, RawPart-F}
+use Rattle.bl_parse_tree.specs.declared.expr.RawPart.{RawPart, fold-RawPart, fold_out-RawPart, map-RawPart, out-RawPart}
+use Rattle.bl_parse_tree.specs.declared.expr.RawTarget.{RawTarget, fold-roll-RawTarget, roll-RawTarget}
+use Rattle.bl_parse_tree.specs.declared.name.Name.{Name}
+use Rattle.bl_parse_tree.specs.Depths as raw
+use Rattle.bl_names_scopes.specs.Scopes.{Scopes}
 use Rattle.bl_names.specs.Naming.{named_expr, named_step, named_target, position}
 use Rattle.bl_names.proofs.RawExprInduction.{Cases, OfIndex, expr, induct, induct_target}
 use Rattle.bl_names_laws.specs.Depths.{expr_depth, kind_depth, optional_depth, part_depth, target_depth, target_layer_depth}

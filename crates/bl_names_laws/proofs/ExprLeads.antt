@@ -4,35 +4,35 @@ use Rattle.std.specs.Prelude.{All, Option, option_map}
 use Rattle.std.proofs.lemmas.List.Elements.{All-head, All-tail}
 use Rattle.bl_tree.specs.declared.place.Place.{Place}
 use Rattle.bl_tree.specs.Reduce.{joined}
-use Rattle.bl_named.specs.declared.expr.NamedExpr.{NamedExpr}
-use Rattle.bl_named.specs.declared.expr.NamedExprKind.{NamedExprKind, out-NamedExprKind}
-use Rattle.bl_named.specs.declared.expr.NamedExprKind.TheOpen.{NamedExprKind-F}
-use Rattle.bl_named.specs.declared.expr.NamedExprKind.TheVariants as what
-use Rattle.bl_named.specs.declared.expr.NamedPart.{NamedPart}
-use Rattle.bl_named.specs.declared.expr.NamedTarget.{NamedTarget}
-use Rattle.bl_named.specs.declared.item.NamedVar.{NamedVar}
-use Rattle.bl_named.specs.declared.named.Named.{Named}
-use Rattle.bl_named.specs.declared.types.NamedType.{NamedType, fold_out-NamedType, map-NamedType, out-NamedType}
-use Rattle.bl_named.specs.declared.types.NamedType.TheOpen.{NamedType-F}
-use Rattle.bl_named.specs.declared.types.NamedType.TheVariants as type
-use Rattle.bl_raw.specs.declared.expr.RawExpr.{RawExpr, fold-roll-RawExpr}
-use Rattle.bl_raw.specs.declared.expr.RawExprKind.{RawExprKind, fold-RawExprKind, fold-roll-RawExprKind, map-RawExprKind}
-use Rattle.bl_raw.specs.declared.expr.RawExprKind.TheOpen.{RawExprKind-F, RawPart-F}
-use Rattle.bl_raw.specs.declared.expr.RawPart.{RawPart, fold_out-RawPart, out-RawPart}
-use Rattle.bl_raw.specs.declared.expr.RawTarget.{RawTarget, fold-roll-RawTarget, roll-RawTarget}
-use Rattle.bl_raw.specs.declared.name.Name.{Name}
-use Rattle.bl_raw.specs.declared.stmt.RawPath.{RawPath}
-use Rattle.bl_raw.specs.declared.types.RawLength.{RawLength}
-use Rattle.bl_raw.specs.declared.types.RawLength.TheVariants as raw_length
-use Rattle.bl_raw.specs.declared.types.RawType.{RawType, fold-roll-RawType, ind-RawType, map-RawType, roll-RawType}
-use Rattle.bl_raw.specs.declared.types.RawType.TheOpen.{RawType-F}
-use Rattle.bl_scopes.specs.declared.kind.Kind.{Kind}
-use Rattle.bl_scopes.specs.declared.kind.Kind.TheVariants as kinds
-use Rattle.bl_scopes.specs.declared.kind.Wanted.{Wanted}
-use Rattle.bl_scopes.specs.declared.kind.Wanted.TheVariants as wants
-use Rattle.bl_scopes.specs.declared.scopes.Counts.{Counts}
-use Rattle.bl_scopes.specs.Kinds.{suits}
-use Rattle.bl_scopes.specs.Marks.{
+use Rattle.bl_names_tree.specs.declared.expr.NamedExpr.{NamedExpr}
+use Rattle.bl_names_tree.specs.declared.expr.NamedExprKind.{NamedExprKind, out-NamedExprKind}
+use Rattle.bl_names_tree.specs.declared.expr.NamedExprKind.TheOpen.{NamedExprKind-F}
+use Rattle.bl_names_tree.specs.declared.expr.NamedExprKind.TheVariants as what
+use Rattle.bl_names_tree.specs.declared.expr.NamedPart.{NamedPart}
+use Rattle.bl_names_tree.specs.declared.expr.NamedTarget.{NamedTarget}
+use Rattle.bl_names_tree.specs.declared.item.NamedVar.{NamedVar}
+use Rattle.bl_names_tree.specs.declared.named.Named.{Named}
+use Rattle.bl_names_tree.specs.declared.types.NamedType.{NamedType, fold_out-NamedType, map-NamedType, out-NamedType}
+use Rattle.bl_names_tree.specs.declared.types.NamedType.TheOpen.{NamedType-F}
+use Rattle.bl_names_tree.specs.declared.types.NamedType.TheVariants as type
+use Rattle.bl_parse_tree.specs.declared.expr.RawExpr.{RawExpr, fold-roll-RawExpr}
+use Rattle.bl_parse_tree.specs.declared.expr.RawExprKind.{RawExprKind, fold-RawExprKind, fold-roll-RawExprKind, map-RawExprKind}
+use Rattle.bl_parse_tree.specs.declared.expr.RawExprKind.TheOpen.{RawExprKind-F, RawPart-F}
+use Rattle.bl_parse_tree.specs.declared.expr.RawPart.{RawPart, fold_out-RawPart, out-RawPart}
+use Rattle.bl_parse_tree.specs.declared.expr.RawTarget.{RawTarget, fold-roll-RawTarget, roll-RawTarget}
+use Rattle.bl_parse_tree.specs.declared.name.Name.{Name}
+use Rattle.bl_parse_tree.specs.declared.stmt.RawPath.{RawPath}
+use Rattle.bl_parse_tree.specs.declared.types.RawLength.{RawLength}
+use Rattle.bl_parse_tree.specs.declared.types.RawLength.TheVariants as raw_length
+use Rattle.bl_parse_tree.specs.declared.types.RawType.{RawType, fold-roll-RawType, ind-RawType, map-RawType, roll-RawType}
+use Rattle.bl_parse_tree.specs.declared.types.RawType.TheOpen.{RawType-F}
+use Rattle.bl_names_scopes.specs.declared.kind.Kind.{Kind}
+use Rattle.bl_names_scopes.specs.declared.kind.Kind.TheVariants as kinds
+use Rattle.bl_names_scopes.specs.declared.kind.Wanted.{Wanted}
+use Rattle.bl_names_scopes.specs.declared.kind.Wanted.TheVariants as wants
+use Rattle.bl_names_scopes.specs.declared.scopes.Counts.{Counts}
+use Rattle.bl_names_scopes.specs.Kinds.{suits}
+use Rattle.bl_names_scopes.specs.Marks.{
   Marks,
   argument_marks,
   expr_layer_marks,
@@ -49,7 +49,7 @@ use Rattle.bl_scopes.specs.Marks.{
   type_marks,
   uses,
 }
-use Rattle.bl_scopes.specs.Scopes.{Scopes}
+use Rattle.bl_names_scopes.specs.Scopes.{Scopes}
 use Rattle.bl_names.specs.Naming.{
   named_expr,
   named_expr_layer,
@@ -72,8 +72,8 @@ use Rattle.bl_names.proofs.FitLemmas.{Fits, IsFit, fits_behind, fits_first}
 use Rattle.bl_names.proofs.PlacedExpr.{IsRead, value_read}
 use Rattle.bl_names.proofs.RawExprInduction.{Cases, EachIndex, OfIndex, expr, induct, induct_target}
 use Rattle.bl_names.proofs.StillLemmas.{Still, still_expr, still_exprs, still_length, still_nil}
-use Rattle.bl_names_laws.specs.Leads.{
-  Leads,
+use Rattle.bl_names_laws.specs.Referents.{
+  Referents,
   argument_leads,
   at_root,
   constant_at,
@@ -176,10 +176,10 @@ module _ (named : Named) (vars : List NamedVar) (scopes : Scopes) (counts : Coun
   -- ---- parts one after another
 
   -- the parts that are made of uses lead to what these are bound to
-  abbrev pub IsLed : {X Y : Type 0} → (X → Marks) → (Y → Leads) → (X → Y) → X → Type 0
+  abbrev pub IsLed : {X Y : Type 0} → (X → Marks) → (Y → Referents) → (X → Y) → X → Type 0
   IsLed marks leads made x = Fits there (marks x) → leads (made x) ≡ bindings there (marks x)
 
-  pub joined_led : {X Y : Type 0} (marks : X → Marks) (leads : Y → Leads) (made : X → Y) (xs : List X) → ((x : X) → Still (marks x))
+  pub joined_led : {X Y : Type 0} (marks : X → Marks) (leads : Y → Referents) (made : X → Y) (xs : List X) → ((x : X) → Still (marks x))
       → All (IsLed marks leads made) xs → Fits there (joined (map marks xs)) → joined (map leads (map made xs)) ≡ bindings there (joined (map marks xs))
   joined_led marks leads made [] still each fits = refl
   joined_led marks leads made (x ∷ xs) still each fits =
@@ -188,7 +188,7 @@ module _ (named : Named) (vars : List NamedVar) (scopes : Scopes) (counts : Coun
       (fits_behind there (marks x) (joined (map marks xs)) (still x) fits) i)
       ∙ sym (bindings_behind there (marks x) (joined (map marks xs)) (still x))
 
-  pub optional_led : {X Y : Type 0} (marks : X → Marks) (leads : Y → Leads) (made : X → Y) (x : Option X) → ((x : X) → IsLed marks leads made x)
+  pub optional_led : {X Y : Type 0} (marks : X → Marks) (leads : Y → Referents) (made : X → Y) (x : Option X) → ((x : X) → IsLed marks leads made x)
       → Fits there (optional marks x) → leads_if leads (option_map made x) ≡ bindings there (optional marks x)
   optional_led marks leads made (Some x) each fits = each x fits
   optional_led marks leads made None each fits = refl
@@ -204,15 +204,15 @@ module _ (named : Named) (vars : List NamedVar) (scopes : Scopes) (counts : Coun
   TypeLed = IsLed type_marks (type_leads named) (named_type scopes)
 
   type_at : (ty : NamedType) (layer : NamedType-F NamedType) → out-NamedType ty ≡ layer →
-      type_leads named ty ≡ type_level_leads named (map-NamedType NamedType Leads (type_leads named) layer)
+      type_leads named ty ≡ type_level_leads named (map-NamedType NamedType Referents (type_leads named) layer)
   type_at ty layer is =
-      fold_out-NamedType Leads (type_level_leads named) ty ∙ ap (λ layer. type_level_leads named (map-NamedType NamedType Leads (type_leads named) layer)) is
+      fold_out-NamedType Referents (type_level_leads named) ty ∙ ap (λ layer. type_level_leads named (map-NamedType NamedType Referents (type_leads named) layer)) is
 
   -- a written type whose level becomes this
   level_is : (layer : RawType-F RawType) (made : NamedType-F NamedType) →
       out-NamedType (named_type_level scopes (map-RawType RawType NamedType (named_type scopes) layer)) ≡ made →
       (Fits there (type_level_marks (map-RawType RawType Marks type_marks layer)) →
-      type_level_leads named (map-NamedType NamedType Leads (type_leads named) made)
+      type_level_leads named (map-NamedType NamedType Referents (type_leads named) made)
       ≡ bindings there (type_level_marks (map-RawType RawType Marks type_marks layer))) → TypeLed (roll-RawType layer)
   level_is layer made is gives fits =
       let marks = fold-roll-RawType Marks type_level_marks layer in
@@ -247,8 +247,8 @@ module _ (named : Named) (vars : List NamedVar) (scopes : Scopes) (counts : Coun
       (wanted : Wanted) → IsRead wanted → Fits there (target_marks target wanted) → target_leads named vars (named_target scopes target)
       ≡ bindings there (target_marks target wanted)
 
-  abbrev led_parts : NamedLayer → NamedExprKind-F Leads Leads Leads Leads
-  led_parts = named_parts Leads (kind_leads named vars) part_leads (target_layer_leads named vars) scopes
+  abbrev led_parts : NamedLayer → NamedExprKind-F Referents Referents Referents Referents
+  led_parts = named_parts Referents (kind_leads named vars) part_leads (target_layer_leads named vars) scopes
 
   abbrev kind_named : RawExprKind → NamedExprKind
   kind_named = fold-RawExprKind NamedExprKind NamedPart NamedExpr NamedTarget (named_kind scopes) named_part named_expr_layer (named_target_layer scopes)
@@ -261,7 +261,7 @@ module _ (named : Named) (vars : List NamedVar) (scopes : Scopes) (counts : Coun
 
   made_at : (place : Place) (layer : RawLayer) (made : NamedLayer) → out-NamedExprKind (becomes layer) ≡ made →
       expr_leads named vars (named_expr scopes (expr place layer)) ≡ kind_leads named vars (led_parts made)
-  made_at = expr_made Leads (kind_leads named vars) part_leads (target_layer_leads named vars) scopes
+  made_at = expr_made Referents (kind_leads named vars) part_leads (target_layer_leads named vars) scopes
 
   -- an expression whose kind becomes this
   kind_led : (place : Place) (layer : RawLayer) (made : NamedLayer) →
@@ -274,10 +274,10 @@ module _ (named : Named) (vars : List NamedVar) (scopes : Scopes) (counts : Coun
   step_led : (part : RawPart) (layer : RawPart-F RawExprKind RawPart RawExpr RawTarget) → out-RawPart part ≡ layer → OfIndex ExprLed layer
       → IsLed marks_of_part (step_leads named vars) (named_step scopes) part
   step_led part (RawPart-F.Field name) is of fits =
-      field_made Leads (kind_leads named vars) part_leads (target_layer_leads named vars) scopes part name is
+      field_made Referents (kind_leads named vars) part_leads (target_layer_leads named vars) scopes part name is
       ∙ ap (bindings there) (sym (part_marks_at part (RawPart-F.Field name) is))
   step_led part (RawPart-F.Index e) is of fits =
-      index_made Leads (kind_leads named vars) part_leads (target_layer_leads named vars) scopes part e is
+      index_made Referents (kind_leads named vars) part_leads (target_layer_leads named vars) scopes part e is
       ∙ of (subst (Fits there) (part_marks_at part (RawPart-F.Index e) is) fits)
       ∙ ap (bindings there) (sym (part_marks_at part (RawPart-F.Index e) is))
 
@@ -293,7 +293,7 @@ module _ (named : Named) (vars : List NamedVar) (scopes : Scopes) (counts : Coun
       → TargetLed (roll-RawTarget (record { place = place; root = root; parts = steps }))
   target_case place root steps each wanted read fits =
       let at : Fits there (uses root wanted ∷ joined (map marks_of_part steps)) = subst (Fits there) (target_marks_at place root steps wanted) fits in
-      target_made Leads (kind_leads named vars) part_leads (target_layer_leads named vars) scopes place root steps
+      target_made Referents (kind_leads named vars) part_leads (target_layer_leads named vars) scopes place root steps
       ∙ (λ i. root_leads root wanted read at.0 i
       ∷ joined_led marks_of_part (step_leads named vars) (named_step scopes) steps (λ part. still_part part (out-RawPart part) refl)
       (λ k d within. step_led _ _ refl (each k d within)) at.1 i)

@@ -1,19 +1,19 @@
 -- What expressions become, and what a definition that goes down them comes to.
 use Rattle.std.proofs.Common.{◌≡◌, List, map, refl, ap, ◌∙◌}
 use Rattle.bl_tree.specs.declared.place.Place.{Place}
-use Rattle.bl_named.specs.declared.expr.NamedExpr.{NamedExpr, fold-NamedExpr, fold-roll-NamedExpr, roll-NamedExpr}
-use Rattle.bl_named.specs.declared.expr.NamedExprKind.{NamedExprKind, fold-NamedExprKind, fold_out-NamedExprKind, map-NamedExprKind, out-NamedExprKind}
-use Rattle.bl_named.specs.declared.expr.NamedExprKind.TheOpen.{NamedExprKind-F, NamedPart-F, NamedExpr-F, NamedTarget-F}
-use Rattle.bl_named.specs.declared.expr.NamedPart.{NamedPart, fold-NamedPart, fold_out-NamedPart, map-NamedPart, out-NamedPart}
-use Rattle.bl_named.specs.declared.expr.NamedPart.TheVariants as part
-use Rattle.bl_named.specs.declared.expr.NamedTarget.{NamedTarget, fold-NamedTarget, fold-roll-NamedTarget}
-use Rattle.bl_raw.specs.declared.expr.RawExpr.{RawExpr, fold-roll-RawExpr}
-use Rattle.bl_raw.specs.declared.expr.RawExprKind.{RawExprKind, fold-RawExprKind, fold-roll-RawExprKind, map-RawExprKind}
-use Rattle.bl_raw.specs.declared.expr.RawExprKind.TheOpen.{RawExprKind-F, RawPart-F}
-use Rattle.bl_raw.specs.declared.expr.RawPart.{RawPart, fold_out-RawPart, map-RawPart, out-RawPart}
-use Rattle.bl_raw.specs.declared.expr.RawTarget.{RawTarget, fold-roll-RawTarget, roll-RawTarget}
-use Rattle.bl_raw.specs.declared.name.Name.{Name}
-use Rattle.bl_scopes.specs.Scopes.{Scopes}
+use Rattle.bl_names_tree.specs.declared.expr.NamedExpr.{NamedExpr, fold-NamedExpr, fold-roll-NamedExpr, roll-NamedExpr}
+use Rattle.bl_names_tree.specs.declared.expr.NamedExprKind.{NamedExprKind, fold-NamedExprKind, fold_out-NamedExprKind, map-NamedExprKind, out-NamedExprKind}
+use Rattle.bl_names_tree.specs.declared.expr.NamedExprKind.TheOpen.{NamedExprKind-F, NamedPart-F, NamedExpr-F, NamedTarget-F}
+use Rattle.bl_names_tree.specs.declared.expr.NamedPart.{NamedPart, fold-NamedPart, fold_out-NamedPart, map-NamedPart, out-NamedPart}
+use Rattle.bl_names_tree.specs.declared.expr.NamedPart.TheVariants as part
+use Rattle.bl_names_tree.specs.declared.expr.NamedTarget.{NamedTarget, fold-NamedTarget, fold-roll-NamedTarget}
+use Rattle.bl_parse_tree.specs.declared.expr.RawExpr.{RawExpr, fold-roll-RawExpr}
+use Rattle.bl_parse_tree.specs.declared.expr.RawExprKind.{RawExprKind, fold-RawExprKind, fold-roll-RawExprKind, map-RawExprKind}
+use Rattle.bl_parse_tree.specs.declared.expr.RawExprKind.TheOpen.{RawExprKind-F, RawPart-F}
+use Rattle.bl_parse_tree.specs.declared.expr.RawPart.{RawPart, fold_out-RawPart, map-RawPart, out-RawPart}
+use Rattle.bl_parse_tree.specs.declared.expr.RawTarget.{RawTarget, fold-roll-RawTarget, roll-RawTarget}
+use Rattle.bl_parse_tree.specs.declared.name.Name.{Name}
+use Rattle.bl_names_scopes.specs.Scopes.{Scopes}
 use Rattle.bl_names.specs.Naming.{named_expr, named_expr_layer, named_kind, named_part, named_root, named_step, named_target, named_target_layer}
 use Rattle.bl_names.proofs.RawExprInduction.{expr}
 

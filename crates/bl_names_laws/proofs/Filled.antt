@@ -29,22 +29,22 @@ use Rattle.bl_tree.specs.declared.tree.Role.{Role}
 use Rattle.bl_tree.specs.declared.tree.Role.TheVariants as role
 use Rattle.bl_tree.specs.Reduce.{all_of}
 use Rattle.bl_tree.specs.Typing.{is_inhabited}
-use Rattle.bl_named.specs.declared.item.NamedVar.{NamedVar}
-use Rattle.bl_named.specs.declared.stmt.NamedStmtKind.{out-NamedStmtKind}
-use Rattle.bl_named.specs.declared.stmt.NamedStmtKind.TheOpen.{NamedStmtKind-F}
-use Rattle.bl_named.specs.declared.stmt.NamedStmtKind.TheVariants as what
-use Rattle.bl_raw.specs.declared.expr.RawExpr.{RawExpr}
-use Rattle.bl_raw.specs.declared.item.RawItem.{RawItem}
-use Rattle.bl_raw.specs.declared.item.RawItem.TheVariants as item
-use Rattle.bl_raw.specs.declared.item.RawParam.{RawParam}
-use Rattle.bl_raw.specs.declared.item.RawUnit.{RawUnit}
-use Rattle.bl_raw.specs.declared.name.Name.{Name}
-use Rattle.bl_raw.specs.declared.stmt.RawArm.{RawArm}
-use Rattle.bl_raw.specs.declared.stmt.RawBranch.{RawBranch}
-use Rattle.bl_raw.specs.declared.stmt.RawStmt.{RawStmt}
-use Rattle.bl_raw.specs.declared.stmt.RawStmtKind.TheOpen.{RawStmtKind-F}
-use Rattle.bl_raw.specs.declared.types.RawType.{RawType}
-use Rattle.bl_raw.specs.Names.{
+use Rattle.bl_names_tree.specs.declared.item.NamedVar.{NamedVar}
+use Rattle.bl_names_tree.specs.declared.stmt.NamedStmtKind.{out-NamedStmtKind}
+use Rattle.bl_names_tree.specs.declared.stmt.NamedStmtKind.TheOpen.{NamedStmtKind-F}
+use Rattle.bl_names_tree.specs.declared.stmt.NamedStmtKind.TheVariants as what
+use Rattle.bl_parse_tree.specs.declared.expr.RawExpr.{RawExpr}
+use Rattle.bl_parse_tree.specs.declared.item.RawItem.{RawItem}
+use Rattle.bl_parse_tree.specs.declared.item.RawItem.TheVariants as item
+use Rattle.bl_parse_tree.specs.declared.item.RawParam.{RawParam}
+use Rattle.bl_parse_tree.specs.declared.item.RawUnit.{RawUnit}
+use Rattle.bl_parse_tree.specs.declared.name.Name.{Name}
+use Rattle.bl_parse_tree.specs.declared.stmt.RawArm.{RawArm}
+use Rattle.bl_parse_tree.specs.declared.stmt.RawBranch.{RawBranch}
+use Rattle.bl_parse_tree.specs.declared.stmt.RawStmt.{RawStmt}
+use Rattle.bl_parse_tree.specs.declared.stmt.RawStmtKind.TheOpen.{RawStmtKind-F}
+use Rattle.bl_parse_tree.specs.declared.types.RawType.{RawType}
+use Rattle.bl_parse_tree.specs.Names.{
   arm_stands,
   branch_stands,
   expr_named,
@@ -59,8 +59,8 @@ use Rattle.bl_raw.specs.Names.{
   type_named,
   unit_stands,
 }
-use Rattle.bl_scopes.specs.Marks.{expr_marks, item_marks, type_marks}
-use Rattle.bl_scopes.specs.Scopes.{Scopes, after, file_scope}
+use Rattle.bl_names_scopes.specs.Marks.{expr_marks, item_marks, type_marks}
+use Rattle.bl_names_scopes.specs.Scopes.{Scopes, after, file_scope}
 use Rattle.bl_names.specs.Named.{
   Piece,
   block_piece,
@@ -95,7 +95,7 @@ use Rattle.bl_names_laws.specs.Filled.{
   layer_filled,
 }
 use Rattle.bl_names_laws.specs.inner.Filled.{arm_is_filled, branch_is_filled}
-use Rattle.bl_names_laws.specs.Keeps.{body_filled}
+use Rattle.bl_names_laws.specs.WellFormed.{body_filled}
 use Rattle.bl_names_laws.proofs.Along.{along_under, none_counted}
 use Rattle.bl_names_laws.proofs.Made.{NamedLayer, RawLayer, named_arm_at, named_at, named_branch_at, named_parts, raw_arm_at, raw_at, raw_branch_at, raw_parts}
 use Rattle.bl_names_laws.proofs.Moves.{PieceMoves, arm_moves, branch_moves, moving_all, moving_declared, moving_then, stmt_moves}

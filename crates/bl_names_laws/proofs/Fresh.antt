@@ -28,13 +28,13 @@ use Rattle.std.proofs.lemmas.Bool.{not-true}
 use Rattle.std.proofs.lemmas.Slice.Eq.{bytes_eq-Decides}
 use Rattle.bl_tree.specs.declared.rule.Rule.TheVariants as rule
 use Rattle.bl_tree.specs.Words.{are_distinct, is_among}
-use Rattle.bl_raw.specs.declared.item.RawItem.{RawItem}
-use Rattle.bl_raw.specs.declared.name.Name.{Name}
-use Rattle.bl_scopes.specs.declared.kind.Kind.{Kind}
-use Rattle.bl_scopes.specs.declared.scopes.Declaration.{Declaration}
-use Rattle.bl_scopes.specs.Marks.{Mark, Marks, closes, declared_after, declares, marks_of, opens, uses}
-use Rattle.bl_scopes.specs.Rules.{Passes}
-use Rattle.bl_scopes.specs.Scopes.{Declared, Scopes, after, count_of, declaration_of, declared, enter, file_scope, found}
+use Rattle.bl_parse_tree.specs.declared.item.RawItem.{RawItem}
+use Rattle.bl_parse_tree.specs.declared.name.Name.{Name}
+use Rattle.bl_names_scopes.specs.declared.kind.Kind.{Kind}
+use Rattle.bl_names_scopes.specs.declared.scopes.Declaration.{Declaration}
+use Rattle.bl_names_scopes.specs.Marks.{Mark, Marks, closes, declared_after, declares, marks_of, opens, uses}
+use Rattle.bl_names_scopes.specs.Rules.{Passes}
+use Rattle.bl_names_scopes.specs.Scopes.{Declared, Scopes, after, count_of, declaration_of, declared, enter, file_scope, found}
 use Rattle.bl_names.proofs.StillLemmas.{after-append}
 use Rattle.bl_names_laws.proofs.Tests.{both, first_holds, second_holds}
 

@@ -30,22 +30,22 @@ use Rattle.bl_tree.specs.declared.tree.Role.TheVariants as role
 use Rattle.bl_tree.specs.declared.tree.UnitKind.{UnitKind}
 use Rattle.bl_tree.specs.declared.tree.UnitKind.TheVariants as unit
 use Rattle.bl_tree.specs.Reduce.{joined}
-use Rattle.bl_named.specs.declared.item.NamedConstant.{NamedConstant}
-use Rattle.bl_named.specs.declared.item.NamedStruct.{NamedStruct}
-use Rattle.bl_named.specs.declared.item.NamedUnit.{NamedUnit}
-use Rattle.bl_named.specs.declared.item.NamedVar.{NamedVar}
-use Rattle.bl_named.specs.declared.named.Named.{Named}
-use Rattle.bl_named.specs.Placed.{holds_of, item_step, struct_placed, unit_step, with_constant}
-use Rattle.bl_raw.specs.declared.item.RawItem.{RawItem}
-use Rattle.bl_raw.specs.declared.item.RawItem.TheVariants as item
-use Rattle.bl_raw.specs.declared.item.RawParam.{RawParam}
-use Rattle.bl_raw.specs.declared.item.RawStruct.{RawStruct}
-use Rattle.bl_raw.specs.declared.item.RawUnit.{RawUnit}
-use Rattle.bl_raw.specs.declared.name.Name.{Name}
-use Rattle.bl_raw.specs.declared.stmt.RawConstant.{RawConstant}
-use Rattle.bl_scopes.specs.declared.kind.Kind.TheVariants as kind
-use Rattle.bl_scopes.specs.declared.scopes.Counts.{Counts}
-use Rattle.bl_scopes.specs.Marks.{
+use Rattle.bl_names_tree.specs.declared.item.NamedConstant.{NamedConstant}
+use Rattle.bl_names_tree.specs.declared.item.NamedStruct.{NamedStruct}
+use Rattle.bl_names_tree.specs.declared.item.NamedUnit.{NamedUnit}
+use Rattle.bl_names_tree.specs.declared.item.NamedVar.{NamedVar}
+use Rattle.bl_names_tree.specs.declared.named.Named.{Named}
+use Rattle.bl_names_tree.specs.Placed.{holds_of, item_step, struct_placed, unit_step, with_constant}
+use Rattle.bl_parse_tree.specs.declared.item.RawItem.{RawItem}
+use Rattle.bl_parse_tree.specs.declared.item.RawItem.TheVariants as item
+use Rattle.bl_parse_tree.specs.declared.item.RawParam.{RawParam}
+use Rattle.bl_parse_tree.specs.declared.item.RawStruct.{RawStruct}
+use Rattle.bl_parse_tree.specs.declared.item.RawUnit.{RawUnit}
+use Rattle.bl_parse_tree.specs.declared.name.Name.{Name}
+use Rattle.bl_parse_tree.specs.declared.stmt.RawConstant.{RawConstant}
+use Rattle.bl_names_scopes.specs.declared.kind.Kind.TheVariants as kind
+use Rattle.bl_names_scopes.specs.declared.scopes.Counts.{Counts}
+use Rattle.bl_names_scopes.specs.Marks.{
   Marks,
   closes,
   constant_marks,
@@ -64,8 +64,8 @@ use Rattle.bl_scopes.specs.Marks.{
   type_marks,
   unit_marks,
 }
-use Rattle.bl_scopes.specs.Rules.{Passes}
-use Rattle.bl_scopes.specs.Scopes.{Scopes, after, count_of, enter, file_scope}
+use Rattle.bl_names_scopes.specs.Rules.{Passes}
+use Rattle.bl_names_scopes.specs.Scopes.{Scopes, after, count_of, enter, file_scope}
 use Rattle.bl_names.specs.Named.{
   along,
   block_piece,
@@ -95,8 +95,8 @@ use Rattle.bl_names.proofs.PlacedItem.{struct_is, unit_holds}
 use Rattle.bl_names.proofs.PlacedStmt.{Within, closed_is, constant_is, within_first, within_one, within_second}
 use Rattle.bl_names.proofs.StillLemmas.{Still, after-append, still_all, still_optional, still_type, still_value}
 use Rattle.bl_names_laws.specs.Bound.{UsesAreBound, EachLeads, uses_of}
-use Rattle.bl_names_laws.specs.Leads.{
-  Leads,
+use Rattle.bl_names_laws.specs.Referents.{
+  Referents,
   field_leads,
   item_leads,
   items_lead,
@@ -160,7 +160,7 @@ module _ (named : Named) where
   role_long role [] scopes = refl
   role_long role (param ∷ params) scopes = ap (λ n. suc n) (role_long role params (after scopes (param_marks param)))
 
-  lead_append : {A : Type 0} (leads : A → Leads) (xs ys : List A) → joined (map leads (xs ++ ys)) ≡ joined (map leads xs) ++ joined (map leads ys)
+  lead_append : {A : Type 0} (leads : A → Referents) (xs ys : List A) → joined (map leads (xs ++ ys)) ≡ joined (map leads xs) ++ joined (map leads ys)
   lead_append leads [] ys = refl
   lead_append leads (x ∷ xs) ys =
       ap (λ rest. leads x ++ rest) (lead_append leads xs ys) ∙ sym (append_assoc (leads x) (joined (map leads xs)) (joined (map leads ys)))

@@ -6,18 +6,18 @@ use Rattle.std.proofs.lemmas.List.Elements.{All-head, All-tail}
 use Rattle.bl_tree.specs.declared.place.Place.{Place}
 use Rattle.bl_tree.specs.declared.tree.Role.{Role}
 use Rattle.bl_tree.specs.declared.tree.Role.TheVariants as role
-use Rattle.bl_named.specs.declared.item.NamedVar.{NamedVar}
-use Rattle.bl_raw.specs.declared.expr.RawExpr.{RawExpr}
-use Rattle.bl_raw.specs.declared.name.Name.{Name}
-use Rattle.bl_raw.specs.declared.stmt.RawArm.{RawArm}
-use Rattle.bl_raw.specs.declared.stmt.RawBranch.{RawBranch}
-use Rattle.bl_raw.specs.declared.stmt.RawConstant.{RawConstant}
-use Rattle.bl_raw.specs.declared.stmt.RawStmt.{RawStmt}
-use Rattle.bl_raw.specs.declared.stmt.RawStmtKind.TheOpen.{RawStmtKind-F}
-use Rattle.bl_raw.specs.declared.types.RawType.{RawType}
-use Rattle.bl_scopes.specs.declared.kind.Kind.TheVariants as kind
-use Rattle.bl_scopes.specs.declared.kind.Wanted.TheVariants as wanted
-use Rattle.bl_scopes.specs.Marks.{
+use Rattle.bl_names_tree.specs.declared.item.NamedVar.{NamedVar}
+use Rattle.bl_parse_tree.specs.declared.expr.RawExpr.{RawExpr}
+use Rattle.bl_parse_tree.specs.declared.name.Name.{Name}
+use Rattle.bl_parse_tree.specs.declared.stmt.RawArm.{RawArm}
+use Rattle.bl_parse_tree.specs.declared.stmt.RawBranch.{RawBranch}
+use Rattle.bl_parse_tree.specs.declared.stmt.RawConstant.{RawConstant}
+use Rattle.bl_parse_tree.specs.declared.stmt.RawStmt.{RawStmt}
+use Rattle.bl_parse_tree.specs.declared.stmt.RawStmtKind.TheOpen.{RawStmtKind-F}
+use Rattle.bl_parse_tree.specs.declared.types.RawType.{RawType}
+use Rattle.bl_names_scopes.specs.declared.kind.Kind.TheVariants as kind
+use Rattle.bl_names_scopes.specs.declared.kind.Wanted.TheVariants as wanted
+use Rattle.bl_names_scopes.specs.Marks.{
   Marks,
   argument_marks,
   closes,
@@ -31,7 +31,7 @@ use Rattle.bl_scopes.specs.Marks.{
   type_marks,
   uses,
 }
-use Rattle.bl_scopes.specs.Scopes.{Scopes, after, left}
+use Rattle.bl_names_scopes.specs.Scopes.{Scopes, after, scopes_outside}
 use Rattle.bl_names.specs.Named.{Piece, kind_piece, marks_of_all, named_var, none, opened, piece_of_arm, piece_of_branch, stmt_piece, vars_of_all}
 use Rattle.bl_names.proofs.PastLemmas.{enter-behind, none_more, sums}
 use Rattle.bl_names.proofs.PieceLemmas.{arm_is, branch_is, parts, stmt_is}
@@ -69,7 +69,7 @@ moving_then first second vars more one two scopes =
 pub own_is : (marks : Marks) (vars : Scopes → List NamedVar) → Moving marks vars → (scopes : Scopes) →
     after scopes (in_scope marks) ≡ record scopes { counts = (after (opened scopes) marks).counts }
 own_is marks vars moving scopes =
-    after-append (opened scopes) marks (closes ∷ []) ∙ ap (λ outer. left outer (after (opened scopes) marks).counts) (moving (opened scopes)).outer
+    after-append (opened scopes) marks (closes ∷ []) ∙ ap (λ outer. scopes_outside outer (after (opened scopes) marks).counts) (moving (opened scopes)).outer
 
 pub moving_own : (marks : Marks) (vars : Scopes → List NamedVar) → Moving marks vars → Moving (in_scope marks) (λ scopes. vars (opened scopes))
 moving_own marks vars moving scopes =

@@ -8,19 +8,19 @@ use Rattle.bl_tree.specs.declared.tree.Role.{Role}
 use Rattle.bl_tree.specs.declared.tree.Role.TheVariants as role
 use Rattle.bl_tree.specs.Reduce.{all_of}
 use Rattle.bl_tree.specs.Words.{is_name}
-use Rattle.bl_named.specs.declared.item.NamedStruct.{NamedStruct}
-use Rattle.bl_named.specs.declared.item.NamedUnit.{NamedUnit}
-use Rattle.bl_raw.specs.declared.item.RawField.{RawField}
-use Rattle.bl_raw.specs.declared.item.RawItem.{RawItem}
-use Rattle.bl_raw.specs.declared.item.RawItem.TheVariants as item
-use Rattle.bl_raw.specs.declared.item.RawParam.{RawParam}
-use Rattle.bl_raw.specs.declared.item.RawUnit.{RawUnit}
-use Rattle.bl_raw.specs.declared.name.Name.{Name}
-use Rattle.bl_raw.specs.declared.stmt.RawArm.{RawArm, fold-RawArm}
-use Rattle.bl_raw.specs.declared.stmt.RawBranch.{RawBranch, fold-RawBranch}
-use Rattle.bl_raw.specs.declared.stmt.RawStmt.{RawStmt}
-use Rattle.bl_raw.specs.declared.stmt.RawStmtKind.TheOpen.{RawStmtKind-F}
-use Rattle.bl_raw.specs.Names.{
+use Rattle.bl_names_tree.specs.declared.item.NamedStruct.{NamedStruct}
+use Rattle.bl_names_tree.specs.declared.item.NamedUnit.{NamedUnit}
+use Rattle.bl_parse_tree.specs.declared.item.RawField.{RawField}
+use Rattle.bl_parse_tree.specs.declared.item.RawItem.{RawItem}
+use Rattle.bl_parse_tree.specs.declared.item.RawItem.TheVariants as item
+use Rattle.bl_parse_tree.specs.declared.item.RawParam.{RawParam}
+use Rattle.bl_parse_tree.specs.declared.item.RawUnit.{RawUnit}
+use Rattle.bl_parse_tree.specs.declared.name.Name.{Name}
+use Rattle.bl_parse_tree.specs.declared.stmt.RawArm.{RawArm, fold-RawArm}
+use Rattle.bl_parse_tree.specs.declared.stmt.RawBranch.{RawBranch, fold-RawBranch}
+use Rattle.bl_parse_tree.specs.declared.stmt.RawStmt.{RawStmt}
+use Rattle.bl_parse_tree.specs.declared.stmt.RawStmtKind.TheOpen.{RawStmtKind-F}
+use Rattle.bl_parse_tree.specs.Names.{
   arm_stands,
   branch_stands,
   expr_named,
@@ -36,8 +36,8 @@ use Rattle.bl_raw.specs.Names.{
   type_named,
   unit_stands,
 }
-use Rattle.bl_scopes.specs.Marks.{expr_marks, param_marks}
-use Rattle.bl_scopes.specs.Scopes.{Scopes, after, file_scope}
+use Rattle.bl_names_scopes.specs.Marks.{expr_marks, param_marks}
+use Rattle.bl_names_scopes.specs.Scopes.{Scopes, after, file_scope}
 use Rattle.bl_names.specs.Named.{
   Piece,
   block_piece,
@@ -59,7 +59,7 @@ use Rattle.bl_names.specs.Named.{
 }
 use Rattle.bl_names.proofs.PieceLemmas.{arm_is, branch_is, parts, stmt_is}
 use Rattle.bl_names.proofs.RawStmtInduction.{Cases, induct, stmt}
-use Rattle.bl_names_laws.specs.Keeps.{all_names, fields_named, has_name, variables_named}
+use Rattle.bl_names_laws.specs.WellFormed.{all_names, fields_named, has_name, variables_named}
 use Rattle.bl_names_laws.proofs.Along.{all_append, along_holds}
 use Rattle.bl_names_laws.proofs.Made.{RawLayer, raw_arm_at, raw_at, raw_branch_at, raw_parts}
 use Rattle.bl_names_laws.proofs.Tests.{both, first_holds, mapped, second_holds}

@@ -25,12 +25,12 @@ use Rattle.std.proofs.Common.{
 use Rattle.std.specs.Prelude.{bytes_eq, nat_lt, ⊤}
 use Rattle.std.specs.Option.{option_or}
 use Rattle.std.proofs.lemmas.Bool.{lt-ltb, ltb-true}
-use Rattle.bl_raw.specs.declared.name.Name.{Name}
-use Rattle.bl_scopes.specs.declared.kind.Kind.{Kind}
-use Rattle.bl_scopes.specs.declared.kind.Kind.TheVariants as kind
-use Rattle.bl_scopes.specs.declared.scopes.Declaration.{Declaration}
-use Rattle.bl_scopes.specs.Marks.{declares}
-use Rattle.bl_scopes.specs.Scopes.{Declared, Scopes, bound, bound_around, count_of, declaration_of, declared, enter, found}
+use Rattle.bl_parse_tree.specs.declared.name.Name.{Name}
+use Rattle.bl_names_scopes.specs.declared.kind.Kind.{Kind}
+use Rattle.bl_names_scopes.specs.declared.kind.Kind.TheVariants as kind
+use Rattle.bl_names_scopes.specs.declared.scopes.Declaration.{Declaration}
+use Rattle.bl_names_scopes.specs.Marks.{declares}
+use Rattle.bl_names_scopes.specs.Scopes.{Declared, Scopes, bound, bound_around, count_of, declaration_of, declared, enter, found}
 
 abbrev pub DeclarationOnly : (ℕ → Bool) → Declaration → Type 0
 DeclarationOnly test declaration = declaration.kind ≡ kind.Variable → test declaration.position ≡ true

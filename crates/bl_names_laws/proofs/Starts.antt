@@ -4,26 +4,26 @@ use Rattle.std.specs.Prelude.{All, IsTrue, Some, option_map}
 use Rattle.std.proofs.lemmas.List.Elements.{All-head, All-tail}
 use Rattle.bl_tree.specs.declared.place.Place.{Place}
 use Rattle.bl_tree.specs.Reduce.{joined}
-use Rattle.bl_named.specs.declared.expr.NamedExpr.{NamedExpr, out-roll-NamedExpr, roll-NamedExpr}
-use Rattle.bl_named.specs.declared.expr.NamedExprKind.{NamedExprKind}
-use Rattle.bl_named.specs.declared.expr.NamedPart.{NamedPart}
-use Rattle.bl_named.specs.declared.expr.NamedTarget.{NamedTarget}
-use Rattle.bl_named.specs.declared.stmt.NamedStmtKind.{out-NamedStmtKind}
-use Rattle.bl_named.specs.declared.stmt.NamedStmtKind.TheOpen.{NamedStmtKind-F}
-use Rattle.bl_named.specs.declared.stmt.NamedStmtKind.TheVariants as what
-use Rattle.bl_named.specs.Starts.{Starts, all_starts, arm_starts, branch_starts, start_of, starts_of, stmt_kind_starts, stmt_layer_starts, unit_starts}
-use Rattle.bl_named.specs.inner.Starts.{starts_of_arm, starts_of_branch}
-use Rattle.bl_raw.specs.declared.expr.RawExpr.{RawExpr, fold_out-RawExpr, out-RawExpr}
-use Rattle.bl_raw.specs.declared.expr.RawExprKind.{RawExprKind, fold-RawExprKind}
-use Rattle.bl_raw.specs.declared.item.RawItem.{RawItem}
-use Rattle.bl_raw.specs.declared.item.RawItem.TheVariants as item
-use Rattle.bl_raw.specs.declared.stmt.RawArm.{RawArm, fold-RawArm}
-use Rattle.bl_raw.specs.declared.stmt.RawBranch.{RawBranch, fold-RawBranch}
-use Rattle.bl_raw.specs.declared.stmt.RawStmt.{RawStmt}
-use Rattle.bl_raw.specs.declared.stmt.RawStmtKind.TheOpen.{RawStmtKind-F}
-use Rattle.bl_raw.specs.Starts as raw
-use Rattle.bl_scopes.specs.Marks.{expr_marks, item_marks}
-use Rattle.bl_scopes.specs.Scopes.{Scopes, after, file_scope}
+use Rattle.bl_names_tree.specs.declared.expr.NamedExpr.{NamedExpr, out-roll-NamedExpr, roll-NamedExpr}
+use Rattle.bl_names_tree.specs.declared.expr.NamedExprKind.{NamedExprKind}
+use Rattle.bl_names_tree.specs.declared.expr.NamedPart.{NamedPart}
+use Rattle.bl_names_tree.specs.declared.expr.NamedTarget.{NamedTarget}
+use Rattle.bl_names_tree.specs.declared.stmt.NamedStmtKind.{out-NamedStmtKind}
+use Rattle.bl_names_tree.specs.declared.stmt.NamedStmtKind.TheOpen.{NamedStmtKind-F}
+use Rattle.bl_names_tree.specs.declared.stmt.NamedStmtKind.TheVariants as what
+use Rattle.bl_names_tree.specs.Starts.{NamedStartOffsets, all_starts, arm_starts, branch_starts, start_of, starts_of, stmt_kind_starts, stmt_layer_starts, unit_starts}
+use Rattle.bl_names_tree.specs.inner.Starts.{starts_of_arm, starts_of_branch}
+use Rattle.bl_parse_tree.specs.declared.expr.RawExpr.{RawExpr, fold_out-RawExpr, out-RawExpr}
+use Rattle.bl_parse_tree.specs.declared.expr.RawExprKind.{RawExprKind, fold-RawExprKind}
+use Rattle.bl_parse_tree.specs.declared.item.RawItem.{RawItem}
+use Rattle.bl_parse_tree.specs.declared.item.RawItem.TheVariants as item
+use Rattle.bl_parse_tree.specs.declared.stmt.RawArm.{RawArm, fold-RawArm}
+use Rattle.bl_parse_tree.specs.declared.stmt.RawBranch.{RawBranch, fold-RawBranch}
+use Rattle.bl_parse_tree.specs.declared.stmt.RawStmt.{RawStmt}
+use Rattle.bl_parse_tree.specs.declared.stmt.RawStmtKind.TheOpen.{RawStmtKind-F}
+use Rattle.bl_parse_tree.specs.Starts as raw
+use Rattle.bl_names_scopes.specs.Marks.{expr_marks, item_marks}
+use Rattle.bl_names_scopes.specs.Scopes.{Scopes, after, file_scope}
 use Rattle.bl_names.specs.Named.{
   Piece,
   along,
@@ -55,14 +55,14 @@ start_same scopes e =
     (fold_out-RawExpr NamedExprKind NamedPart NamedExpr NamedTarget (named_kind scopes) named_part named_expr_layer (named_target_layer scopes) e)
     ∙ start_at (out-RawExpr e).place (of_kind (out-RawExpr e).what)
 
-abbrev arm_before : RawArm → Starts
-arm_before = fold-RawArm Starts Starts Starts Starts raw.stmt_kind_starts raw.arm_starts raw.branch_starts raw.stmt_layer_starts
+abbrev arm_before : RawArm → NamedStartOffsets
+arm_before = fold-RawArm NamedStartOffsets NamedStartOffsets NamedStartOffsets NamedStartOffsets raw.stmt_kind_starts raw.arm_starts raw.branch_starts raw.stmt_layer_starts
 
-abbrev branch_before : RawBranch → Starts
-branch_before = fold-RawBranch Starts Starts Starts Starts raw.stmt_kind_starts raw.arm_starts raw.branch_starts raw.stmt_layer_starts
+abbrev branch_before : RawBranch → NamedStartOffsets
+branch_before = fold-RawBranch NamedStartOffsets NamedStartOffsets NamedStartOffsets NamedStartOffsets raw.stmt_kind_starts raw.arm_starts raw.branch_starts raw.stmt_layer_starts
 
 -- what is made of a part begins where the part does
-abbrev Same : {A : Type 0} → (A → Starts) → Starts → Piece A → Type 0
+abbrev Same : {A : Type 0} → (A → NamedStartOffsets) → NamedStartOffsets → Piece A → Type 0
 Same starts before piece = (scopes : Scopes) → starts (piece.made scopes) ≡ before
 
 abbrev StmtSame : RawStmt → Type 0
@@ -74,7 +74,7 @@ ArmSame arm = Same starts_of_arm (arm_before arm) (piece_of_arm arm)
 abbrev BranchSame : RawBranch → Type 0
 BranchSame branch = Same starts_of_branch (branch_before branch) (piece_of_branch branch)
 
-same_all : {X A : Type 0} (starts : A → Starts) (before : X → Starts) (piece : X → Piece A) (xs : List X) →
+same_all : {X A : Type 0} (starts : A → NamedStartOffsets) (before : X → NamedStartOffsets) (piece : X → Piece A) (xs : List X) →
     All (λ x. Same starts (before x) (piece x)) xs
     → (scopes : Scopes) → joined (map starts (made_of_all (map piece xs) scopes)) ≡ joined (map before xs)
 same_all starts before piece [] each scopes = refl
@@ -86,11 +86,11 @@ same_body : (body : List RawStmt) → All StmtSame body → (scopes : Scopes)
     → joined (map starts_of (made_of_all (map stmt_piece body) scopes)) ≡ joined (map raw.starts_of body)
 same_body body each scopes = same_all starts_of raw.starts_of stmt_piece body each scopes
 
-abbrev new_starts : NamedLayer → Starts
-new_starts layer = stmt_kind_starts (named_parts Starts stmt_kind_starts arm_starts branch_starts stmt_layer_starts layer)
+abbrev new_starts : NamedLayer → NamedStartOffsets
+new_starts layer = stmt_kind_starts (named_parts NamedStartOffsets stmt_kind_starts arm_starts branch_starts stmt_layer_starts layer)
 
-abbrev old_starts : RawLayer → Starts
-old_starts layer = raw.stmt_kind_starts (raw_parts Starts raw.stmt_kind_starts raw.arm_starts raw.branch_starts raw.stmt_layer_starts layer)
+abbrev old_starts : RawLayer → NamedStartOffsets
+old_starts layer = raw.stmt_kind_starts (raw_parts NamedStartOffsets raw.stmt_kind_starts raw.arm_starts raw.branch_starts raw.stmt_layer_starts layer)
 
 -- a statement whose kind becomes this
 stmt_same : (place : Place) (layer : RawLayer) (made : Scopes → NamedLayer)
@@ -98,9 +98,9 @@ stmt_same : (place : Place) (layer : RawLayer) (made : Scopes → NamedLayer)
     → ((scopes : Scopes) → new_starts (made scopes) ≡ old_starts layer) → StmtSame (stmt place layer)
 stmt_same place layer made is gives scopes =
     ap (λ piece. starts_of (piece.made scopes)) (stmt_is place layer)
-    ∙ named_at Starts stmt_kind_starts arm_starts branch_starts stmt_layer_starts place ((kind_piece (parts layer)).made scopes) (made scopes) (is scopes)
+    ∙ named_at NamedStartOffsets stmt_kind_starts arm_starts branch_starts stmt_layer_starts place ((kind_piece (parts layer)).made scopes) (made scopes) (is scopes)
     ∙ ap (λ starts. place.start ∷ starts) (gives scopes)
-    ∙ sym (raw_at Starts raw.stmt_kind_starts raw.arm_starts raw.branch_starts raw.stmt_layer_starts place layer)
+    ∙ sym (raw_at NamedStartOffsets raw.stmt_kind_starts raw.arm_starts raw.branch_starts raw.stmt_layer_starts place layer)
 
 -- where a body begins behind a condition, and behind arms
 abbrev behind : RawExpr → Scopes → Scopes
@@ -160,15 +160,15 @@ cases = record {
       (λ scopes. NamedStmtKind-F.Return (option_map (named_expr scopes) e)) (λ scopes. what.outs-Return (option_map (named_expr scopes) e)) (λ scopes. refl);
   arm = λ test body each scopes.
       ap (λ piece. starts_of_arm (piece.made scopes)) (arm_is test body)
-      ∙ named_arm_at Starts stmt_kind_starts arm_starts branch_starts stmt_layer_starts (named_expr scopes test)
+      ∙ named_arm_at NamedStartOffsets stmt_kind_starts arm_starts branch_starts stmt_layer_starts (named_expr scopes test)
       (made_of_all (map stmt_piece body) (behind test scopes))
       ∙ same_body body each (behind test scopes)
-      ∙ sym (raw_arm_at Starts raw.stmt_kind_starts raw.arm_starts raw.branch_starts raw.stmt_layer_starts test body);
+      ∙ sym (raw_arm_at NamedStartOffsets raw.stmt_kind_starts raw.arm_starts raw.branch_starts raw.stmt_layer_starts test body);
   branch = λ weak body each scopes.
       ap (λ piece. starts_of_branch (piece.made scopes)) (branch_is weak body)
-      ∙ named_branch_at Starts stmt_kind_starts arm_starts branch_starts stmt_layer_starts weak (made_of_all (map stmt_piece body) (opened scopes))
+      ∙ named_branch_at NamedStartOffsets stmt_kind_starts arm_starts branch_starts stmt_layer_starts weak (made_of_all (map stmt_piece body) (opened scopes))
       ∙ same_body body each (opened scopes)
-      ∙ sym (raw_branch_at Starts raw.stmt_kind_starts raw.arm_starts raw.branch_starts raw.stmt_layer_starts weak body);
+      ∙ sym (raw_branch_at NamedStartOffsets raw.stmt_kind_starts raw.arm_starts raw.branch_starts raw.stmt_layer_starts weak body);
 }
 
 every_of : (body : List RawStmt) → All StmtSame body

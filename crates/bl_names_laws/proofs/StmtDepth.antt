@@ -6,18 +6,18 @@ use Rattle.std.proofs.lemmas.Bool.{le-leb, leb-true}
 use Rattle.std.proofs.lemmas.List.Elements.{All-head, All-tail}
 use Rattle.bl_tree.specs.declared.place.Place.{Place}
 use Rattle.bl_tree.specs.Depths.{Depth, block, leaf, of_all}
-use Rattle.bl_named.specs.declared.stmt.NamedStmtKind.{out-NamedStmtKind}
-use Rattle.bl_named.specs.declared.stmt.NamedStmtKind.TheOpen.{NamedStmtKind-F}
-use Rattle.bl_named.specs.declared.stmt.NamedStmtKind.TheVariants as what
-use Rattle.bl_raw.specs.declared.item.RawItem.{RawItem}
-use Rattle.bl_raw.specs.declared.item.RawItem.TheVariants as item
-use Rattle.bl_raw.specs.declared.stmt.RawArm.{RawArm, fold-RawArm}
-use Rattle.bl_raw.specs.declared.stmt.RawBranch.{RawBranch, fold-RawBranch}
-use Rattle.bl_raw.specs.declared.stmt.RawStmt.{RawStmt}
-use Rattle.bl_raw.specs.declared.stmt.RawStmtKind.TheOpen.{RawStmtKind-F}
-use Rattle.bl_raw.specs.Depths as raw
-use Rattle.bl_scopes.specs.Marks.{expr_marks}
-use Rattle.bl_scopes.specs.Scopes.{Scopes, after, file_scope}
+use Rattle.bl_names_tree.specs.declared.stmt.NamedStmtKind.{out-NamedStmtKind}
+use Rattle.bl_names_tree.specs.declared.stmt.NamedStmtKind.TheOpen.{NamedStmtKind-F}
+use Rattle.bl_names_tree.specs.declared.stmt.NamedStmtKind.TheVariants as what
+use Rattle.bl_parse_tree.specs.declared.item.RawItem.{RawItem}
+use Rattle.bl_parse_tree.specs.declared.item.RawItem.TheVariants as item
+use Rattle.bl_parse_tree.specs.declared.stmt.RawArm.{RawArm, fold-RawArm}
+use Rattle.bl_parse_tree.specs.declared.stmt.RawBranch.{RawBranch, fold-RawBranch}
+use Rattle.bl_parse_tree.specs.declared.stmt.RawStmt.{RawStmt}
+use Rattle.bl_parse_tree.specs.declared.stmt.RawStmtKind.TheOpen.{RawStmtKind-F}
+use Rattle.bl_parse_tree.specs.Depths as raw
+use Rattle.bl_names_scopes.specs.Marks.{expr_marks}
+use Rattle.bl_names_scopes.specs.Scopes.{Scopes, after, file_scope}
 use Rattle.bl_names.specs.Named.{
   Piece,
   kind_piece,
@@ -37,7 +37,7 @@ use Rattle.bl_names.proofs.PieceLemmas.{arm_is, branch_is, parts, stmt_is}
 use Rattle.bl_names.proofs.RawStmtInduction.{Cases, induct, stmt}
 use Rattle.bl_names_laws.specs.Depths.{arm_depth, branch_depth, depth_of, is_shallow, stmt_kind_depth, stmt_layer_depth}
 use Rattle.bl_names_laws.specs.inner.Depths.{depth_of_arm, depth_of_branch}
-use Rattle.bl_names_laws.specs.Keeps.{body_shallow}
+use Rattle.bl_names_laws.specs.WellFormed.{body_shallow}
 use Rattle.bl_names_laws.proofs.Along.{along_holds}
 use Rattle.bl_names_laws.proofs.ExprDepth.{expr_same, inputs_same, optional_same, target_same}
 use Rattle.bl_names_laws.proofs.Made.{NamedLayer, RawLayer, named_arm_at, named_at, named_branch_at, named_parts, raw_arm_at, raw_at, raw_branch_at, raw_parts}

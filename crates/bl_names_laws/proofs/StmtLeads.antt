@@ -6,26 +6,26 @@ use Rattle.bl_tree.specs.declared.place.Place.{Place}
 use Rattle.bl_tree.specs.declared.tree.Role.{Role}
 use Rattle.bl_tree.specs.declared.tree.Role.TheVariants as role
 use Rattle.bl_tree.specs.Reduce.{joined}
-use Rattle.bl_named.specs.declared.expr.NamedExpr.{NamedExpr}
-use Rattle.bl_named.specs.declared.item.NamedConstant.{NamedConstant}
-use Rattle.bl_named.specs.declared.item.NamedVar.{NamedVar}
-use Rattle.bl_named.specs.declared.named.Named.{Named}
-use Rattle.bl_named.specs.declared.stmt.NamedStmt.{NamedStmt}
-use Rattle.bl_named.specs.declared.stmt.NamedStmtKind.{out-NamedStmtKind}
-use Rattle.bl_named.specs.declared.stmt.NamedStmtKind.TheOpen.{NamedStmtKind-F}
-use Rattle.bl_named.specs.declared.stmt.NamedStmtKind.TheVariants as what
-use Rattle.bl_raw.specs.declared.expr.RawExpr.{RawExpr}
-use Rattle.bl_raw.specs.declared.name.Name.{Name}
-use Rattle.bl_raw.specs.declared.stmt.RawArm.{RawArm}
-use Rattle.bl_raw.specs.declared.stmt.RawBranch.{RawBranch}
-use Rattle.bl_raw.specs.declared.stmt.RawConstant.{RawConstant}
-use Rattle.bl_raw.specs.declared.stmt.RawPath.{RawPath}
-use Rattle.bl_raw.specs.declared.stmt.RawStmt.{RawStmt}
-use Rattle.bl_raw.specs.declared.stmt.RawStmtKind.TheOpen.{RawStmtKind-F}
-use Rattle.bl_raw.specs.declared.types.RawType.{RawType}
-use Rattle.bl_scopes.specs.declared.kind.Kind.TheVariants as kind
-use Rattle.bl_scopes.specs.declared.kind.Wanted.TheVariants as wanted
-use Rattle.bl_scopes.specs.Marks.{
+use Rattle.bl_names_tree.specs.declared.expr.NamedExpr.{NamedExpr}
+use Rattle.bl_names_tree.specs.declared.item.NamedConstant.{NamedConstant}
+use Rattle.bl_names_tree.specs.declared.item.NamedVar.{NamedVar}
+use Rattle.bl_names_tree.specs.declared.named.Named.{Named}
+use Rattle.bl_names_tree.specs.declared.stmt.NamedStmt.{NamedStmt}
+use Rattle.bl_names_tree.specs.declared.stmt.NamedStmtKind.{out-NamedStmtKind}
+use Rattle.bl_names_tree.specs.declared.stmt.NamedStmtKind.TheOpen.{NamedStmtKind-F}
+use Rattle.bl_names_tree.specs.declared.stmt.NamedStmtKind.TheVariants as what
+use Rattle.bl_parse_tree.specs.declared.expr.RawExpr.{RawExpr}
+use Rattle.bl_parse_tree.specs.declared.name.Name.{Name}
+use Rattle.bl_parse_tree.specs.declared.stmt.RawArm.{RawArm}
+use Rattle.bl_parse_tree.specs.declared.stmt.RawBranch.{RawBranch}
+use Rattle.bl_parse_tree.specs.declared.stmt.RawConstant.{RawConstant}
+use Rattle.bl_parse_tree.specs.declared.stmt.RawPath.{RawPath}
+use Rattle.bl_parse_tree.specs.declared.stmt.RawStmt.{RawStmt}
+use Rattle.bl_parse_tree.specs.declared.stmt.RawStmtKind.TheOpen.{RawStmtKind-F}
+use Rattle.bl_parse_tree.specs.declared.types.RawType.{RawType}
+use Rattle.bl_names_scopes.specs.declared.kind.Kind.TheVariants as kind
+use Rattle.bl_names_scopes.specs.declared.kind.Wanted.TheVariants as wanted
+use Rattle.bl_names_scopes.specs.Marks.{
   Marks,
   argument_marks,
   closes,
@@ -40,7 +40,7 @@ use Rattle.bl_scopes.specs.Marks.{
   type_marks,
   uses,
 }
-use Rattle.bl_scopes.specs.Scopes.{Scopes, after}
+use Rattle.bl_names_scopes.specs.Scopes.{Scopes, after}
 use Rattle.bl_names.specs.Named.{
   Piece,
   all,
@@ -75,8 +75,8 @@ use Rattle.bl_names.proofs.StillLemmas.{
   still_use,
   still_value,
 }
-use Rattle.bl_names_laws.specs.Leads.{
-  Leads,
+use Rattle.bl_names_laws.specs.Referents.{
+  Referents,
   arm_layer_leads,
   branch_layer_leads,
   constant_leads,
@@ -100,7 +100,7 @@ use Rattle.bl_names_laws.proofs.Made.{NamedLayer, RawLayer, named_arm_at, named_
 
 -- from the scopes before a part to those behind it: what it leads to is what its uses are bound to, and what is open stands at its
 -- position
-pub record Leading (named : Named) (vars : List NamedVar) (scopes new : Scopes) (leads bound : Leads) (own : List NamedVar)
+pub record Leading (named : Named) (vars : List NamedVar) (scopes new : Scopes) (leads bound : Referents) (own : List NamedVar)
     (constants : List NamedConstant) : Type 0 where
   pub is_led : leads ≡ bound
   pub listed : Listed named vars new
@@ -115,7 +115,7 @@ pub own_is : (scopes : Scopes) (marks : Marks) → (after (opened scopes) marks)
 own_is scopes marks is = after-append (opened scopes) marks (closes ∷ []) ∙ closed_is scopes (after (opened scopes) marks) is
 
 module _ (named : Named) (vars : List NamedVar) where
-  leading_then : (scopes middle new : Scopes) (leads bound more_leads more_bound : Leads) (own more_own : List NamedVar)
+  leading_then : (scopes middle new : Scopes) (leads bound more_leads more_bound : Referents) (own more_own : List NamedVar)
       (constants more_constants : List NamedConstant) → Leading named vars scopes middle leads bound own constants →
       Leading named vars middle new more_leads more_bound more_own more_constants →
       Leading named vars scopes new (leads ++ more_leads) (bound ++ more_bound) (own ++ more_own) (constants ++ more_constants)
@@ -130,7 +130,7 @@ module _ (named : Named) (vars : List NamedVar) where
   }
 
   -- where nothing is declared
-  leading_still : (scopes : Scopes) (marks : Marks) (leads : Leads) → Still marks → Listed named vars scopes → leads ≡ bindings scopes marks
+  leading_still : (scopes : Scopes) (marks : Marks) (leads : Referents) → Still marks → Listed named vars scopes → leads ≡ bindings scopes marks
       → Leading named vars scopes (after scopes marks) leads (bindings scopes marks) [] []
   leading_still scopes marks leads still listed is =
       subst (λ new. Leading named vars scopes new leads (bindings scopes marks) [] []) (sym (still scopes))
@@ -143,7 +143,7 @@ module _ (named : Named) (vars : List NamedVar) where
         same_units = refl;
       })
 
-  leading_closed : (scopes inner : Scopes) (leads bound : Leads) (own : List NamedVar) (constants : List NamedConstant) → Listed named vars scopes →
+  leading_closed : (scopes inner : Scopes) (leads bound : Referents) (own : List NamedVar) (constants : List NamedConstant) → Listed named vars scopes →
       Leading named vars (opened scopes) inner leads bound own constants
       → Leading named vars scopes (record scopes { counts = inner.counts }) leads bound own constants
   leading_closed scopes inner leads bound own constants listed inside = record {
@@ -158,19 +158,19 @@ module _ (named : Named) (vars : List NamedVar) where
   -- ---- parts
 
   -- what is made of a part leads to what its uses are bound to
-  abbrev pub Good : {A : Type 0} → (A → Leads) → Piece A → Type 0
+  abbrev pub Good : {A : Type 0} → (A → Referents) → Piece A → Type 0
   Good leads piece =
       (scopes : Scopes) → Listed named vars scopes → Fits scopes piece.marks → Within vars scopes.counts.variables (piece.vars scopes)
       → Within named.constants scopes.counts.constants (piece.constants scopes) →
       Leading named vars scopes (after scopes piece.marks) (leads (piece.made scopes)) (bindings scopes piece.marks) (piece.vars scopes)
       (piece.constants scopes)
 
-  good_plain : {A : Type 0} (leads : A → Leads) (marks : Marks) (made : Scopes → A) → Still marks →
+  good_plain : {A : Type 0} (leads : A → Referents) (marks : Marks) (made : Scopes → A) → Still marks →
       ((scopes : Scopes) → Listed named vars scopes → Fits scopes marks → leads (made scopes) ≡ bindings scopes marks) → Good leads (plain marks made)
   good_plain leads marks made still gives scopes listed fits own constants =
       leading_still scopes marks (leads (made scopes)) still listed (gives scopes listed fits)
 
-  pub good_then : {A B : Type 0} (first : Piece A) (second : Piece B) (leads : A → Leads) (others : B → Leads) (scopes : Scopes) →
+  pub good_then : {A B : Type 0} (first : Piece A) (second : Piece B) (leads : A → Referents) (others : B → Referents) (scopes : Scopes) →
       Good leads first → Good others second → Listed named vars scopes → Fits scopes (first.marks ++ second.marks) →
       Within vars scopes.counts.variables (first.vars scopes ++ second.vars (after scopes first.marks)) →
       Within named.constants scopes.counts.constants (first.constants scopes ++ second.constants (after scopes first.marks)) →
@@ -194,10 +194,10 @@ module _ (named : Named) (vars : List NamedVar) where
       (leading_then scopes middle (after middle second.marks) (leads (first.made scopes)) (bindings scopes first.marks) (others (second.made middle))
       (bindings middle second.marks) (first.vars scopes) (second.vars middle) (first.constants scopes) (second.constants middle) there behind))
 
-  abbrev pub lead_all : {A : Type 0} → (A → Leads) → List A → Leads
+  abbrev pub lead_all : {A : Type 0} → (A → Referents) → List A → Referents
   lead_all leads made = joined (map leads made)
 
-  pub good_all : {X A : Type 0} (piece : X → Piece A) (leads : A → Leads) (xs : List X) → All (λ x. Good leads (piece x)) xs
+  pub good_all : {X A : Type 0} (piece : X → Piece A) (leads : A → Referents) (xs : List X) → All (λ x. Good leads (piece x)) xs
       → Good (lead_all leads) (all (map piece xs))
   good_all piece leads [] each scopes listed fits own constants = leading_still scopes [] [] (λ s. refl) listed refl
   good_all piece leads (x ∷ xs) each scopes listed fits own constants =
@@ -205,7 +205,7 @@ module _ (named : Named) (vars : List NamedVar) where
       (good_all piece leads xs (All-tail (λ x. Good leads (piece x)) x xs each)) listed fits own constants
 
   -- in a scope of its own
-  good_own : {A : Type 0} (piece : Piece A) (leads : A → Leads) → Good leads piece → Good leads (own_scope piece)
+  good_own : {A : Type 0} (piece : Piece A) (leads : A → Referents) → Good leads piece → Good leads (own_scope piece)
   good_own piece leads good scopes listed fits own constants =
       let inside = good (opened scopes) (tt, listed) (fits_first (opened scopes) piece.marks (closes ∷ []) fits.1) own constants in
       let inner = after (opened scopes) piece.marks in
@@ -230,7 +230,7 @@ module _ (named : Named) (vars : List NamedVar) where
   abbrev body_piece : List RawStmt → Piece (List NamedStmt)
   body_piece body = all (map stmt_piece body)
 
-  abbrev body_leads : List NamedStmt → Leads
+  abbrev body_leads : List NamedStmt → Referents
   body_leads = lead_all (stmt_leads named vars)
 
   good_body : (body : List RawStmt) → All StmtGood body → Good body_leads (own_scope (body_piece body))
@@ -291,7 +291,7 @@ module _ (named : Named) (vars : List NamedVar) where
       ∙ sym (bindings_behind scopes types values (still_optional type_marks ty still_type))
 
   -- behind the declaration of a variable, whatever leads to the uses before it
-  pub variable_leading : (scopes : Scopes) (marks : Marks) (leads : Leads) (name : Name) (ty : Option RawType) (role : Role) → Still marks →
+  pub variable_leading : (scopes : Scopes) (marks : Marks) (leads : Referents) (name : Name) (ty : Option RawType) (role : Role) → Still marks →
       leads ≡ bindings scopes marks → Listed named vars scopes → Within vars scopes.counts.variables (named_var scopes name ty role ∷ []) →
       Leading named vars scopes (after scopes (declared_after marks name kind.Variable)) leads (bindings scopes (declared_after marks name kind.Variable))
       (named_var scopes name ty role ∷ []) []
@@ -348,9 +348,9 @@ module _ (named : Named) (vars : List NamedVar) where
 
   -- ---- each kind
 
-  abbrev new_leads : NamedLayer → Leads
+  abbrev new_leads : NamedLayer → Referents
   new_leads layer =
-      stmt_kind_leads named vars (named_parts Leads (stmt_kind_leads named vars) (arm_layer_leads named vars) branch_layer_leads stmt_layer_leads layer)
+      stmt_kind_leads named vars (named_parts Referents (stmt_kind_leads named vars) (arm_layer_leads named vars) branch_layer_leads stmt_layer_leads layer)
 
   -- a statement whose kind becomes this
   stmt_good : (place : Place) (layer : RawLayer) (made : Scopes → NamedLayer)
@@ -366,7 +366,7 @@ module _ (named : Named) (vars : List NamedVar) where
       (λ scopes listed fits own constants.
       subst (λ leads. Leading named vars scopes (after scopes (kind_piece (parts layer)).marks) leads (bindings scopes (kind_piece (parts layer)).marks)
       ((kind_piece (parts layer)).vars scopes) ((kind_piece (parts layer)).constants scopes))
-      (sym (named_at Leads (stmt_kind_leads named vars) (arm_layer_leads named vars) branch_layer_leads stmt_layer_leads place
+      (sym (named_at Referents (stmt_kind_leads named vars) (arm_layer_leads named vars) branch_layer_leads stmt_layer_leads place
       ((kind_piece (parts layer)).made scopes) (made scopes) (is scopes)))
       (gives scopes listed fits own constants))
 
@@ -474,7 +474,7 @@ module _ (named : Named) (vars : List NamedVar) where
         subst (λ leads. Leading named vars scopes (after scopes (expr_marks test ++ in_scope (body_piece body).marks)) leads
         (bindings scopes (expr_marks test ++ in_scope (body_piece body).marks)) ((body_piece body).vars (behind test scopes))
         ((body_piece body).constants (behind test scopes)))
-        (sym (named_arm_at Leads (stmt_kind_leads named vars) (arm_layer_leads named vars) branch_layer_leads stmt_layer_leads (named_expr scopes test)
+        (sym (named_arm_at Referents (stmt_kind_leads named vars) (arm_layer_leads named vars) branch_layer_leads stmt_layer_leads (named_expr scopes test)
         (made_of_all (map stmt_piece body) (behind test scopes))))
         (tested_leading test body each scopes listed fits own constants));
     branch = λ weak body each.
@@ -482,7 +482,7 @@ module _ (named : Named) (vars : List NamedVar) where
         (λ scopes listed fits own constants.
         subst (λ leads. Leading named vars scopes (after scopes (in_scope (body_piece body).marks)) leads (bindings scopes (in_scope (body_piece body).marks))
         ((body_piece body).vars (opened scopes)) ((body_piece body).constants (opened scopes)))
-        (sym (named_branch_at Leads (stmt_kind_leads named vars) (arm_layer_leads named vars) branch_layer_leads stmt_layer_leads weak
+        (sym (named_branch_at Referents (stmt_kind_leads named vars) (arm_layer_leads named vars) branch_layer_leads stmt_layer_leads weak
         (made_of_all (map stmt_piece body) (opened scopes))))
         (good_body body each scopes listed fits own constants));
   }

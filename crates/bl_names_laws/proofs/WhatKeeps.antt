@@ -1,12 +1,12 @@
 -- All that the named tree of a program keeps.
 use Rattle.std.proofs.Common.{◌≡◌, ℕ, Bool, true, ◌&&◌, List, [], ◌∷◌, refl}
 use Rattle.std.specs.List.{list_all}
-use Rattle.bl_raw.specs.declared.item.RawItem.{RawItem}
-use Rattle.bl_raw.specs.Keeps.{RawKeeps}
-use Rattle.bl_scopes.specs.Rules.{Passes}
+use Rattle.bl_parse_tree.specs.declared.item.RawItem.{RawItem}
+use Rattle.bl_parse_tree.specs.WellFormed.{RawIsWellFormed}
+use Rattle.bl_names_scopes.specs.Rules.{Passes}
 use Rattle.bl_names.specs.Named.{named_program}
 use Rattle.bl_names.proofs.PlacedProgram.{is_placed}
-use Rattle.bl_names_laws.specs.Keeps.{NamedKeeps, body_apart, body_filled, body_shallow, fields_differ, fields_named, parameters_differ, variables_named}
+use Rattle.bl_names_laws.specs.WellFormed.{NamedIsWellFormed, body_apart, body_filled, body_shallow, fields_differ, fields_named, parameters_differ, variables_named}
 use Rattle.bl_names_laws.proofs.ApartProgram.{units_are_apart}
 use Rattle.bl_names_laws.proofs.Distinct.{all_fields_differ, all_parameters_differ, names_differ}
 use Rattle.bl_names_laws.proofs.Filled.{units_are_filled}
@@ -24,7 +24,7 @@ all_both one other (x ∷ xs) first second =
     (both (one x) (other x) (first_holds (one x) (list_all one xs) first) (first_holds (other x) (list_all other xs) second))
     (all_both one other xs (second_holds (one x) (list_all one xs) first) (second_holds (other x) (list_all other xs) second))
 
-pub what_keeps : (items : List RawItem) (bytes : ℕ) → RawKeeps items → Passes items → NamedKeeps (named_program items bytes)
+pub what_keeps : (items : List RawItem) (bytes : ℕ) → RawIsWellFormed items → Passes items → NamedIsWellFormed (named_program items bytes)
 what_keeps items bytes keeps passes =
     let named = named_program items bytes in
     record {

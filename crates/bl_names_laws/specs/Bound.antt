@@ -1,13 +1,13 @@
 -- Positions are those of bound declarations: each position leads to the declaration to which the use in its place is bound.
 use Rattle.std.specs.Prelude.{◌≡◌, List, [], ◌∷◌, ◌++◌, Option, Some, ⊤}
-use Rattle.bl_raw.specs.declared.item.RawItem.{RawItem}
-use Rattle.bl_raw.specs.declared.name.Name.{Name}
-use Rattle.bl_named.specs.declared.named.Named.{Named}
-use Rattle.bl_scopes.specs.declared.kind.Wanted.{Wanted}
-use Rattle.bl_scopes.specs.declared.scopes.Declaration.{Declaration}
-use Rattle.bl_scopes.specs.Marks.{Marks, opens, closes, declares, uses, marks_of}
-use Rattle.bl_scopes.specs.Rules.{Binds}
-use Rattle.bl_names_laws.specs.Leads.{Leads, program_leads}
+use Rattle.bl_parse_tree.specs.declared.item.RawItem.{RawItem}
+use Rattle.bl_parse_tree.specs.declared.name.Name.{Name}
+use Rattle.bl_names_tree.specs.declared.named.Named.{Named}
+use Rattle.bl_names_scopes.specs.declared.kind.Wanted.{Wanted}
+use Rattle.bl_names_scopes.specs.declared.scopes.Declaration.{Declaration}
+use Rattle.bl_names_scopes.specs.Marks.{Marks, opens, closes, declares, uses, marks_of}
+use Rattle.bl_names_scopes.specs.Rules.{Binds}
+use Rattle.bl_names_laws.specs.Referents.{Referents, program_leads}
 
 -- a use of a name where this is wanted, behind these marks
 pub record Use : Type 0 where
@@ -37,7 +37,7 @@ pub record LeadsToBound (items : List RawItem) (one : Use) (led : Option Name) :
   pub is_led : led ≡ Some (record { text = one.name.text; place = declaration.place })
 
 -- there are as many uses as positions, and so it is with each use and the position in its place
-abbrev pub EachLeads : List RawItem → List Use → Leads → Type 0
+abbrev pub EachLeads : List RawItem → List Use → Referents → Type 0
 EachLeads items [] [] = ⊤
 EachLeads items (one ∷ rest) (led ∷ leads) = LeadsToBound items one led × EachLeads items rest leads
 EachLeads items _ _ = ⊥

@@ -2,11 +2,11 @@
 use Rattle.std.specs.Prelude.{ℕ, ◌+◌, max, Bool, ◌&&◌, nat_le, List, ◌∷◌, map, Option, Some, None}
 use Rattle.bl_tree.specs.Depths.{Depth, leaf, of_all, block}
 use Rattle.bl_tree.specs.Reduce.{greatest}
-use Rattle.bl_named.specs.declared.expr.NamedExpr.{NamedExpr, fold-NamedExpr}
-use Rattle.bl_named.specs.declared.expr.NamedExprKind.TheOpen.{NamedExprKind-F, NamedPart-F, NamedExpr-F, NamedTarget-F}
-use Rattle.bl_named.specs.declared.expr.NamedTarget.{NamedTarget, fold-NamedTarget}
-use Rattle.bl_named.specs.declared.stmt.NamedStmt.{NamedStmt, fold-NamedStmt}
-use Rattle.bl_named.specs.declared.stmt.NamedStmtKind.TheOpen.{NamedStmtKind-F, NamedArm-F, NamedBranch-F, NamedStmt-F}
+use Rattle.bl_names_tree.specs.declared.expr.NamedExpr.{NamedExpr, fold-NamedExpr}
+use Rattle.bl_names_tree.specs.declared.expr.NamedExprKind.TheOpen.{NamedExprKind-F, NamedPart-F, NamedExpr-F, NamedTarget-F}
+use Rattle.bl_names_tree.specs.declared.expr.NamedTarget.{NamedTarget, fold-NamedTarget}
+use Rattle.bl_names_tree.specs.declared.stmt.NamedStmt.{NamedStmt, fold-NamedStmt}
+use Rattle.bl_names_tree.specs.declared.stmt.NamedStmtKind.TheOpen.{NamedStmtKind-F, NamedArm-F, NamedBranch-F, NamedStmt-F}
 
 -- the depth of one layer of an expression, from the depths of its operands: an operator, cast or call is one deeper than the deepest of them
 abbrev pub kind_depth : NamedExprKind-F ℕ ℕ ℕ ℕ → ℕ

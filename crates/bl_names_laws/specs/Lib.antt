@@ -2,6 +2,6 @@ pub mod Apart
 pub mod Bound
 pub mod Depths
 pub mod Filled
-pub mod Keeps
-pub mod Leads
+pub mod WellFormed
+pub mod Referents
 pub mod inner

@@ -1,8 +1,8 @@
 //! The law that each position is that of a bound declaration, as the contract of a function that does nothing.
 
 ghost use Rattle.std.specs.Prelude.{ℕ, List};
-ghost use Rattle.bl_raw.specs.declared.item.RawItem.{RawItem};
-ghost use Rattle.bl_scopes.specs.Rules.{Passes};
+ghost use Rattle.bl_parse_tree.specs.declared.item.RawItem.{RawItem};
+ghost use Rattle.bl_names_scopes.specs.Rules.{Passes};
 ghost use Rattle.bl_names.specs.Named.{named_program};
 ghost use Rattle.bl_names_laws.specs.Bound.{UsesAreBound};
 

@@ -3,10 +3,10 @@
 ghost use Rattle.std.specs.Prelude.{◌<◌, length};
 
 use bl_lex::lex;
-use bl_named::Named;
-use bl_named::expr::{NamedExpr, NamedExprKind, NamedTarget, Root};
-use bl_named::stmt::{NamedStmt, NamedStmtKind};
 use bl_names::resolve;
+use bl_names_tree::Named;
+use bl_names_tree::expr::{NamedExpr, NamedExprKind, NamedTarget, Root};
+use bl_names_tree::stmt::{NamedStmt, NamedStmtKind};
 use bl_parse::parse;
 use bl_tree::{List, NoMemory, Refusal};
 use std::alloc::Global;

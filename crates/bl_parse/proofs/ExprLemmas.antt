@@ -8,10 +8,10 @@ use Rattle.bl_parse.specs.At.{Takes}
 use Rattle.bl_parse.specs.Operators.{IsPrefix, SpellsPrefix}
 use Rattle.bl_tree.specs.declared.place.Place.{Place}
 use Rattle.bl_tree.specs.declared.token.Token.{Token}
-use Rattle.bl_raw.specs.declared.expr.RawExpr.{RawExpr}
-use Rattle.bl_raw.specs.declared.expr.RawExprKind.{RawExprKind}
-use Rattle.bl_raw.specs.declared.expr.RawPart.{RawPart}
-use Rattle.bl_raw.specs.declared.name.Name.{Name}
+use Rattle.bl_parse_tree.specs.declared.expr.RawExpr.{RawExpr}
+use Rattle.bl_parse_tree.specs.declared.expr.RawExprKind.{RawExprKind}
+use Rattle.bl_parse_tree.specs.declared.expr.RawPart.{RawPart}
+use Rattle.bl_parse_tree.specs.declared.name.Name.{Name}
 use Rattle.bl_parse.specs.Expressions.{expr, target, SpellsExpr}
 
 pub le_through : {a b c : ℕ} → a ≤ b → b ≤ c → a ≤ c

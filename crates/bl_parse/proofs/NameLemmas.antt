@@ -4,17 +4,17 @@ use Rattle.std.specs.Prelude.{Option, Some, None, slice_get, option_map}
 use Rattle.bl_tree.specs.declared.token.Token.{Token}
 use Rattle.bl_grammar.proofs.Predictive.{fold_in}
 use Rattle.bl_lex.specs.declared.sign.TheConstants.{DOT, OPEN_BRACKET, OPEN_PAREN}
-use Rattle.bl_syntax.specs.declared.grammar.Class.{Class}
-use Rattle.bl_syntax.specs.declared.grammar.Class.TheVariants.{Mark}
-use Rattle.bl_syntax.specs.declared.grammar.View.{View}
-use Rattle.bl_syntax.specs.declared.grammar.Part.TheVariants.{NameUse, Access, Accesses}
-use Rattle.bl_syntax.specs.Grammar.{Piece, the, matches, Produces}
-use Rattle.bl_syntax.specs.Grammar.IsAmong.{here, later}
-use Rattle.bl_syntax.specs.Tables.{has, or_absent}
-use Rattle.bl_syntax.specs.Follow.{avoided}
-use Rattle.bl_syntax.specs.Stack.{IsGood}
-use Rattle.bl_syntax.specs.Expects.{Expects}
-use Rattle.bl_syntax.proofs.Expecting.{expects_production, expects_absent}
+use Rattle.bl_parse_syntax.specs.declared.grammar.Class.{Class}
+use Rattle.bl_parse_syntax.specs.declared.grammar.Class.TheVariants.{Mark}
+use Rattle.bl_parse_syntax.specs.declared.grammar.TokenView.{TokenView}
+use Rattle.bl_parse_syntax.specs.declared.grammar.Part.TheVariants.{NameUse, Access, Accesses}
+use Rattle.bl_parse_syntax.specs.Grammar.{Piece, the, matches, Produces}
+use Rattle.bl_parse_syntax.specs.Grammar.IsAmong.{here, later}
+use Rattle.bl_parse_syntax.specs.Tables.{has, or_absent}
+use Rattle.bl_parse_syntax.specs.Follow.{avoided}
+use Rattle.bl_parse_syntax.specs.Stack.{IsGood}
+use Rattle.bl_parse_syntax.specs.Expects.{Expects}
+use Rattle.bl_parse_syntax.proofs.Expecting.{expects_production, expects_absent}
 use Rattle.bl_parse.specs.inner.Reading.{left, next_among, NoneNext, Turns}
 use Rattle.bl_parse.proofs.ReadLemmas.{picks, pick_is, stands_at}
 
@@ -29,7 +29,7 @@ good_accesses rest good = (λ token leads. fewer _ _ _ (good.0 token leads), goo
 
 -- the production of either part by the same test
 by_test : (on : Bool) (p : List Piece) → or_absent true (cond on (Some (the Access ∷ the Accesses ∷ [])) None) ≡ Some p →
-    (next : Option View) → Produces Accesses next p
+    (next : Option TokenView) → Produces Accesses next p
 by_test true p e next = subst (Produces Accesses next) (same e) (here, refl)
   where
     same : Some (the Access ∷ the Accesses ∷ []) ≡ Some p → (the Access ∷ the Accesses ∷ []) ≡ p
@@ -47,7 +47,7 @@ name_picks : (c : Class) → has (Mark OPEN_PAREN ∷ []) c ≡ false →
     picks NameUse c ≡ or_absent true (cond (has (Mark DOT ∷ Mark OPEN_BRACKET ∷ []) c) (Some (the Access ∷ the Accesses ∷ [])) None)
 name_picks c off = not_called _ _ _ _ off
 
-over : (ts : List View) (rest : List Piece) → ((v : View) (vs : List View) → ts ≡ v ∷ vs →
+over : (ts : List TokenView) (rest : List Piece) → ((v : TokenView) (vs : List TokenView) → ts ≡ v ∷ vs →
     has (Mark OPEN_PAREN ∷ []) v.class ≡ false) → Expects (the NameUse ∷ rest) ts → Expects (the Accesses ∷ rest) ts
 over [] rest off e = record {
   good = good_accesses rest e.good;
@@ -63,7 +63,7 @@ over (v ∷ vs) rest off e =
           (by_test _ h.0 (sym (name_picks v.class (off v vs refl)) ∙ (sym (pick_is NameUse v refl) ∙ h.1)) (Some v)) h.2.spells;
     }
 
-off_view : (tokens : List Token) (k : ℕ) → NoneNext (Mark OPEN_PAREN ∷ []) tokens k → (v : View) (vs : List View) →
+off_view : (tokens : List Token) (k : ℕ) → NoneNext (Mark OPEN_PAREN ∷ []) tokens k → (v : TokenView) (vs : List TokenView) →
     left tokens k ≡ v ∷ vs → has (Mark OPEN_PAREN ∷ []) v.class ≡ false
 off_view tokens k off v vs is = by_token (slice_get tokens k) refl
   where
@@ -76,7 +76,7 @@ off_view tokens k off v vs is = by_token (slice_get tokens k) refl
         subst (λ c. has (Mark OPEN_PAREN ∷ []) c ≡ false) (sym (class_same (sym is ∙ s.2) ∙ s.3))
         (subst (λ o. next_among (Mark OPEN_PAREN ∷ []) (option_map (λ token. token.kind) o) ≡ false) at off.off)
       where
-        class_same : {v w : View} {vs ws : List View} → v ∷ vs ≡ w ∷ ws → v.class ≡ w.class
+        class_same : {v w : TokenView} {vs ws : List TokenView} → v ∷ vs ≡ w ∷ ws → v.class ≡ w.class
         class_same e = cc
 
 -- the use of a name, where no `(` stands, is fields and indices

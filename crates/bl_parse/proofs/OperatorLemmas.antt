@@ -51,10 +51,10 @@ use Rattle.bl_lex.specs.declared.sign.TheConstants.{
   SLASH,
   PERCENT,
 }
-use Rattle.bl_syntax.specs.declared.grammar.Class.{Class}
-use Rattle.bl_syntax.specs.declared.grammar.Class.TheVariants.{Keyword, Mark}
-use Rattle.bl_syntax.specs.declared.grammar.Part.{Part}
-use Rattle.bl_syntax.specs.declared.grammar.Part.TheVariants.{
+use Rattle.bl_parse_syntax.specs.declared.grammar.Class.{Class}
+use Rattle.bl_parse_syntax.specs.declared.grammar.Class.TheVariants.{Keyword, Mark}
+use Rattle.bl_parse_syntax.specs.declared.grammar.Part.{Part}
+use Rattle.bl_parse_syntax.specs.declared.grammar.Part.TheVariants.{
   Expr,
   And,
   Comparison,
@@ -75,9 +75,9 @@ use Rattle.bl_syntax.specs.declared.grammar.Part.TheVariants.{
   SumRest,
   ProductRest,
 }
-use Rattle.bl_syntax.specs.Grammar.{Piece, the, class_of, same_class, productions}
-use Rattle.bl_syntax.specs.Tables.{has, has_empty, starts_within}
-use Rattle.bl_syntax.proofs.Right.{same_is}
+use Rattle.bl_parse_syntax.specs.Grammar.{Piece, the, class_of, same_class, productions}
+use Rattle.bl_parse_syntax.specs.Tables.{has, has_empty, starts_within}
+use Rattle.bl_parse_syntax.proofs.Right.{same_is}
 use Rattle.bl_parse.specs.At.{kind_at}
 use Rattle.bl_parse.specs.Operators.{IsOperator, SpellsInfix, NoInfix, left_level, operator_classes}
 use Rattle.bl_parse.specs.inner.Reading.{next_among, operand, NoneNext, Turns}

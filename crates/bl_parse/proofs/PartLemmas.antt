@@ -30,10 +30,10 @@ use Rattle.bl_tree.specs.declared.token.TokenKind.TheVariants.{Name, Number, Wor
 use Rattle.bl_grammar.specs.declared.symbol.Symbol.TheVariants.{Terminal}
 use Rattle.bl_lex.specs.declared.word.TheConstants.{STRUCT, CONST, FUNCTION, ACTIVITY, RESET, ABORT, NOT, TRUE, FALSE, PREV}
 use Rattle.bl_lex.specs.declared.sign.TheConstants.{OPEN_BRACKET, CLOSE_BRACKET, OPEN_PAREN, ASSIGN, DOT, AT, MINUS, TILDE, COLON}
-use Rattle.bl_syntax.specs.declared.grammar.Class.{Class}
-use Rattle.bl_syntax.specs.declared.grammar.Class.TheVariants.{AnyNumber, Keyword, Mark}
-use Rattle.bl_syntax.specs.declared.grammar.Part.{Part}
-use Rattle.bl_syntax.specs.declared.grammar.Part.TheVariants.{
+use Rattle.bl_parse_syntax.specs.declared.grammar.Class.{Class}
+use Rattle.bl_parse_syntax.specs.declared.grammar.Class.TheVariants.{AnyNumber, Keyword, Mark}
+use Rattle.bl_parse_syntax.specs.declared.grammar.Part.{Part}
+use Rattle.bl_parse_syntax.specs.declared.grammar.Part.TheVariants.{
   Item,
   Unit,
   PlainUnit,
@@ -55,13 +55,13 @@ use Rattle.bl_syntax.specs.declared.grammar.Part.TheVariants.{
   Block,
   Stmt,
 }
-use Rattle.bl_syntax.specs.Grammar.{Piece, the, name, word, sign, class_of, same_class, productions}
-use Rattle.bl_syntax.specs.Follow.{statement_starts}
-use Rattle.bl_syntax.specs.declared.grammar.View.{View}
-use Rattle.bl_syntax.specs.Tables.{has, or_absent, choices_of, permits}
+use Rattle.bl_parse_syntax.specs.Grammar.{Piece, the, name, word, sign, class_of, same_class, productions}
+use Rattle.bl_parse_syntax.specs.Follow.{statement_starts}
+use Rattle.bl_parse_syntax.specs.declared.grammar.TokenView.{TokenView}
+use Rattle.bl_parse_syntax.specs.Tables.{has, or_absent, choices_of, permits}
 use Rattle.std.proofs.lemmas.Bool.{eqb-true, leb-true, le-leb}
 use Rattle.bl_grammar.proofs.Predictive.{and_left, and_right, and_both}
-use Rattle.bl_syntax.proofs.Right.{chosen_none, same_is}
+use Rattle.bl_parse_syntax.proofs.Right.{chosen_none, same_is}
 use Rattle.bl_parse.specs.At.{kind_at}
 use Rattle.bl_parse.specs.Operators.{IsScalar, IsPrefix, SpellsPrefix, scalar_classes}
 use Rattle.bl_parse.specs.Expressions.{is_number, IsTruth}
@@ -228,7 +228,7 @@ picks_access part is c on = ⊎_elim (λ e. subst (λ c. picks part c ≡ Some (
     at_bracket part IsPlaceTail.accesses = refl
     at_bracket part IsPlaceTail.assigned = refl
 
-permitted : (part : Part) → IsPlaceTail part → (v : View) → permits part v ≡ true
+permitted : (part : Part) → IsPlaceTail part → (v : TokenView) → permits part v ≡ true
 permitted part IsPlaceTail.accesses v = refl
 permitted part IsPlaceTail.assigned v = refl
 

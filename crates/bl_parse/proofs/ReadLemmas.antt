@@ -32,16 +32,16 @@ use Rattle.bl_tree.specs.declared.token.Token.{Token}
 use Rattle.bl_tree.specs.declared.token.TokenKind.{TokenKind}
 use Rattle.bl_tree.specs.declared.token.TokenKind.TheVariants.{Name, Number, Word, Sign}
 use Rattle.bl_grammar.specs.declared.symbol.Symbol.TheVariants.{Terminal}
-use Rattle.bl_syntax.specs.declared.grammar.Class.{Class}
-use Rattle.bl_syntax.specs.declared.grammar.Class.TheVariants.{AnyName, AnyNumber, Keyword, Mark}
-use Rattle.bl_syntax.specs.declared.grammar.View.{View}
-use Rattle.bl_syntax.specs.declared.grammar.Part.{Part}
-use Rattle.bl_syntax.specs.declared.grammar.Part.TheVariants.{Program, Item}
-use Rattle.bl_syntax.specs.Grammar.{Piece, the, name, word, sign, class_of, view_of, views_after, views, same_class, productions}
-use Rattle.bl_syntax.specs.Tables.{has, firsts, starts_within, starts, absent, has_empty, choices_of, choices, chosen, permits, or_absent, pick}
-use Rattle.bl_syntax.specs.Expects.{Expects, StandsNext}
-use Rattle.bl_syntax.proofs.Right.{same_is, unpicked}
-use Rattle.bl_syntax.proofs.Expecting.{expects_production, expects_absent, expects_token, expects_nothing}
+use Rattle.bl_parse_syntax.specs.declared.grammar.Class.{Class}
+use Rattle.bl_parse_syntax.specs.declared.grammar.Class.TheVariants.{AnyName, AnyNumber, Keyword, Mark}
+use Rattle.bl_parse_syntax.specs.declared.grammar.TokenView.{TokenView}
+use Rattle.bl_parse_syntax.specs.declared.grammar.Part.{Part}
+use Rattle.bl_parse_syntax.specs.declared.grammar.Part.TheVariants.{Program, Item}
+use Rattle.bl_parse_syntax.specs.Grammar.{Piece, the, name, word, sign, class_of, view_of, views_after, views, same_class, productions}
+use Rattle.bl_parse_syntax.specs.Tables.{has, firsts, starts_within, starts, absent, has_empty, choices_of, choices, chosen, permits, or_absent, pick}
+use Rattle.bl_parse_syntax.specs.Expects.{Expects, SourceContinuesWith}
+use Rattle.bl_parse_syntax.proofs.Right.{same_is, unpicked}
+use Rattle.bl_parse_syntax.proofs.Expecting.{expects_production, expects_absent, expects_token, expects_nothing}
 use Rattle.bl_parse.specs.At.{kind_at}
 use Rattle.bl_parse.specs.inner.Reading.{left, next_among, Here, NotNext, NoneNext, Awaits, Turns}
 
@@ -54,8 +54,8 @@ drop_next (suc k) [] e = cc
 drop_next (suc k) (x ∷ xs) e = drop_next k xs e
 
 -- what a position has, in the tokens and in what the grammar sees of them
-pub record Stands (found : Option Token) (views : List View) : Type 0 where
-  pub some : (token : Token) → found ≡ Some token → (view : View) × (after : List View) × (views ≡ view ∷ after)
+pub record Stands (found : Option Token) (views : List TokenView) : Type 0 where
+  pub some : (token : Token) → found ≡ Some token → (view : TokenView) × (after : List TokenView) × (views ≡ view ∷ after)
       × (view.class ≡ class_of token.kind)
   pub none : found ≡ None → views ≡ []
 
@@ -89,7 +89,7 @@ chosen_is [] c = refl
 chosen_is ([] ∷ ps) c = chosen_is ps c
 chosen_is ((x ∷ q) ∷ ps) c = ap (cond (has (firsts (starts_within 20) (x ∷ q)) c) (Some (x ∷ q))) (chosen_is ps c)
 
-pub pick_is : (part : Part) (view : View) → permits part view ≡ true → pick part view ≡ picks part view.class
+pub pick_is : (part : Part) (view : TokenView) → permits part view ≡ true → pick part view ≡ picks part view.class
 unfolding pick absent choices
 pick_is part view may = rw (may, chosen_is (productions part) view.class) refl
 
@@ -125,10 +125,10 @@ class_name (Number n) e = cc
 class_name (Word v) e = cc
 class_name (Sign v) e = cc
 
-no_views : {v : View} {vs : List View} → [] ≡ v ∷ vs → ⊥
+no_views : {v : TokenView} {vs : List TokenView} → [] ≡ v ∷ vs → ⊥
 no_views e = cc
 
-class_same : {v w : View} {vs ws : List View} → v ∷ vs ≡ w ∷ ws → v.class ≡ w.class
+class_same : {v w : TokenView} {vs ws : List TokenView} → v ∷ vs ≡ w ∷ ws → v.class ≡ w.class
 class_same e = cc
 
 own_class : (c : Class) → has (c ∷ []) c ≡ true
@@ -148,7 +148,7 @@ not_same : (b : Bool) → (b ≡ true → ⊥) → b || false ≡ false
 not_same true none = absurd (none refl)
 not_same false none = refl
 
-unpicked_here : (part : Part) (view : View) → has_empty (productions part) ≡ true → has (starts_within 20 part) view.class ≡ false →
+unpicked_here : (part : Part) (view : TokenView) → has_empty (productions part) ≡ true → has (starts_within 20 part) view.class ≡ false →
     pick part view ≡ Some []
 unfolding absent starts
 unpicked_here part view may off = unpicked part view may off
@@ -186,7 +186,7 @@ module _ (tokens : List Token) (k : ℕ) where
   stands_at = stands_after None tokens k
 
   -- with an expectation of a part, either the text ends, and it is absent, or the next token decides on a production
-  decided : {part : Part} {rest : List Piece} → Expects (the part ∷ rest) (left tokens k) → ((view : View) → permits part view ≡ true)
+  decided : {part : Part} {rest : List Piece} → Expects (the part ∷ rest) (left tokens k) → ((view : TokenView) → permits part view ≡ true)
       → (goal : Type 0)
       → (kind_at tokens k ≡ None → has_empty (productions part) ≡ true → Expects rest (left tokens k) → goal)
       → ((kind : TokenKind) (p : List Piece) → kind_at tokens k ≡ Some kind → picks part (class_of kind) ≡ Some p →
@@ -208,7 +208,7 @@ module _ (tokens : List Token) (k : ℕ) where
           (subst (Expects (h.0 ++ rest)) (sym s.2) h.2)
 
   -- of a part whose production the next token decides on, that is expected
-  opens : {part : Part} {p rest : List Piece} {kind : TokenKind} → ((view : View) → permits part view ≡ true) → kind_at tokens k ≡ Some kind
+  opens : {part : Part} {p rest : List Piece} {kind : TokenKind} → ((view : TokenView) → permits part view ≡ true) → kind_at tokens k ≡ Some kind
       → picks part (class_of kind) ≡ Some p → Expects (the part ∷ rest) (left tokens k) → Expects (p ++ rest) (left tokens k)
   opens {part} {p} {rest} {kind} may is picked e = decided e may (Expects (p ++ rest) (left tokens k)) (λ none. cc)
       (λ other q at on expects. subst (λ r. Expects (r ++ rest) (left tokens k)) (same_production other q at on) expects)
@@ -218,7 +218,7 @@ module _ (tokens : List Token) (k : ℕ) where
 
   -- the same where one production is left
   opens_last : {part : Part} (p : List Piece) {rest : List Piece} {kind : TokenKind} (b : Bool) →
-      ((view : View) → permits part view ≡ true) → kind_at tokens k ≡ Some kind
+      ((view : TokenView) → permits part view ≡ true) → kind_at tokens k ≡ Some kind
       → picks part (class_of kind) ≡ or_absent false (cond b (Some p) None) → Expects (the part ∷ rest) (left tokens k) →
       Expects (p ++ rest) (left tokens k)
   opens_last {part} p {rest} {kind} b may is picked e = by_rest b picked
@@ -251,7 +251,7 @@ module _ (tokens : List Token) (k : ℕ) where
       (kind : TokenKind) × (kind_at tokens k ≡ Some kind) × (class ≡ class_of kind)
   kind_next {class} {rest} e = by_token (slice_get tokens k) refl
     where
-      next : StandsNext class rest (left tokens k)
+      next : SourceContinuesWith class rest (left tokens k)
       next = expects_token class rest (left tokens k) e
 
       by_token : (found : Option Token) → slice_get tokens k ≡ found → (kind : TokenKind) × (kind_at tokens k ≡ Some kind) × (class ≡ class_of kind)
@@ -339,7 +339,7 @@ module _ {tokens : List Token} {k : ℕ} where
   stay = record { goes = λ rest e. e }
 
   -- the production that the next token decides on is expected
-  pub opened : {part : Part} {b : List Piece} (p : List Piece) {kind : TokenKind} → ((view : View) → permits part view ≡ true) →
+  pub opened : {part : Part} {b : List Piece} (p : List Piece) {kind : TokenKind} → ((view : TokenView) → permits part view ≡ true) →
       kind_at tokens k ≡ Some kind
       → picks part (class_of kind) ≡ Some p → Turns (the part ∷ b) tokens k (p ++ b) k
   opened {b = b} p may is picked = record {
@@ -349,7 +349,7 @@ module _ {tokens : List Token} {k : ℕ} where
 
   -- the same where one production is left
   pub opened_last : {part : Part} {b : List Piece} (p : List Piece) (on : Bool) {kind : TokenKind} →
-      ((view : View) → permits part view ≡ true) → kind_at tokens k ≡ Some kind
+      ((view : TokenView) → permits part view ≡ true) → kind_at tokens k ≡ Some kind
       → picks part (class_of kind) ≡ or_absent false (cond on (Some p) None) → Turns (the part ∷ b) tokens k (p ++ b) k
   opened_last {b = b} p on may is picked = record {
     goes =
@@ -361,7 +361,7 @@ module _ {tokens : List Token} {k : ℕ} where
   }
 
   -- one production is left, whatever the token
-  pub opened_rest : {part : Part} {b : List Piece} (p : List Piece) → ((view : View) → permits part view ≡ true) →
+  pub opened_rest : {part : Part} {b : List Piece} (p : List Piece) → ((view : TokenView) → permits part view ≡ true) →
       has_empty (productions part) ≡ false
       → ((kind : TokenKind) → kind_at tokens k ≡ Some kind →
       (on : Bool) × (picks part (class_of kind) ≡ or_absent false (cond on (Some p) None))) → Turns (the part ∷ b) tokens k (p ++ b) k
@@ -376,18 +376,18 @@ module _ {tokens : List Token} {k : ℕ} where
           (λ kind q at on expects. opens_last tokens k p (each kind at).0 may at (each kind at).1 e)
 
   -- a part has one production
-  pub opened_one : {part : Part} {b : List Piece} (p : List Piece) → ((view : View) → permits part view ≡ true) → has_empty (productions part) ≡ false
+  pub opened_one : {part : Part} {b : List Piece} (p : List Piece) → ((view : TokenView) → permits part view ≡ true) → has_empty (productions part) ≡ false
       → ((c : Class) → (on : Bool) × (picks part c ≡ or_absent false (cond on (Some p) None))) → Turns (the part ∷ b) tokens k (p ++ b) k
   opened_one p may never each = opened_rest p may never (λ kind is. each (class_of kind))
 
   -- a part that isn't absent doesn't begin at the end
-  pub never_ends : {part : Part} {b : List Piece} → ((view : View) → permits part view ≡ true) →
+  pub never_ends : {part : Part} {b : List Piece} → ((view : TokenView) → permits part view ≡ true) →
       has_empty (productions part) ≡ false → Awaits (the part ∷ b) tokens k → kind_at tokens k ≡ None → ⊥
   never_ends may never a is = decided tokens k a.here.expects may ⊥ (λ none may_end expects. no_truth (sym may_end ∙ never))
       (λ kind q at on expects. no_some (sym is ∙ at))
 
   -- nor at a token that decides on no production
-  pub never : {part : Part} {b : List Piece} {kind : TokenKind} → ((view : View) → permits part view ≡ true) →
+  pub never : {part : Part} {b : List Piece} {kind : TokenKind} → ((view : TokenView) → permits part view ≡ true) →
       kind_at tokens k ≡ Some kind → picks part (class_of kind) ≡ None → Awaits (the part ∷ b) tokens k → ⊥
   never {part} may is picked a = decided tokens k a.here.expects may ⊥ (λ none may_end expects. no_some (sym none ∙ is))
       (λ kind q at on expects. no_some (sym picked ∙ (ap (λ o. picks_at part o) (sym is ∙ at) ∙ on)))
@@ -398,7 +398,7 @@ module _ {tokens : List Token} {k : ℕ} where
   omit {b = b} may off = record { goes = λ rest e. record { within = e.within; expects = omits tokens k may off.off e.expects } }
 
   -- a part that may be absent isn't, where what follows it doesn't stand next
-  pub filled : {part : Part} {class : Class} {b : List Piece} (p : List Piece) → ((view : View) → permits part view ≡ true) →
+  pub filled : {part : Part} {class : Class} {b : List Piece} (p : List Piece) → ((view : TokenView) → permits part view ≡ true) →
       ((c : Class) → (on : Bool) × (picks part c ≡ or_absent true (cond on (Some p) None)))
       → NoneNext (class ∷ []) tokens k → Turns (the part ∷ Terminal class ∷ b) tokens k (p ++ Terminal class ∷ b) k
   filled {part} {class} {b} p may each off = record {

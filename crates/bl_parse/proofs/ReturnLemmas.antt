@@ -31,13 +31,13 @@ use Rattle.bl_tree.specs.declared.token.TokenKind.{TokenKind}
 use Rattle.bl_tree.specs.declared.token.TokenKind.TheVariants.{Name, Number, Word, Sign}
 use Rattle.bl_lex.specs.declared.word.TheConstants.{NOT, TRUE, FALSE, PREV, VAR, LET, CONST, AWAIT, RUN, COBEGIN, WHEN, REPEAT, WHILE, IF, RETURN}
 use Rattle.bl_lex.specs.declared.sign.TheConstants.{OPEN_PAREN, MINUS, TILDE}
-use Rattle.bl_syntax.specs.declared.grammar.View.{View}
-use Rattle.bl_syntax.specs.declared.grammar.Part.TheVariants.{AfterReturn, Expr}
-use Rattle.bl_syntax.specs.Grammar.{Piece, the, class_of, view_of, views_after, expression_starts}
-use Rattle.bl_syntax.specs.Follow.{statement_starts}
-use Rattle.bl_syntax.specs.Tables.{has, starts, absent, choices, or_absent, pick}
-use Rattle.bl_syntax.specs.Expects.{Expects}
-use Rattle.bl_syntax.proofs.Expecting.{expects_production, expects_absent}
+use Rattle.bl_parse_syntax.specs.declared.grammar.TokenView.{TokenView}
+use Rattle.bl_parse_syntax.specs.declared.grammar.Part.TheVariants.{AfterReturn, Expr}
+use Rattle.bl_parse_syntax.specs.Grammar.{Piece, the, class_of, view_of, views_after, expression_starts}
+use Rattle.bl_parse_syntax.specs.Follow.{statement_starts}
+use Rattle.bl_parse_syntax.specs.Tables.{has, starts, absent, choices, or_absent, pick}
+use Rattle.bl_parse_syntax.specs.Expects.{Expects}
+use Rattle.bl_parse_syntax.proofs.Expecting.{expects_production, expects_absent}
 use Rattle.bl_parse.specs.At.{kind_at}
 use Rattle.bl_parse.specs.Operators.{begins_expr}
 use Rattle.bl_parse.specs.inner.Reading.{left, next_among, Turns}
@@ -73,7 +73,7 @@ begins_is (Number n) = refl
 begins_is (Word k) = rw (eq_sym k NOT, eq_sym k TRUE, eq_sym k FALSE, eq_sym k PREV) (four (nat_eq NOT k) (nat_eq TRUE k) (nat_eq FALSE k) (nat_eq PREV k))
 begins_is (Sign k) = rw (eq_sym k OPEN_PAREN, eq_sym k MINUS, eq_sym k TILDE) (three (nat_eq OPEN_PAREN k) (nat_eq MINUS k) (nat_eq TILDE k))
 
-after_return : (v : View) → pick AfterReturn v ≡ or_absent true
+after_return : (v : TokenView) → pick AfterReturn v ≡ or_absent true
     (cond (not v.fresh) (cond (has expression_starts v.class) (Some (the Expr ∷ [])) None) None)
 unfolding pick absent choices starts
 after_return v = refl

@@ -6,15 +6,15 @@ use Rattle.bl_tree.specs.declared.place.Place.{Place}
 use Rattle.bl_tree.specs.declared.token.Token.{Token}
 use Rattle.bl_tree.specs.declared.token.TokenKind.TheVariants.{Word}
 use Rattle.bl_lex.specs.declared.word.TheConstants.{VAR, LET, CONST, AWAIT, RUN, COBEGIN, WHEN, REPEAT, WHILE, IF, RETURN}
-use Rattle.bl_syntax.specs.declared.grammar.Class.{Class}
-use Rattle.bl_syntax.specs.declared.grammar.Class.TheVariants.{Keyword}
-use Rattle.bl_syntax.specs.declared.grammar.Part.TheVariants.{Stmt}
-use Rattle.bl_syntax.specs.Grammar.{Piece, the, productions}
-use Rattle.bl_syntax.specs.Follow.{statement_starts}
-use Rattle.bl_syntax.specs.Tables.{has, starts, choices_of, or_absent}
-use Rattle.bl_syntax.proofs.Right.{chosen_none}
-use Rattle.bl_raw.specs.declared.stmt.RawStmt.{RawStmt, roll-RawStmt}
-use Rattle.bl_raw.specs.declared.stmt.RawStmtKind.{RawStmtKind}
+use Rattle.bl_parse_syntax.specs.declared.grammar.Class.{Class}
+use Rattle.bl_parse_syntax.specs.declared.grammar.Class.TheVariants.{Keyword}
+use Rattle.bl_parse_syntax.specs.declared.grammar.Part.TheVariants.{Stmt}
+use Rattle.bl_parse_syntax.specs.Grammar.{Piece, the, productions}
+use Rattle.bl_parse_syntax.specs.Follow.{statement_starts}
+use Rattle.bl_parse_syntax.specs.Tables.{has, starts, choices_of, or_absent}
+use Rattle.bl_parse_syntax.proofs.Right.{chosen_none}
+use Rattle.bl_parse_tree.specs.declared.stmt.RawStmt.{RawStmt, roll-RawStmt}
+use Rattle.bl_parse_tree.specs.declared.stmt.RawStmtKind.{RawStmtKind}
 use Rattle.bl_parse.specs.At.{kind_at}
 use Rattle.bl_parse.specs.inner.Reading.{Awaits}
 use Rattle.bl_parse.proofs.ReadLemmas.{picks, chosen_is, never}

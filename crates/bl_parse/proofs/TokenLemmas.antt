@@ -36,7 +36,7 @@ use Rattle.bl_tree.specs.Words.{is_word_byte, is_plain_word, is_name}
 use Rattle.bl_tree.specs.declared.token.Token.{Token}
 use Rattle.bl_tree.specs.declared.token.TokenKind.{TokenKind}
 use Rattle.bl_tree.specs.declared.token.TokenKind.TheVariants.{Word, Sign}
-use Rattle.bl_raw.specs.declared.name.Name.{Name}
+use Rattle.bl_parse_tree.specs.declared.name.Name.{Name}
 use Rattle.bl_parse.specs.At.{start_at, end_at, name_at}
 
 pub sign_is : {kind : TokenKind} {k n m : ℕ} → kind ≡ Sign k → m ≡ k → m ≡ n → kind ≡ Sign n

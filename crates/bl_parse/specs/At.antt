@@ -3,7 +3,7 @@ use Rattle.std.specs.Prelude.{◌≡◌, ℕ, ◌+◌, ◌-◌, List, slice_get,
 use Rattle.bl_tree.specs.declared.place.Place.{Place}
 use Rattle.bl_tree.specs.declared.token.Token.{Token}
 use Rattle.bl_tree.specs.declared.token.TokenKind.{TokenKind}
-use Rattle.bl_raw.specs.declared.name.Name.{Name}
+use Rattle.bl_parse_tree.specs.declared.name.Name.{Name}
 
 -- the kind of the token
 abbrev pub kind_at : List Token → ℕ → Option TokenKind

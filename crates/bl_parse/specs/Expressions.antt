@@ -8,13 +8,13 @@ use Rattle.bl_tree.specs.declared.token.TokenKind.{TokenKind}
 use Rattle.bl_tree.specs.declared.token.TokenKind.TheVariants.{Number, Word, Sign}
 use Rattle.bl_lex.specs.declared.sign.TheConstants.{OPEN_PAREN, CLOSE_PAREN, OPEN_BRACKET, CLOSE_BRACKET, COMMA, DOT, MINUS}
 use Rattle.bl_lex.specs.declared.word.TheConstants.{AS, TRUE, FALSE, PREV}
-use Rattle.bl_raw.specs.declared.expr.RawExpr.{RawExpr, roll-RawExpr}
-use Rattle.bl_raw.specs.declared.expr.RawExprKind.{RawExprKind}
-use Rattle.bl_raw.specs.declared.expr.RawExprKind as kind
-use Rattle.bl_raw.specs.declared.expr.RawPart.{RawPart}
-use Rattle.bl_raw.specs.declared.expr.RawPart as step
-use Rattle.bl_raw.specs.declared.expr.RawTarget.{RawTarget, roll-RawTarget}
-use Rattle.bl_raw.specs.declared.name.Name.{Name}
+use Rattle.bl_parse_tree.specs.declared.expr.RawExpr.{RawExpr, roll-RawExpr}
+use Rattle.bl_parse_tree.specs.declared.expr.RawExprKind.{RawExprKind}
+use Rattle.bl_parse_tree.specs.declared.expr.RawExprKind as kind
+use Rattle.bl_parse_tree.specs.declared.expr.RawPart.{RawPart}
+use Rattle.bl_parse_tree.specs.declared.expr.RawPart as step
+use Rattle.bl_parse_tree.specs.declared.expr.RawTarget.{RawTarget, roll-RawTarget}
+use Rattle.bl_parse_tree.specs.declared.name.Name.{Name}
 use Rattle.bl_parse.specs.At.{kind_at, span, SpellsName, Takes}
 use Rattle.bl_parse.specs.Operators.{casting, prefixing, left_level, SpellsInfix, SpellsPrefix, SpellsScalar}
 

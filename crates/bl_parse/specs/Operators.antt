@@ -27,8 +27,8 @@ use Rattle.bl_lex.specs.declared.sign.TheConstants.{
   SHIFT_RIGHT,
   OPEN_PAREN,
 }
-use Rattle.bl_syntax.specs.declared.grammar.Class.{Class}
-use Rattle.bl_syntax.specs.declared.grammar.Class.TheVariants.{Keyword, Mark}
+use Rattle.bl_parse_syntax.specs.declared.grammar.Class.{Class}
+use Rattle.bl_parse_syntax.specs.declared.grammar.Class.TheVariants.{Keyword, Mark}
 use Rattle.bl_parse.specs.At.{Takes}
 use Rattle.bl_lex.specs.declared.word.TheConstants.{
   AND,

@@ -4,10 +4,10 @@ use Rattle.bl_tree.specs.declared.scalar.Scalar.{Scalar as ScalarType}
 use Rattle.bl_tree.specs.declared.token.Token.{Token}
 use Rattle.bl_tree.specs.declared.token.TokenKind.TheVariants.{Number, Sign}
 use Rattle.bl_lex.specs.declared.sign.TheConstants.{OPEN_BRACKET, CLOSE_BRACKET}
-use Rattle.bl_raw.specs.declared.name.Name.{Name}
-use Rattle.bl_raw.specs.declared.types.RawLength.{RawLength}
-use Rattle.bl_raw.specs.declared.types.RawType.{RawType}
-use Rattle.bl_raw.specs.declared.types.RawType as form
+use Rattle.bl_parse_tree.specs.declared.name.Name.{Name}
+use Rattle.bl_parse_tree.specs.declared.types.RawLength.{RawLength}
+use Rattle.bl_parse_tree.specs.declared.types.RawType.{RawType}
+use Rattle.bl_parse_tree.specs.declared.types.RawType as form
 use Rattle.bl_parse.specs.At.{span, SpellsName, Takes}
 use Rattle.bl_parse.specs.Operators.{SpellsScalar}
 

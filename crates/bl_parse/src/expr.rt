@@ -5,10 +5,10 @@ ghost use Rattle.std.specs.Prelude.{IfSome, IsSome, IsNone, IsTrue, ◌&&◌, na
 ghost use Rattle.bl_tree.specs.declared.scalar.Op.{Op};
 ghost use Rattle.bl_tree.specs.declared.token.TokenKind.{TokenKind};
 ghost use Rattle.bl_lex.specs.declared.word.TheConstants.{AS, PREV};
-ghost use Rattle.bl_raw.specs.declared.expr.RawExprKind as kind;
-ghost use Rattle.bl_syntax.specs.declared.grammar.Part.{Part};
-ghost use Rattle.bl_syntax.specs.Grammar.{the};
-ghost use Rattle.bl_syntax.specs.Grammar as grammar;
+ghost use Rattle.bl_parse_tree.specs.declared.expr.RawExprKind as kind;
+ghost use Rattle.bl_parse_syntax.specs.declared.grammar.Part.{Part};
+ghost use Rattle.bl_parse_syntax.specs.Grammar.{the};
+ghost use Rattle.bl_parse_syntax.specs.Grammar as grammar;
 ghost use Rattle.bl_lex.specs.declared.sign.TheConstants.{OPEN_PAREN, CLOSE_PAREN, OPEN_BRACKET, CLOSE_BRACKET};
 ghost use Rattle.bl_parse.specs.At.{kind_at, span, SpellsName, Takes};
 ghost use Rattle.bl_parse.specs.Expressions.{expr, is_number, IsTruth, SpellsExpr, SpellsTarget, SpellsPart, SpellsParts, SpellsInputs, SpellsExprs};
@@ -21,8 +21,8 @@ use crate::operator::{Infix, infix_of};
 use crate::source::Source;
 use crate::types::read_scalar;
 use bl_lex::{sign, word};
-use bl_raw::expr::{RawExpr, RawExprKind, RawPart, RawTarget};
-use bl_raw::name::Name;
+use bl_parse_tree::expr::{RawExpr, RawExprKind, RawPart, RawTarget};
+use bl_parse_tree::name::Name;
 use bl_tree::token::TokenKind;
 use bl_tree::{Box, List, NoMemory, Op};
 

@@ -1,10 +1,10 @@
 //! What a file declares: structs, constants and units.
 
 ghost use Rattle.std.specs.Prelude.{◌≡◌, ◌+◌, ◌<◌, ◌≤◌, [], ◌∷◌, length, IfOk, OnOk};
-ghost use Rattle.bl_syntax.specs.declared.grammar.Part.{Part};
-ghost use Rattle.bl_syntax.specs.Grammar.{the, views};
-ghost use Rattle.bl_syntax.specs.Grammar as grammar;
-ghost use Rattle.bl_syntax.specs.Expects.{Expects};
+ghost use Rattle.bl_parse_syntax.specs.declared.grammar.Part.{Part};
+ghost use Rattle.bl_parse_syntax.specs.Grammar.{the, views};
+ghost use Rattle.bl_parse_syntax.specs.Grammar as grammar;
+ghost use Rattle.bl_parse_syntax.specs.Expects.{Expects};
 ghost use Rattle.bl_parse.specs.inner.Reading.{just, Awaits, Turns};
 ghost use Rattle.bl_parse.specs.Programs.{SpellsItems, SpellsItem, SpellsStruct, SpellsFieldList, SpellsField, SpellsUnit, SpellsMark};
 ghost use Rattle.bl_parse.specs.Programs.{SpellsUnitKind, SpellsParams, SpellsParamList, SpellsParam, SpellsOutputParams, SpellsResult};
@@ -15,8 +15,8 @@ use crate::source::Source;
 use crate::stmt::block;
 use crate::types::read_type;
 use bl_lex::{sign, word};
-use bl_raw::item::{RawField, RawItem, RawParam, RawStruct, RawUnit};
-use bl_raw::types::RawType;
+use bl_parse_tree::item::{RawField, RawItem, RawParam, RawStruct, RawUnit};
+use bl_parse_tree::types::RawType;
 use bl_tree::token::TokenKind;
 use bl_tree::tree::UnitKind;
 use bl_tree::{List, NoMemory};

@@ -1,5 +1,5 @@
 //! The tree that the tokens of a text spell. `parse` answers Ok exactly where the tokens keep the rules Depth and
-//! Syntax, and else as `check` of `bl_syntax` does; want of memory aside. Its tree is one that the tokens spell
+//! Syntax, and else as `check` of `bl_parse_syntax` does; want of memory aside. Its tree is one that the tokens spell
 //! (`specs/Programs.antt`, `Spells`): each name is what the text has at its token, each expression and statement runs
 //! from its first token to its last, and chains associate to the left. By `bl_parse_laws` there is no other.
 //!

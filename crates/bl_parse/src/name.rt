@@ -2,12 +2,12 @@
 
 ghost use Rattle.std.specs.Prelude.{◌≡◌, ◌+◌, ◌<◌, [], ◌∷◌, Some, length, slice_range, IfOk, OnOk};
 ghost use Rattle.bl_tree.specs.declared.token.TokenKind.{TokenKind};
-ghost use Rattle.bl_syntax.specs.Grammar as grammar;
+ghost use Rattle.bl_parse_syntax.specs.Grammar as grammar;
 ghost use Rattle.bl_parse.specs.At.{kind_at, start_at, end_at, SpellsName};
 ghost use Rattle.bl_parse.specs.inner.Reading.{Turns};
 
 use crate::source::Source;
-use bl_raw::name::Name;
+use bl_parse_tree::name::Name;
 use bl_tree::token::TokenKind;
 use bl_tree::{NoMemory, Place, Text};
 

@@ -1,8 +1,8 @@
 //! Operators by their tokens, and how tightly they bind.
 
 ghost use Rattle.std.specs.Prelude.{◌≡◌, ◌≤◌, false, IfSome, IsNone};
-ghost use Rattle.bl_syntax.specs.Grammar.{class_of};
-ghost use Rattle.bl_syntax.specs.Tables.{has};
+ghost use Rattle.bl_parse_syntax.specs.Grammar.{class_of};
+ghost use Rattle.bl_parse_syntax.specs.Tables.{has};
 ghost use Rattle.bl_parse.specs.Operators.{IsOperator, begins_expr, left_level, operator_classes};
 
 use bl_lex::{sign, word};

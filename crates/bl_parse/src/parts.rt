@@ -2,10 +2,10 @@
 
 ghost use Rattle.std.specs.Prelude.{◌≡◌, ◌+◌, ◌<◌, ◌≤◌, [], ◌∷◌, false, IfOk, OnOk};
 ghost use Rattle.bl_lex.specs.declared.sign.TheConstants.{ASSIGN, COLON, DOT};
-ghost use Rattle.bl_syntax.specs.declared.grammar.Class.{Class};
-ghost use Rattle.bl_syntax.specs.declared.grammar.Part.{Part};
-ghost use Rattle.bl_syntax.specs.Grammar.{the};
-ghost use Rattle.bl_syntax.specs.Grammar as grammar;
+ghost use Rattle.bl_parse_syntax.specs.declared.grammar.Class.{Class};
+ghost use Rattle.bl_parse_syntax.specs.declared.grammar.Part.{Part};
+ghost use Rattle.bl_parse_syntax.specs.Grammar.{the};
+ghost use Rattle.bl_parse_syntax.specs.Grammar as grammar;
 ghost use Rattle.bl_parse.specs.At.{kind_at};
 ghost use Rattle.bl_parse.specs.inner.Reading.{next_among, just, Awaits, AwaitsFields, KeepsFields, NoneNext, Turns};
 ghost use Rattle.bl_parse.specs.Statements.{SpellsTyping, SpellsMaybeTyping, SpellsValue, SpellsInitial, SpellsConstant, SpellsFields, SpellsPath};
@@ -17,10 +17,10 @@ use crate::name::name;
 use crate::source::Source;
 use crate::types::read_type;
 use bl_lex::{sign, word};
-use bl_raw::expr::RawExpr;
-use bl_raw::name::Name;
-use bl_raw::stmt::{RawConstant, RawPath};
-use bl_raw::types::RawType;
+use bl_parse_tree::expr::RawExpr;
+use bl_parse_tree::name::Name;
+use bl_parse_tree::stmt::{RawConstant, RawPath};
+use bl_parse_tree::types::RawType;
 use bl_tree::token::TokenKind;
 use bl_tree::{List, NoMemory};
 

@@ -3,14 +3,14 @@
 ghost use Rattle.std.specs.Prelude.{◌<◌, ◌^◌, length, IfOk, IfErr, OnOk};
 ghost use Rattle.bl_tree.specs.Rules.{IsCause};
 ghost use Rattle.bl_lex.specs.Tokens.{Lexes};
-ghost use Rattle.bl_syntax.specs.Rules.{Fails, Passes, SpellsProgram};
+ghost use Rattle.bl_parse_syntax.specs.Rules.{Fails, Passes, SpellsProgram};
 ghost use Rattle.bl_parse.specs.Programs.{Spells};
 ghost use Rattle.bl_parse.specs.inner.Reading.{NamesStand};
 
 use crate::item::items;
 use crate::source::Source;
-use bl_raw::Raw;
-use bl_syntax::check;
+use bl_parse_syntax::check;
+use bl_parse_tree::Raw;
 use bl_tree::token::Token;
 use bl_tree::{NoMemory, Refusal};
 use std::alloc::Global;

@@ -1,8 +1,8 @@
 //! Types without parts, by their words.
 
 ghost use Rattle.std.specs.Prelude.{◌≡◌, false, IfSome, IsNone};
-ghost use Rattle.bl_syntax.specs.Grammar.{class_of};
-ghost use Rattle.bl_syntax.specs.Tables.{has};
+ghost use Rattle.bl_parse_syntax.specs.Grammar.{class_of};
+ghost use Rattle.bl_parse_syntax.specs.Tables.{has};
 ghost use Rattle.bl_parse.specs.Operators.{IsScalar, scalar_classes};
 
 use bl_lex::word;

@@ -2,9 +2,9 @@
 
 ghost use Rattle.std.specs.Prelude.{◌≡◌, ◌+◌, ◌<◌, [], ◌∷◌, length, IfOk, OnOk};
 ghost use Rattle.bl_lex.specs.declared.sign.TheConstants.{OPEN_BRACKET, CLOSE_BRACKET};
-ghost use Rattle.bl_syntax.specs.declared.grammar.Part.{Part};
-ghost use Rattle.bl_syntax.specs.Grammar.{the};
-ghost use Rattle.bl_syntax.specs.Grammar as grammar;
+ghost use Rattle.bl_parse_syntax.specs.declared.grammar.Part.{Part};
+ghost use Rattle.bl_parse_syntax.specs.Grammar.{the};
+ghost use Rattle.bl_parse_syntax.specs.Grammar as grammar;
 ghost use Rattle.bl_parse.specs.inner.Reading.{just, Awaits, Turns};
 ghost use Rattle.bl_parse.specs.Operators.{SpellsScalar};
 ghost use Rattle.bl_parse.specs.Types.{SpellsLength, SpellsType};
@@ -13,7 +13,7 @@ use crate::name::name;
 use crate::scalar::scalar;
 use crate::source::Source;
 use bl_lex::sign;
-use bl_raw::types::{RawLength, RawNumber, RawType};
+use bl_parse_tree::types::{RawLength, RawNumber, RawType};
 use bl_tree::token::TokenKind;
 use bl_tree::{Box, NoMemory, Scalar};
 

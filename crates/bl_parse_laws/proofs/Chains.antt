@@ -27,11 +27,11 @@ use Rattle.bl_lex.specs.declared.sign.TheConstants.{
   STAR,
   SLASH,
 }
-use Rattle.bl_syntax.specs.declared.grammar.Class.{Class}
-use Rattle.bl_syntax.specs.declared.grammar.Class.TheVariants.{Keyword}
-use Rattle.bl_syntax.specs.Grammar.{class_of, same_class}
-use Rattle.bl_syntax.specs.Tables.{has}
-use Rattle.bl_syntax.specs.Follow.{
+use Rattle.bl_parse_syntax.specs.declared.grammar.Class.{Class}
+use Rattle.bl_parse_syntax.specs.declared.grammar.Class.TheVariants.{Keyword}
+use Rattle.bl_parse_syntax.specs.Grammar.{class_of, same_class}
+use Rattle.bl_parse_syntax.specs.Tables.{has}
+use Rattle.bl_parse_syntax.specs.Follow.{
   after_expression,
   after_both,
   after_comparison,
@@ -44,8 +44,8 @@ use Rattle.bl_syntax.specs.Follow.{
   after_cast,
   after_unary,
 }
-use Rattle.bl_raw.specs.declared.expr.RawExpr.{RawExpr}
-use Rattle.bl_raw.specs.declared.expr.RawExprKind as kind
+use Rattle.bl_parse_tree.specs.declared.expr.RawExpr.{RawExpr}
+use Rattle.bl_parse_tree.specs.declared.expr.RawExprKind as kind
 use Rattle.bl_parse.specs.At.{span, Takes}
 use Rattle.bl_parse.specs.Expressions.{expr, SpellsExpr}
 use Rattle.bl_parse.specs.Operators.{IsOperator, IsScalar, SpellsInfix, SpellsScalar, left_level}

@@ -35,7 +35,7 @@ use Rattle.bl_tree.specs.declared.token.TokenKind.{TokenKind}
 use Rattle.bl_tree.specs.declared.token.TokenKind.TheVariants.{Name, Number, Word, Sign}
 use Rattle.bl_lex.specs.declared.sign.TheConstants.{ASSIGN, AT}
 use Rattle.bl_lex.specs.declared.word.TheConstants.{END}
-use Rattle.bl_syntax.specs.Depth.{
+use Rattle.bl_parse_syntax.specs.Depth.{
   is_one_of,
   opening_words,
   blocks_after,
@@ -47,9 +47,9 @@ use Rattle.bl_syntax.specs.Depth.{
   open_after,
   run_after,
 }
-use Rattle.bl_syntax.specs.inner.Depth.{last_kind}
-use Rattle.bl_syntax.specs.Rules.{PassesDepth}
-use Rattle.bl_syntax.proofs.Depths.{open_next, last_next, run_next}
+use Rattle.bl_parse_syntax.specs.inner.Depth.{last_kind}
+use Rattle.bl_parse_syntax.specs.Rules.{PassesDepth}
+use Rattle.bl_parse_syntax.proofs.Depths.{open_next, last_next, run_next}
 use Rattle.bl_parse.specs.At.{Takes}
 use Rattle.bl_parse.proofs.ReturnLemmas.{token_at}
 

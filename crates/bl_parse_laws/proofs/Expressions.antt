@@ -5,12 +5,12 @@ use Rattle.bl_tree.specs.declared.token.Token.{Token}
 use Rattle.bl_tree.specs.declared.token.TokenKind.{TokenKind}
 use Rattle.bl_grammar.specs.declared.symbol.Symbol.TheVariants.{Terminal}
 use Rattle.bl_lex.specs.declared.sign.TheConstants.{COMMA}
-use Rattle.bl_syntax.specs.declared.grammar.Part.TheVariants.{Expr, Unary, Primary, NameUse, NoOutputs, Access, Accesses, Inputs, InputList, InputRest}
-use Rattle.bl_syntax.specs.Grammar.{the, name, sign, class_of, productions, IsAmong}
-use Rattle.bl_syntax.specs.Grammar.IsAmong.{here, later}
-use Rattle.bl_raw.specs.declared.expr.RawExpr.{RawExpr}
-use Rattle.bl_raw.specs.declared.expr.RawPart.{RawPart}
-use Rattle.bl_raw.specs.declared.expr.RawTarget.{RawTarget}
+use Rattle.bl_parse_syntax.specs.declared.grammar.Part.TheVariants.{Expr, Unary, Primary, NameUse, NoOutputs, Access, Accesses, Inputs, InputList, InputRest}
+use Rattle.bl_parse_syntax.specs.Grammar.{the, name, sign, class_of, productions, IsAmong}
+use Rattle.bl_parse_syntax.specs.Grammar.IsAmong.{here, later}
+use Rattle.bl_parse_tree.specs.declared.expr.RawExpr.{RawExpr}
+use Rattle.bl_parse_tree.specs.declared.expr.RawPart.{RawPart}
+use Rattle.bl_parse_tree.specs.declared.expr.RawTarget.{RawTarget}
 use Rattle.bl_parse.specs.Operators.{IsPrefix}
 use Rattle.bl_parse.specs.Expressions.{IsTruth, SpellsNone, SpellsExpr, SpellsTarget, SpellsPart, SpellsParts, SpellsInputs, SpellsExprs}
 use Rattle.bl_parse_laws.proofs.Spans.{Spans, Chain, Listed, token, then, made, empty, add, repeated, listed_one, listed_more}

@@ -6,21 +6,21 @@ use Rattle.bl_tree.specs.declared.token.Token.{Token}
 use Rattle.bl_tree.specs.declared.tree.Guard.{Guard}
 use Rattle.bl_tree.specs.Reduce.{joined}
 use Rattle.bl_lex.specs.Tokens.{Lexes}
-use Rattle.bl_raw.specs.declared.expr.RawExpr.{RawExpr, out-roll-RawExpr}
-use Rattle.bl_raw.specs.declared.expr.RawExprKind.{RawExprKind}
-use Rattle.bl_raw.specs.declared.expr.RawTarget.{RawTarget}
-use Rattle.bl_raw.specs.declared.item.RawItem.{RawItem}
-use Rattle.bl_raw.specs.declared.item.RawUnit.{RawUnit}
-use Rattle.bl_raw.specs.declared.name.Name.{Name}
-use Rattle.bl_raw.specs.declared.raw.Raw.{Raw}
-use Rattle.bl_raw.specs.declared.stmt.RawArm.{RawArm, fold-RawArm, fold-roll-RawArm, roll-RawArm}
-use Rattle.bl_raw.specs.declared.stmt.RawBranch.{RawBranch, fold-RawBranch, fold-roll-RawBranch, roll-RawBranch}
-use Rattle.bl_raw.specs.declared.stmt.RawConstant.{RawConstant}
-use Rattle.bl_raw.specs.declared.stmt.RawPath.{RawPath}
-use Rattle.bl_raw.specs.declared.stmt.RawStmt.{RawStmt, fold-roll-RawStmt, roll-RawStmt}
-use Rattle.bl_raw.specs.declared.stmt.RawStmtKind.{RawStmtKind, fold-RawStmtKind, fold-roll-RawStmtKind}
-use Rattle.bl_raw.specs.declared.stmt.RawStmtKind as kind
-use Rattle.bl_raw.specs.declared.stmt.RawStmtKind.TheVariants.{
+use Rattle.bl_parse_tree.specs.declared.expr.RawExpr.{RawExpr, out-roll-RawExpr}
+use Rattle.bl_parse_tree.specs.declared.expr.RawExprKind.{RawExprKind}
+use Rattle.bl_parse_tree.specs.declared.expr.RawTarget.{RawTarget}
+use Rattle.bl_parse_tree.specs.declared.item.RawItem.{RawItem}
+use Rattle.bl_parse_tree.specs.declared.item.RawUnit.{RawUnit}
+use Rattle.bl_parse_tree.specs.declared.name.Name.{Name}
+use Rattle.bl_parse_tree.specs.declared.raw.Raw.{Raw}
+use Rattle.bl_parse_tree.specs.declared.stmt.RawArm.{RawArm, fold-RawArm, fold-roll-RawArm, roll-RawArm}
+use Rattle.bl_parse_tree.specs.declared.stmt.RawBranch.{RawBranch, fold-RawBranch, fold-roll-RawBranch, roll-RawBranch}
+use Rattle.bl_parse_tree.specs.declared.stmt.RawConstant.{RawConstant}
+use Rattle.bl_parse_tree.specs.declared.stmt.RawPath.{RawPath}
+use Rattle.bl_parse_tree.specs.declared.stmt.RawStmt.{RawStmt, fold-roll-RawStmt, roll-RawStmt}
+use Rattle.bl_parse_tree.specs.declared.stmt.RawStmtKind.{RawStmtKind, fold-RawStmtKind, fold-roll-RawStmtKind}
+use Rattle.bl_parse_tree.specs.declared.stmt.RawStmtKind as kind
+use Rattle.bl_parse_tree.specs.declared.stmt.RawStmtKind.TheVariants.{
   rolls-Var,
   rolls-Let,
   rolls-Const,
@@ -36,8 +36,8 @@ use Rattle.bl_raw.specs.declared.stmt.RawStmtKind.TheVariants.{
   rolls-While,
   rolls-Return,
 }
-use Rattle.bl_raw.specs.declared.types.RawType.{RawType}
-use Rattle.bl_raw.specs.Starts.{Starts, start_of, stmt_kind_starts, arm_starts, branch_starts, stmt_layer_starts, starts_of, item_starts, all_starts, ascends}
+use Rattle.bl_parse_tree.specs.declared.types.RawType.{RawType}
+use Rattle.bl_parse_tree.specs.Starts.{RawStartOffsets, start_of, stmt_kind_starts, arm_starts, branch_starts, stmt_layer_starts, starts_of, item_starts, all_starts, ascends}
 use Rattle.bl_parse.specs.At.{span, start_at}
 use Rattle.bl_parse.specs.Expressions.{expr, SpellsExpr}
 use Rattle.bl_parse.specs.Programs.{SpellsUnit, SpellsItem, SpellsItems, Spells}
@@ -46,14 +46,14 @@ use Rattle.bl_parse_laws.proofs.Level as level
 use Rattle.bl_parse_laws.proofs.Rising.{Rising, Rise, earlier, later, join, none_rise, more_rise, one_rises, rising_ascends}
 
 -- where what stands in a statement begins
-abbrev kind_starts : RawStmtKind → Starts
-kind_starts = fold-RawStmtKind Starts Starts Starts Starts stmt_kind_starts arm_starts branch_starts stmt_layer_starts
+abbrev kind_starts : RawStmtKind → RawStartOffsets
+kind_starts = fold-RawStmtKind RawStartOffsets RawStartOffsets RawStartOffsets RawStartOffsets stmt_kind_starts arm_starts branch_starts stmt_layer_starts
 
-abbrev one_arm_starts : RawArm → Starts
-one_arm_starts = fold-RawArm Starts Starts Starts Starts stmt_kind_starts arm_starts branch_starts stmt_layer_starts
+abbrev one_arm_starts : RawArm → RawStartOffsets
+one_arm_starts = fold-RawArm RawStartOffsets RawStartOffsets RawStartOffsets RawStartOffsets stmt_kind_starts arm_starts branch_starts stmt_layer_starts
 
-abbrev one_branch_starts : RawBranch → Starts
-one_branch_starts = fold-RawBranch Starts Starts Starts Starts stmt_kind_starts arm_starts branch_starts stmt_layer_starts
+abbrev one_branch_starts : RawBranch → RawStartOffsets
+one_branch_starts = fold-RawBranch RawStartOffsets RawStartOffsets RawStartOffsets RawStartOffsets stmt_kind_starts arm_starts branch_starts stmt_layer_starts
 
 -- ---- the starts in what is made
 
@@ -111,10 +111,10 @@ branch_is weak body = rw fold-roll-RawBranch refl
 expr_is : (at : Place) (what : RawExprKind) → start_of (expr at what) ≡ at.start
 expr_is at what = ap (λ layer. layer.place.start) (out-roll-RawExpr (record { place = at; what = what }))
 
-same : {tokens : List Token} {xs ys : Starts} {from to : ℕ} → xs ≡ ys → Rising tokens ys from to → Rising tokens xs from to
+same : {tokens : List Token} {xs ys : RawStartOffsets} {from to : ℕ} → xs ≡ ys → Rising tokens ys from to → Rising tokens xs from to
 same {tokens} {from = from} {to = to} is h = subst (λ zs. Rising tokens zs from to) (sym is) h
 
-nothing : {tokens : List Token} {xs : Starts} {from to : ℕ} → xs ≡ [] → from ≤ to → Rising tokens xs from to
+nothing : {tokens : List Token} {xs : RawStartOffsets} {from to : ℕ} → xs ≡ [] → from ≤ to → Rising tokens xs from to
 nothing is le = same is (Rising.over le)
 
 -- the expression begins where one of its tokens does

@@ -6,8 +6,8 @@ use Rattle.bl_tree.specs.declared.token.Token.{Token}
 use Rattle.bl_tree.specs.declared.token.TokenKind.{TokenKind}
 use Rattle.bl_tree.specs.declared.token.TokenKind.TheVariants.{Word}
 use Rattle.bl_lex.specs.declared.word.TheConstants.{AS}
-use Rattle.bl_syntax.specs.declared.grammar.Part.{Part}
-use Rattle.bl_syntax.specs.declared.grammar.Part.TheVariants.{
+use Rattle.bl_parse_syntax.specs.declared.grammar.Part.{Part}
+use Rattle.bl_parse_syntax.specs.declared.grammar.Part.TheVariants.{
   Expr,
   ExprRest,
   And,
@@ -31,8 +31,8 @@ use Rattle.bl_syntax.specs.declared.grammar.Part.TheVariants.{
   Unary,
   Primary,
 }
-use Rattle.bl_syntax.specs.Grammar.{Piece, the}
-use Rattle.bl_syntax.specs.Grammar.IsAmong.{here, later}
+use Rattle.bl_parse_syntax.specs.Grammar.{Piece, the}
+use Rattle.bl_parse_syntax.specs.Grammar.IsAmong.{here, later}
 use Rattle.bl_parse.specs.At.{Takes}
 use Rattle.bl_parse.specs.Operators.{IsOperator, SpellsInfix, SpellsScalar, left_level}
 use Rattle.bl_parse_laws.proofs.Spans.{Spans, token, nothing, then, made, empty}

@@ -5,21 +5,21 @@ use Rattle.bl_tree.specs.declared.scalar.Op.{Op}
 use Rattle.bl_tree.specs.declared.scalar.Scalar.{Scalar as ScalarType}
 use Rattle.bl_tree.specs.declared.token.Token.{Token}
 use Rattle.bl_tree.specs.Reduce.{all_of}
-use Rattle.bl_raw.specs.declared.expr.RawExpr.{RawExpr, fold-roll-RawExpr}
-use Rattle.bl_raw.specs.declared.expr.RawExprKind.{RawExprKind, fold-RawExprKind, fold-roll-RawExprKind}
-use Rattle.bl_raw.specs.declared.expr.RawExprKind.TheVariants.{rolls-Number, rolls-Truth, rolls-Read, rolls-Prev, rolls-One, rolls-Two, rolls-Cast, rolls-Call}
-use Rattle.bl_raw.specs.declared.expr.RawExprKind as kind
-use Rattle.bl_raw.specs.declared.expr.RawPart.{RawPart, fold-RawPart, fold-roll-RawPart}
-use Rattle.bl_raw.specs.declared.expr.RawPart as step
-use Rattle.bl_raw.specs.declared.expr.RawPart.TheVariants.{rolls-Field, rolls-Index}
-use Rattle.bl_raw.specs.declared.expr.RawTarget.{RawTarget, fold-roll-RawTarget}
-use Rattle.bl_raw.specs.declared.name.Name.{Name}
-use Rattle.bl_raw.specs.declared.stmt.RawPath.{RawPath}
-use Rattle.bl_raw.specs.declared.types.RawLength.{RawLength}
-use Rattle.bl_raw.specs.declared.types.RawType.{RawType, fold-roll-RawType}
-use Rattle.bl_raw.specs.declared.types.RawType as form
-use Rattle.bl_raw.specs.declared.types.RawType.TheVariants.{rolls-Scalar, rolls-Struct, rolls-Array}
-use Rattle.bl_raw.specs.Names.{
+use Rattle.bl_parse_tree.specs.declared.expr.RawExpr.{RawExpr, fold-roll-RawExpr}
+use Rattle.bl_parse_tree.specs.declared.expr.RawExprKind.{RawExprKind, fold-RawExprKind, fold-roll-RawExprKind}
+use Rattle.bl_parse_tree.specs.declared.expr.RawExprKind.TheVariants.{rolls-Number, rolls-Truth, rolls-Read, rolls-Prev, rolls-One, rolls-Two, rolls-Cast, rolls-Call}
+use Rattle.bl_parse_tree.specs.declared.expr.RawExprKind as kind
+use Rattle.bl_parse_tree.specs.declared.expr.RawPart.{RawPart, fold-RawPart, fold-roll-RawPart}
+use Rattle.bl_parse_tree.specs.declared.expr.RawPart as step
+use Rattle.bl_parse_tree.specs.declared.expr.RawPart.TheVariants.{rolls-Field, rolls-Index}
+use Rattle.bl_parse_tree.specs.declared.expr.RawTarget.{RawTarget, fold-roll-RawTarget}
+use Rattle.bl_parse_tree.specs.declared.name.Name.{Name}
+use Rattle.bl_parse_tree.specs.declared.stmt.RawPath.{RawPath}
+use Rattle.bl_parse_tree.specs.declared.types.RawLength.{RawLength}
+use Rattle.bl_parse_tree.specs.declared.types.RawType.{RawType, fold-roll-RawType}
+use Rattle.bl_parse_tree.specs.declared.types.RawType as form
+use Rattle.bl_parse_tree.specs.declared.types.RawType.TheVariants.{rolls-Scalar, rolls-Struct, rolls-Array}
+use Rattle.bl_parse_tree.specs.Names.{
   named,
   length_named,
   type_named,

@@ -3,12 +3,12 @@ use Rattle.std.proofs.Common.{◌≡◌, ℕ, ◌+◌, Bool, true, false, List, 
 use Rattle.std.specs.Prelude.{Option, Some, None}
 use Rattle.bl_tree.specs.declared.token.Token.{Token}
 use Rattle.bl_tree.specs.declared.token.TokenKind.{TokenKind}
-use Rattle.bl_syntax.specs.declared.grammar.Class.{Class}
-use Rattle.bl_syntax.specs.Grammar.{class_of, same_class}
-use Rattle.bl_syntax.specs.Tables.{has}
-use Rattle.bl_syntax.proofs.Checks.{are_apart, are_within}
-use Rattle.bl_syntax.proofs.Right.{all_has, apart}
-use Rattle.bl_raw.specs.declared.name.Name.{Name}
+use Rattle.bl_parse_syntax.specs.declared.grammar.Class.{Class}
+use Rattle.bl_parse_syntax.specs.Grammar.{class_of, same_class}
+use Rattle.bl_parse_syntax.specs.Tables.{has}
+use Rattle.bl_parse_syntax.proofs.Checks.{are_apart, are_within}
+use Rattle.bl_parse_syntax.proofs.Right.{all_has, apart}
+use Rattle.bl_parse_tree.specs.declared.name.Name.{Name}
 use Rattle.bl_parse.specs.At.{kind_at, Takes, SpellsName}
 use Rattle.bl_parse.specs.inner.Reading.{next_among, NoneNext}
 use Rattle.bl_parse_laws.proofs.Spans.{same_self}

@@ -7,18 +7,18 @@ use Rattle.bl_tree.specs.declared.token.TokenKind.{TokenKind}
 use Rattle.bl_tree.specs.declared.token.TokenKind.TheVariants.{Number, Word, Sign}
 use Rattle.bl_lex.specs.declared.word.TheConstants.{TRUE, FALSE, PREV, NOT}
 use Rattle.bl_lex.specs.declared.sign.TheConstants.{OPEN_PAREN, CLOSE_PAREN, OPEN_BRACKET, CLOSE_BRACKET, COMMA, DOT, MINUS, TILDE}
-use Rattle.bl_syntax.specs.declared.grammar.Class.{Class}
-use Rattle.bl_syntax.specs.declared.grammar.Class.TheVariants.{AnyName, AnyNumber, Keyword, Mark}
-use Rattle.bl_syntax.specs.Grammar.{class_of, expression_starts}
-use Rattle.bl_syntax.specs.Follow.{after_name, after_expression}
-use Rattle.bl_syntax.proofs.Checks.{are_apart, are_within}
-use Rattle.bl_raw.specs.declared.expr.RawExpr.{RawExpr}
-use Rattle.bl_raw.specs.declared.expr.RawExprKind.{RawExprKind}
-use Rattle.bl_raw.specs.declared.expr.RawExprKind as kind
-use Rattle.bl_raw.specs.declared.expr.RawPart.{RawPart}
-use Rattle.bl_raw.specs.declared.expr.RawPart as step
-use Rattle.bl_raw.specs.declared.expr.RawTarget.{RawTarget}
-use Rattle.bl_raw.specs.declared.name.Name.{Name}
+use Rattle.bl_parse_syntax.specs.declared.grammar.Class.{Class}
+use Rattle.bl_parse_syntax.specs.declared.grammar.Class.TheVariants.{AnyName, AnyNumber, Keyword, Mark}
+use Rattle.bl_parse_syntax.specs.Grammar.{class_of, expression_starts}
+use Rattle.bl_parse_syntax.specs.Follow.{after_name, after_expression}
+use Rattle.bl_parse_syntax.proofs.Checks.{are_apart, are_within}
+use Rattle.bl_parse_tree.specs.declared.expr.RawExpr.{RawExpr}
+use Rattle.bl_parse_tree.specs.declared.expr.RawExprKind.{RawExprKind}
+use Rattle.bl_parse_tree.specs.declared.expr.RawExprKind as kind
+use Rattle.bl_parse_tree.specs.declared.expr.RawPart.{RawPart}
+use Rattle.bl_parse_tree.specs.declared.expr.RawPart as step
+use Rattle.bl_parse_tree.specs.declared.expr.RawTarget.{RawTarget}
+use Rattle.bl_parse_tree.specs.declared.name.Name.{Name}
 use Rattle.bl_parse.specs.At.{kind_at, span, Takes, SpellsName}
 use Rattle.bl_parse.specs.Operators.{IsPrefix, SpellsPrefix}
 use Rattle.bl_parse.specs.Expressions.{

@@ -8,17 +8,17 @@ use Rattle.bl_tree.specs.declared.token.TokenKind.TheVariants.{Word, Sign}
 use Rattle.bl_tree.specs.declared.tree.Guard.{Guard as GuardKind}
 use Rattle.bl_lex.specs.declared.word.TheConstants.{ABORT}
 use Rattle.bl_lex.specs.declared.sign.TheConstants.{OPEN_PAREN, CLOSE_PAREN, OPEN_BRACKET, COMMA, DOT, COLON, ASSIGN}
-use Rattle.bl_syntax.specs.declared.grammar.Class.TheVariants.{AnyName, Mark}
-use Rattle.bl_syntax.specs.Grammar.{class_of}
-use Rattle.bl_syntax.specs.Follow.{after_expression, after_statement}
-use Rattle.bl_syntax.proofs.Checks.{are_within}
-use Rattle.bl_raw.specs.declared.expr.RawExpr.{RawExpr}
-use Rattle.bl_raw.specs.declared.name.Name.{Name}
-use Rattle.bl_raw.specs.declared.stmt.RawConstant.{RawConstant}
-use Rattle.bl_raw.specs.declared.stmt.RawPath.{RawPath}
-use Rattle.bl_raw.specs.declared.types.RawLength.{RawLength}
-use Rattle.bl_raw.specs.declared.types.RawType.{RawType}
-use Rattle.bl_raw.specs.declared.types.RawType as form
+use Rattle.bl_parse_syntax.specs.declared.grammar.Class.TheVariants.{AnyName, Mark}
+use Rattle.bl_parse_syntax.specs.Grammar.{class_of}
+use Rattle.bl_parse_syntax.specs.Follow.{after_expression, after_statement}
+use Rattle.bl_parse_syntax.proofs.Checks.{are_within}
+use Rattle.bl_parse_tree.specs.declared.expr.RawExpr.{RawExpr}
+use Rattle.bl_parse_tree.specs.declared.name.Name.{Name}
+use Rattle.bl_parse_tree.specs.declared.stmt.RawConstant.{RawConstant}
+use Rattle.bl_parse_tree.specs.declared.stmt.RawPath.{RawPath}
+use Rattle.bl_parse_tree.specs.declared.types.RawLength.{RawLength}
+use Rattle.bl_parse_tree.specs.declared.types.RawType.{RawType}
+use Rattle.bl_parse_tree.specs.declared.types.RawType as form
 use Rattle.bl_tree.specs.declared.place.Place.{Place}
 use Rattle.bl_parse.specs.At.{span, Takes, SpellsName}
 use Rattle.bl_parse.specs.Expressions.{SpellsInputs}

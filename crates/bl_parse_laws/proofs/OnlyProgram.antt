@@ -8,20 +8,20 @@ use Rattle.bl_tree.specs.declared.tree.UnitKind.{UnitKind}
 use Rattle.bl_tree.specs.declared.tree.UnitKind.TheVariants.{Function, Activity}
 use Rattle.bl_lex.specs.declared.word.TheConstants.{VAR, STRUCT, CONST, FUNCTION, ACTIVITY, RETURNS, END}
 use Rattle.bl_lex.specs.declared.sign.TheConstants.{OPEN_PAREN, CLOSE_PAREN, COMMA, AT}
-use Rattle.bl_syntax.specs.declared.grammar.Class.{Class}
-use Rattle.bl_syntax.specs.declared.grammar.Class.TheVariants.{AnyName, Keyword, Mark}
-use Rattle.bl_syntax.specs.Grammar.{class_of}
-use Rattle.bl_syntax.specs.Follow.{after_expression, after_block, after_program, statement_starts}
-use Rattle.bl_syntax.proofs.Checks.{are_within}
-use Rattle.bl_raw.specs.declared.item.RawField.{RawField}
-use Rattle.bl_raw.specs.declared.item.RawItem.{RawItem}
-use Rattle.bl_raw.specs.declared.item.RawParam.{RawParam}
-use Rattle.bl_raw.specs.declared.item.RawStruct.{RawStruct}
-use Rattle.bl_raw.specs.declared.item.RawUnit.{RawUnit}
-use Rattle.bl_raw.specs.declared.name.Name.{Name}
-use Rattle.bl_raw.specs.declared.raw.Raw.{Raw}
-use Rattle.bl_raw.specs.declared.stmt.RawStmt.{RawStmt}
-use Rattle.bl_raw.specs.declared.types.RawType.{RawType}
+use Rattle.bl_parse_syntax.specs.declared.grammar.Class.{Class}
+use Rattle.bl_parse_syntax.specs.declared.grammar.Class.TheVariants.{AnyName, Keyword, Mark}
+use Rattle.bl_parse_syntax.specs.Grammar.{class_of}
+use Rattle.bl_parse_syntax.specs.Follow.{after_expression, after_block, after_program, statement_starts}
+use Rattle.bl_parse_syntax.proofs.Checks.{are_within}
+use Rattle.bl_parse_tree.specs.declared.item.RawField.{RawField}
+use Rattle.bl_parse_tree.specs.declared.item.RawItem.{RawItem}
+use Rattle.bl_parse_tree.specs.declared.item.RawParam.{RawParam}
+use Rattle.bl_parse_tree.specs.declared.item.RawStruct.{RawStruct}
+use Rattle.bl_parse_tree.specs.declared.item.RawUnit.{RawUnit}
+use Rattle.bl_parse_tree.specs.declared.name.Name.{Name}
+use Rattle.bl_parse_tree.specs.declared.raw.Raw.{Raw}
+use Rattle.bl_parse_tree.specs.declared.stmt.RawStmt.{RawStmt}
+use Rattle.bl_parse_tree.specs.declared.types.RawType.{RawType}
 use Rattle.bl_parse.specs.At.{kind_at, Takes}
 use Rattle.bl_parse.specs.Programs.{
   SpellsField,

@@ -24,20 +24,20 @@ use Rattle.bl_lex.specs.declared.word.TheConstants.{
   END,
   RETURN,
 }
-use Rattle.bl_syntax.specs.declared.grammar.Class.{Class}
-use Rattle.bl_syntax.specs.declared.grammar.Class.TheVariants.{AnyName, Keyword}
-use Rattle.bl_syntax.specs.Follow.{after_expression, statement_starts, after_statement, after_block}
-use Rattle.bl_raw.specs.declared.expr.RawExpr.{RawExpr}
-use Rattle.bl_raw.specs.declared.expr.RawTarget.{RawTarget}
-use Rattle.bl_raw.specs.declared.name.Name.{Name}
-use Rattle.bl_raw.specs.declared.stmt.RawArm.{RawArm, roll-RawArm}
-use Rattle.bl_raw.specs.declared.stmt.RawBranch.{RawBranch, roll-RawBranch}
-use Rattle.bl_raw.specs.declared.stmt.RawConstant.{RawConstant}
-use Rattle.bl_raw.specs.declared.stmt.RawPath.{RawPath}
-use Rattle.bl_raw.specs.declared.stmt.RawStmt.{RawStmt, roll-RawStmt}
-use Rattle.bl_raw.specs.declared.stmt.RawStmtKind.{RawStmtKind}
-use Rattle.bl_raw.specs.declared.stmt.RawStmtKind as kind
-use Rattle.bl_raw.specs.declared.types.RawType.{RawType}
+use Rattle.bl_parse_syntax.specs.declared.grammar.Class.{Class}
+use Rattle.bl_parse_syntax.specs.declared.grammar.Class.TheVariants.{AnyName, Keyword}
+use Rattle.bl_parse_syntax.specs.Follow.{after_expression, statement_starts, after_statement, after_block}
+use Rattle.bl_parse_tree.specs.declared.expr.RawExpr.{RawExpr}
+use Rattle.bl_parse_tree.specs.declared.expr.RawTarget.{RawTarget}
+use Rattle.bl_parse_tree.specs.declared.name.Name.{Name}
+use Rattle.bl_parse_tree.specs.declared.stmt.RawArm.{RawArm, roll-RawArm}
+use Rattle.bl_parse_tree.specs.declared.stmt.RawBranch.{RawBranch, roll-RawBranch}
+use Rattle.bl_parse_tree.specs.declared.stmt.RawConstant.{RawConstant}
+use Rattle.bl_parse_tree.specs.declared.stmt.RawPath.{RawPath}
+use Rattle.bl_parse_tree.specs.declared.stmt.RawStmt.{RawStmt, roll-RawStmt}
+use Rattle.bl_parse_tree.specs.declared.stmt.RawStmtKind.{RawStmtKind}
+use Rattle.bl_parse_tree.specs.declared.stmt.RawStmtKind as kind
+use Rattle.bl_parse_tree.specs.declared.types.RawType.{RawType}
 use Rattle.bl_parse.specs.At.{span, Takes, SpellsName}
 use Rattle.bl_parse.specs.Expressions.{SpellsExpr, SpellsTarget, SpellsInputs}
 use Rattle.bl_parse.specs.inner.Reading.{NoneNext}

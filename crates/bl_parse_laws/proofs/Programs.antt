@@ -6,7 +6,7 @@ use Rattle.bl_tree.specs.declared.token.TokenKind.{TokenKind}
 use Rattle.bl_tree.specs.declared.tree.UnitKind.{UnitKind}
 use Rattle.bl_grammar.specs.declared.symbol.Symbol.TheVariants.{Terminal}
 use Rattle.bl_lex.specs.declared.sign.TheConstants.{COMMA}
-use Rattle.bl_syntax.specs.declared.grammar.Part.TheVariants.{
+use Rattle.bl_parse_syntax.specs.declared.grammar.Part.TheVariants.{
   Program,
   Item,
   Struct,
@@ -22,17 +22,17 @@ use Rattle.bl_syntax.specs.declared.grammar.Part.TheVariants.{
   Param,
   Returns,
 }
-use Rattle.bl_syntax.specs.declared.grammar.View.{View}
-use Rattle.bl_syntax.specs.Grammar.{the, name, sign, class_of, views, productions, IsAmong, Derives}
-use Rattle.bl_syntax.specs.Grammar.IsAmong.{here, later}
-use Rattle.bl_syntax.specs.Rules.{SpellsProgram}
-use Rattle.bl_raw.specs.declared.item.RawField.{RawField}
-use Rattle.bl_raw.specs.declared.item.RawItem.{RawItem}
-use Rattle.bl_raw.specs.declared.item.RawParam.{RawParam}
-use Rattle.bl_raw.specs.declared.item.RawStruct.{RawStruct}
-use Rattle.bl_raw.specs.declared.item.RawUnit.{RawUnit}
-use Rattle.bl_raw.specs.declared.raw.Raw.{Raw}
-use Rattle.bl_raw.specs.declared.types.RawType.{RawType}
+use Rattle.bl_parse_syntax.specs.declared.grammar.TokenView.{TokenView}
+use Rattle.bl_parse_syntax.specs.Grammar.{the, name, sign, class_of, views, productions, IsAmong, SourceDerives}
+use Rattle.bl_parse_syntax.specs.Grammar.IsAmong.{here, later}
+use Rattle.bl_parse_syntax.specs.Rules.{SpellsProgram}
+use Rattle.bl_parse_tree.specs.declared.item.RawField.{RawField}
+use Rattle.bl_parse_tree.specs.declared.item.RawItem.{RawItem}
+use Rattle.bl_parse_tree.specs.declared.item.RawParam.{RawParam}
+use Rattle.bl_parse_tree.specs.declared.item.RawStruct.{RawStruct}
+use Rattle.bl_parse_tree.specs.declared.item.RawUnit.{RawUnit}
+use Rattle.bl_parse_tree.specs.declared.raw.Raw.{Raw}
+use Rattle.bl_parse_tree.specs.declared.types.RawType.{RawType}
 use Rattle.bl_parse.specs.Programs.{
   SpellsField,
   SpellsFieldList,
@@ -140,4 +140,4 @@ a_program h = repeated (the Item ∷ []) Program here (λ n. refl) (items_of h.i
 
 -- the tokens of a tree that is spelled spell a program
 pub spells_program : (text : List ℕ) (tokens : List Token) (raw : Raw) → Spells text tokens raw → SpellsProgram tokens
-spells_program text tokens raw h = subst (λ (vs : List View). Derives (the Program ∷ []) (views tokens) vs) (all_left None tokens) (a_program h).goes
+spells_program text tokens raw h = subst (λ (vs : List TokenView). SourceDerives (the Program ∷ []) (views tokens) vs) (all_left None tokens) (a_program h).goes

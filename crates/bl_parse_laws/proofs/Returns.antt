@@ -29,9 +29,9 @@ use Rattle.bl_lex.specs.declared.word.TheConstants.{NOT, TRUE, FALSE, PREV, RETU
 use Rattle.bl_lex.specs.declared.sign.TheConstants.{OPEN_PAREN, MINUS, TILDE}
 use Rattle.bl_grammar.specs.Derivations.{next_of}
 use Rattle.bl_grammar.specs.Derivations.Derives.{done, part}
-use Rattle.bl_syntax.specs.declared.grammar.Part.TheVariants.{AfterReturn, Expr}
-use Rattle.bl_syntax.specs.Grammar.{the, class_of, views_after, begins_expression, continues}
-use Rattle.bl_syntax.specs.Grammar.IsAmong.{here, later}
+use Rattle.bl_parse_syntax.specs.declared.grammar.Part.TheVariants.{AfterReturn, Expr}
+use Rattle.bl_parse_syntax.specs.Grammar.{the, class_of, views_after, begins_expression, continues}
+use Rattle.bl_parse_syntax.specs.Grammar.IsAmong.{here, later}
 use Rattle.bl_parse.specs.At.{kind_at, Takes}
 use Rattle.bl_parse.specs.Operators.{begins_expr}
 use Rattle.bl_parse.specs.inner.Reading.{left}

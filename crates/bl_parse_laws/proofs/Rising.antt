@@ -32,7 +32,7 @@ use Rattle.bl_tree.specs.declared.token.Token.{Token}
 use Rattle.bl_tree.specs.Reduce.{joined}
 use Rattle.bl_lex.specs.Tokens.{Lexes}
 use Rattle.bl_lex.proofs.RuleLaws.{tokens_inside, tokens_in_order}
-use Rattle.bl_raw.specs.Starts.{ascends}
+use Rattle.bl_parse_tree.specs.Starts.{ascends}
 use Rattle.bl_parse.specs.At.{start_at}
 use Rattle.bl_parse_laws.proofs.Tests.{both}
 use Rattle.bl_parse_laws.proofs.Members.{mapped_more}

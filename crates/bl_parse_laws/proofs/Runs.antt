@@ -6,17 +6,17 @@ use Rattle.bl_tree.specs.declared.scalar.Scalar.{Scalar as ScalarType}
 use Rattle.bl_tree.specs.declared.token.Token.{Token}
 use Rattle.bl_tree.specs.declared.token.TokenKind.{TokenKind}
 use Rattle.bl_tree.specs.Reduce.{greatest}
-use Rattle.bl_syntax.specs.Depth.{is_counted, is_last}
-use Rattle.bl_raw.specs.declared.expr.RawExpr.{RawExpr, fold-roll-RawExpr}
-use Rattle.bl_raw.specs.declared.expr.RawExprKind.{RawExprKind, fold-RawExprKind, fold-roll-RawExprKind}
-use Rattle.bl_raw.specs.declared.expr.RawExprKind.TheVariants.{rolls-Number, rolls-Truth, rolls-Read, rolls-Prev, rolls-One, rolls-Two, rolls-Cast, rolls-Call}
-use Rattle.bl_raw.specs.declared.expr.RawExprKind as kind
-use Rattle.bl_raw.specs.declared.expr.RawPart.{RawPart, fold-RawPart, fold-roll-RawPart}
-use Rattle.bl_raw.specs.declared.expr.RawPart as step
-use Rattle.bl_raw.specs.declared.expr.RawPart.TheVariants.{rolls-Field, rolls-Index}
-use Rattle.bl_raw.specs.declared.expr.RawTarget.{RawTarget, fold-roll-RawTarget}
-use Rattle.bl_raw.specs.declared.name.Name.{Name}
-use Rattle.bl_raw.specs.Depths.{kind_depth, part_depth, expr_layer_depth, target_layer_depth, expr_depth, target_depth}
+use Rattle.bl_parse_syntax.specs.Depth.{is_counted, is_last}
+use Rattle.bl_parse_tree.specs.declared.expr.RawExpr.{RawExpr, fold-roll-RawExpr}
+use Rattle.bl_parse_tree.specs.declared.expr.RawExprKind.{RawExprKind, fold-RawExprKind, fold-roll-RawExprKind}
+use Rattle.bl_parse_tree.specs.declared.expr.RawExprKind.TheVariants.{rolls-Number, rolls-Truth, rolls-Read, rolls-Prev, rolls-One, rolls-Two, rolls-Cast, rolls-Call}
+use Rattle.bl_parse_tree.specs.declared.expr.RawExprKind as kind
+use Rattle.bl_parse_tree.specs.declared.expr.RawPart.{RawPart, fold-RawPart, fold-roll-RawPart}
+use Rattle.bl_parse_tree.specs.declared.expr.RawPart as step
+use Rattle.bl_parse_tree.specs.declared.expr.RawPart.TheVariants.{rolls-Field, rolls-Index}
+use Rattle.bl_parse_tree.specs.declared.expr.RawTarget.{RawTarget, fold-roll-RawTarget}
+use Rattle.bl_parse_tree.specs.declared.name.Name.{Name}
+use Rattle.bl_parse_tree.specs.Depths.{kind_depth, part_depth, expr_layer_depth, target_layer_depth, expr_depth, target_depth}
 use Rattle.bl_parse.specs.Expressions.{expr, target, IsTruth, SpellsNone, SpellsExpr, SpellsTarget, SpellsPart, SpellsParts, SpellsInputs, SpellsExprs}
 use Rattle.bl_parse.specs.Operators.{IsOperator, IsPrefix, IsScalar}
 use Rattle.bl_parse_laws.proofs.Counts.{run_at, is_inner, counts, keeps, Base, behind}

@@ -6,20 +6,20 @@ use Rattle.bl_tree.specs.declared.token.Token.{Token}
 use Rattle.bl_tree.specs.declared.token.TokenKind.{TokenKind}
 use Rattle.bl_grammar.specs.declared.symbol.Symbol.TheVariants.{Terminal}
 use Rattle.bl_grammar.specs.Derivations.Derives.{done, terminal, part}
-use Rattle.bl_syntax.specs.declared.grammar.Class.{Class}
-use Rattle.bl_syntax.specs.declared.grammar.Class.TheVariants.{AnyName, AnyNumber, Keyword, Mark}
-use Rattle.bl_syntax.specs.declared.grammar.Part.{Part}
-use Rattle.bl_syntax.specs.declared.grammar.View.{View}
-use Rattle.bl_syntax.specs.Grammar.{Piece, the, class_of, view_of, views_after, same_class, productions, may_stand, IsAmong, Derives}
+use Rattle.bl_parse_syntax.specs.declared.grammar.Class.{Class}
+use Rattle.bl_parse_syntax.specs.declared.grammar.Class.TheVariants.{AnyName, AnyNumber, Keyword, Mark}
+use Rattle.bl_parse_syntax.specs.declared.grammar.Part.{Part}
+use Rattle.bl_parse_syntax.specs.declared.grammar.TokenView.{TokenView}
+use Rattle.bl_parse_syntax.specs.Grammar.{Piece, the, class_of, view_of, views_after, same_class, productions, may_stand, IsAmong, SourceDerives}
 use Rattle.bl_parse.specs.At.{Takes}
 use Rattle.bl_parse.specs.inner.Reading.{left}
 use Rattle.bl_parse.proofs.ReturnLemmas.{token_at}
 
 -- the pieces, one after the other, stand for the tokens from a position up to another
 pub record Spans (pieces : List Piece) (tokens : List Token) (from to : ℕ) : Type 0 where
-  pub goes : Derives pieces (left tokens from) (left tokens to)
+  pub goes : SourceDerives pieces (left tokens from) (left tokens to)
 
-append : {xs ys : List Piece} {a b c : List View} → Derives xs a b → Derives ys b c → Derives (xs ++ ys) a c
+append : {xs ys : List Piece} {a b c : List TokenView} → SourceDerives xs a b → SourceDerives ys b c → SourceDerives (xs ++ ys) a c
 append done e = e
 append (terminal m d) e = terminal m (append d e)
 append (part made d r) e = part made d (append r e)
@@ -51,8 +51,8 @@ same_self AnyNumber = refl
 same_self (Keyword k) = eq-eqb k k refl
 same_self (Mark k) = eq-eqb k k refl
 
-one_token : (class : Class) {vs ws : List View} (view : View) → vs ≡ view ∷ ws → view.class ≡ class → Derives (Terminal class ∷ []) vs ws
-one_token class {vs} {ws} view is same = subst (λ (us : List View). Derives (Terminal class ∷ []) us ws) (sym is)
+one_token : (class : Class) {vs ws : List TokenView} (view : TokenView) → vs ≡ view ∷ ws → view.class ≡ class → SourceDerives (Terminal class ∷ []) vs ws
+one_token class {vs} {ws} view is same = subst (λ (us : List TokenView). SourceDerives (Terminal class ∷ []) us ws) (sym is)
     (terminal (subst (λ (c : Class). same_class class c ≡ true) (sym same) (same_self class)) done)
 
 view_there : (tokens : List Token) (k : ℕ) (one : Token) {to : ℕ} → slice_get tokens k ≡ Some one → to ≡ k + 1 →
@@ -82,12 +82,12 @@ join xs a b = record { goes = append a.goes b.goes }
 
 -- what a production stands for is the part
 pub made : {production : List Piece} {tokens : List Token} {from to : ℕ} (A : Part) → IsAmong production (productions A) →
-    ((next : Option View) → may_stand A next production ≡ true)
+    ((next : Option TokenView) → may_stand A next production ≡ true)
     → Spans production tokens from to → Spans (the A ∷ []) tokens from to
 made A among may s = record { goes = part (among, may _) s.goes done }
 
 pub empty : {tokens : List Token} {from to : ℕ} (A : Part) → IsAmong [] (productions A) →
-    ((next : Option View) → may_stand A next [] ≡ true) → to ≡ from → Spans (the A ∷ []) tokens from to
+    ((next : Option TokenView) → may_stand A next [] ≡ true) → to ≡ from → Spans (the A ∷ []) tokens from to
 empty A among may is = made A among may (stay is)
 
 pub from_there : {pieces : List Piece} {tokens : List Token} {from m to : ℕ} → m ≡ from → Spans pieces tokens m to → Spans pieces tokens from to
@@ -106,7 +106,7 @@ add (Chain.more a c) s = Chain.more a (add c s)
 
 -- a chain, and the part behind it that repeats its link
 pub repeated : {tokens : List Token} (link : List Piece) (A : Part) → IsAmong (link ++ the A ∷ []) (productions A) →
-    ((next : Option View) → may_stand A next (link ++ the A ∷ []) ≡ true)
+    ((next : Option TokenView) → may_stand A next (link ++ the A ∷ []) ≡ true)
     → {from m to : ℕ} → Chain link tokens from m → Spans (the A ∷ []) tokens m to → Spans (the A ∷ []) tokens from to
 repeated link A among may (Chain.over is) s = from_there is s
 repeated link A among may (Chain.more a c) s = made A among may (join link a (repeated link A among may c s))

@@ -7,23 +7,23 @@ use Rattle.bl_tree.specs.declared.token.Token.{Token}
 use Rattle.bl_tree.specs.declared.tree.Guard.{Guard}
 use Rattle.bl_tree.specs.Reduce.{all_of}
 use Rattle.bl_lex.specs.Tokens.{Lexes}
-use Rattle.bl_raw.specs.declared.expr.RawExpr.{RawExpr}
-use Rattle.bl_raw.specs.declared.expr.RawTarget.{RawTarget}
-use Rattle.bl_raw.specs.declared.item.RawField.{RawField}
-use Rattle.bl_raw.specs.declared.item.RawItem.{RawItem}
-use Rattle.bl_raw.specs.declared.item.RawParam.{RawParam}
-use Rattle.bl_raw.specs.declared.item.RawStruct.{RawStruct}
-use Rattle.bl_raw.specs.declared.item.RawUnit.{RawUnit}
-use Rattle.bl_raw.specs.declared.name.Name.{Name}
-use Rattle.bl_raw.specs.declared.raw.Raw.{Raw}
-use Rattle.bl_raw.specs.declared.stmt.RawArm.{RawArm, fold-RawArm, fold-roll-RawArm, roll-RawArm}
-use Rattle.bl_raw.specs.declared.stmt.RawBranch.{RawBranch, fold-RawBranch, fold-roll-RawBranch, roll-RawBranch}
-use Rattle.bl_raw.specs.declared.stmt.RawConstant.{RawConstant}
-use Rattle.bl_raw.specs.declared.stmt.RawPath.{RawPath}
-use Rattle.bl_raw.specs.declared.stmt.RawStmt.{RawStmt, fold-roll-RawStmt, roll-RawStmt}
-use Rattle.bl_raw.specs.declared.stmt.RawStmtKind.{RawStmtKind, fold-RawStmtKind, fold-roll-RawStmtKind}
-use Rattle.bl_raw.specs.declared.stmt.RawStmtKind as kind
-use Rattle.bl_raw.specs.declared.stmt.RawStmtKind.TheVariants.{
+use Rattle.bl_parse_tree.specs.declared.expr.RawExpr.{RawExpr}
+use Rattle.bl_parse_tree.specs.declared.expr.RawTarget.{RawTarget}
+use Rattle.bl_parse_tree.specs.declared.item.RawField.{RawField}
+use Rattle.bl_parse_tree.specs.declared.item.RawItem.{RawItem}
+use Rattle.bl_parse_tree.specs.declared.item.RawParam.{RawParam}
+use Rattle.bl_parse_tree.specs.declared.item.RawStruct.{RawStruct}
+use Rattle.bl_parse_tree.specs.declared.item.RawUnit.{RawUnit}
+use Rattle.bl_parse_tree.specs.declared.name.Name.{Name}
+use Rattle.bl_parse_tree.specs.declared.raw.Raw.{Raw}
+use Rattle.bl_parse_tree.specs.declared.stmt.RawArm.{RawArm, fold-RawArm, fold-roll-RawArm, roll-RawArm}
+use Rattle.bl_parse_tree.specs.declared.stmt.RawBranch.{RawBranch, fold-RawBranch, fold-roll-RawBranch, roll-RawBranch}
+use Rattle.bl_parse_tree.specs.declared.stmt.RawConstant.{RawConstant}
+use Rattle.bl_parse_tree.specs.declared.stmt.RawPath.{RawPath}
+use Rattle.bl_parse_tree.specs.declared.stmt.RawStmt.{RawStmt, fold-roll-RawStmt, roll-RawStmt}
+use Rattle.bl_parse_tree.specs.declared.stmt.RawStmtKind.{RawStmtKind, fold-RawStmtKind, fold-roll-RawStmtKind}
+use Rattle.bl_parse_tree.specs.declared.stmt.RawStmtKind as kind
+use Rattle.bl_parse_tree.specs.declared.stmt.RawStmtKind.TheVariants.{
   rolls-Var,
   rolls-Let,
   rolls-Const,
@@ -39,8 +39,8 @@ use Rattle.bl_raw.specs.declared.stmt.RawStmtKind.TheVariants.{
   rolls-While,
   rolls-Return,
 }
-use Rattle.bl_raw.specs.declared.types.RawType.{RawType}
-use Rattle.bl_raw.specs.Names.{
+use Rattle.bl_parse_tree.specs.declared.types.RawType.{RawType}
+use Rattle.bl_parse_tree.specs.Names.{
   named,
   optional,
   is_filled,

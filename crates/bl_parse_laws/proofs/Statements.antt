@@ -7,7 +7,7 @@ use Rattle.bl_tree.specs.declared.tree.Guard.{Guard as GuardKind}
 use Rattle.bl_grammar.specs.declared.symbol.Symbol.TheVariants.{Terminal}
 use Rattle.bl_lex.specs.declared.word.TheConstants.{COBEGIN, WITH, IF, THEN, ELSEIF, END}
 use Rattle.bl_lex.specs.declared.sign.TheConstants.{COLON, ASSIGN, COMMA, DOT}
-use Rattle.bl_syntax.specs.declared.grammar.Part.TheVariants.{
+use Rattle.bl_parse_syntax.specs.declared.grammar.Part.TheVariants.{
   Constant,
   TypeMark,
   Ty,
@@ -36,17 +36,17 @@ use Rattle.bl_syntax.specs.declared.grammar.Part.TheVariants.{
   PathRest,
   Expr,
 }
-use Rattle.bl_syntax.specs.Grammar.{Piece, the, name, word, sign, class_of, productions, IsAmong}
-use Rattle.bl_syntax.specs.Grammar.IsAmong.{here, later}
-use Rattle.bl_raw.specs.declared.expr.RawExpr.{RawExpr}
-use Rattle.bl_raw.specs.declared.name.Name.{Name}
-use Rattle.bl_raw.specs.declared.stmt.RawArm.{RawArm}
-use Rattle.bl_raw.specs.declared.stmt.RawBranch.{RawBranch}
-use Rattle.bl_raw.specs.declared.stmt.RawConstant.{RawConstant}
-use Rattle.bl_raw.specs.declared.stmt.RawPath.{RawPath}
-use Rattle.bl_raw.specs.declared.stmt.RawStmt.{RawStmt}
-use Rattle.bl_raw.specs.declared.stmt.RawStmtKind.{RawStmtKind}
-use Rattle.bl_raw.specs.declared.types.RawType.{RawType}
+use Rattle.bl_parse_syntax.specs.Grammar.{Piece, the, name, word, sign, class_of, productions, IsAmong}
+use Rattle.bl_parse_syntax.specs.Grammar.IsAmong.{here, later}
+use Rattle.bl_parse_tree.specs.declared.expr.RawExpr.{RawExpr}
+use Rattle.bl_parse_tree.specs.declared.name.Name.{Name}
+use Rattle.bl_parse_tree.specs.declared.stmt.RawArm.{RawArm}
+use Rattle.bl_parse_tree.specs.declared.stmt.RawBranch.{RawBranch}
+use Rattle.bl_parse_tree.specs.declared.stmt.RawConstant.{RawConstant}
+use Rattle.bl_parse_tree.specs.declared.stmt.RawPath.{RawPath}
+use Rattle.bl_parse_tree.specs.declared.stmt.RawStmt.{RawStmt}
+use Rattle.bl_parse_tree.specs.declared.stmt.RawStmtKind.{RawStmtKind}
+use Rattle.bl_parse_tree.specs.declared.types.RawType.{RawType}
 use Rattle.bl_parse.specs.At.{SpellsName}
 use Rattle.bl_parse.specs.Statements.{
   SpellsTyping,

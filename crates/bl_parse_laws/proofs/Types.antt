@@ -4,12 +4,12 @@ use Rattle.bl_tree.specs.declared.scalar.Scalar.{Scalar as ScalarType}
 use Rattle.bl_tree.specs.declared.token.Token.{Token}
 use Rattle.bl_tree.specs.declared.token.TokenKind.{TokenKind}
 use Rattle.bl_grammar.specs.declared.symbol.Symbol.TheVariants.{Terminal}
-use Rattle.bl_syntax.specs.declared.grammar.Part.TheVariants.{Ty, Scalar, Length}
-use Rattle.bl_syntax.specs.Grammar.{the, name, class_of, productions, IsAmong}
-use Rattle.bl_syntax.specs.Grammar.IsAmong.{here, later}
-use Rattle.bl_raw.specs.declared.name.Name.{Name}
-use Rattle.bl_raw.specs.declared.types.RawLength.{RawLength}
-use Rattle.bl_raw.specs.declared.types.RawType.{RawType}
+use Rattle.bl_parse_syntax.specs.declared.grammar.Part.TheVariants.{Ty, Scalar, Length}
+use Rattle.bl_parse_syntax.specs.Grammar.{the, name, class_of, productions, IsAmong}
+use Rattle.bl_parse_syntax.specs.Grammar.IsAmong.{here, later}
+use Rattle.bl_parse_tree.specs.declared.name.Name.{Name}
+use Rattle.bl_parse_tree.specs.declared.types.RawLength.{RawLength}
+use Rattle.bl_parse_tree.specs.declared.types.RawType.{RawType}
 use Rattle.bl_parse.specs.At.{SpellsName}
 use Rattle.bl_parse.specs.Operators.{IsScalar, SpellsScalar}
 use Rattle.bl_parse.specs.Types.{SpellsLength, SpellsType}

@@ -2,8 +2,8 @@
 
 ghost use Rattle.std.specs.Prelude.{◌≡◌, ℕ, List};
 ghost use Rattle.bl_tree.specs.declared.token.Token.{Token};
-ghost use Rattle.bl_syntax.specs.Rules.{SpellsProgram};
-ghost use Rattle.bl_raw.specs.declared.raw.Raw.{Raw};
+ghost use Rattle.bl_parse_syntax.specs.Rules.{SpellsProgram};
+ghost use Rattle.bl_parse_tree.specs.declared.raw.Raw.{Raw};
 ghost use Rattle.bl_parse.specs.Programs.{Spells};
 
 /// Tokens that spell a tree spell a program of the grammar.

@@ -2,10 +2,10 @@
 
 use bl_lex::lex;
 use bl_parse::parse;
-use bl_raw::Raw;
-use bl_raw::expr::RawExprKind;
-use bl_raw::item::RawItem;
-use bl_raw::stmt::RawStmtKind;
+use bl_parse_tree::Raw;
+use bl_parse_tree::expr::RawExprKind;
+use bl_parse_tree::item::RawItem;
+use bl_parse_tree::stmt::RawStmtKind;
 use bl_tree::Refusal;
 use std::alloc::Global;
 use std::test::Fail;

@@ -3,7 +3,7 @@ use Rattle.std.specs.Prelude.{◌≡◌, ℕ, ℤ, pos, neg_ℤ, ◌+ℤ◌, ◌
 use Rattle.std.specs.Prelude.{◌∷◌, length, fold, nat_lt, if◌then◌else◌, slice_get}
 use Rattle.std.specs.Prelude.{slice_index_or, Option, Some, None}
 use Rattle.std.specs.Int.{int_max, int_min}
-use Rattle.bl_plant.specs.Plants.{Shown}
+use Rattle.bl_plant.specs.Plants.{PlantView}
 use Rattle.bl_plant.specs.declared.log.Log.{Log}
 use Rattle.bl_plant.specs.declared.script.Turn.{Turn}
 use Rattle.bl_plant.specs.declared.script.Turn.TheVariants as turn
@@ -31,7 +31,7 @@ abbrev pub tank_rule : ℤ → ℤ → ℕ → Log → Option (List ℤ)
 tank_rule first drain rows log = if nat_lt (length log.given) rows then Some (level_after first drain log.told ∷ []) else None
 
 -- a tank that has this log
-abbrev pub tank : ℤ → ℤ → ℕ → Log → Shown
+abbrev pub tank : ℤ → ℤ → ℕ → Log → PlantView
 tank first drain rows log = record { name = 1; width = 1; log = log; faults = 0; rule = Some (tank_rule first drain rows) }
 
 -- ---- ramps
@@ -49,7 +49,7 @@ abbrev pub ramp_rule : ℤ → ℤ → Log → Option (List ℤ)
 ramp_rule first step log = Some (ramp_at first step log.given ∷ [])
 
 -- a ramp that has this log
-abbrev pub ramp : ℤ → ℤ → Log → Shown
+abbrev pub ramp : ℤ → ℤ → Log → PlantView
 ramp first step log = record { name = 2; width = 1; log = log; faults = 0; rule = Some (ramp_rule first step) }
 
 -- ---- scripts
@@ -69,5 +69,5 @@ abbrev pub script_rule : List Turn → Log → Option (List ℤ)
 script_rule turns log = slice_get (rows_in turns) (length log.given)
 
 -- a script that has this log and so many faults
-abbrev pub script : ℕ → ℕ → List Turn → Log → ℕ → Shown
+abbrev pub script : ℕ → ℕ → List Turn → Log → ℕ → PlantView
 script name width turns log faults = record { name = name; width = width; log = log; faults = faults; rule = Some (script_rule turns) }

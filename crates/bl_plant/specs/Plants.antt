@@ -7,7 +7,7 @@ use Rattle.bl_plant.specs.declared.plant.Give.TheVariants as give
 use Rattle.bl_tree.specs.declared.memory.NoMemory.{NoMemory}
 
 -- what a plant shows
-pub record Shown : Type 0 where
+pub record PlantView : Type 0 where
   pub name : ℕ
   -- how many numbers a row has that it gives
   pub width : ℕ
@@ -18,7 +18,7 @@ pub record Shown : Type 0 where
   pub rule : Option (Log → Option (List ℤ))
 
 -- a plant keeps its name, its width and its rule, and its count of faults never falls
-pub record IsSame (before after : Shown) : Type 0 where
+pub record IsSame (before after : PlantView) : Type 0 where
   pub name : after.name ≡ before.name
   pub width : after.width ≡ before.width
   pub rule : after.rule ≡ before.rule
@@ -33,18 +33,18 @@ abbrev pub with_told : Log → List ℤ → Log
 with_told log row = record { given = log.given; told = log.told ++ row ∷ [] }
 
 -- where a plant tells its rule, the rule says this of its log
-abbrev pub AsRuled : Shown → Option (List ℤ) → Type 0
+abbrev pub AsRuled : PlantView → Option (List ℤ) → Type 0
 AsRuled p answer = IfSome p.rule (λ rule. rule p.log ≡ answer)
 
 -- what each answer to whom asks for a row says, and what it leaves of the log
-abbrev pub AnsweredBy : Shown → Give → List ℤ → Shown → Type 0
+abbrev pub AnsweredBy : PlantView → Give → List ℤ → PlantView → Type 0
 AnsweredBy before give.Gave row after = (after.log ≡ with_given before.log row) × AsRuled before (Some row)
 AnsweredBy before give.Finished row after = (after.log ≡ before.log) × AsRuled before None
 AnsweredBy before give.Failed row after = (after.log ≡ before.log) × Rose before.faults after.faults
 AnsweredBy before give.NoMemory row after = after.log ≡ before.log
 
 -- a plant that was asked for a row has answered so
-pub record Gives (before : Shown) (answer : Give) (row : List ℤ) (after : Shown) : Type 0 where
+pub record Gives (before : PlantView) (answer : Give) (row : List ℤ) (after : PlantView) : Type 0 where
   pub same : IsSame before after
   pub answered : AnsweredBy before answer row after
 
@@ -54,6 +54,6 @@ LogTold before row (Ok done) after = after ≡ with_told before row
 LogTold before row (Err e) after = after ≡ before
 
 -- a plant was told a row
-pub record IsTold (before : Shown) (row : List ℤ) (answer : Result (Unit {0}) NoMemory) (after : Shown) : Type 0 where
+pub record IsTold (before : PlantView) (row : List ℤ) (answer : Result (Unit {0}) NoMemory) (after : PlantView) : Type 0 where
   pub same : IsSame before after
   pub told : LogTold before.log row answer after.log

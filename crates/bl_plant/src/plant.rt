@@ -1,7 +1,7 @@
 //! What gives rows of numbers, and is told rows of outputs.
 
 ghost use Rattle.std.specs.Prelude.{◌≡◌, length};
-ghost use Rattle.bl_plant.specs.Plants.{Shown, Gives, IsTold};
+ghost use Rattle.bl_plant.specs.Plants.{PlantView, Gives, IsTold};
 
 use crate::log::{Log, PlantName};
 use bl_tree::{NoMemory, Row};
@@ -22,7 +22,7 @@ pub enum Give {
 /// faults never falls.
 pub trait Plant: Drop {
     // Its name, width and log, its count of faults, and its rule where it tells one.
-    ghost shown: { Self → Shown };
+    ghost shown: { Self → PlantView };
 
     fn name(&self) -> PlantName
         ensures { result.number ≡ (shown self.now).name };

@@ -36,7 +36,7 @@ use Rattle.bl_rows.specs.declared.fault.RowFault.{RowFault}
 use Rattle.bl_rows.specs.declared.fault.RowFault.TheVariants.{BadHeader, BadRow, LongLine, NoMemory}
 use Rattle.bl_rows.specs.declared.verdict.Verdict.{Verdict}
 use Rattle.bl_rows.specs.declared.verdict.Verdict.TheVariants.{Passed, Header, Numbers, Bad}
-use Rattle.bl_rows.specs.declared.verdict.Place.{Place}
+use Rattle.bl_rows.specs.declared.verdict.RowPlace.{RowPlace}
 use Rattle.bl_rows.specs.Lines.{Cut, cut, led_by, whole_lines, unfinished, last_line, lines_of, has_feed}
 use Rattle.bl_rows.specs.Reading.{
   Reading,
@@ -48,7 +48,7 @@ use Rattle.bl_rows.specs.Reading.{
   overrun,
   after,
   led_by_line,
-  Told,
+  RowsRead,
   told,
   first_of,
   fault_in,
@@ -72,7 +72,7 @@ then_by : List Column → Option RowFault → Scan → List (List ℕ) → Scan
 then_by columns None s lines = with_rows s.rows (scan columns s.at lines)
 then_by columns (Some fault) s lines = s
 
-led_then : (columns : List Column) (at : Place) (v : Verdict) (o : Option RowFault) (s : Scan) (b : List (List ℕ)) → s.fault ≡ o
+led_then : (columns : List Column) (at : RowPlace) (v : Verdict) (o : Option RowFault) (s : Scan) (b : List (List ℕ)) → s.fault ≡ o
     → led_by_line at v (then_by columns s.fault s b) ≡ then_by columns (led_by_line at v s).fault (led_by_line at v s) b
 unfolding then_by
 led_then columns at Passed o s b e = refl
@@ -81,7 +81,7 @@ led_then columns at (Numbers row) None s b e = rw e refl
 led_then columns at (Numbers row) (Some fault) s b e = rw e refl
 led_then columns at (Bad fault) o s b e = refl
 
-scan_append : (columns : List Column) (at : Place) (a b : List (List ℕ)) →
+scan_append : (columns : List Column) (at : RowPlace) (a b : List (List ℕ)) →
     scan columns at (a ++ b) ≡ then_by columns (scan columns at a).fault (scan columns at a) b
 unfolding then_by
 scan_append columns at [] b = refl
@@ -127,10 +127,10 @@ begins b u rest h = subst (λ (c : Cut). Begins (b ∷ u) (c.whole ++ last_line 
     (begins_by b u (whole_lines rest) (unfinished rest))
 
 -- a line past a limit stays past it
-over_grows : (at : Place) (n m : ℕ) (fault : RowFault) → n ≤ m → over_limit at n ≡ Some fault → over_limit at m ≡ Some fault
+over_grows : (at : RowPlace) (n m : ℕ) (fault : RowFault) → n ≤ m → over_limit at n ≡ Some fault → over_limit at m ≡ Some fault
 over_grows at n m fault h e = grind (arith, nat_tests)
 
-overrun_stops : (columns : List Column) (at : Place) (u rest : List ℕ) (fault : RowFault) → has_feed u ≡ false → overrun at u ≡ Some fault
+overrun_stops : (columns : List Column) (at : RowPlace) (u rest : List ℕ) (fault : RowFault) → has_feed u ≡ false → overrun at u ≡ Some fault
     → scan columns at (lines_of (u ++ rest)) ≡ record { rows = []; at = at; fault = Some fault }
 overrun_stops columns at [] rest fault h e = cc
 overrun_stops columns at (b ∷ u) rest fault h e =
@@ -143,7 +143,7 @@ told_rows : (rows : List (List ℤ)) (s : Scan) → told (with_rows rows s) ≡ 
 told_rows rows s = refl
 
 -- a scan that stopped, or goes on with what is unfinished
-by_scan : (columns : List Column) (s : Scan) (u rest : List ℕ) (o p stop : Option RowFault) (later : Told) → has_feed u ≡ false →
+by_scan : (columns : List Column) (s : Scan) (u rest : List ℕ) (o p stop : Option RowFault) (later : RowsRead) → has_feed u ≡ false →
     s.fault ≡ o → overrun s.at u ≡ p → stop ≡ first_of s.fault (overrun s.at u)
     → (stop ≡ None → later ≡ told (scan columns s.at (lines_of (u ++ rest))))
     → told (then_by columns s.fault s (lines_of (u ++ rest))) ≡ led_by_rows s.rows (unless_stopped stop later)
@@ -183,14 +183,14 @@ pub ended_clean : (s : Reading) → s.stop ≡ None → s.line ≡ [] → rows_a
 ended_clean s running empty = rows_at_end s running (rw empty refl) ∙ ap (λ l. told (scan s.columns s.at (last_line l))) empty
 
 -- a last line that has bytes
-led_last : (at : Place) (v : Verdict) → told (led_by_line at v (record { rows = []; at = after at v; fault = None }))
+led_last : (at : RowPlace) (v : Verdict) → told (led_by_line at v (record { rows = []; at = after at v; fault = None }))
     ≡ record { rows = rows_by v; fault = fault_at_end (after at v) (fault_of v) }
 led_last at Passed = refl
 led_last at Header = refl
 led_last at (Numbers row) = refl
 led_last at (Bad fault) = refl
 
-last_scan : (columns : List Column) (at : Place) (line : List ℕ) → line ≢ [] → told (scan columns at (last_line line))
+last_scan : (columns : List Column) (at : RowPlace) (line : List ℕ) → line ≢ [] → told (scan columns at (last_line line))
     ≡ record { rows = rows_by (verdict columns at line); fault = fault_at_end (after at (verdict columns at line)) (fault_of (verdict columns at line)) }
 last_scan columns at [] h = absurd (h refl)
 last_scan columns at (b ∷ line) h = led_last at (verdict columns at (b ∷ line))
@@ -202,7 +202,7 @@ ended_told : (s : Reading) → s.stop ≡ None → has_feed s.line ≡ false →
           fault_at_end (after s.at (verdict s.columns s.at (s.line ++ []))) (fault_of (verdict s.columns s.at (s.line ++ [])));
     }
 ended_told s running h some = rows_at_end s running h ∙ (last_scan s.columns s.at s.line some
-    ∙ ap (λ l. let t : Told = record {
+    ∙ ap (λ l. let t : RowsRead = record {
       rows = rows_by (verdict s.columns s.at l);
       fault =
           fault_at_end (after s.at (verdict s.columns s.at l)) (fault_of (verdict s.columns s.at l));
@@ -210,12 +210,12 @@ ended_told s running h some = rows_at_end s running h ∙ (last_scan s.columns s
 
 pub ended_rows : (s : Reading) (was now : List (List ℤ)) → s.stop ≡ None → has_feed s.line ≡ false → s.line ≢ [] →
     now ≡ was ++ rows_by (verdict s.columns s.at (s.line ++ [])) → now ≡ was ++ (rows_after s []).rows
-ended_rows s was now running h some e = e ∙ ap (λ r. was ++ r) (sym (ap (λ (t : Told). t.rows) (ended_told s running h some)))
+ended_rows s was now running h some e = e ∙ ap (λ r. was ++ r) (sym (ap (λ (t : RowsRead). t.rows) (ended_told s running h some)))
 
-pub ended_fault : (s : Reading) (stop : Option RowFault) (at : Place) → s.stop ≡ None → has_feed s.line ≡ false → s.line ≢ [] →
+pub ended_fault : (s : Reading) (stop : Option RowFault) (at : RowPlace) → s.stop ≡ None → has_feed s.line ≡ false → s.line ≢ [] →
     stop ≡ fault_of (verdict s.columns s.at (s.line ++ []))
     → at ≡ after s.at (verdict s.columns s.at (s.line ++ [])) → fault_at_end at stop ≡ (rows_after s []).fault
-ended_fault s stop at running h some e g = rw (e, g) (sym (ap (λ (t : Told). t.fault) (ended_told s running h some)))
+ended_fault s stop at running h some e g = rw (e, g) (sym (ap (λ (t : RowsRead). t.fault) (ended_told s running h some)))
 
 -- rows that were all handed over, or none
 pub all_handed : (was now rows : List (List ℤ)) → now ≡ was ++ rows → Front was now rows

@@ -31,7 +31,7 @@ use Rattle.bl_tree.specs.declared.row.Column.{Column}
 use Rattle.bl_rows.specs.declared.fault.RowFault.{RowFault}
 use Rattle.bl_rows.specs.declared.verdict.Verdict.{Verdict}
 use Rattle.bl_rows.specs.declared.verdict.Verdict.TheVariants.{Passed, Header, Numbers, Bad}
-use Rattle.bl_rows.specs.declared.verdict.Place.{Place}
+use Rattle.bl_rows.specs.declared.verdict.RowPlace.{RowPlace}
 use Rattle.bl_rows.specs.Lines.{Cut, cut, whole_lines, unfinished, has_feed}
 use Rattle.bl_rows.specs.Reading.{Reading, Scan, scan, scanned, verdict, overrun, after, led_by_line, first_of, fault_in, rows_in, read_on, Front}
 use Rattle.bl_rows.specs.inner.Steps.{fault_of, rows_by, left_after_stop, with_rows}
@@ -51,7 +51,7 @@ pub record Midst (before : Reading) (piece : List ℕ) (was now : List (List ℤ
   pub ended : s.ended ≡ before.ended
 
 -- what one line gives, and what is left then
-led : (columns columns2 : List Column) (at at2 : Place) (v : Verdict) (stop2 : Option RowFault) (w w2 : List (List ℕ)) →
+led : (columns columns2 : List Column) (at at2 : RowPlace) (v : Verdict) (stop2 : Option RowFault) (w w2 : List (List ℕ)) →
     stop2 ≡ fault_of v → at2 ≡ after at v → columns2 ≡ columns → (stop2 ≡ None → w2 ≡ w)
     → led_by_line at v (scan columns (after at v) w) ≡ with_rows (rows_by v) (left_after_stop stop2 at2 (scan columns2 at2 w2))
 led columns columns2 at at2 Passed stop2 w w2 e g h k = rw (e, g, h, k e) refl
@@ -108,11 +108,11 @@ midst_rows before piece was now s rest running m none =
     m.grown ∙ ap (λ r. was ++ r) (sym (rows_of_scan before piece running
     ∙ (ap (λ (c : Scan). c.rows) m.gives ∙ (ap (λ r. m.handed ++ r) none ∙ append-nil m.handed))))
 
-stopped_rows : (stop : Option RowFault) (at : Place) (c : Scan) → is_none stop ≡ false → (left_after_stop stop at c).rows ≡ []
+stopped_rows : (stop : Option RowFault) (at : RowPlace) (c : Scan) → is_none stop ≡ false → (left_after_stop stop at c).rows ≡ []
 stopped_rows None at c h = cc
 stopped_rows (Some fault) at c h = refl
 
-stopped_fault : (stop : Option RowFault) (at : Place) (c : Scan) → is_none stop ≡ false → (rest : Option RowFault) →
+stopped_fault : (stop : Option RowFault) (at : RowPlace) (c : Scan) → is_none stop ≡ false → (rest : Option RowFault) →
     first_of (left_after_stop stop at c).fault rest ≡ stop
 stopped_fault None at c h rest = cc
 stopped_fault (Some fault) at c h rest = refl
@@ -159,7 +159,7 @@ midst_kept_fault before piece was now s rest stop2 running m still h g e =
     rw running (sym (ap (λ (c : Scan). first_of c.fault (overrun c.at (unfinished (before.line ++ piece)))) (kept_scan before piece was now s rest m still h g)
     ∙ (ap (λ u. overrun s.at u) (kept_rest before piece was now s rest m still h g) ∙ sym e)))
 
-abbrev reading_of : List Column → Place → List ℕ → Option RowFault → Bool → Reading
+abbrev reading_of : List Column → RowPlace → List ℕ → Option RowFault → Bool → Reading
 reading_of columns at line stop ended = record { columns = columns; at = at; line = line; stop = stop; ended = ended }
 
 same_reading : (a b : Reading) → a.columns ≡ b.columns → a.at ≡ b.at → a.line ≡ b.line → a.stop ≡ b.stop → a.ended ≡ b.ended → a ≡ b

@@ -26,7 +26,7 @@ use Rattle.bl_rows.specs.declared.fault.RowFault.{RowFault}
 use Rattle.bl_rows.specs.declared.fault.RowFault.TheVariants.{BadHeader, BadRow, LongLine, NoMemory}
 use Rattle.bl_rows.specs.declared.verdict.Verdict.{Verdict}
 use Rattle.bl_rows.specs.declared.verdict.Verdict.TheVariants.{Passed, Header, Numbers, Bad}
-use Rattle.bl_rows.specs.declared.verdict.Place.{Place}
+use Rattle.bl_rows.specs.declared.verdict.RowPlace.{RowPlace}
 use Rattle.bl_rows.specs.Lines.{lines_of, whole_lines, unfinished}
 use Rattle.bl_rows.specs.Fields.{records_in, row_of, is_header}
 
@@ -39,11 +39,11 @@ abbrev pub longest_line : ℕ
 longest_line = 65536
 
 -- before the first line
-abbrev pub at_start : Place
+abbrev pub at_start : RowPlace
 at_start = record { lines = 0; ticks = None }
 
 -- the number of the next line
-abbrev pub line_number : Place → ℕ
+abbrev pub line_number : RowPlace → ℕ
 line_number at = at.lines + 1
 
 -- a bad next line: of the header where that is still to come, else of a row
@@ -62,20 +62,20 @@ judged_record columns None line fields = if is_header columns fields then Header
 judged_record columns (Some t) line fields = numbers_or_bad line (row_of columns (t + 1) fields)
 
 -- what a line with these records is: one without a record is passed over, one with two is bad
-abbrev pub judged : List Column → Place → List (List (List ℕ)) → Verdict
+abbrev pub judged : List Column → RowPlace → List (List (List ℕ)) → Verdict
 judged columns at [] = Passed
 judged columns at (fields ∷ []) = judged_record columns at.ticks (line_number at) fields
 judged columns at (fields ∷ more ∷ others) = Bad (bad_line at.ticks (line_number at))
 
 -- the fault of a next line that is one too many, or has too many bytes
-abbrev pub over_limit : Place → ℕ → Option RowFault
+abbrev pub over_limit : RowPlace → ℕ → Option RowFault
 over_limit at size =
     if nat_le most_lines at.lines then Some (BadRow (line_number at))
     else if nat_lt longest_line size then Some (LongLine (line_number at))
     else None
 
 -- the same of an unfinished line: it shows at a byte, and not before the line begins
-abbrev pub overrun : Place → List ℕ → Option RowFault
+abbrev pub overrun : RowPlace → List ℕ → Option RowFault
 overrun at [] = None
 overrun at (b ∷ bytes) = over_limit at (length (b ∷ bytes))
 
@@ -85,7 +85,7 @@ bad_or (Some fault) found = Bad fault
 bad_or None found = found
 
 -- what the next line is
-unfoldable pub verdict : List Column → Place → List ℕ → Verdict
+unfoldable pub verdict : List Column → RowPlace → List ℕ → Verdict
 verdict columns at line = bad_or (over_limit at (length line)) (judged columns at (records_in line))
 
 -- one tick more
@@ -94,7 +94,7 @@ next_tick None = None
 next_tick (Some t) = Some (t + 1)
 
 -- where a reader stands after a line
-abbrev pub after : Place → Verdict → Place
+abbrev pub after : RowPlace → Verdict → RowPlace
 after at Passed = record at { lines = at.lines + 1 }
 after at Header = record { lines = at.lines + 1; ticks = Some 0 }
 after at (Numbers row) = record { lines = at.lines + 1; ticks = next_tick at.ticks }
@@ -103,24 +103,24 @@ after at (Bad fault) = at
 -- rows, where the reader stands after them, and the fault of the line that stopped it
 pub record Scan : Type 0 where
   pub rows : List (List ℤ)
-  pub at : Place
+  pub at : RowPlace
   pub fault : Option RowFault
 
 -- what a line adds before what the lines after it give
-abbrev pub led_by_line : Place → Verdict → Scan → Scan
+abbrev pub led_by_line : RowPlace → Verdict → Scan → Scan
 led_by_line at Passed scan = scan
 led_by_line at Header scan = scan
 led_by_line at (Numbers row) scan = record scan { rows = row ∷ scan.rows }
 led_by_line at (Bad fault) scan = record { rows = []; at = at; fault = Some fault }
 
 -- lines in turn, up to the first bad one
-abbrev pub scan : List Column → Place → List (List ℕ) → Scan
+abbrev pub scan : List Column → RowPlace → List (List ℕ) → Scan
 scan columns at [] = record { rows = []; at = at; fault = None }
 scan columns at (line ∷ lines) =
     led_by_line at (verdict columns at line) (scan columns (after at (verdict columns at line)) lines)
 
 -- what row bytes give: the rows up to the first bad line, and that line's fault
-pub record Told : Type 0 where
+pub record RowsRead : Type 0 where
   pub rows : List (List ℤ)
   pub fault : Option RowFault
 
@@ -130,38 +130,38 @@ missing_header None line = Some (BadHeader line)
 missing_header (Some t) line = None
 
 -- the fault of bytes that end: the one there was, or a missing header
-abbrev pub fault_at_end : Place → Option RowFault → Option RowFault
+abbrev pub fault_at_end : RowPlace → Option RowFault → Option RowFault
 fault_at_end at (Some fault) = Some fault
 fault_at_end at None = missing_header at.ticks (line_number at)
 
 -- what lines give with nothing after them
-abbrev pub told : Scan → Told
+abbrev pub told : Scan → RowsRead
 told s = record { rows = s.rows; fault = fault_at_end s.at s.fault }
 
 -- the rows of the bytes of a whole row file up to the first bad line, and that line's fault
-unfoldable pub rows_of : List ℕ → List Column → Told
+unfoldable pub rows_of : List ℕ → List Column → RowsRead
 rows_of bytes columns = told (scan columns at_start (lines_of bytes))
 
 -- a reader between two pieces: its columns, where it stands, the bytes of the unfinished line,
 -- the fault that stopped it, and whether it was told that the bytes end
 pub record Reading : Type 0 where
   pub columns : List Column
-  pub at : Place
+  pub at : RowPlace
   pub line : List ℕ
   pub stop : Option RowFault
   pub ended : Bool
 
 -- a reader that has read nothing
-abbrev pub begun : List Column → Reading
-begun columns = record { columns = columns; at = at_start; line = []; stop = None; ended = false }
+abbrev pub empty_reading : List Column → Reading
+empty_reading columns = record { columns = columns; at = at_start; line = []; stop = None; ended = false }
 
 -- what a fault leaves of what would be told
-abbrev pub unless_stopped : Option RowFault → Told → Told
+abbrev pub unless_stopped : Option RowFault → RowsRead → RowsRead
 unless_stopped None told = told
 unless_stopped (Some fault) told = record { rows = []; fault = Some fault }
 
 -- what a reader still has to tell, where these bytes come and then the end
-unfoldable pub rows_after : Reading → List ℕ → Told
+unfoldable pub rows_after : Reading → List ℕ → RowsRead
 rows_after s bytes = unless_stopped s.stop (told (scan s.columns s.at (lines_of (s.line ++ bytes))))
 
 -- what the lines give that a piece makes whole
@@ -190,7 +190,7 @@ unfoldable pub read_on : Reading → List ℕ → Reading
 read_on s piece = record s { at = (scanned s piece).at; line = unfinished (s.line ++ piece) }
 
 -- rows before what is told after them
-abbrev pub led_by_rows : List (List ℤ) → Told → Told
+abbrev pub led_by_rows : List (List ℤ) → RowsRead → RowsRead
 led_by_rows rows t = record { rows = rows ++ t.rows; fault = t.fault }
 
 -- the answer of a call that found this fault or none

@@ -10,7 +10,7 @@ ghost use Rattle.bl_rows.specs.Reading as spec;
 use crate::fault::RowFault;
 use crate::found::{Found, read_records};
 use crate::number::{is_tick, value};
-use crate::verdict::{Place, Verdict};
+use crate::verdict::{RowPlace, Verdict};
 use bl_tree::row::{Column, Row};
 use bl_tree::{List, NoMemory, Scalar};
 use csv::ByteRecord;
@@ -23,7 +23,7 @@ pub const MOST_LINES: u32 = 1_000_000;
 pub const LONGEST_LINE: usize = 65_536;
 
 /// The fault of a next line that is one too many, or has too many bytes.
-pub fn over_limit(at: Place, size: usize) -> Option<RowFault>
+pub fn over_limit(at: RowPlace, size: usize) -> Option<RowFault>
     requires { at.lines + 1 < 2 ^ 32 }
     ensures { result ≡ spec.over_limit at size }
 {
@@ -41,7 +41,7 @@ pub fn over_limit(at: Place, size: usize) -> Option<RowFault>
 pub fn judge(
     alloc: Global,
     columns: &List<Column>,
-    at: Place,
+    at: RowPlace,
     line: &[u8],
     fields: &mut ByteRecord,
 ) -> Result<Verdict, NoMemory>

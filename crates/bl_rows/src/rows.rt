@@ -5,13 +5,13 @@ ghost use Rattle.std.specs.Prelude.{ℕ, length, position, ◌==◌, ◌∷◌};
 ghost use Rattle.std.specs.Prelude.{MatchOption, Ok, Err, IfOk, IfErr, IfSome, OnOk, OnErr};
 ghost use Rattle.bl_rows.specs.Lines.{has_feed};
 ghost use Rattle.bl_rows.specs.Fields.{records_in};
-ghost use Rattle.bl_rows.specs.Reading.{begun, read_on, rows_in, rows_after, rows_of, fault_in, answer_of, overrun, over_limit as past_limit_at};
+ghost use Rattle.bl_rows.specs.Reading.{empty_reading, read_on, rows_in, rows_after, rows_of, fault_in, answer_of, overrun, over_limit as past_limit_at};
 ghost use Rattle.bl_rows.specs.Reading.{Unrefused, Front, led_by_rows, judged, after, fault_at_end, next_tick as tick_after, verdict as verdict_on};
 ghost use Rattle.bl_rows.specs.inner.Steps.{fault_of, rows_by};
 
 use crate::fault::RowFault;
 use crate::record::{judge, over_limit};
-use crate::verdict::{Place, Verdict};
+use crate::verdict::{RowPlace, Verdict};
 use bl_tree::row::{Column, Row};
 use bl_tree::{List, NoMemory, Text};
 use csv::ByteRecord;
@@ -24,7 +24,7 @@ use std::marker::Model;
 pub struct Rows {
     alloc: Global,
     columns: List<Column>,
-    at: Place,
+    at: RowPlace,
     line: Vec<u8>,
     stop: Option<RowFault>,
     ended: bool,
@@ -48,7 +48,7 @@ impl Rows {
     /// A reader that has read nothing, for these inputs. Fails only for want of memory.
     #[tactic(auto, unfolding(crate::specs::Reading::rows_after, crate::specs::Reading::rows_of))]
     pub fn new(alloc: Global, ins: &List<Column>) -> Result<Rows, NoMemory>
-        ensures begun { IfOk result (λ rows. rows ≡ begun ins.now) }
+        ensures begun { IfOk result (λ rows. rows ≡ empty_reading ins.now) }
         ensures told { IfOk result (λ rows. (bytes : List ℕ) → rows_after rows bytes ≡ rows_of bytes ins.now) }
     {
         if ins.len() > u32::MAX as usize {
@@ -57,7 +57,7 @@ impl Rows {
         Ok(Rows {
             alloc,
             columns: copy_columns(alloc, ins)?,
-            at: Place {
+            at: RowPlace {
                 lines: 0,
                 ticks: None,
             },
@@ -254,7 +254,7 @@ impl Rows {
         match verdict {
             Verdict::Passed => self.at.lines += 1,
             Verdict::Header => {
-                self.at = Place {
+                self.at = RowPlace {
                     lines: self.at.lines + 1,
                     ticks: Some(0),
                 };
@@ -321,13 +321,13 @@ impl Rows {
 }
 
 // Where a reader stands after a row.
-fn next_tick(at: Place) -> Place
+fn next_tick(at: RowPlace) -> RowPlace
     requires lines { at.lines < 1000000 }
     requires ticks { (t : ℕ) → at.ticks ≡ Some t → t ≤ at.lines }
     ensures place { result ≡ record { lines = at.lines + 1; ticks = tick_after at.ticks } }
     ensures ticks { (t : ℕ) → result.ticks ≡ Some t → t ≤ result.lines }
 {
-    Place {
+    RowPlace {
         lines: at.lines + 1,
         ticks: match at.ticks {
             Some(t) => Some(t + 1),

@@ -5,7 +5,7 @@ use bl_tree::row::Row;
 
 /// Where a reader stands between two lines.
 #[derive(Clone, Copy)]
-pub struct Place {
+pub struct RowPlace {
     /// How many lines came before.
     pub lines: u32,
     /// How many rows came before, or none where the header is still to come.

@@ -7,9 +7,9 @@ use Rattle.bl_lex.specs.Rules.{Fails as TextFails, Passes as TextPasses}
 use Rattle.bl_lex.specs.Tokens.{Lexes}
 use Rattle.bl_limits.specs.Rules.{Fails as LimitsFail}
 use Rattle.bl_parse.specs.Programs.{Spells}
-use Rattle.bl_program.specs.Cause.{IsCause as IsTypingCause, names as by_names, types as by_types}
-use Rattle.bl_program.specs.Programs.{IsProgramOf, named_of, typed_of}
-use Rattle.bl_raw.specs.declared.raw.Raw.{Raw}
+use Rattle.bl_types_program.specs.Cause.{IsCause as IsTypingCause, names as by_names, types as by_types}
+use Rattle.bl_types_program.specs.Programs.{IsProgramOf, named_of, typed_of}
+use Rattle.bl_parse_tree.specs.declared.raw.Raw.{Raw}
 use Rattle.bl_rules.proofs.Layers.{
   TokensAreOne,
   TokensThatPass,
@@ -28,8 +28,8 @@ use Rattle.bl_rules.proofs.Layers.{
 }
 use Rattle.bl_rules.specs.Accepted.{HasProgram}
 use Rattle.bl_rules.specs.Rules.{Fails, Parses, ProgramFails, ProgramPasses, TreeFails, TreePasses}
-use Rattle.bl_scopes.specs.Rules.{Passes as NamesPass}
-use Rattle.bl_syntax.specs.Rules.{Fails as TokensFail, Passes as TokensPass}
+use Rattle.bl_names_scopes.specs.Rules.{Passes as NamesPass}
+use Rattle.bl_parse_syntax.specs.Rules.{Fails as TokensFail, Passes as TokensPass}
 use Rattle.bl_tree.specs.declared.place.Place.{Place}
 use Rattle.bl_tree.specs.declared.program.Program.{Program}
 use Rattle.bl_tree.specs.declared.rule.Refusal.{Refusal}

@@ -6,8 +6,8 @@ use Rattle.bl_lex.specs.Rules.{Fails as TextFails, Passes as TextPasses}
 use Rattle.bl_lex.specs.Tokens.{Lexes}
 use Rattle.bl_limits.specs.Rules.{Fails as LimitsFail, Passes as LimitsPass}
 use Rattle.bl_parse.specs.Programs.{Spells}
-use Rattle.bl_program.specs.Programs.{named_of, typed_of}
-use Rattle.bl_raw.specs.declared.raw.Raw.{Raw}
+use Rattle.bl_types_program.specs.Programs.{named_of, typed_of}
+use Rattle.bl_parse_tree.specs.declared.raw.Raw.{Raw}
 use Rattle.bl_rules.specs.Rules.{
   Fails,
   Parses,
@@ -26,8 +26,8 @@ use Rattle.bl_rules.specs.Rules.{
   in_types,
   in_units,
 }
-use Rattle.bl_scopes.specs.Rules.{Fails as NamesFail, Passes as NamesPass}
-use Rattle.bl_syntax.specs.Rules.{Fails as TokensFail, Passes as TokensPass}
+use Rattle.bl_names_scopes.specs.Rules.{Fails as NamesFail, Passes as NamesPass}
+use Rattle.bl_parse_syntax.specs.Rules.{Fails as TokensFail, Passes as TokensPass}
 use Rattle.bl_tree.proofs.FirstLemmas.{alike_first}
 use Rattle.bl_tree.specs.declared.place.Place.{Place}
 use Rattle.bl_tree.specs.declared.rule.Rule.{Rule}

@@ -1,7 +1,7 @@
 -- The program of a source text that is accepted.
 use Rattle.std.specs.Prelude.{ℕ, List}
-use Rattle.bl_program.specs.Programs.{IsProgramOf}
-use Rattle.bl_raw.specs.declared.raw.Raw.{Raw}
+use Rattle.bl_types_program.specs.Programs.{IsProgramOf}
+use Rattle.bl_parse_tree.specs.declared.raw.Raw.{Raw}
 use Rattle.bl_rules.specs.Rules.{Parses, Passes}
 use Rattle.bl_tree.specs.declared.program.Program.{Program}
 

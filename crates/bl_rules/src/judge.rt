@@ -1,8 +1,8 @@
 //! Texts and trees judged by the rules in their order.
 
 ghost use Rattle.std.specs.Prelude.{◌≡◌, IfErr, IfOk, OnOk};
-ghost use Rattle.bl_program.specs.Programs.{IsProgramOf};
-ghost use Rattle.bl_raw.specs.Keeps.{RawKeeps};
+ghost use Rattle.bl_types_program.specs.Programs.{IsProgramOf};
+ghost use Rattle.bl_parse_tree.specs.WellFormed.{RawIsWellFormed};
 ghost use Rattle.bl_rules.specs.Accepted.{HasProgram};
 ghost use Rattle.bl_rules.specs.Rules.{Fails, Passes, ProgramFails, ProgramPasses, TreeFails, TreePasses};
 ghost use Rattle.bl_tree.specs.Rules.{IsCause};
@@ -11,8 +11,8 @@ use bl_cause::Accepted;
 use bl_lex::laws::tokens_are_one;
 use bl_parse_laws::kept::what_is_spelled_keeps;
 use bl_parse_laws::spelled::a_text_has_one_tree;
-use bl_raw::Raw;
-use bl_syntax::laws::first_failure_is_one;
+use bl_parse_syntax::laws::first_failure_is_one;
+use bl_parse_tree::Raw;
 use bl_tree::{Program, Refusal};
 use std::alloc::Global;
 
@@ -43,12 +43,12 @@ pub fn accept(alloc: Global, text: &[u8]) -> Result<Accepted, Refusal>
 /// Judges those of a tree, from Duplicate on, and makes its program. The tree is one that a text spells: it keeps what
 /// such trees keep.
 pub fn accept_raw(alloc: Global, raw: &Raw) -> Result<Accepted, Refusal>
-    requires keeps { RawKeeps raw.now.items }
+    requires keeps { RawIsWellFormed raw.now.items }
     ensures passes { OnOk result (TreePasses raw.now) }
     ensures program { IfOk result (λ accepted. IsProgramOf raw.now accepted.program) }
     ensures cause { IfErr result (IsCause (TreeFails raw.now)) }
 {
-    let program = match bl_program::check(alloc, raw) {
+    let program = match bl_types_program::check(alloc, raw) {
         Ok(program) => program,
         Err(refusal) => return Err(refusal),
     };

@@ -1,7 +1,7 @@
 //! Laws of the rules, each the contract of a function that does nothing.
 
 ghost use Rattle.std.specs.Prelude.{◌≡◌, false, ℕ, List};
-ghost use Rattle.bl_raw.specs.declared.raw.Raw.{Raw};
+ghost use Rattle.bl_parse_tree.specs.declared.raw.Raw.{Raw};
 ghost use Rattle.bl_rules.specs.Accepted.{HasTree};
 ghost use Rattle.bl_rules.specs.Rules.{FirstFailing, Passes, TreePasses};
 ghost use Rattle.bl_tree.specs.declared.place.Place.{Place};

@@ -4,24 +4,24 @@ use Rattle.bl_tree.specs.declared.program.Program.{Program}
 use Rattle.bl_lex.specs.Rules.{Passes as TextPasses}
 use Rattle.bl_lex.specs.Tokens.{Lexes}
 use Rattle.bl_parse.specs.Programs.{Spells}
-use Rattle.bl_prevs.specs.Declared.{FromText}
-use Rattle.bl_program.specs.Programs.{named_of}
-use Rattle.bl_raw.specs.declared.item.RawItem.{RawItem}
-use Rattle.bl_raw.specs.declared.raw.Raw.{Raw}
-use Rattle.bl_raw.specs.Keeps.{RawKeeps}
+use Rattle.bl_machine_prevs.specs.Declared.{FromText}
+use Rattle.bl_types_program.specs.Programs.{named_of}
+use Rattle.bl_parse_tree.specs.declared.item.RawItem.{RawItem}
+use Rattle.bl_parse_tree.specs.declared.raw.Raw.{Raw}
+use Rattle.bl_parse_tree.specs.WellFormed.{RawIsWellFormed}
 use Rattle.bl_rules.specs.Accepted.{HasProgram}
 use Rattle.bl_rules.specs.Rules.{in_bytes, in_names, in_tree, in_types}
 use Rattle.bl_names.specs.Named.{named_program}
-use Rattle.bl_scopes.specs.Rules.{Passes as NamesPass}
-use Rattle.bl_syntax.specs.Rules.{PassesDepth}
+use Rattle.bl_names_scopes.specs.Rules.{Passes as NamesPass}
+use Rattle.bl_parse_syntax.specs.Rules.{PassesDepth}
 use Rattle.bl_tree.specs.declared.token.Token.{Token}
 use Rattle.bl_types.specs.Programs.{typed_program}
 use Rattle.bl_types.specs.Rules.{Passes as TypesPass}
 
 -- what the laws of the crates below say, of a text
 pub texts_declare : ((text : List ℕ) (tokens : List Token) (raw : Raw) → Lexes text tokens → PassesDepth tokens → Spells text tokens raw →
-    RawKeeps raw.items) →
-    ((items : List RawItem) (bytes : ℕ) → RawKeeps items → NamesPass items → TypesPass (named_program items bytes) →
+    RawIsWellFormed raw.items) →
+    ((items : List RawItem) (bytes : ℕ) → RawIsWellFormed items → NamesPass items → TypesPass (named_program items bytes) →
     FromText (typed_program (named_program items bytes)).units) →
     (text : List ℕ) (program : Program) → HasProgram text program → FromText program.units
 texts_declare keeps typed text program has =

@@ -10,7 +10,7 @@ ghost use Rattle.bl_rules_laws.specs.Traces.OneTrace.{TextsHaveOneTrace, UnitsAr
 use bl_cause::laws::rules_leave_no_walk;
 use bl_cause_laws::{bodies_have_graphs, graphs_without_walks_have_ranks};
 use bl_ctree_laws_traces::traces::typed_programs_have_one_trace;
-use bl_measures_laws::laws::typed_instances_are_counted;
+use bl_limits_measures_laws::laws::typed_instances_are_counted;
 use bl_parse_laws::kept::what_is_spelled_keeps;
 use bl_types_laws::kept::what_is_typed_keeps;
 

@@ -3,10 +3,10 @@ use Rattle.std.proofs.Common.{◌≡◌, ◌∙◌, sym, ap, subst, arith, ℕ, 
 use Rattle.std.proofs.Common.{length, map, take, drop, Option, Some, None}
 use Rattle.std.proofs.lemmas.List.{length-map, take-append-drop}
 use Rattle.bl_tree.specs.Ports.{in_ranges}
-use Rattle.bl_cmeaning.specs.Cells.{cells_of}
-use Rattle.bl_cmeaning.specs.Parts.{Parts}
-use Rattle.bl_cmeaning.specs.Trace.{starts}
-use Rattle.bl_cinterface.specs.Layout.{kinds_of}
+use Rattle.bl_ctext_semantics.specs.Cells.{cells_of}
+use Rattle.bl_ctext_semantics.specs.Parts.{Parts}
+use Rattle.bl_ctext_semantics.specs.Trace.{starts}
+use Rattle.bl_crun_ports.specs.Layout.{kinds_of}
 use Rattle.bl_save.specs.Bytes.{cells_bytes, state_header}
 use Rattle.bl_save.specs.States.{BeginsState, SavedState, ShowsBadState}
 use Rattle.bl_save.specs.inner.Shapes.{Allowed, cells_shape, earlier, exactly, misfit, state_shape}

@@ -1,11 +1,11 @@
 -- A controller's state as bytes, and how bytes that are none show it.
 use Rattle.std.specs.Prelude.{◌≡◌, ℕ, ◌+◌, ◌<◌, ◌≤◌, ℤ, true, List, ◌++◌, length, take}
 use Rattle.bl_tree.specs.Ports.{in_ranges}
-use Rattle.bl_cmeaning.specs.Cells.{cells_of, numbers_of}
-use Rattle.bl_cmeaning.specs.Memory.{Memory}
-use Rattle.bl_cmeaning.specs.Parts.{Parts}
-use Rattle.bl_cmeaning.specs.Trace.{starts}
-use Rattle.bl_cinterface.specs.Layout.{kinds_of}
+use Rattle.bl_ctext_semantics.specs.Cells.{cells_of, numbers_of}
+use Rattle.bl_ctext_semantics.specs.Memory.{Memory}
+use Rattle.bl_ctext_semantics.specs.Parts.{Parts}
+use Rattle.bl_ctext_semantics.specs.Trace.{starts}
+use Rattle.bl_crun_ports.specs.Layout.{kinds_of}
 use Rattle.bl_crun.specs.Running.{Running}
 use Rattle.bl_save.specs.Bytes.{state_bytes}
 use Rattle.bl_save.specs.declared.fault.StateFault.{StateFault}

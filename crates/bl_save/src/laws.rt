@@ -1,6 +1,6 @@
 //! A law of saved states. The function does nothing: the contract is the law.
 
-ghost use Rattle.bl_cmeaning.specs.Parts.{Parts};
+ghost use Rattle.bl_ctext_semantics.specs.Parts.{Parts};
 ghost use Rattle.bl_save.specs.States.{OneMemory};
 
 /// Bytes are the saved state of at most one memory of a file, so `restore` leaves the one that was saved.

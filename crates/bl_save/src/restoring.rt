@@ -1,8 +1,8 @@
 //! A saved state, restored to a runner.
 
 ghost use Rattle.std.specs.Prelude.{◌≡◌, ◌≤◌, ◌++◌, List, drop, length, map, None, IfErr, IfNone, IfSome, OnErr, OnOk};
-ghost use Rattle.bl_cmeaning.specs.Cells.{cells_of};
-ghost use Rattle.bl_cinterface.specs.Layout.{kinds_of};
+ghost use Rattle.bl_ctext_semantics.specs.Cells.{cells_of};
+ghost use Rattle.bl_crun_ports.specs.Layout.{kinds_of};
 ghost use Rattle.bl_save.specs.States.{HasRestored, IsFaultOf, IsReady};
 ghost use Rattle.bl_save.specs.inner.Shapes.{Allowed, cells_shape, earlier, exactly, misfit, state_shape};
 ghost use Rattle.bl_save.specs.inner.Restored.{HasPut};

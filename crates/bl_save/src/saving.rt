@@ -2,8 +2,8 @@
 
 ghost use Rattle.std.specs.Prelude.{◌≡◌, ◌++◌, true, length, IfOk, OnOk};
 ghost use Rattle.bl_tree.specs.Ports.{in_ranges};
-ghost use Rattle.bl_cmeaning.specs.Cells.{cells_of};
-ghost use Rattle.bl_cinterface.specs.Layout.{kinds_of};
+ghost use Rattle.bl_ctext_semantics.specs.Cells.{cells_of};
+ghost use Rattle.bl_crun_ports.specs.Layout.{kinds_of};
 ghost use Rattle.bl_save.specs.Bytes.{cells_bytes, state_header};
 ghost use Rattle.bl_save.specs.States.{IsReady, SavedState};
 

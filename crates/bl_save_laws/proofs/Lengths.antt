@@ -10,11 +10,11 @@ use Rattle.bl_tree.specs.declared.scalar.Width.TheVariants.{W8, W16, W32, W64}
 use Rattle.bl_tree.specs.declared.scalar.Scalar.{Scalar}
 use Rattle.bl_tree.specs.declared.scalar.Scalar.TheVariants.{Bool as OfBool, Int, Nat, Bits}
 use Rattle.bl_tree.specs.Scalar.{bits_of}
-use Rattle.bl_cmeaning.specs.Cells.{cells_of}
-use Rattle.bl_cmeaning.specs.Faults.{WellFormed}
-use Rattle.bl_cmeaning.specs.Parts.{Parts}
-use Rattle.bl_cmeaning.specs.Sizes.{cells_needed}
-use Rattle.bl_cinterface.specs.Layout.{kinds_of}
+use Rattle.bl_ctext_semantics.specs.Cells.{cells_of}
+use Rattle.bl_ctext_semantics.specs.Faults.{WellFormed}
+use Rattle.bl_ctext_semantics.specs.Parts.{Parts}
+use Rattle.bl_ctext_semantics.specs.Sizes.{cells_needed}
+use Rattle.bl_crun_ports.specs.Layout.{kinds_of}
 use Rattle.bl_crun.proofs.Cells.{cells-long}
 use Rattle.bl_save.specs.Bytes.{cell_bytes, cells_bytes, size_of, state_bytes, state_header}
 use Rattle.bl_save_laws.specs.Laws.{ShortStates}

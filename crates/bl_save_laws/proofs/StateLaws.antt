@@ -9,11 +9,11 @@ use Rattle.bl_tree.specs.declared.row.Last.TheVariants.{Open}
 use Rattle.bl_tree.specs.Ports.{in_ranges}
 use Rattle.bl_tree.specs.Scalar.{in_range}
 use Rattle.bl_tree.specs.declared.scalar.Scalar.{Scalar}
-use Rattle.bl_cmeaning.specs.Cells.{cells_of}
-use Rattle.bl_cmeaning.specs.Parts.{Parts}
-use Rattle.bl_cmeaning.proofs.TraceLemmas.{goes-on}
-use Rattle.bl_cmeaning.specs.Trace.{c_trace, c_trace_from, cells_after, cells_if, start_cells, starts, tick_c, trace_after, trace_then}
-use Rattle.bl_cinterface.specs.Layout.{kinds_of}
+use Rattle.bl_ctext_semantics.specs.Cells.{cells_of}
+use Rattle.bl_ctext_semantics.specs.Parts.{Parts}
+use Rattle.bl_ctext_semantics.proofs.TraceLemmas.{goes-on}
+use Rattle.bl_ctext_semantics.specs.Trace.{c_trace, c_trace_from, cells_after, cells_if, start_cells, starts, tick_c, trace_after, trace_then}
+use Rattle.bl_crun_ports.specs.Layout.{kinds_of}
 use Rattle.bl_crun.specs.Running.{tick_if}
 use Rattle.bl_save.specs.States.{OneMemory, SavedState, ShowsBadState}
 use Rattle.bl_save_laws.specs.Laws.{OnePlace, OneState, StateGoesOn, StatesJoin, StaysReady, TraceGoesOn}

@@ -1,10 +1,10 @@
 -- What holds of saved states, and of runs that go on from them.
 use Rattle.std.specs.Prelude.{◌≡◌, ℕ, ◌+◌, ◌*◌, ◌≤◌, ℤ, true, List, ◌++◌, length}
 use Rattle.bl_tree.specs.declared.row.Last.TheVariants.{Open}
-use Rattle.bl_cmeaning.specs.Faults.{WellFormed}
-use Rattle.bl_cmeaning.specs.Parts.{Parts}
-use Rattle.bl_cmeaning.specs.Sizes.{cells_needed}
-use Rattle.bl_cmeaning.specs.Trace.{c_trace, c_trace_from, cells_after, start_cells, starts, trace_then}
+use Rattle.bl_ctext_semantics.specs.Faults.{WellFormed}
+use Rattle.bl_ctext_semantics.specs.Parts.{Parts}
+use Rattle.bl_ctext_semantics.specs.Sizes.{cells_needed}
+use Rattle.bl_ctext_semantics.specs.Trace.{c_trace, c_trace_from, cells_after, start_cells, starts, trace_then}
 use Rattle.bl_crun.specs.Running.{Running, after_tick, loaded}
 use Rattle.bl_save.specs.States.{IsReady, SavedState, ShowsBadState, with_numbers}
 

@@ -4,7 +4,7 @@
 //! that was saved after them, and a state that is saved then is that after all rows (`specs/Laws.antt`).
 #![tactic(auto)]
 
-ghost use Rattle.bl_cmeaning.specs.Parts.{Parts};
+ghost use Rattle.bl_ctext_semantics.specs.Parts.{Parts};
 ghost use Rattle.bl_save_laws.specs.Laws.{OnePlace, OneState, ShortStates, StateGoesOn, StatesJoin, StaysReady, TraceGoesOn};
 
 use bl_save::laws::one_memory;

@@ -1,11 +1,11 @@
 //! Whether the last resting place of an activity shares the number 0 with its beginning, and the numbers that its places have then.
 
 ghost use Rattle.std.specs.Prelude.{◌≡◌, ◌∷◌, ◌-◌, [], IfOk, map};
-ghost use Rattle.bl_pass_listed.specs.Shared as shared;
-ghost use Rattle.bl_pass_listed.specs.Told.{rule_in};
+ghost use Rattle.bl_machine_transitions.specs.Shared as shared;
+ghost use Rattle.bl_machine_transitions.specs.Told.{rule_in};
 
 use bl_machine::Slot;
-use bl_pass_listed::{Asked, Change, Rule, Task};
+use bl_machine_transitions::{Asked, Change, Task, Transition};
 use bl_tree::tree::{Expr, ExprKind};
 use bl_tree::{List, NoMemory, Scalar};
 use std::alloc::Global;
@@ -21,7 +21,7 @@ fn is_true(e: &Expr) -> bool
 }
 
 /// Whether what is done at the rule's node is a test of the literal true.
-fn is_sure(rule: &Rule) -> bool
+fn is_sure(rule: &Transition) -> bool
     ensures { result ≡ shared.is_sure (rule_in rule.now).task }
 {
     match &rule.task {
@@ -52,13 +52,14 @@ fn leads_to(first: u32, so: &[Change]) -> bool
     ensures { result ≡ shared.leads_to first so.now }
 {
     match so {
-        [Change::Free(counter), Change::Flag(node)] => (*counter == 0) & (*node == first),
+        [Change::ClearCounter(counter), Change::SetFlag(node)] => (*counter == 0)
+            & (*node == first),
         _ => false,
     }
 }
 
 /// Whether the rule is that of the last place: it goes on for sure, at the first node, which comes later.
-fn leads_home(first: u32, value: u32, rule: &Rule) -> bool
+fn leads_home(first: u32, value: u32, rule: &Transition) -> bool
     ensures { result ≡ shared.leads_home first value (rule_in rule.now) }
 {
     asks_home(value, &rule.asked)
@@ -68,7 +69,7 @@ fn leads_home(first: u32, value: u32, rule: &Rule) -> bool
 }
 
 /// The number of the first rule that is, where there is one.
-fn home_rule(first: u32, value: u32, rules: &[Rule]) -> Option<u32>
+fn home_rule(first: u32, value: u32, rules: &[Transition]) -> Option<u32>
     ensures { result ≡ shared.home_rule first value (map rule_in rules.now) }
 {
     for rule in rules {
@@ -91,7 +92,7 @@ fn keeps_off(value: u32, asked: &Asked) -> bool
 }
 
 /// Whether all rules but the one with the number that asks for the place keep off.
-fn all_keep_off(value: u32, home: u32, rules: &[Rule]) -> bool
+fn all_keep_off(value: u32, home: u32, rules: &[Transition]) -> bool
     ensures { result ≡ shared.all_keep_off value home (map rule_in rules.now) }
 {
     for rule in rules {
@@ -104,7 +105,7 @@ fn all_keep_off(value: u32, home: u32, rules: &[Rule]) -> bool
 }
 
 /// Whether there is such a rule, and all others keep off.
-fn others_keep_off(value: u32, home: Option<u32>, rules: &[Rule]) -> bool
+fn others_keep_off(value: u32, home: Option<u32>, rules: &[Transition]) -> bool
     ensures { result ≡ shared.others_keep_off value home (map rule_in rules.now) }
 {
     match home {
@@ -114,7 +115,7 @@ fn others_keep_off(value: u32, home: Option<u32>, rules: &[Rule]) -> bool
 }
 
 /// Whether the last value of an activity's only counter goes home, by how many values each counter has and the rules.
-pub fn goes_home(sizes: &[u32], rules: &[Rule]) -> bool
+pub fn goes_home(sizes: &[u32], rules: &[Transition]) -> bool
     ensures { result ≡ shared.goes_home sizes.now (map rule_in rules.now) }
 {
     match (sizes, rules) {

@@ -1,19 +1,19 @@
 -- The courses that run a source end alike and show the same.
 use Rattle.std.proofs.Common.{◌≡◌, ◌∙◌, ℕ, ℤ, List, refl, sym, ap, subst}
 use Rattle.std.specs.Prelude.{Option, Some, None, unwrap_or}
-use Rattle.bl_commands.specs.Calls.{Count, Output}
-use Rattle.bl_commands.specs.Rows.{Ran, RanInPart, Streams, bad_rows, done, no_memory, trapped, unread, unwritten}
-use Rattle.bl_commands.specs.Sources.{IsTreeOf, RunsAs}
-use Rattle.bl_commands.specs.Traces.{HasCourse}
-use Rattle.bl_commands.specs.declared.status.Status.{Status}
-use Rattle.bl_ctree.specs.Means.{Shown, shown}
+use Rattle.bl_top_commands.specs.Calls.{Count, Output}
+use Rattle.bl_top_commands.specs.Rows.{Ran, RanInPart, Streams, bad_rows, done, no_memory, trapped, unread, unwritten}
+use Rattle.bl_top_commands.specs.Sources.{IsTreeOf, RunsAs}
+use Rattle.bl_top_commands.specs.Traces.{HasCourse}
+use Rattle.bl_top_commands.specs.declared.status.Status.{Status}
+use Rattle.bl_ctree.specs.Means.{ShownTrace, shown_trace}
 use Rattle.bl_io.specs.Held.{Appends}
-use Rattle.bl_program.specs.Programs.{typed_of}
-use Rattle.bl_raw.specs.declared.raw.Raw.{Raw}
-use Rattle.bl_rows.specs.Reading.{begun, fault_in, rows_in, rows_of}
+use Rattle.bl_types_program.specs.Programs.{typed_of}
+use Rattle.bl_parse_tree.specs.declared.raw.Raw.{Raw}
+use Rattle.bl_rows.specs.Reading.{empty_reading, fault_in, rows_in, rows_of}
 use Rattle.bl_rows.specs.Text.{text_of}
 use Rattle.bl_rules.specs.Accepted.{HasTree}
-use Rattle.bl_stream.specs.Streams.{
+use Rattle.bl_rows_stream.specs.Streams.{
   AppendsFront,
   Course,
   Unread,
@@ -23,7 +23,7 @@ use Rattle.bl_stream.specs.Streams.{
   text_over,
   text_so_far,
 }
-use Rattle.bl_stream.specs.declared.finish.Finish.{Finish}
+use Rattle.bl_rows_stream.specs.declared.finish.Finish.{Finish}
 use Rattle.bl_tree.specs.Ports.{RowsFit, input_columns, output_columns}
 use Rattle.bl_tree.specs.declared.row.Last.{Last}
 use Rattle.bl_tree.specs.declared.row.Trace.{Trace}
@@ -61,7 +61,7 @@ module _ (course other : Course) (alike : Alike course other) (left rest : Optio
   unread_alike why = record {
     read = why.read;
     handed_over = why.handed_over;
-    good = subst (λ columns. fault_in (begun columns) why.read ≡ None) alike.ins why.good;
+    good = subst (λ columns. fault_in (empty_reading columns) why.read ≡ None) alike.ins why.good;
     running = sym (alike.last_so_far why.read) ∙ why.running;
     written = subst (λ text. Appends out.before text out.after) (alike.text_so_far why.read) why.written;
   }
@@ -80,14 +80,14 @@ module _ (course other : Course) (alike : Alike course other) (left rest : Optio
 abbrev trace_with : List (List ℤ) → Last → Trace
 trace_with rows last = record { rows = rows; last = last }
 
-same_last : (trace other : Trace) → shown trace ≡ shown other → trace.last ≡ other.last
-same_last trace other e = ap (λ (shows : Shown). unwrap_or shows.last trace.last) e
+same_last : (trace other : Trace) → shown_trace trace ≡ shown_trace other → trace.last ≡ other.last
+same_last trace other e = ap (λ (shows : ShownTrace). unwrap_or shows.last trace.last) e
 
-same_rows : (trace other : Trace) → shown trace ≡ shown other → trace.rows ≡ other.rows
-same_rows trace other e = ap (λ (shows : Shown). shows.rows) e
+same_rows : (trace other : Trace) → shown_trace trace ≡ shown_trace other → trace.rows ≡ other.rows
+same_rows trace other e = ap (λ (shows : ShownTrace). shows.rows) e
 
 -- a trace is what it shows
-same_trace : (trace other : Trace) → shown trace ≡ shown other → trace ≡ other
+same_trace : (trace other : Trace) → shown_trace trace ≡ shown_trace other → trace ≡ other
 same_trace trace other e =
     ap (λ last. trace_with trace.rows last) (same_last trace other e) ∙ ap (λ rows. trace_with rows other.last) (same_rows trace other e)
 
@@ -99,8 +99,8 @@ module _ (structs : List StructDef) (units : List UnitDef) (entry : ℕ) (course
   one_trace : (rows : List (List ℤ)) → RowsFit (input_columns is.unit) rows → is.trace rows ≡ too.trace rows
   one_trace rows fit =
       same_trace (is.trace rows) (too.trace rows)
-      ((too.one rows (shown (is.trace rows)) (subst (λ unit. RowsFit (input_columns unit) rows) one_unit fit)).0
-      ((is.one rows (shown (is.trace rows)) fit).1 refl))
+      ((too.one rows (shown_trace (is.trace rows)) (subst (λ unit. RowsFit (input_columns unit) rows) one_unit fit)).0
+      ((is.one rows (shown_trace (is.trace rows)) fit).1 refl))
 
   one_ins : course.ins ≡ other.ins
   one_ins = is.inputs ∙ ap input_columns one_unit ∙ sym too.inputs
@@ -118,10 +118,10 @@ module _ (structs : List StructDef) (units : List UnitDef) (entry : ℕ) (course
     ins = one_ins;
     last = λ bytes. one_last (rows_of bytes course.ins).rows (is.fit bytes) ∙ ap (λ columns. other.last (rows_of bytes columns).rows) one_ins;
     text = λ bytes. one_text (rows_of bytes course.ins).rows (is.fit bytes) ∙ ap (λ columns. other.text (rows_of bytes columns).rows) one_ins;
-    last_so_far = λ bytes. one_last (rows_in (begun course.ins) bytes) (is.fit_so_far bytes)
-        ∙ ap (λ columns. other.last (rows_in (begun columns) bytes)) one_ins;
-    text_so_far = λ bytes. one_text (rows_in (begun course.ins) bytes) (is.fit_so_far bytes)
-        ∙ ap (λ columns. other.text (rows_in (begun columns) bytes)) one_ins;
+    last_so_far = λ bytes. one_last (rows_in (empty_reading course.ins) bytes) (is.fit_so_far bytes)
+        ∙ ap (λ columns. other.last (rows_in (empty_reading columns) bytes)) one_ins;
+    text_so_far = λ bytes. one_text (rows_in (empty_reading course.ins) bytes) (is.fit_so_far bytes)
+        ∙ ap (λ columns. other.text (rows_in (empty_reading columns) bytes)) one_ins;
   }
 
 -- ---- courses of one source

@@ -1,13 +1,13 @@
 -- What is built, and what is run of it.
 use Rattle.std.proofs.Common.{◌≡◌, ℕ, ◌≤◌, ◌<◌, List, length, refl, sym, subst, inl, inr, arith}
 use Rattle.std.specs.Prelude.{◌⊎◌, ◌↔◌, Option, Some}
-use Rattle.bl_cmeaning.specs.Faults.{WellFormed}
-use Rattle.bl_cmeaning.specs.Parts.{Parts, parts_of}
-use Rattle.bl_cmeaning.specs.Sizes.{cells_needed}
-use Rattle.bl_cmeaning_laws_places.specs.Behaviour.{Behaviour, behaviour_of}
-use Rattle.bl_cmeaning_laws_places.specs.Bytes.{Behaves}
-use Rattle.bl_commands.specs.Calls.{Call}
-use Rattle.bl_commands.specs.Exec.{
+use Rattle.bl_ctext_semantics.specs.Faults.{WellFormed}
+use Rattle.bl_ctext_semantics.specs.Parts.{Parts, parts_of}
+use Rattle.bl_ctext_semantics.specs.Sizes.{cells_needed}
+use Rattle.bl_ctext_semantics_laws_places.specs.Behaviour.{Behaviour, behaviour_of}
+use Rattle.bl_ctext_semantics_laws_places.specs.Bytes.{Behaves}
+use Rattle.bl_top_commands.specs.Calls.{Call}
+use Rattle.bl_top_commands.specs.Exec.{
   ExecEnds,
   HasFile,
   Rejects,
@@ -23,22 +23,22 @@ use Rattle.bl_commands.specs.Exec.{
   unread,
   want,
 }
-use Rattle.bl_commands.specs.Notes.{line_of}
-use Rattle.bl_commands.specs.Reads.{longest_text}
-use Rattle.bl_commands.specs.Sources.{IsSource, IsTextOf, IsTextOfProgram, RunsAs}
-use Rattle.bl_commands.specs.Traces.{HasCourse, course_by}
-use Rattle.bl_commands.specs.declared.status.Status.{Status}
-use Rattle.bl_commands.specs.declared.status.Status.TheVariants as status
+use Rattle.bl_top_commands.specs.Notes.{line_of}
+use Rattle.bl_top_commands.specs.Reads.{longest_text}
+use Rattle.bl_top_commands.specs.Sources.{IsSource, IsTextOf, IsTextOfProgram, RunsAs}
+use Rattle.bl_top_commands.specs.Traces.{HasCourse, course_by}
+use Rattle.bl_top_commands.specs.declared.status.Status.{Status}
+use Rattle.bl_top_commands.specs.declared.status.Status.TheVariants as status
 use Rattle.bl_ctext.specs.SpellsC.{SpellsC}
 use Rattle.bl_ctext.specs.declared.file.CFile.{CFile}
 use Rattle.bl_io.specs.Left.{IsKept}
-use Rattle.bl_program.specs.Programs.{typed_of}
+use Rattle.bl_types_program.specs.Programs.{typed_of}
 use Rattle.bl_top.specs.Build.{IsBuiltOfProgram}
 use Rattle.bl_top.specs.Built.{BuiltEnds, ran as built_ran, unread as built_unread, want as built_want}
 use Rattle.bl_top.specs.inner.Programs.{IsFileOf}
 use Rattle.bl_tree.specs.declared.tree.StructDef.{StructDef}
 use Rattle.bl_tree.specs.declared.tree.Unit.{Unit as UnitDef}
-use Rattle.bl_words.specs.Jobs.{Word}
+use Rattle.bl_top_args.specs.Jobs.{Word}
 use Rattle.bl_top.proofs.Courses.{BytesFit, LinesFit, course_of_behaviour, faultless, not_large}
 
 -- what spells the file of a program is built of it

@@ -1,19 +1,19 @@
 -- What is run of a program has the program's one trace.
 use Rattle.std.proofs.Common.{◌≡◌, ℕ, ℤ, List, refl, sym, ap, ◌∙◌, subst, arith}
 use Rattle.std.specs.Prelude.{◌<◌, ◌≤◌, Option, Some, None}
-use Rattle.bl_cmeaning.specs.Faults.{WellFormed, first_fault, first_place}
-use Rattle.bl_cmeaning.specs.Parts.{Parts, parts_of}
-use Rattle.bl_cmeaning.specs.Sizes.{cells_needed}
-use Rattle.bl_cmeaning_laws_places.specs.Behaviour.{Behaviour, behaviour_of}
-use Rattle.bl_commands.specs.Traces.{HasCourse, OneTrace, course_by}
+use Rattle.bl_ctext_semantics.specs.Faults.{WellFormed, first_fault, first_place}
+use Rattle.bl_ctext_semantics.specs.Parts.{Parts, parts_of}
+use Rattle.bl_ctext_semantics.specs.Sizes.{cells_needed}
+use Rattle.bl_ctext_semantics_laws_places.specs.Behaviour.{Behaviour, behaviour_of}
+use Rattle.bl_top_commands.specs.Traces.{HasCourse, OneTrace, course_by}
 use Rattle.bl_crun.specs.Cause.{IsCause}
 use Rattle.bl_crun.specs.Running.{Running, loaded}
 use Rattle.bl_crun.specs.declared.fault.LoadFault.{LoadFault}
 use Rattle.bl_crun.specs.declared.fault.LoadFault.TheVariants as load
 use Rattle.bl_ctext.specs.declared.file.CFile.{CFile}
-use Rattle.bl_rows.specs.Reading.{begun, rows_in, rows_of}
+use Rattle.bl_rows.specs.Reading.{empty_reading, rows_in, rows_of}
 use Rattle.bl_rows.specs.Text.{text_of}
-use Rattle.bl_stream.specs.Streams.{course_of}
+use Rattle.bl_rows_stream.specs.Streams.{course_of}
 use Rattle.bl_top.specs.inner.Programs.{IsFileOf}
 use Rattle.bl_tree.specs.Ports.{RowsFit, input_columns}
 use Rattle.bl_tree.specs.declared.place.Place.{Place}
@@ -31,7 +31,7 @@ abbrev pub BytesFit : Type 0
 BytesFit = (bytes : List ℕ) (columns : List Column) → RowsFit columns (rows_of bytes columns).rows
 
 abbrev pub LinesFit : Type 0
-LinesFit = (bytes : List ℕ) (columns : List Column) → RowsFit columns (rows_in (begun columns) bytes)
+LinesFit = (bytes : List ℕ) (columns : List Column) → RowsFit columns (rows_in (empty_reading columns) bytes)
 
 -- ---- what behaves as a program, as a course
 
@@ -46,7 +46,7 @@ course_of_behaviour structs units entry behaviour is fit so_far = record {
   stands = λ rows. refl;
   shows = λ rows. ap (text_of (behaviour.trace rows)) is.outputs;
   fit = λ bytes. columns_fit behaviour.inputs (input_columns is.unit) (rows_of bytes behaviour.inputs).rows is.inputs (fit bytes behaviour.inputs);
-  fit_so_far = λ bytes. columns_fit behaviour.inputs (input_columns is.unit) (rows_in (begun behaviour.inputs) bytes) is.inputs
+  fit_so_far = λ bytes. columns_fit behaviour.inputs (input_columns is.unit) (rows_in (empty_reading behaviour.inputs) bytes) is.inputs
       (so_far bytes behaviour.inputs);
   bounded = is.bounded;
   never_stuck = is.never_stuck;

@@ -1,10 +1,10 @@
 -- The files of a job that were read, and those that were left as they are.
 use Rattle.std.proofs.Common.{ℕ, List, [], ◌∷◌, refl}
 use Rattle.std.specs.Prelude.{Option, Some, None}
-use Rattle.bl_commands.specs.Laws.{KeptFilesAreWithinLimits}
-use Rattle.bl_commands.specs.Reads.{FileRead, Reads, StandsWithin}
+use Rattle.bl_top_commands.specs.Laws.{KeptFilesAreWithinLimits}
+use Rattle.bl_top_commands.specs.Reads.{FileRead, Reads, StandsWithin}
 use Rattle.bl_io.specs.Left.{IsKept, KeepsOthers}
-use Rattle.bl_words.specs.Jobs.{Word}
+use Rattle.bl_top_args.specs.Jobs.{Word}
 
 pub kept_same : (held : Option (List ℕ)) → IsKept held held
 kept_same None = tt

@@ -1,31 +1,31 @@
 -- What is driven of a source, and how the command ends.
 use Rattle.std.proofs.Common.{◌≡◌, ◌∙◌, ℕ, List, [], ◌++◌, ap, ap₂, inl, inr, refl, subst, sym}
 use Rattle.std.specs.Prelude.{◌⊎◌, ◌↔◌, Option, Some, None, Result, Ok, Err}
-use Rattle.bl_cmeaning.specs.Cells.{outputs_of}
-use Rattle.bl_cmeaning.specs.Parts.{Parts}
-use Rattle.bl_cmeaning_laws_places.specs.Behaviour.{Behaviour, behaviour_of}
-use Rattle.bl_commands.specs.Calls.{Call, Output}
-use Rattle.bl_commands.specs.inner.Outcomes.{chosen_line, line_in, lines_in}
-use Rattle.bl_commands.specs.Notes.{line_of}
-use Rattle.bl_commands.specs.Refusals.{IsNotAccepted}
-use Rattle.bl_commands.specs.Sources.{IsProgram}
-use Rattle.bl_commands.specs.declared.answer.Answer.{Answer}
-use Rattle.bl_commands.specs.declared.outcome.Outcome.{Outcome}
-use Rattle.bl_commands.specs.declared.status.Status.{Status}
-use Rattle.bl_commands.specs.declared.status.Status.TheVariants as status
-use Rattle.bl_commands.specs.Traces.{OneTrace}
+use Rattle.bl_ctext_semantics.specs.Cells.{outputs_of}
+use Rattle.bl_ctext_semantics.specs.Parts.{Parts}
+use Rattle.bl_ctext_semantics_laws_places.specs.Behaviour.{Behaviour, behaviour_of}
+use Rattle.bl_top_commands.specs.Calls.{Call, Output}
+use Rattle.bl_top_commands.specs.inner.Outcomes.{chosen_line, line_in, lines_in}
+use Rattle.bl_top_commands.specs.Notes.{line_of}
+use Rattle.bl_top_commands.specs.Refusals.{IsNotAccepted}
+use Rattle.bl_top_commands.specs.Sources.{IsProgram}
+use Rattle.bl_top_commands.specs.declared.answer.Answer.{Answer}
+use Rattle.bl_top_commands.specs.declared.outcome.Outcome.{Outcome}
+use Rattle.bl_top_commands.specs.declared.status.Status.{Status}
+use Rattle.bl_top_commands.specs.declared.status.Status.TheVariants as status
+use Rattle.bl_top_commands.specs.Traces.{OneTrace}
 use Rattle.bl_crun.specs.Running.{Running, loaded}
-use Rattle.bl_ctree.specs.Means.{Means, Shown as Shows, shown}
-use Rattle.bl_drive.specs.declared.driven.Driven.{Driven as Record}
-use Rattle.bl_drive.specs.declared.fault.DriveFault.{DriveFault}
-use Rattle.bl_drive.specs.declared.fault.DriveFault.TheVariants as fault
-use Rattle.bl_drive_run.specs.Lines.{gone_lines, line_after}
-use Rattle.bl_drive_run.specs.Reports.{IsDriven, IsReport, IsReportOf, LeavesPlants as RunLeaves, end_at, text_shown}
-use Rattle.bl_drive_run.specs.declared.report.Report.{Report}
+use Rattle.bl_ctree.specs.Means.{Means, ShownTrace as Shows, shown_trace}
+use Rattle.bl_plant_drive.specs.declared.driven.Driven.{Driven as Record}
+use Rattle.bl_plant_drive.specs.declared.fault.DriveFault.{DriveFault}
+use Rattle.bl_plant_drive.specs.declared.fault.DriveFault.TheVariants as fault
+use Rattle.bl_plant_drive_report.specs.Lines.{gone_lines, line_after}
+use Rattle.bl_plant_drive_report.specs.Reports.{IsDriven, IsReport, IsReportOf, LeavesPlants as RunLeaves, end_at, text_shown}
+use Rattle.bl_plant_drive_report.specs.declared.report.Report.{Report}
 use Rattle.bl_io.specs.Left.{IsKept}
-use Rattle.bl_program.specs.Programs.{typed_of}
+use Rattle.bl_types_program.specs.Programs.{typed_of}
 use Rattle.bl_top.specs.Answers.{Answers, drives}
-use Rattle.bl_top.specs.Drive.{DriveEnds, HasDriven, LeavesPlants, Plants, Tells, drove, kept, line_at, setting_of, short, status_at, stopped}
+use Rattle.bl_top.specs.Drive.{DriveEnds, DriveNotes, HasDriven, LeavesPlants, Plants, drove, kept, line_at, setting_of, short, status_at, stopped}
 use Rattle.bl_top.specs.Drive.{unwritten, want, was_driven, whole}
 use Rattle.bl_top.specs.inner.Driven.{Drives, MayHaveDriven, TellsReport, WritesReport, failed, refused, wrote}
 use Rattle.bl_tree.specs.Ports.{RowsFit, input_columns}
@@ -36,7 +36,7 @@ use Rattle.bl_tree.specs.declared.row.Last.TheVariants as last
 use Rattle.bl_tree.specs.declared.row.Trace.{Trace}
 use Rattle.bl_tree.specs.declared.tree.StructDef.{StructDef}
 use Rattle.bl_tree.specs.declared.tree.Unit.{Unit as UnitDef}
-use Rattle.bl_words.specs.Jobs.{JobSpec, Word, drive}
+use Rattle.bl_top_args.specs.Jobs.{JobSpec, Word, drive}
 use Rattle.bl_top.proofs.Programs.{tree_of_program}
 
 -- ---- the drive of a program
@@ -79,9 +79,9 @@ module _ (structs : List StructDef) (units : List UnitDef) (entry : ℕ) (runner
 drive_means : (structs : List StructDef) (units : List UnitDef) (entry : ℕ) (plants : Plants) (ticks : ℕ) (names : List ℕ) (parts : Parts)
     (driven : Record) (how : Result (Unit {0}) DriveFault) → OneTrace structs units entry (behaviour_of parts) →
     IsDriven (setting_of parts plants.before ticks names) plants.after driven how → (shows : Shows) →
-    Means structs units entry driven.ins shows ↔ (shows ≡ shown driven.trace)
+    Means structs units entry driven.ins shows ↔ (shows ≡ shown_trace driven.trace)
 drive_means structs units entry plants ticks names parts driven how one is shows =
-    subst (λ (t : Trace). Means structs units entry driven.ins shows ↔ (shows ≡ shown t)) (sym is.trace)
+    subst (λ (t : Trace). Means structs units entry driven.ins shows ↔ (shows ≡ shown_trace t)) (sym is.trace)
     (one.trace driven.ins shows (subst (λ (cs : List Column). RowsFit cs driven.ins) one.inputs is.fit))
 
 -- the units and structs of a program are those of its tree
@@ -128,18 +128,18 @@ line_is l (Err fault.NoMemory) = refl
 
 -- an answer with no lines but that of its status
 told_alone : (out : Output) (driven : Record) (how : Result (Unit {0}) DriveFault) (text told own : List ℕ) (ended known : Status) → told ≡ [] →
-    ended ≡ known → Tells out driven how text known (chosen_line known own) → Tells out driven how text ended (told ++ chosen_line ended own)
+    ended ≡ known → DriveNotes out driven how text known (chosen_line known own) → DriveNotes out driven how text ended (told ++ chosen_line ended own)
 told_alone out driven how text told own ended known none e tells = rw (none, e) tells
 
 report_written : (outs : List Column) (out : Output) (driven : Record) (how : Result (Unit {0}) DriveFault) (report : Report) (answer : Answer) →
     IsReportOf outs driven how report → WritesReport report out answer →
-    Tells out driven how report.text.items answer.outcome.status (lines_in answer)
+    DriveNotes out driven how report.text.items answer.outcome.status (lines_in answer)
 report_written outs out driven how report answer is (wrote grew told ended line) =
     let status_is : answer.outcome.status ≡ status_at (end_at driven.trace.last how) = ended ∙ ap status_at is.end in
     let lines_are : lines_in answer ≡ gone_lines driven.gone ++ line_at how =
     ap₂ (λ (a b : List ℕ). a ++ b) (told ∙ is.told) (ap₂ chosen_line status_is (line ∙ is.line) ∙ line_is driven.trace.last how) in
-    subst (λ (s : Status). Tells out driven how report.text.items s (lines_in answer)) (sym status_is)
-    (subst (λ ls. Tells out driven how report.text.items (status_at (end_at driven.trace.last how)) ls) (sym lines_are) (whole grew))
+    subst (λ (s : Status). DriveNotes out driven how report.text.items s (lines_in answer)) (sym status_is)
+    (subst (λ ls. DriveNotes out driven how report.text.items (status_at (end_at driven.trace.last how)) ls) (sym lines_are) (whole grew))
 report_written outs out driven how report answer is (failed grew risen none e) =
     told_alone out driven how report.text.items answer.told.items answer.outcome.line.items answer.outcome.status status.WriteFault none e
     (unwritten grew risen)

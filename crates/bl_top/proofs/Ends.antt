@@ -1,53 +1,53 @@
 -- How `build` and `run` end, and so the call.
 use Rattle.std.proofs.Common.{◌≡◌, ℕ, ◌≤◌, List, subst, sym}
 use Rattle.std.specs.Prelude.{Option, Some, None, IfSome}
-use Rattle.bl_commands.specs.Bound.{BoundEnds}
-use Rattle.bl_commands.specs.Calls.{Call, Count, Output}
-use Rattle.bl_commands.specs.Check.{CheckEnds}
-use Rattle.bl_commands.specs.Count.{CountEnds}
-use Rattle.bl_commands.specs.Exec.{ExecEnds}
-use Rattle.bl_commands.specs.Gen.{GenEnds}
-use Rattle.bl_commands.specs.inner.Outcomes.{chosen_line, line_in, lines_in}
-use Rattle.bl_commands.specs.Laws.{FaultsCountFromBefore, ProgramsRunAsTheirSource}
-use Rattle.bl_commands.specs.Notes.{line_of}
-use Rattle.bl_commands.specs.Reads.{LeftBehind, source_limit}
-use Rattle.bl_commands.specs.Refusals.{IsNotAccepted, short as source_short}
-use Rattle.bl_commands.specs.Results.{Writes, fault, nothing, want, whole}
-use Rattle.bl_commands.specs.Rows.{Streams}
-use Rattle.bl_commands.specs.Sources.{IsProgram}
-use Rattle.bl_commands.specs.Save.{ResumeEnds, SaveEnds, SaveFromEnds}
-use Rattle.bl_commands.specs.Traces.{HasCourse}
-use Rattle.bl_commands.specs.Walk.{WalkEnds}
-use Rattle.bl_commands.specs.declared.answer.Answer.{Answer}
-use Rattle.bl_commands.specs.declared.outcome.Outcome.{Outcome}
-use Rattle.bl_commands.specs.declared.status.Status.{Status}
-use Rattle.bl_commands.specs.declared.status.Status.TheVariants as status
+use Rattle.bl_top_commands.specs.Bound.{BoundEnds}
+use Rattle.bl_top_commands.specs.Calls.{Call, Count, Output}
+use Rattle.bl_top_commands.specs.Check.{CheckEnds}
+use Rattle.bl_top_commands.specs.Count.{CountEnds}
+use Rattle.bl_top_commands.specs.Exec.{ExecEnds}
+use Rattle.bl_top_commands.specs.Gen.{GenEnds}
+use Rattle.bl_top_commands.specs.inner.Outcomes.{chosen_line, line_in, lines_in}
+use Rattle.bl_top_commands.specs.Laws.{FaultsCountFromBefore, ProgramsRunAsTheirSource}
+use Rattle.bl_top_commands.specs.Notes.{line_of}
+use Rattle.bl_top_commands.specs.Reads.{LeftBehind, source_limit}
+use Rattle.bl_top_commands.specs.Refusals.{IsNotAccepted, short as source_short}
+use Rattle.bl_top_commands.specs.Results.{WritesResult, fault, nothing, want, whole}
+use Rattle.bl_top_commands.specs.Rows.{Streams}
+use Rattle.bl_top_commands.specs.Sources.{IsProgram}
+use Rattle.bl_top_commands.specs.Save.{ResumeEnds, SaveEnds, SaveFromEnds}
+use Rattle.bl_top_commands.specs.Traces.{HasCourse}
+use Rattle.bl_top_commands.specs.Walk.{WalkEnds}
+use Rattle.bl_top_commands.specs.declared.answer.Answer.{Answer}
+use Rattle.bl_top_commands.specs.declared.outcome.Outcome.{Outcome}
+use Rattle.bl_top_commands.specs.declared.status.Status.{Status}
+use Rattle.bl_top_commands.specs.declared.status.Status.TheVariants as status
 use Rattle.bl_io.specs.Left.{IsKept}
-use Rattle.bl_stream.specs.Streams.{Course}
+use Rattle.bl_rows_stream.specs.Streams.{Course}
 use Rattle.bl_top.specs.Answers.{Answers, bounds, builds, checks, counts, execs, gens, no_job, resumes, runs, saves, saves_from, short, walks}
 use Rattle.bl_top.specs.Build.{BuildEnds, IsBuiltOf, IsBuiltOfProgram, stopped, written}
 use Rattle.bl_top.specs.Drive.{Plants}
 use Rattle.bl_top.specs.Run.{RunEnds, ran, stopped as run_stopped}
 use Rattle.bl_tree.specs.declared.program.Program.{Program}
-use Rattle.bl_words.specs.Jobs.{HasStages, JobSpec, Word, bound, build, check, count, exec, gen, resume, run, save, save_from, walk}
+use Rattle.bl_top_args.specs.Jobs.{HasStages, JobSpec, Word, bound, build, check, count, exec, gen, resume, run, save, save_from, walk}
 use Rattle.bl_top.proofs.Programs.{built_of_source}
 
 -- ---- `build`
 
 pub wrote_nothing : (IsResult : List ℕ → Type 0) (out : Output) (ended : Status) → ended ≡ status.NoMemory → IsKept out.before out.after →
-    Writes IsResult out ended
+    WritesResult IsResult out ended
 wrote_nothing IsResult out ended e kept = rw e (nothing kept)
 
 -- what is a result in one sense is one in another
-pub writes_as : (P Q : List ℕ → Type 0) (out : Output) (ended : Status) → ((text : List ℕ) → P text → Q text) → Writes P out ended →
-    Writes Q out ended
+pub writes_as : (P Q : List ℕ → Type 0) (out : Output) (ended : Status) → ((text : List ℕ) → P text → Q text) → WritesResult P out ended →
+    WritesResult Q out ended
 writes_as P Q out _ turned (whole text is grew) = whole text (turned text is) grew
 writes_as P Q out _ turned (fault text is grew risen) = fault text (turned text is) grew risen
 writes_as P Q out _ turned (want text is grew) = want text (turned text is) grew
 writes_as P Q out _ turned (nothing kept) = nothing kept
 
 pub build_written : (c : Call) (source : Word) (program : Program) (ended : Status) (line : List ℕ) → IsProgram (c.left source) program →
-    Writes (IsBuiltOfProgram program.structs program.units program.entry) c.out ended → line ≡ line_of ended → BuildEnds c source ended line
+    WritesResult (IsBuiltOfProgram program.structs program.units program.entry) c.out ended → line ≡ line_of ended → BuildEnds c source ended line
 build_written c source program ended line built writes told =
     rw told (written (writes_as (IsBuiltOfProgram program.structs program.units program.entry) (IsBuiltOf (c.left source)) c.out ended
     (λ text is. built_of_source (c.left source) program text built is) writes))

@@ -1,8 +1,8 @@
 -- The program of a source, and what is written for it.
 use Rattle.std.proofs.Common.{◌≡◌, ℕ, List, subst}
 use Rattle.std.specs.Prelude.{Option}
-use Rattle.bl_commands.specs.Sources.{IsProgram, IsTreeOf}
-use Rattle.bl_program.specs.Programs.{typed_of}
+use Rattle.bl_top_commands.specs.Sources.{IsProgram, IsTreeOf}
+use Rattle.bl_types_program.specs.Programs.{typed_of}
 use Rattle.bl_top.specs.Build.{IsBuiltOf, IsBuiltOfProgram}
 use Rattle.bl_top.specs.inner.Programs.{IsOfText}
 use Rattle.bl_tree.specs.declared.program.Program.{Program}

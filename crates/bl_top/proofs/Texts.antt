@@ -1,11 +1,11 @@
 -- The C file of an accepted program of a text.
 use Rattle.std.proofs.Common.{◌≡◌, ℕ, List, subst, sym}
 use Rattle.bl_cause.specs.Accepted.{AcceptedProgram, IsAccepted}
-use Rattle.bl_cmeaning.specs.Parts.{parts_of}
+use Rattle.bl_ctext_semantics.specs.Parts.{parts_of}
 use Rattle.bl_ctext.specs.declared.file.CFile.{CFile}
 use Rattle.bl_ctree_laws_traces.specs.Traces.OneTrace.{HasOneTrace as MeansOneTrace}
 use Rattle.bl_emit_file.specs.Shows.{ShowsProgram}
-use Rattle.bl_prevs.specs.Declared.{FromText}
+use Rattle.bl_machine_prevs.specs.Declared.{FromText}
 use Rattle.bl_rules.specs.Accepted.{HasProgram}
 use Rattle.bl_top.specs.inner.Programs.{IsFileOf, IsOfText}
 use Rattle.bl_tree.specs.declared.program.Program.{Program}

@@ -1,21 +1,21 @@
 -- How the job that words ask for ends, and so a call.
 use Rattle.std.specs.Prelude.{◌≡◌, ℕ, List, Option, Some, None}
-use Rattle.bl_commands.specs.Bound.{BoundEnds}
-use Rattle.bl_commands.specs.Calls.{Call}
-use Rattle.bl_commands.specs.Check.{CheckEnds}
-use Rattle.bl_commands.specs.Count.{CountEnds}
-use Rattle.bl_commands.specs.Exec.{ExecEnds}
-use Rattle.bl_commands.specs.Gen.{GenEnds}
-use Rattle.bl_commands.specs.Notes.{Written, line_of}
-use Rattle.bl_commands.specs.Save.{ResumeEnds, SaveEnds, SaveFromEnds}
-use Rattle.bl_commands.specs.declared.status.Status.{Status}
-use Rattle.bl_commands.specs.declared.status.Status.TheVariants as status
-use Rattle.bl_commands.specs.Walk.{WalkEnds}
+use Rattle.bl_top_commands.specs.Bound.{BoundEnds}
+use Rattle.bl_top_commands.specs.Calls.{Call}
+use Rattle.bl_top_commands.specs.Check.{CheckEnds}
+use Rattle.bl_top_commands.specs.Count.{CountEnds}
+use Rattle.bl_top_commands.specs.Exec.{ExecEnds}
+use Rattle.bl_top_commands.specs.Gen.{GenEnds}
+use Rattle.bl_top_commands.specs.Notes.{Written, line_of}
+use Rattle.bl_top_commands.specs.Save.{ResumeEnds, SaveEnds, SaveFromEnds}
+use Rattle.bl_top_commands.specs.declared.status.Status.{Status}
+use Rattle.bl_top_commands.specs.declared.status.Status.TheVariants as status
+use Rattle.bl_top_commands.specs.Walk.{WalkEnds}
 use Rattle.bl_io.specs.Left.{IsKept}
 use Rattle.bl_top.specs.Build.{BuildEnds}
 use Rattle.bl_top.specs.Drive.{DriveEnds, Plants}
 use Rattle.bl_top.specs.Run.{RunEnds}
-use Rattle.bl_words.specs.Jobs.{JobSpec, Word, bound, build, check, count, drive, exec, gen, job_of, resume, run, save, save_from, walk}
+use Rattle.bl_top_args.specs.Jobs.{JobSpec, Word, bound, build, check, count, drive, exec, gen, job_of, resume, run, save, save_from, walk}
 
 -- the status with which a job ends, with its whole cause and with what grew on `out`, and all lines that it has for `notes`, that of
 -- the status last

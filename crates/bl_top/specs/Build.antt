@@ -1,21 +1,21 @@
 -- How `build` ends.
 use Rattle.std.specs.Prelude.{ℕ, List, Option}
-use Rattle.bl_cmeaning.specs.Parts.{parts_of}
-use Rattle.bl_commands.specs.Calls.{Call}
-use Rattle.bl_commands.specs.Notes.{line_of}
-use Rattle.bl_commands.specs.Refusals.{IsNotAccepted}
-use Rattle.bl_commands.specs.Results.{Writes}
-use Rattle.bl_commands.specs.declared.status.Status.{Status}
-use Rattle.bl_commands.specs.Sources.{IsTextOfProgram, IsTreeOf}
+use Rattle.bl_ctext_semantics.specs.Parts.{parts_of}
+use Rattle.bl_top_commands.specs.Calls.{Call}
+use Rattle.bl_top_commands.specs.Notes.{line_of}
+use Rattle.bl_top_commands.specs.Refusals.{IsNotAccepted}
+use Rattle.bl_top_commands.specs.Results.{WritesResult}
+use Rattle.bl_top_commands.specs.declared.status.Status.{Status}
+use Rattle.bl_top_commands.specs.Sources.{IsTextOfProgram, IsTreeOf}
 use Rattle.bl_emit_file.specs.Merged.{HasMergedBlocks}
 use Rattle.bl_emit_laws.specs.Counters.Own.{FunctionsOwn}
 use Rattle.bl_emit_laws.specs.Width.{EachFrameHasWidth}
 use Rattle.bl_io.specs.Left.{IsKept}
-use Rattle.bl_program.specs.Programs.{typed_of}
-use Rattle.bl_raw.specs.declared.raw.Raw.{Raw}
+use Rattle.bl_types_program.specs.Programs.{typed_of}
+use Rattle.bl_parse_tree.specs.declared.raw.Raw.{Raw}
 use Rattle.bl_tree.specs.declared.tree.StructDef.{StructDef}
 use Rattle.bl_tree.specs.declared.tree.Unit.{Unit as UnitDef}
-use Rattle.bl_words.specs.Jobs.{Word}
+use Rattle.bl_top_args.specs.Jobs.{Word}
 
 -- the bytes are a C text of the program with these structs, these units and this entry. In the file that they spell each activity that has an
 -- instance has one function, which alone names its counters, as many of these as its width, and in the body of that function as many `if`s as a
@@ -34,6 +34,6 @@ pub record IsBuiltOf (left : Option (List ℕ)) (text : List ℕ) : Type 0 where
 
 -- the status with which a C text of a source is built, and the lines for `notes`
 pub data BuildEnds (c : Call) (source : Word) : Status → List ℕ → Type 0 where
-  written : {ended : Status} → Writes (IsBuiltOf (c.left source)) c.out ended → BuildEnds c source ended (line_of ended)
+  written : {ended : Status} → WritesResult (IsBuiltOf (c.left source)) c.out ended → BuildEnds c source ended (line_of ended)
   stopped : {ended : Status} {line : List ℕ} → IsNotAccepted (c.left source) (c.file source) ended line → IsKept c.out.before c.out.after →
       BuildEnds c source ended line

@@ -1,15 +1,15 @@
 -- How `exec` ends of a text that `build` wrote.
 use Rattle.std.specs.Prelude.{ℕ, List, Option}
-use Rattle.bl_commands.specs.Calls.{Call, HasRisen}
-use Rattle.bl_commands.specs.Notes.{line_of}
-use Rattle.bl_commands.specs.Reads.{LeftBehind, text_limit}
-use Rattle.bl_commands.specs.Rows.{Streams}
-use Rattle.bl_commands.specs.Sources.{RunsAs}
-use Rattle.bl_commands.specs.declared.status.Status.{Status}
-use Rattle.bl_commands.specs.declared.status.Status.TheVariants as status
+use Rattle.bl_top_commands.specs.Calls.{Call, HasRisen}
+use Rattle.bl_top_commands.specs.Notes.{line_of}
+use Rattle.bl_top_commands.specs.Reads.{LeftBehind, text_limit}
+use Rattle.bl_top_commands.specs.Rows.{Streams}
+use Rattle.bl_top_commands.specs.Sources.{RunsAs}
+use Rattle.bl_top_commands.specs.declared.status.Status.{Status}
+use Rattle.bl_top_commands.specs.declared.status.Status.TheVariants as status
 use Rattle.bl_io.specs.Left.{IsKept}
-use Rattle.bl_stream.specs.Streams.{Course}
-use Rattle.bl_words.specs.Jobs.{Word}
+use Rattle.bl_rows_stream.specs.Streams.{Course}
+use Rattle.bl_top_args.specs.Jobs.{Word}
 
 -- the status with which the C text of a source is run over a file of rows, and the lines for `notes`: it isn't rejected
 pub data BuiltEnds (source : Option (List ℕ)) (c : Call) (text rows : Word) : Status → List ℕ → Type 0 where

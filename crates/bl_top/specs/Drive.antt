@@ -1,39 +1,39 @@
 -- How `drive` ends.
 use Rattle.std.specs.Prelude.{◌≡◌, ◌↔◌, ◌⊎◌, ℕ, List, [], ◌++◌, Option, Result, Ok, Err}
-use Rattle.bl_cmeaning.specs.Parts.{Parts}
-use Rattle.bl_cmeaning_laws_places.specs.Behaviour.{behaviour_of}
-use Rattle.bl_commands.specs.Calls.{Call, HasRisen, Output}
-use Rattle.bl_commands.specs.Notes.{line_of}
-use Rattle.bl_commands.specs.Refusals.{IsNotAccepted}
-use Rattle.bl_commands.specs.Sources.{IsTreeOf}
-use Rattle.bl_commands.specs.declared.status.Status.{Status}
-use Rattle.bl_commands.specs.declared.status.Status.TheVariants as status
-use Rattle.bl_commands.specs.Traces.{OneTrace}
+use Rattle.bl_ctext_semantics.specs.Parts.{Parts}
+use Rattle.bl_ctext_semantics_laws_places.specs.Behaviour.{behaviour_of}
+use Rattle.bl_top_commands.specs.Calls.{Call, HasRisen, Output}
+use Rattle.bl_top_commands.specs.Notes.{line_of}
+use Rattle.bl_top_commands.specs.Refusals.{IsNotAccepted}
+use Rattle.bl_top_commands.specs.Sources.{IsTreeOf}
+use Rattle.bl_top_commands.specs.declared.status.Status.{Status}
+use Rattle.bl_top_commands.specs.declared.status.Status.TheVariants as status
+use Rattle.bl_top_commands.specs.Traces.{OneTrace}
 use Rattle.bl_crun.specs.Running.{loaded}
-use Rattle.bl_ctree.specs.Means.{Means, Shown as Shows, shown}
-use Rattle.bl_drive.specs.Drives.{Setting}
-use Rattle.bl_drive.specs.declared.driven.Driven.{Driven}
-use Rattle.bl_drive.specs.declared.fault.DriveFault.{DriveFault}
-use Rattle.bl_drive.specs.declared.fault.DriveFault.TheVariants as fault
-use Rattle.bl_drive_run.specs.Lines.{gone_lines, line_after}
-use Rattle.bl_drive_run.specs.Reports.{IsDriven, end_at, text_shown}
-use Rattle.bl_drive_run.specs.declared.report.End.{End}
-use Rattle.bl_drive_run.specs.declared.report.End.TheVariants as end
+use Rattle.bl_ctree.specs.Means.{Means, ShownTrace as Shows, shown_trace}
+use Rattle.bl_plant_drive.specs.Drives.{DriveSetting}
+use Rattle.bl_plant_drive.specs.declared.driven.Driven.{Driven}
+use Rattle.bl_plant_drive.specs.declared.fault.DriveFault.{DriveFault}
+use Rattle.bl_plant_drive.specs.declared.fault.DriveFault.TheVariants as fault
+use Rattle.bl_plant_drive_report.specs.Lines.{gone_lines, line_after}
+use Rattle.bl_plant_drive_report.specs.Reports.{IsDriven, end_at, text_shown}
+use Rattle.bl_plant_drive_report.specs.declared.report.End.{End}
+use Rattle.bl_plant_drive_report.specs.declared.report.End.TheVariants as end
 use Rattle.bl_io.specs.Held.{Appends, AppendsPart}
 use Rattle.bl_io.specs.Left.{IsKept}
-use Rattle.bl_plant.specs.Plants.{Shown}
-use Rattle.bl_program.specs.Programs.{typed_of}
-use Rattle.bl_raw.specs.declared.raw.Raw.{Raw}
+use Rattle.bl_plant.specs.Plants.{PlantView}
+use Rattle.bl_types_program.specs.Programs.{typed_of}
+use Rattle.bl_parse_tree.specs.declared.raw.Raw.{Raw}
 use Rattle.bl_tree.specs.Ports.{output_columns}
-use Rattle.bl_words.specs.Jobs.{Word}
+use Rattle.bl_top_args.specs.Jobs.{Word}
 
 -- the plants that a call finds and those that it leaves
 pub record Plants : Type 0 where
-  pub before : List Shown
-  pub after : List Shown
+  pub before : List PlantView
+  pub after : List PlantView
 
 -- a C file from its start, plants, the names of those that are asked, and for how many ticks
-abbrev pub setting_of : Parts → List Shown → ℕ → List ℕ → Setting
+abbrev pub setting_of : Parts → List PlantView → ℕ → List ℕ → DriveSetting
 setting_of parts plants ticks names = record { runner = loaded parts; plants = plants; names = names; ticks = ticks }
 
 -- a C file that has the one trace of a source's program was driven against the plants: it recorded this and ended so
@@ -46,7 +46,7 @@ pub record HasDriven (left : Option (List ℕ)) (plants : Plants) (ticks : ℕ) 
   pub is_driven : IsDriven (setting_of parts plants.before ticks names) plants.after driven how
   -- over the rows that the plants gave the parallel meaning allows its trace, and no other
   pub means : (shows : Shows) → Means (typed_of raw).structs (typed_of raw).units (typed_of raw).entry driven.ins shows
-      ↔ (shows ≡ shown driven.trace)
+      ↔ (shows ≡ shown_trace driven.trace)
   -- this is what it shows: the text of the trace, or nothing where the names and widths don't fit
   pub shows : text ≡ text_shown (output_columns one_trace.unit) driven.trace how
 
@@ -64,11 +64,11 @@ line_at (Err fault.NoMemory) = line_of status.NoMemory
 line_at how = line_after how
 
 -- what a drive shows was to be written: all of it was, and the lines for `notes` tell which plants have finished, and what stopped it
-pub data Tells (out : Output) (driven : Driven) (how : Result (Unit {0}) DriveFault) (text : List ℕ) : Status → List ℕ → Type 0 where
+pub data DriveNotes (out : Output) (driven : Driven) (how : Result (Unit {0}) DriveFault) (text : List ℕ) : Status → List ℕ → Type 0 where
   whole : Appends out.before text out.after →
-      Tells out driven how text (status_at (end_at driven.trace.last how)) (gone_lines driven.gone ++ line_at how)
-  unwritten : AppendsPart out.before text out.after → HasRisen out.faults → Tells out driven how text status.WriteFault (line_of status.WriteFault)
-  want : AppendsPart out.before text out.after → Tells out driven how text status.NoMemory (line_of status.NoMemory)
+      DriveNotes out driven how text (status_at (end_at driven.trace.last how)) (gone_lines driven.gone ++ line_at how)
+  unwritten : AppendsPart out.before text out.after → HasRisen out.faults → DriveNotes out driven how text status.WriteFault (line_of status.WriteFault)
+  want : AppendsPart out.before text out.after → DriveNotes out driven how text status.NoMemory (line_of status.NoMemory)
 
 -- a drive of the source left these plants, or they were kept
 pub data LeavesPlants (left : Option (List ℕ)) (plants : Plants) (ticks : ℕ) (names : List ℕ) : Type 0 where
@@ -79,7 +79,7 @@ pub data LeavesPlants (left : Option (List ℕ)) (plants : Plants) (ticks : ℕ)
 -- the status with which a source is driven against plants, and the lines for `notes`
 pub data DriveEnds (c : Call) (plants : Plants) (source : Word) (ticks : ℕ) (names : List ℕ) : Status → List ℕ → Type 0 where
   drove : {ended : Status} {lines : List ℕ} (driven : Driven) (how : Result (Unit {0}) DriveFault) (text : List ℕ) →
-      HasDriven (c.left source) plants ticks names driven how text → Tells c.out driven how text ended lines →
+      HasDriven (c.left source) plants ticks names driven how text → DriveNotes c.out driven how text ended lines →
       DriveEnds c plants source ticks names ended lines
   -- memory was refused before anything was written
   short : LeavesPlants (c.left source) plants ticks names → IsKept c.out.before c.out.after →

@@ -1,21 +1,21 @@
 -- What holds of what is built of a source, and of what runs a source.
 use Rattle.std.specs.Prelude.{◌≡◌, ◌⊎◌, ℕ, ◌<◌, ◌≤◌, List, length, Option, Some}
-use Rattle.bl_cmeaning_laws_places.specs.Behaviour.{Behaviour}
-use Rattle.bl_cmeaning_laws_places.specs.Bytes.{Behaves}
-use Rattle.bl_commands.specs.Calls.{Call, Count, Output}
-use Rattle.bl_commands.specs.Exec.{ExecEnds, Rejects}
-use Rattle.bl_commands.specs.Notes.{line_of}
-use Rattle.bl_commands.specs.Reads.{longest_text}
-use Rattle.bl_commands.specs.Rows.{Streams}
-use Rattle.bl_commands.specs.Sources.{IsTextOf, IsTextOfProgram, RunsAs}
-use Rattle.bl_commands.specs.Traces.{HasCourse, course_by}
-use Rattle.bl_commands.specs.declared.status.Status.{Status}
-use Rattle.bl_commands.specs.declared.status.Status.TheVariants as status
-use Rattle.bl_stream.specs.Streams.{Course}
+use Rattle.bl_ctext_semantics_laws_places.specs.Behaviour.{Behaviour}
+use Rattle.bl_ctext_semantics_laws_places.specs.Bytes.{Behaves}
+use Rattle.bl_top_commands.specs.Calls.{Call, Count, Output}
+use Rattle.bl_top_commands.specs.Exec.{ExecEnds, Rejects}
+use Rattle.bl_top_commands.specs.Notes.{line_of}
+use Rattle.bl_top_commands.specs.Reads.{longest_text}
+use Rattle.bl_top_commands.specs.Rows.{Streams}
+use Rattle.bl_top_commands.specs.Sources.{IsTextOf, IsTextOfProgram, RunsAs}
+use Rattle.bl_top_commands.specs.Traces.{HasCourse, course_by}
+use Rattle.bl_top_commands.specs.declared.status.Status.{Status}
+use Rattle.bl_top_commands.specs.declared.status.Status.TheVariants as status
+use Rattle.bl_rows_stream.specs.Streams.{Course}
 use Rattle.bl_top.specs.Built.{BuiltEnds}
 use Rattle.bl_tree.specs.declared.tree.StructDef.{StructDef}
 use Rattle.bl_tree.specs.declared.tree.Unit.{Unit as UnitDef}
-use Rattle.bl_words.specs.Jobs.{Word}
+use Rattle.bl_top_args.specs.Jobs.{Word}
 
 -- what is run of a text that was built has the one trace of the program that it was built of
 abbrev pub BuiltTextsHaveCourses : Type 0

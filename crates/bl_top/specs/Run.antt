@@ -1,14 +1,14 @@
 -- How `run` ends.
 use Rattle.std.specs.Prelude.{ℕ, List, Option}
-use Rattle.bl_commands.specs.Calls.{Call}
-use Rattle.bl_commands.specs.Reads.{LeftBehind, source_limit}
-use Rattle.bl_commands.specs.Refusals.{IsNotAccepted}
-use Rattle.bl_commands.specs.Rows.{Streams}
-use Rattle.bl_commands.specs.Sources.{RunsAs}
-use Rattle.bl_commands.specs.declared.status.Status.{Status}
+use Rattle.bl_top_commands.specs.Calls.{Call}
+use Rattle.bl_top_commands.specs.Reads.{LeftBehind, source_limit}
+use Rattle.bl_top_commands.specs.Refusals.{IsNotAccepted}
+use Rattle.bl_top_commands.specs.Rows.{Streams}
+use Rattle.bl_top_commands.specs.Sources.{RunsAs}
+use Rattle.bl_top_commands.specs.declared.status.Status.{Status}
 use Rattle.bl_io.specs.Left.{IsKept}
-use Rattle.bl_stream.specs.Streams.{Course}
-use Rattle.bl_words.specs.Jobs.{Word}
+use Rattle.bl_rows_stream.specs.Streams.{Course}
+use Rattle.bl_top_args.specs.Jobs.{Word}
 
 -- the status with which a source is run over a file of rows, and the lines for `notes`
 pub data RunEnds (c : Call) (source rows : Word) : Status → List ℕ → Type 0 where

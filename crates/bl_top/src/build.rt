@@ -1,23 +1,23 @@
 //! The command `build P`.
 
 ghost use Rattle.std.specs.Prelude.{◌≡◌, ◌≤◌, IfOk, Some};
-ghost use Rattle.bl_commands.specs.Calls.{Output, call_of, output_of};
-ghost use Rattle.bl_commands.specs.inner.Outcomes.{line_in};
-ghost use Rattle.bl_commands.specs.Notes.{line_of};
-ghost use Rattle.bl_commands.specs.Reads.{Reads, files_read};
-ghost use Rattle.bl_commands.specs.Results.{Writes};
+ghost use Rattle.bl_top_commands.specs.Calls.{Output, call_of, output_of};
+ghost use Rattle.bl_top_commands.specs.inner.Outcomes.{line_in};
+ghost use Rattle.bl_top_commands.specs.Notes.{line_of};
+ghost use Rattle.bl_top_commands.specs.Reads.{Reads, files_read};
+ghost use Rattle.bl_top_commands.specs.Results.{WritesResult};
 ghost use Rattle.bl_io.specs.Count.{NeverFell};
 ghost use Rattle.bl_top.specs.Build.{BuildEnds, IsBuiltOfProgram};
 ghost use Rattle.bl_top.specs.inner.Programs.{IsOfText};
-ghost use Rattle.bl_words.specs.Jobs.{build};
+ghost use Rattle.bl_top_args.specs.Jobs.{build};
 
 use crate::emitted::c_file;
-use bl_commands::outcome::Outcome;
-use bl_commands::source::accepted_of;
-use bl_commands::status::Status;
-use bl_commands::write::write_result;
 use bl_io::{Files, Sink};
 use bl_rules::Accepted;
+use bl_top_commands::outcome::Outcome;
+use bl_top_commands::source::accepted_of;
+use bl_top_commands::status::Status;
+use bl_top_commands::write::write_result;
 use bl_tree::NoMemory;
 use std::alloc::Global;
 
@@ -40,7 +40,7 @@ pub fn build<F: Files, O: Sink>(alloc: Global, source: &str, files: &mut F, out:
 /// Writes the C text of the accepted program of a text.
 fn write_c<O: Sink>(alloc: Global, accepted: &Accepted, out: &mut O) -> Outcome
     requires { IsOfText accepted.now.program }
-    ensures writes { Writes (IsBuiltOfProgram accepted.now.program.structs accepted.now.program.units accepted.now.program.entry)
+    ensures writes { WritesResult (IsBuiltOfProgram accepted.now.program.structs accepted.now.program.units accepted.now.program.entry)
         (output_of (O.faults out.old) (O.faults out.new) (O.held out.old) (O.held out.new)) result.status }
     ensures line { line_in result ≡ line_of result.status }
     ensures out_count { O.faults out.old ≤ O.faults out.new }

@@ -1,32 +1,32 @@
 //! The one call: the job that words ask for, done.
 
 ghost use Rattle.std.specs.Prelude.{◌≤◌, map, string_bytes};
-ghost use Rattle.bl_commands.specs.Calls.{Output, call_of, output_of};
-ghost use Rattle.bl_commands.specs.inner.Outcomes.{lines_in};
-ghost use Rattle.bl_commands.specs.Reads.{Reads, files_read};
+ghost use Rattle.bl_top_commands.specs.Calls.{Output, call_of, output_of};
+ghost use Rattle.bl_top_commands.specs.inner.Outcomes.{lines_in};
+ghost use Rattle.bl_top_commands.specs.Reads.{Reads, files_read};
 ghost use Rattle.bl_io.specs.Count.{NeverFell};
 ghost use Rattle.bl_top.specs.Answers.{Answered, Answers, KeepsPlants};
-ghost use Rattle.bl_words.specs.Jobs.{job_of};
+ghost use Rattle.bl_top_args.specs.Jobs.{job_of};
 
 use crate::build::build;
 use crate::drive::drive;
 use crate::run::run;
-use bl_commands::answer::Answer;
-use bl_commands::bound::bound;
-use bl_commands::check::check;
-use bl_commands::count::count;
-use bl_commands::exec::exec;
-use bl_commands::generate::generate;
-use bl_commands::laws::kept_files_are_within_limits;
-use bl_commands::notes::with_notes;
-use bl_commands::outcome::Outcome;
-use bl_commands::resume::resume;
-use bl_commands::save::{save, save_from};
-use bl_commands::status::Status;
-use bl_commands::walk::walk;
 use bl_io::{Files, Sink};
 use bl_plant::Plant;
-use bl_words::{Job, programs_have_stages};
+use bl_top_args::{Job, programs_have_stages};
+use bl_top_commands::answer::Answer;
+use bl_top_commands::bound::bound;
+use bl_top_commands::check::check;
+use bl_top_commands::count::count;
+use bl_top_commands::exec::exec;
+use bl_top_commands::generate::generate;
+use bl_top_commands::laws::kept_files_are_within_limits;
+use bl_top_commands::notes::with_notes;
+use bl_top_commands::outcome::Outcome;
+use bl_top_commands::resume::resume;
+use bl_top_commands::save::{save, save_from};
+use bl_top_commands::status::Status;
+use bl_top_commands::walk::walk;
 use std::alloc::Global;
 
 /// Does the job that the words after the program's name ask for: writes its result on `out`, and on `notes` the lines of
@@ -77,7 +77,7 @@ fn answer<F: Files, O: Sink>(
 {
     programs_have_stages(words);
     kept_files_are_within_limits();
-    match bl_words::job_of(alloc, words) {
+    match bl_top_args::job_of(alloc, words) {
         Ok(Some(Job::Check { source })) => Answer::alone(alloc, check(alloc, source, files, out)),
         Ok(Some(Job::Build { source })) => Answer::alone(alloc, build(alloc, source, files, out)),
         Ok(Some(Job::Run { source, rows })) => Answer::alone(

@@ -1,24 +1,24 @@
 //! The command `drive P TICKS PLANT..`.
 
 ghost use Rattle.std.specs.Prelude.{◌≡◌, ◌≤◌, map, IfErr, IfOk, Some};
-ghost use Rattle.bl_commands.specs.Calls.{Output, call_of, output_of};
-ghost use Rattle.bl_commands.specs.inner.Outcomes.{lines_in};
-ghost use Rattle.bl_commands.specs.Reads.{Reads, files_read};
+ghost use Rattle.bl_top_commands.specs.Calls.{Output, call_of, output_of};
+ghost use Rattle.bl_top_commands.specs.inner.Outcomes.{lines_in};
+ghost use Rattle.bl_top_commands.specs.Reads.{Reads, files_read};
 ghost use Rattle.bl_io.specs.Count.{NeverFell};
 ghost use Rattle.bl_top.specs.Drive.{DriveEnds, status_at};
 ghost use Rattle.bl_top.specs.inner.Driven.{MayHaveDriven, TellsReport, WritesReport};
 ghost use Rattle.bl_top.specs.inner.Programs.{IsOfText};
-ghost use Rattle.bl_words.specs.Jobs.{drive};
+ghost use Rattle.bl_top_args.specs.Jobs.{drive};
 
 use crate::run::runner_of;
-use bl_commands::answer::Answer;
-use bl_commands::outcome::Outcome;
-use bl_commands::source::accepted_of;
-use bl_commands::status::Status;
-use bl_drive_run::{End, Report, run};
 use bl_io::{Files, IoFault, Sink, write_all};
 use bl_plant::Plant;
+use bl_plant_drive_report::{End, Report, run};
 use bl_rules::Accepted;
+use bl_top_commands::answer::Answer;
+use bl_top_commands::outcome::Outcome;
+use bl_top_commands::source::accepted_of;
+use bl_top_commands::status::Status;
 use bl_tree::NoMemory;
 use std::alloc::Global;
 

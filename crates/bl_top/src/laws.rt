@@ -3,9 +3,9 @@
 ghost use Rattle.bl_top.specs.Laws.{BuiltTextsAreRejectedForLength, BuiltTextsAreRun, BuiltTextsHaveCourses, BuiltTextsRunAsTheirSource};
 ghost use Rattle.bl_top.specs.Laws.{SourcesRunInOneWay};
 
-use bl_cmeaning_laws_places::bytes::bytes_behave_as_their_file;
+use bl_ctext_semantics_laws_places::bytes::bytes_behave_as_their_file;
+use bl_rows_stream::laws::{rows_of_bytes_fit, rows_of_lines_fit};
 use bl_rules::laws::an_accepted_text_has_one_tree;
-use bl_stream::laws::{rows_of_bytes_fit, rows_of_lines_fit};
 
 /// What is run of a text that was built has the one trace of the program that it was built of. The text is rejected for
 /// its length alone, or for want of memory; so `exec` of one that isn't too long runs it.

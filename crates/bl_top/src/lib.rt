@@ -1,9 +1,9 @@
 //! The one call that the program makes. `blechc` ends with the status of the job that its words ask for, and the lines
 //! of the job grew on `notes`, that of the status last (`specs/Answers.antt`, `Answered`). Each way in which a job ends
 //! comes with its whole cause and with what grew on `out`: for `build`, `run` and `drive`, which make the C file of a
-//! source, in `specs/Build.antt`, `specs/Run.antt` and `specs/Drive.antt`, and for the others in `bl_commands`. The bytes
+//! source, in `specs/Build.antt`, `specs/Run.antt` and `specs/Drive.antt`, and for the others in `bl_top_commands`. The bytes
 //! that `build` writes have the one trace of the source's program, and what `run` shows is the text of it (`OneTrace` and
-//! `HasCourse` of `bl_commands`). In the file that those bytes spell each activity that has an instance has one function,
+//! `HasCourse` of `bl_top_commands`). In the file that those bytes spell each activity that has an instance has one function,
 //! which alone names its counters, as many counters as its width, and as many `if`s as a merged machine has blocks for it (`IsBuiltOf`).
 //! docs/THEOREM.md leads through it.
 //!
@@ -19,5 +19,5 @@ mod emitted;
 pub mod laws;
 mod run;
 
-pub use bl_commands::status::Status;
+pub use bl_top_commands::status::Status;
 pub use call::blechc;

@@ -1,30 +1,30 @@
 //! The command `run P ROWS`.
 
 ghost use Rattle.std.specs.Prelude.{◌≡◌, ◌≤◌, IfOk, Some};
-ghost use Rattle.bl_cmeaning_laws_places.specs.Behaviour.{behaviour_of};
-ghost use Rattle.bl_commands.specs.Calls.{Output, call_of, output_of};
-ghost use Rattle.bl_commands.specs.inner.Outcomes.{line_in};
-ghost use Rattle.bl_commands.specs.Reads.{Reads, files_read};
-ghost use Rattle.bl_commands.specs.Traces.{HasCourse, OneTrace};
+ghost use Rattle.bl_ctext_semantics_laws_places.specs.Behaviour.{behaviour_of};
+ghost use Rattle.bl_top_commands.specs.Calls.{Output, call_of, output_of};
+ghost use Rattle.bl_top_commands.specs.inner.Outcomes.{line_in};
+ghost use Rattle.bl_top_commands.specs.Reads.{Reads, files_read};
+ghost use Rattle.bl_top_commands.specs.Traces.{HasCourse, OneTrace};
 ghost use Rattle.bl_crun.specs.Running.{loaded};
 ghost use Rattle.bl_io.specs.Count.{NeverFell};
-ghost use Rattle.bl_stream.specs.Streams.{course_of};
+ghost use Rattle.bl_rows_stream.specs.Streams.{course_of};
 ghost use Rattle.bl_top.specs.inner.Programs.{IsOfText};
 ghost use Rattle.bl_top.specs.Run.{RunEnds};
-ghost use Rattle.bl_words.specs.Jobs.{run};
+ghost use Rattle.bl_top_args.specs.Jobs.{run};
 
 use crate::emitted::c_file;
-use bl_commands::laws::{
-    faults_count_from_before, kept_files_are_within_limits, programs_run_as_their_source,
-};
-use bl_commands::outcome::Outcome;
-use bl_commands::rows::run_over;
-use bl_commands::source::accepted_of;
-use bl_commands::status::Status;
 use bl_crun::{LoadFault, Runner};
 use bl_io::{Files, Sink};
+use bl_rows_stream::laws::{rows_of_bytes_fit, rows_of_lines_fit};
 use bl_rules::Accepted;
-use bl_stream::laws::{rows_of_bytes_fit, rows_of_lines_fit};
+use bl_top_commands::laws::{
+    faults_count_from_before, kept_files_are_within_limits, programs_run_as_their_source,
+};
+use bl_top_commands::outcome::Outcome;
+use bl_top_commands::rows::run_over;
+use bl_top_commands::source::accepted_of;
+use bl_top_commands::status::Status;
 use bl_tree::NoMemory;
 use std::alloc::Global;
 

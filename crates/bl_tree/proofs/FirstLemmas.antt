@@ -37,8 +37,8 @@ use Rattle.bl_tree.specs.declared.rule.Refusal.TheVariants as refusal
 use Rattle.bl_tree.specs.declared.rule.Rule.{Rule}
 use Rattle.bl_tree.specs.declared.rule.Rule.TheVariants as rule
 use Rattle.bl_tree.specs.Rules.{
-  Among,
   AreNoLater,
+  FailsAmong,
   FailsFirst,
   IsBefore,
   IsCause,
@@ -332,12 +332,12 @@ all_compared : (r : Rule) (p : Place) (a : List Place) → tells_walk r ≡ fals
 all_compared r p a no_walk = ap (λ walk. cond walk (p ∷ []) (p ∷ a)) no_walk
 
 -- where nothing comes first, no rule fails
-pub none_passes : (failures : List Failure) → first_of None failures ≡ None → Passes (Among failures)
+pub none_passes : (failures : List Failure) → first_of None failures ≡ None → Passes (FailsAmong failures)
 none_passes failures is rule at also fails = none_is failures is fails.failure (contains_in fails.failure failures fails.is_there)
 
 -- what comes first is the first rule that fails
 pub first_fails : (failures : List Failure) (first : Failure) → first_of None failures ≡ Some first
-    → FailsFirst (Among failures) first.rule first.at (further_places first.further)
+    → FailsFirst (FailsAmong failures) first.rule first.at (further_places first.further)
 first_fails failures first is =
     let found = first_is failures first is in
     record {

@@ -115,7 +115,7 @@ is_entry (Some unit) = is_activity unit.kind && (is_none unit.result && list_all
 is_entry None = false
 
 -- what holds of the parts of every `Program`
-pub record Keeps (structs : List StructDef) (units : List UnitDef) (entry : ℕ) : Type 0 where
+pub record IsWellTyped (structs : List StructDef) (units : List UnitDef) (entry : ℕ) : Type 0 where
   -- the names of structs and units are names
   pub named : IsTrue (list_all is_name (all_names structs units))
   -- and differ

@@ -175,7 +175,7 @@ first_of first [] = first
 first_of first (failure ∷ rest) = first_of (lesser first failure) rest
 
 -- the rule fails at the place with the further places, as one of these failures says
-pub record Among (failures : List Failure) (rule : Rule) (at : Place) (also : List Place) : Type 0 where
+pub record FailsAmong (failures : List Failure) (rule : Rule) (at : Place) (also : List Place) : Type 0 where
   pub failure : Failure
   pub is_there : Contains failures failure
   pub of_rule : rule ≡ failure.rule

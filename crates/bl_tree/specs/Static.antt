@@ -54,7 +54,7 @@ set_of (a ∷ rest) = placed a (set_of rest)
 -- ---- the static path of a path in the tree, and what an expression reads
 
 -- what a part of a path gives: its field, where it is one, and what its index reads
-pub record Step : Type 0 where
+pub record StaticStep : Type 0 where
   pub field : Option ℕ
   pub reads : List Static
 
@@ -69,12 +69,12 @@ before_index (Some k) rest = k ∷ rest
 before_index None rest = []
 
 -- the fields up to the first index, of parts one after another
-abbrev pub leading_fields : List Step → List ℕ
+abbrev pub leading_fields : List StaticStep → List ℕ
 leading_fields [] = []
 leading_fields (step ∷ rest) = before_index step.field (leading_fields rest)
 
 -- the static paths that one layer of an expression reads, in source order, from what its operands read
-abbrev pub kind_mentions : ExprKind-F (List Static) Step (List Static) Reach → List Static
+abbrev pub kind_mentions : ExprKind-F (List Static) StaticStep (List Static) Reach → List Static
 kind_mentions (ExprKind-F.Literal n s) = []
 kind_mentions (ExprKind-F.Read path) = path.static ∷ path.indices
 kind_mentions (ExprKind-F.Prev k) = []
@@ -84,16 +84,16 @@ kind_mentions (ExprKind-F.Cast target a) = a
 kind_mentions (ExprKind-F.Call f inputs) = joined inputs
 
 -- a field gives its number and reads nothing; an index gives no field and reads what its expression reads
-abbrev pub part_step : Part-F (List Static) Step (List Static) Reach → Step
+abbrev pub part_step : Part-F (List Static) StaticStep (List Static) Reach → StaticStep
 part_step (Part-F.Field k) = record { field = Some k; reads = [] }
 part_step (Part-F.Index e) = record { field = None; reads = e }
 
 -- an expression reads what its kind reads, wherever it stands
-abbrev pub expr_mentions : Expr-F (List Static) Step (List Static) Reach → List Static
+abbrev pub expr_mentions : Expr-F (List Static) StaticStep (List Static) Reach → List Static
 expr_mentions e = e.what
 
 -- a path gives its root with the fields up to the first index, and what all of its indices read
-abbrev pub path_reach : Path-F (List Static) Step (List Static) Reach → Reach
+abbrev pub path_reach : Path-F (List Static) StaticStep (List Static) Reach → Reach
 path_reach path = record {
   static = record { root = path.root; fields = leading_fields path.parts };
   indices = joined (map (λ step. step.reads) path.parts);
@@ -101,11 +101,11 @@ path_reach path = record {
 
 -- the static paths that an expression reads, in source order: that of each path in it and what the indices of that path read; `prev x` reads nothing
 abbrev pub mentions : Expr → List Static
-mentions = fold-Expr (List Static) Step (List Static) Reach kind_mentions part_step expr_mentions path_reach
+mentions = fold-Expr (List Static) StaticStep (List Static) Reach kind_mentions part_step expr_mentions path_reach
 
 -- what a part of a path gives
-abbrev pub step_of : Part → Step
-step_of = fold-Part (List Static) Step (List Static) Reach kind_mentions part_step expr_mentions path_reach
+abbrev pub step_of : Part → StaticStep
+step_of = fold-Part (List Static) StaticStep (List Static) Reach kind_mentions part_step expr_mentions path_reach
 
 -- what the index of a part reads, where it is one
 abbrev pub part_mentions : Part → List Static
@@ -113,7 +113,7 @@ part_mentions part = (step_of part).reads
 
 -- what a path gives
 abbrev pub reach_of : Path → Reach
-reach_of = fold-Path (List Static) Step (List Static) Reach kind_mentions part_step expr_mentions path_reach
+reach_of = fold-Path (List Static) StaticStep (List Static) Reach kind_mentions part_step expr_mentions path_reach
 
 -- the static path of a path: its root with its fields up to the first index
 abbrev pub static_of : Path → Static

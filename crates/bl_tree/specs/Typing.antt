@@ -46,7 +46,7 @@ use Rattle.bl_tree.specs.Scalar.{in_range, is_whole, is_bool}
 use Rattle.bl_tree.specs.Types.{same_scalar, same_type, scalar, scalar_in}
 
 -- what a statement sees: the structs, the units before its own, and the kind, the variables and the result of its own
-pub record Site : Type 0 where
+pub record TypingContext : Type 0 where
   pub structs : List StructDef
   pub earlier : List UnitDef
   pub kind : UnitKind
@@ -54,7 +54,7 @@ pub record Site : Type 0 where
   pub result : Option ScalarType
 
 -- what the statements of a unit's body see
-abbrev pub site_of : List StructDef → List UnitDef → UnitDef → Site
+abbrev pub site_of : List StructDef → List UnitDef → UnitDef → TypingContext
 site_of structs earlier unit = record { structs = structs; earlier = earlier; kind = unit.kind; vars = unit.vars; result = unit.result }
 
 -- whether a unit is an activity
@@ -84,7 +84,7 @@ is_fixed Fixed = true
 is_fixed _ = false
 
 -- the variable at a position, where the unit has one there
-abbrev pub var_at : Site → ℕ → Option Var
+abbrev pub var_at : TypingContext → ℕ → Option Var
 var_at site k = slice_get site.vars k
 
 -- the input parameters of a unit, which stand first among its variables
@@ -112,7 +112,7 @@ abbrev pub where_whole : Option Ty → Option Ty → Option Ty
 where_whole index t = option_and_then (λ ty. option_and_then (λ s. if is_whole s then t else None) (scalar_in ty)) index
 
 -- from the type of a place to that of its part
-abbrev pub part_type : Site → Part-F (Option Ty) (Ty → Option Ty) (Option Ty) (Option Ty) → Ty → Option Ty
+abbrev pub part_type : TypingContext → Part-F (Option Ty) (Ty → Option Ty) (Option Ty) (Option Ty) → Ty → Option Ty
 part_type site (Part-F.Field k) ty = field_in site.structs k (out-Ty ty)
 part_type site (Part-F.Index index) ty = where_whole index (element_in (out-Ty ty))
 
@@ -126,7 +126,7 @@ abbrev pub where_same : Ty → Ty → Option Ty
 where_same written found = if same_type written found then Some found else None
 
 -- the type of a path: that of its root, led along its parts, where it is the type that the tree writes beside it
-abbrev pub path_type : Site → Path-F (Option Ty) (Ty → Option Ty) (Option Ty) (Option Ty) → Option Ty
+abbrev pub path_type : TypingContext → Path-F (Option Ty) (Ty → Option Ty) (Option Ty) (Option Ty) → Option Ty
 path_type site path = option_and_then (where_same path.ty) (option_and_then (λ var. after_parts path.parts var.ty) (var_at site path.root))
 
 -- the type of what an operator gives, where it takes operands of this type
@@ -161,7 +161,7 @@ abbrev pub literal_type : ScalarType → Bool → Option Ty
 literal_type s fits = if fits then Some (scalar s) else None
 
 -- the type of one layer of an expression, from the types of its operands; none where they don't fit
-abbrev pub kind_type : Site → ExprKind-F (Option Ty) (Ty → Option Ty) (Option Ty) (Option Ty) → Option Ty
+abbrev pub kind_type : TypingContext → ExprKind-F (Option Ty) (Ty → Option Ty) (Option Ty) (Option Ty) → Option Ty
 kind_type site (ExprKind-F.Literal n s) = literal_type s (in_range s n)
 kind_type site (ExprKind-F.Read path) = path
 kind_type site (ExprKind-F.Prev k) = option_and_then (prev_type site.kind) (var_at site k)
@@ -176,11 +176,11 @@ abbrev pub expr_type : Expr-F (Option Ty) (Ty → Option Ty) (Option Ty) (Option
 expr_type e = e.what
 
 -- the one type of an expression; none where its parts do not fit
-abbrev pub type_of : Site → Expr → Option Ty
+abbrev pub type_of : TypingContext → Expr → Option Ty
 type_of site = fold-Expr (Option Ty) (Ty → Option Ty) (Option Ty) (Option Ty) (kind_type site) (part_type site) expr_type (path_type site)
 
 -- the type of a path; none where its parts don't fit
-abbrev pub type_of_path : Site → Path → Option Ty
+abbrev pub type_of_path : TypingContext → Path → Option Ty
 type_of_path site = fold-Path (Option Ty) (Ty → Option Ty) (Option Ty) (Option Ty) (kind_type site) (part_type site) expr_type (path_type site)
 
 -- ---- statements
@@ -196,7 +196,7 @@ is_truth (Some ty) = is_some (option_and_then (λ s. if is_bool s then Some s el
 is_truth None = false
 
 -- whether the path's root may be written here
-abbrev pub is_assignable : Site → Path → Bool
+abbrev pub is_assignable : TypingContext → Path → Bool
 is_assignable site path = is_some (option_and_then (λ var. if may_change var.role then Some var else None) (var_at site (out-Path path).root))
 
 -- whether a part of a path is a field
@@ -221,11 +221,11 @@ abbrev pub is_plain : Path → Bool
 is_plain = fold-Path (Unit {0}) Bool (Unit {0}) Bool kind_ignored part_is_field expr_ignored path_is_plain
 
 -- whether a path may be an output argument or the target of `run`
-abbrev pub is_outlet : Site → Path → Bool
+abbrev pub is_outlet : TypingContext → Path → Bool
 is_outlet site path = is_plain path && is_assignable site path
 
 -- whether the arguments fit the unit's inputs and outputs
-abbrev pub arguments_fit : Site → List Expr → List Path → UnitDef → Bool
+abbrev pub arguments_fit : TypingContext → List Expr → List Path → UnitDef → Bool
 arguments_fit site inputs outputs callee =
     types_match (map (type_of site) inputs) (inputs_of callee)
     && (types_match (map (type_of_path site) outputs) (outputs_of callee) && all_of (map (is_outlet site) outputs))
@@ -235,31 +235,31 @@ abbrev pub is_procedure : UnitDef → Bool
 is_procedure callee = is_function callee.kind && is_none callee.result
 
 -- whether a call statement may call the unit at its position with these arguments; there must be one
-abbrev pub call_fits : Site → List Expr → List Path → Option UnitDef → Bool
+abbrev pub call_fits : TypingContext → List Expr → List Path → Option UnitDef → Bool
 call_fits site inputs outputs (Some callee) = is_procedure callee && arguments_fit site inputs outputs callee
 call_fits site inputs outputs None = false
 
 -- whether the target of a `run` fits the result of its activity: the result may be dropped, but without one there is no target
-abbrev pub target_fits : Site → Option ScalarType → Option Path → Bool
+abbrev pub target_fits : TypingContext → Option ScalarType → Option Path → Bool
 target_fits site result None = true
 target_fits site (Some result) (Some path) = is_outlet site path && are_same (Some (scalar result)) (type_of_path site path)
 target_fits site None (Some path) = false
 
 -- whether an activity may run the unit at its position, an activity too, with this target and these arguments
-abbrev pub run_fits : Site → Option Path → List Expr → List Path → Option UnitDef → Bool
+abbrev pub run_fits : TypingContext → Option Path → List Expr → List Path → Option UnitDef → Bool
 run_fits site target inputs outputs (Some callee) =
     (is_activity site.kind && is_activity callee.kind)
     && (target_fits site callee.result target && arguments_fit site inputs outputs callee)
 run_fits site target inputs outputs None = false
 
 -- a `var` may go without an initial value, a `let` may not
-abbrev pub declaration_fits : Site → Option Expr → Option Var → Bool
+abbrev pub declaration_fits : TypingContext → Option Expr → Option Var → Bool
 declaration_fits site (Some e) (Some var) = (is_variable var.role || is_fixed var.role) && are_same (Some var.ty) (type_of site e)
 declaration_fits site None (Some var) = is_variable var.role
 declaration_fits site _ None = false
 
 -- whether a `return` has a value of the unit's result type, or neither has one
-abbrev pub return_fits : Site → Option Expr → Option ScalarType → Bool
+abbrev pub return_fits : TypingContext → Option Expr → Option ScalarType → Bool
 return_fits site (Some e) (Some result) = are_same (Some (scalar result)) (type_of site e)
 return_fits site None None = true
 return_fits site _ _ = false
@@ -270,7 +270,7 @@ is_inhabited [] = false
 is_inhabited (x ∷ xs) = true
 
 -- whether one layer of a statement fits, where all in its arms, branches and blocks does
-abbrev pub kind_fits : Site → StmtKind-F Bool Bool Bool Bool → Bool
+abbrev pub kind_fits : TypingContext → StmtKind-F Bool Bool Bool Bool → Bool
 kind_fits site (StmtKind-F.Declare k initial) = declaration_fits site initial (var_at site k)
 kind_fits site (StmtKind-F.Assign path e) = is_assignable site path && are_same (type_of_path site path) (type_of site e)
 kind_fits site (StmtKind-F.Call f inputs outputs) = call_fits site inputs outputs (slice_get site.earlier f)
@@ -285,7 +285,7 @@ kind_fits site (StmtKind-F.While e body) = is_truth (type_of site e) && all_of b
 kind_fits site (StmtKind-F.Return e) = return_fits site e site.result
 
 -- whether an arm of an `if` has a condition of type bool, and its block fits
-abbrev pub arm_fits : Site → Arm-F Bool Bool Bool Bool → Bool
+abbrev pub arm_fits : TypingContext → Arm-F Bool Bool Bool Bool → Bool
 arm_fits site arm = is_truth (type_of site arm.test) && all_of arm.body
 
 -- whether the block of a branch fits
@@ -297,5 +297,5 @@ abbrev pub stmt_fits : Stmt-F Bool Bool Bool Bool → Bool
 stmt_fits s = s.what
 
 -- whether a statement and all that stands in it may stand at this site
-abbrev pub fits : Site → Stmt → Bool
+abbrev pub fits : TypingContext → Stmt → Bool
 fits site = fold-Stmt Bool Bool Bool Bool (kind_fits site) (arm_fits site) branch_fits stmt_fits

@@ -3,7 +3,7 @@
 //! `List`, `Box` and `Text`.
 //!
 //! `checked` and `checked_one` give the exact number, modulo the width for bits, and None exactly where an operator
-//! traps (`specs/Numbers.antt`, `checked_of`). A `Program` keeps `Keeps` (`specs/Program.antt`): names, types
+//! traps (`specs/Numbers.antt`, `checked_of`). A `Program` keeps `IsWellTyped` (`specs/Program.antt`): names, types
 //! (`specs/Typing.antt`), roles, returns and depths stand, branches keep apart, and statements of one place have the
 //! same effects. What a statement reads and writes and whether it may end in the tick in which it begins are defined
 //! here too (`specs/Effects.antt`, `specs/Instant.antt`), and so are the first of several failures (`specs/Rules.antt`)

@@ -1,6 +1,6 @@
 //! Typed programs, with what they keep.
 
-ghost use Rattle.bl_tree.specs.Program.{Keeps};
+ghost use Rattle.bl_tree.specs.Program.{IsWellTyped};
 
 use crate::List;
 use crate::tree::{StructDef, Unit};
@@ -12,5 +12,5 @@ pub struct Program {
     pub units: List<Unit>,
     /// The position of the activity that the environment drives.
     pub entry: u32,
-    pub ghost keeps: { Keeps structs units entry },
+    pub ghost keeps: { IsWellTyped structs units entry },
 }

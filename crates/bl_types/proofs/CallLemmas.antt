@@ -1,7 +1,7 @@
 -- Outputs of calls, one by one.
 use Rattle.std.proofs.Common.{◌≡◌, suc, List, [], ◌∷◌, length, refl, ap}
 use Rattle.bl_tree.specs.declared.tree.Var.{Var}
-use Rattle.bl_named.specs.declared.stmt.NamedPath.{NamedPath}
+use Rattle.bl_names_tree.specs.declared.stmt.NamedPath.{NamedPath}
 use Rattle.bl_types.specs.declared.environment.Environment.{Environment}
 use Rattle.bl_types.specs.Expressions.{but_first}
 use Rattle.bl_types.specs.Statements.{all_lent}

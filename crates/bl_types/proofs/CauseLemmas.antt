@@ -4,7 +4,7 @@ use Rattle.bl_tree.specs.declared.rule.Failure.{Failure}
 use Rattle.bl_tree.specs.declared.rule.Refusal.{Refusal}
 use Rattle.bl_tree.specs.Rules.{Refuses}
 use Rattle.bl_tree.proofs.FirstLemmas.{first_fails, is_cause, none_passes}
-use Rattle.bl_named.specs.declared.named.Named.{Named}
+use Rattle.bl_names_tree.specs.declared.named.Named.{Named}
 use Rattle.bl_types.specs.declared.failure.Notes.{Notes}
 use Rattle.bl_types.specs.Failures.{noted}
 use Rattle.bl_types.specs.Programs.{failures_of}

@@ -6,12 +6,12 @@ use Rattle.bl_tree.specs.declared.place.Place.{Place}
 use Rattle.bl_tree.specs.declared.rule.Failure.{Failure}
 use Rattle.bl_tree.specs.Reduce.{joined}
 use Rattle.bl_tree.specs.Typing.{is_inhabited}
-use Rattle.bl_named.specs.declared.stmt.NamedArm.{NamedArm, fold_out-NamedArm, out-NamedArm}
-use Rattle.bl_named.specs.declared.stmt.NamedBranch.{NamedBranch, fold_out-NamedBranch, out-NamedBranch}
-use Rattle.bl_named.specs.declared.stmt.NamedStmt.{NamedStmt, fold_out-NamedStmt, out-NamedStmt}
-use Rattle.bl_named.specs.declared.stmt.NamedStmtKind.{NamedStmtKind, fold-NamedStmtKind, fold_out-NamedStmtKind, map-NamedStmtKind, out-NamedStmtKind}
-use Rattle.bl_named.specs.declared.stmt.NamedStmtKind.TheOpen.{NamedStmtKind-F}
-use Rattle.bl_named.specs.declared.stmt.NamedStmtKind.TheVariants.{If, outs-If}
+use Rattle.bl_names_tree.specs.declared.stmt.NamedArm.{NamedArm, fold_out-NamedArm, out-NamedArm}
+use Rattle.bl_names_tree.specs.declared.stmt.NamedBranch.{NamedBranch, fold_out-NamedBranch, out-NamedBranch}
+use Rattle.bl_names_tree.specs.declared.stmt.NamedStmt.{NamedStmt, fold_out-NamedStmt, out-NamedStmt}
+use Rattle.bl_names_tree.specs.declared.stmt.NamedStmtKind.{NamedStmtKind, fold-NamedStmtKind, fold_out-NamedStmtKind, map-NamedStmtKind, out-NamedStmtKind}
+use Rattle.bl_names_tree.specs.declared.stmt.NamedStmtKind.TheOpen.{NamedStmtKind-F}
+use Rattle.bl_names_tree.specs.declared.stmt.NamedStmtKind.TheVariants.{If, outs-If}
 use Rattle.bl_types.specs.Returns.{arm_layer_strays, branch_layer_strays, kind_strays, layer_strays, strays_in, strays_in_arm, strays_in_branch}
 
 abbrev strays_of_kind : NamedStmtKind → Place → List Failure

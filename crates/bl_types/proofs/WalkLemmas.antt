@@ -9,21 +9,21 @@ use Rattle.bl_tree.specs.declared.tree.Guard.{Guard}
 use Rattle.bl_tree.specs.declared.tree.Stmt.{Stmt}
 use Rattle.bl_tree.specs.declared.tree.StmtKind.{StmtKind}
 use Rattle.bl_tree.specs.declared.tree.StmtKind.TheVariants as what
-use Rattle.bl_named.specs.declared.expr.NamedExpr.{NamedExpr}
-use Rattle.bl_named.specs.declared.item.NamedConstant.{NamedConstant}
-use Rattle.bl_named.specs.declared.item.NamedVar.{NamedVar}
-use Rattle.bl_named.specs.declared.stmt.NamedArm.{NamedArm, fold_out-NamedArm, out-NamedArm}
-use Rattle.bl_named.specs.declared.stmt.NamedBranch.{NamedBranch, fold_out-NamedBranch, out-NamedBranch}
-use Rattle.bl_named.specs.declared.stmt.NamedStmt.{NamedStmt, fold_out-NamedStmt, out-NamedStmt}
-use Rattle.bl_named.specs.declared.stmt.NamedStmtKind.{NamedStmtKind, fold-NamedStmtKind, fold_out-NamedStmtKind, map-NamedStmtKind, out-NamedStmtKind}
-use Rattle.bl_named.specs.declared.stmt.NamedStmtKind.TheOpen.{NamedStmtKind-F}
-use Rattle.bl_named.specs.declared.stmt.NamedStmtKind.TheVariants.{If, Until, When, While, outs-If, outs-Until, outs-When, outs-While}
+use Rattle.bl_names_tree.specs.declared.expr.NamedExpr.{NamedExpr}
+use Rattle.bl_names_tree.specs.declared.item.NamedConstant.{NamedConstant}
+use Rattle.bl_names_tree.specs.declared.item.NamedVar.{NamedVar}
+use Rattle.bl_names_tree.specs.declared.stmt.NamedArm.{NamedArm, fold_out-NamedArm, out-NamedArm}
+use Rattle.bl_names_tree.specs.declared.stmt.NamedBranch.{NamedBranch, fold_out-NamedBranch, out-NamedBranch}
+use Rattle.bl_names_tree.specs.declared.stmt.NamedStmt.{NamedStmt, fold_out-NamedStmt, out-NamedStmt}
+use Rattle.bl_names_tree.specs.declared.stmt.NamedStmtKind.{NamedStmtKind, fold-NamedStmtKind, fold_out-NamedStmtKind, map-NamedStmtKind, out-NamedStmtKind}
+use Rattle.bl_names_tree.specs.declared.stmt.NamedStmtKind.TheOpen.{NamedStmtKind-F}
+use Rattle.bl_names_tree.specs.declared.stmt.NamedStmtKind.TheVariants.{If, Until, When, While, outs-If, outs-Until, outs-When, outs-While}
 use Rattle.bl_types.specs.declared.environment.Environment.{Environment}
 use Rattle.bl_types.specs.declared.environment.State.{State}
 use Rattle.bl_types.specs.inner.States.{passed}
 use Rattle.bl_types.specs.Statements.{
   Block,
-  Walk,
+  StatementJudgement,
   Walked,
   arm_of,
   arm_walked,
@@ -49,7 +49,7 @@ use Rattle.bl_types.proofs.StateLemmas.{passed-passed}
 
 -- ---- one more part of a list
 
-module _ {X A : Type 0} (walk : X → Walk A) (all rest : List X) (x : X) (old middle : State) (is : all ≡ x ∷ rest)
+module _ {X A : Type 0} (walk : X → StatementJudgement A) (all rest : List X) (x : X) (old middle : State) (is : all ≡ x ∷ rest)
     (one : middle ≡ passed old (walk x old.env).env (walk x old.env).failures) where
   pub state_part : (found : State) → passed old (in_order (map walk all) old.env).env (in_order (map walk all) old.env).failures ≡ found
       → passed middle (in_order (map walk rest) middle.env).env (in_order (map walk rest) middle.env).failures ≡ found
@@ -71,13 +71,13 @@ module _ {X A : Type 0} (walk : X → Walk A) (all rest : List X) (x : X) (old m
 -- ---- statements
 
 module _ (constants : List NamedConstant) (vars : List NamedVar) where
-  abbrev kind_of : NamedStmtKind → Place → Walk StmtKind
-  kind_of = fold-NamedStmtKind (Place → Walk StmtKind) (Walk Arm) (Walk Branch) (Walk Stmt) (walked_kind constants vars) walked_arm walked_branch walked_layer
+  abbrev kind_of : NamedStmtKind → Place → StatementJudgement StmtKind
+  kind_of = fold-NamedStmtKind (Place → StatementJudgement StmtKind) (StatementJudgement Arm) (StatementJudgement Branch) (StatementJudgement Stmt) (walked_kind constants vars) walked_arm walked_branch walked_layer
 
-  abbrev parts : NamedStmtKind-F NamedStmtKind NamedArm NamedBranch NamedStmt → NamedStmtKind-F (Place → Walk StmtKind) (Walk Arm) (Walk Branch) (Walk Stmt)
+  abbrev parts : NamedStmtKind-F NamedStmtKind NamedArm NamedBranch NamedStmt → NamedStmtKind-F (Place → StatementJudgement StmtKind) (StatementJudgement Arm) (StatementJudgement Branch) (StatementJudgement Stmt)
   parts =
-      map-NamedStmtKind NamedStmtKind NamedArm NamedBranch NamedStmt (Place → Walk StmtKind) (Walk Arm) (Walk Branch)
-      (Walk Stmt) kind_of (arm_walked constants vars) (branch_walked constants vars)
+      map-NamedStmtKind NamedStmtKind NamedArm NamedBranch NamedStmt (Place → StatementJudgement StmtKind) (StatementJudgement Arm) (StatementJudgement Branch)
+      (StatementJudgement Stmt) kind_of (arm_walked constants vars) (branch_walked constants vars)
       (walked_stmt constants vars)
 
   kind_is : (s : NamedStmt) (layer : NamedStmtKind-F NamedStmtKind NamedArm NamedBranch NamedStmt) (env : Environment) →
@@ -85,20 +85,20 @@ module _ (constants : List NamedConstant) (vars : List NamedVar) where
       → kind_walked constants vars s env ≡ walked_kind constants vars (parts layer) (out-NamedStmt s).place env
   kind_is s layer env is =
       ap (λ f. f (out-NamedStmt s).place env)
-      (fold_out-NamedStmtKind (Place → Walk StmtKind) (Walk Arm) (Walk Branch) (Walk Stmt)
+      (fold_out-NamedStmtKind (Place → StatementJudgement StmtKind) (StatementJudgement Arm) (StatementJudgement Branch) (StatementJudgement Stmt)
       (walked_kind constants vars) walked_arm walked_branch walked_layer (out-NamedStmt s).what)
       ∙ ap (λ layer. walked_kind constants vars (parts layer) (out-NamedStmt s).place env) is
 
   pub stmt_is : (s : NamedStmt) (env : Environment)
       → walked_stmt constants vars s env ≡ walked (kind_walked constants vars s env).env
       (option_map (stmt_made (out-NamedStmt s).place) (kind_walked constants vars s env).made) (kind_walked constants vars s env).failures
-  stmt_is s env = ap (λ f. f env) (fold_out-NamedStmt (Place → Walk StmtKind) (Walk Arm) (Walk Branch) (Walk Stmt)
+  stmt_is s env = ap (λ f. f env) (fold_out-NamedStmt (Place → StatementJudgement StmtKind) (StatementJudgement Arm) (StatementJudgement Branch) (StatementJudgement Stmt)
       (walked_kind constants vars) walked_arm walked_branch walked_layer s)
 
   pub arm_is : (arm : NamedArm) (body : List NamedStmt) (env : Environment) → body ≡ (out-NamedArm arm).body
       → arm_walked constants vars arm env ≡ under [] (condition env (out-NamedArm arm).test) (walked_block constants vars body env) arm_of
   arm_is arm body env same =
-      ap (λ f. f env) (fold_out-NamedArm (Place → Walk StmtKind) (Walk Arm) (Walk Branch) (Walk Stmt)
+      ap (λ f. f env) (fold_out-NamedArm (Place → StatementJudgement StmtKind) (StatementJudgement Arm) (StatementJudgement Branch) (StatementJudgement Stmt)
       (walked_kind constants vars) walked_arm walked_branch walked_layer arm)
       ∙ ap (λ body. under [] (condition env (out-NamedArm arm).test) (walked_block constants vars body env) arm_of) (sym same)
 
@@ -108,7 +108,7 @@ module _ (constants : List NamedConstant) (vars : List NamedVar) where
   pub branch_is : (branch : NamedBranch) (body : List NamedStmt) (env : Environment) → body ≡ (out-NamedBranch branch).body
       → branch_walked constants vars branch env ≡ of_branch branch (walked_block constants vars body env)
   branch_is branch body env same =
-      ap (λ f. f env) (fold_out-NamedBranch (Place → Walk StmtKind) (Walk Arm) (Walk Branch) (Walk Stmt)
+      ap (λ f. f env) (fold_out-NamedBranch (Place → StatementJudgement StmtKind) (StatementJudgement Arm) (StatementJudgement Branch) (StatementJudgement Stmt)
       (walked_kind constants vars) walked_arm walked_branch walked_layer branch)
       ∙ ap (λ body. of_branch branch (walked_block constants vars body env)) (sym same)
 

@@ -3,9 +3,9 @@ use Rattle.std.specs.Prelude.{false, List, [], ◌∷◌, ◌++◌, length, slic
 use Rattle.bl_tree.specs.declared.place.Place.{Place}
 use Rattle.bl_tree.specs.declared.rule.Failure.{Failure}
 use Rattle.bl_tree.specs.declared.tree.UnitKind.TheVariants.{Function}
-use Rattle.bl_named.specs.declared.item.Item.{Item}
-use Rattle.bl_named.specs.declared.item.Item.TheVariants as item
-use Rattle.bl_named.specs.declared.named.Named.{Named}
+use Rattle.bl_names_tree.specs.declared.item.Item.{Item}
+use Rattle.bl_names_tree.specs.declared.item.Item.TheVariants as item
+use Rattle.bl_names_tree.specs.declared.named.Named.{Named}
 use Rattle.bl_types.specs.declared.environment.Environment.{Environment}
 use Rattle.bl_types.specs.declared.environment.State.{State}
 use Rattle.bl_types.specs.declared.environment.Typed.{Typed}

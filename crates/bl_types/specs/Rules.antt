@@ -4,12 +4,12 @@ use Rattle.bl_tree.specs.declared.place.Place.{Place}
 use Rattle.bl_tree.specs.declared.rule.Refusal.{Refusal}
 use Rattle.bl_tree.specs.declared.rule.Rule.{Rule}
 use Rattle.bl_tree.specs.Rules as rules
-use Rattle.bl_named.specs.declared.named.Named.{Named}
+use Rattle.bl_names_tree.specs.declared.named.Named.{Named}
 use Rattle.bl_types.specs.Programs.{failures_of}
 
 -- the rule fails at this place, with these further places: rule Immutable names the declaration too
 abbrev pub Fails : Named → Rule → Place → List Place → Type 0
-Fails named = rules.Among (failures_of named)
+Fails named = rules.FailsAmong (failures_of named)
 
 -- the rule is the first that fails, at its first places
 abbrev pub FailsFirst : Named → Rule → Place → List Place → Type 0

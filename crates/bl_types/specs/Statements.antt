@@ -41,18 +41,18 @@ use Rattle.bl_tree.specs.declared.tree.Var.{Var}
 use Rattle.bl_tree.specs.Reduce.{joined}
 use Rattle.bl_tree.specs.Types.{same_type, scalar}
 use Rattle.bl_tree.specs.Typing.{is_activity, may_change, outputs_of}
-use Rattle.bl_named.specs.declared.expr.NamedExpr.{NamedExpr}
-use Rattle.bl_named.specs.declared.expr.NamedTarget.{NamedTarget, out-NamedTarget}
-use Rattle.bl_named.specs.declared.expr.Root.{Root}
-use Rattle.bl_named.specs.declared.expr.Root.TheVariants as root
-use Rattle.bl_named.specs.declared.item.NamedConstant.{NamedConstant}
-use Rattle.bl_named.specs.declared.item.NamedVar.{NamedVar}
-use Rattle.bl_named.specs.declared.stmt.NamedArm.{NamedArm, fold-NamedArm}
-use Rattle.bl_named.specs.declared.stmt.NamedBranch.{NamedBranch, fold-NamedBranch}
-use Rattle.bl_named.specs.declared.stmt.NamedPath.{NamedPath}
-use Rattle.bl_named.specs.declared.stmt.NamedStmt.{NamedStmt, fold-NamedStmt, out-NamedStmt}
-use Rattle.bl_named.specs.declared.stmt.NamedStmtKind.{fold-NamedStmtKind}
-use Rattle.bl_named.specs.declared.stmt.NamedStmtKind.TheOpen.{NamedStmtKind-F, NamedArm-F, NamedBranch-F, NamedStmt-F}
+use Rattle.bl_names_tree.specs.declared.expr.NamedExpr.{NamedExpr}
+use Rattle.bl_names_tree.specs.declared.expr.NamedTarget.{NamedTarget, out-NamedTarget}
+use Rattle.bl_names_tree.specs.declared.expr.Root.{Root}
+use Rattle.bl_names_tree.specs.declared.expr.Root.TheVariants as root
+use Rattle.bl_names_tree.specs.declared.item.NamedConstant.{NamedConstant}
+use Rattle.bl_names_tree.specs.declared.item.NamedVar.{NamedVar}
+use Rattle.bl_names_tree.specs.declared.stmt.NamedArm.{NamedArm, fold-NamedArm}
+use Rattle.bl_names_tree.specs.declared.stmt.NamedBranch.{NamedBranch, fold-NamedBranch}
+use Rattle.bl_names_tree.specs.declared.stmt.NamedPath.{NamedPath}
+use Rattle.bl_names_tree.specs.declared.stmt.NamedStmt.{NamedStmt, fold-NamedStmt, out-NamedStmt}
+use Rattle.bl_names_tree.specs.declared.stmt.NamedStmtKind.{fold-NamedStmtKind}
+use Rattle.bl_names_tree.specs.declared.stmt.NamedStmtKind.TheOpen.{NamedStmtKind-F, NamedArm-F, NamedBranch-F, NamedStmt-F}
 use Rattle.bl_types.specs.declared.environment.Environment.{Environment}
 use Rattle.bl_types.specs.declared.environment.Variable.{Variable}
 use Rattle.bl_types.specs.declared.form.Found.{Found}
@@ -308,12 +308,12 @@ abbrev pub choice : Block Arm → Block Stmt → Walked StmtKind
 choice arms other = walked other.env (Some (what.If arms.made other.made)) (arms.failures ++ other.failures)
 
 -- what a statement at a place comes to, from what is known before it
-abbrev pub Walk : Type 0 → Type 0
-Walk A = Environment → Walked A
+abbrev pub StatementJudgement : Type 0 → Type 0
+StatementJudgement A = Environment → Walked A
 
 -- a kind of statement at a place, from what its parts come to
 abbrev pub walked_kind : List NamedConstant → List NamedVar →
-    NamedStmtKind-F (Place → Walk StmtKind) (Walk Arm) (Walk Branch) (Walk Stmt) → Place → Walk StmtKind
+    NamedStmtKind-F (Place → StatementJudgement StmtKind) (StatementJudgement Arm) (StatementJudgement Branch) (StatementJudgement Stmt) → Place → StatementJudgement StmtKind
 walked_kind constants vars (NamedStmtKind-F.Declare k e) at env = declare k (slice_get vars k) e env
 walked_kind constants vars (NamedStmtKind-F.Const k) at env = constant_walked (after_optional_constant (slice_get constants k) env)
 walked_kind constants vars (NamedStmtKind-F.Assign target e) at env = assign target (targeted env target) e env
@@ -337,11 +337,11 @@ abbrev pub arm_of : Expr → List Stmt → Arm
 arm_of test body = roll-Arm (record { test = test; body = body })
 
 -- an arm, from what its statements come to
-abbrev pub walked_arm : NamedArm-F (Place → Walk StmtKind) (Walk Arm) (Walk Branch) (Walk Stmt) → Walk Arm
+abbrev pub walked_arm : NamedArm-F (Place → StatementJudgement StmtKind) (StatementJudgement Arm) (StatementJudgement Branch) (StatementJudgement Stmt) → StatementJudgement Arm
 walked_arm arm env = under [] (condition env arm.test) (in_order arm.body env) arm_of
 
 -- a branch, from what its statements come to
-abbrev pub walked_branch : NamedBranch-F (Place → Walk StmtKind) (Walk Arm) (Walk Branch) (Walk Stmt) → Walk Branch
+abbrev pub walked_branch : NamedBranch-F (Place → StatementJudgement StmtKind) (StatementJudgement Arm) (StatementJudgement Branch) (StatementJudgement Stmt) → StatementJudgement Branch
 walked_branch branch env =
     let all : Block Stmt = in_order branch.body env in walked all.env (Some (roll-Branch (record { weak = branch.weak; body = all.made }))) all.failures
 
@@ -350,28 +350,28 @@ abbrev pub stmt_made : Place → StmtKind → Stmt
 stmt_made at what = roll-Stmt (record { place = at; what = what })
 
 -- a statement, from what its kind comes to at its place
-abbrev pub walked_layer : NamedStmt-F (Place → Walk StmtKind) (Walk Arm) (Walk Branch) (Walk Stmt) → Walk Stmt
+abbrev pub walked_layer : NamedStmt-F (Place → StatementJudgement StmtKind) (StatementJudgement Arm) (StatementJudgement Branch) (StatementJudgement Stmt) → StatementJudgement Stmt
 walked_layer s env = let kind : Walked StmtKind = s.what s.place env in walked kind.env (option_map (stmt_made s.place) kind.made) kind.failures
 
 -- a statement, where these are the constants of the program and the variables of its unit
-abbrev pub walked_stmt : List NamedConstant → List NamedVar → NamedStmt → Walk Stmt
-walked_stmt constants vars = fold-NamedStmt (Place → Walk StmtKind) (Walk Arm) (Walk Branch) (Walk Stmt)
+abbrev pub walked_stmt : List NamedConstant → List NamedVar → NamedStmt → StatementJudgement Stmt
+walked_stmt constants vars = fold-NamedStmt (Place → StatementJudgement StmtKind) (StatementJudgement Arm) (StatementJudgement Branch) (StatementJudgement Stmt)
     (walked_kind constants vars) walked_arm walked_branch walked_layer
 
 -- what a statement is made of, in its place
-abbrev pub kind_walked : List NamedConstant → List NamedVar → NamedStmt → Walk StmtKind
+abbrev pub kind_walked : List NamedConstant → List NamedVar → NamedStmt → StatementJudgement StmtKind
 kind_walked constants vars s =
-    fold-NamedStmtKind (Place → Walk StmtKind) (Walk Arm) (Walk Branch) (Walk Stmt) (walked_kind constants vars) walked_arm walked_branch walked_layer
+    fold-NamedStmtKind (Place → StatementJudgement StmtKind) (StatementJudgement Arm) (StatementJudgement Branch) (StatementJudgement Stmt) (walked_kind constants vars) walked_arm walked_branch walked_layer
     (out-NamedStmt s).what (out-NamedStmt s).place
 
 -- an arm, where these are the constants of the program and the variables of its unit
-abbrev pub arm_walked : List NamedConstant → List NamedVar → NamedArm → Walk Arm
-arm_walked constants vars = fold-NamedArm (Place → Walk StmtKind) (Walk Arm) (Walk Branch) (Walk Stmt)
+abbrev pub arm_walked : List NamedConstant → List NamedVar → NamedArm → StatementJudgement Arm
+arm_walked constants vars = fold-NamedArm (Place → StatementJudgement StmtKind) (StatementJudgement Arm) (StatementJudgement Branch) (StatementJudgement Stmt)
     (walked_kind constants vars) walked_arm walked_branch walked_layer
 
 -- a branch, where these are the constants of the program and the variables of its unit
-abbrev pub branch_walked : List NamedConstant → List NamedVar → NamedBranch → Walk Branch
-branch_walked constants vars = fold-NamedBranch (Place → Walk StmtKind) (Walk Arm) (Walk Branch) (Walk Stmt)
+abbrev pub branch_walked : List NamedConstant → List NamedVar → NamedBranch → StatementJudgement Branch
+branch_walked constants vars = fold-NamedBranch (Place → StatementJudgement StmtKind) (StatementJudgement Arm) (StatementJudgement Branch) (StatementJudgement Stmt)
     (walked_kind constants vars) walked_arm walked_branch walked_layer
 
 -- the statements of a block

@@ -31,11 +31,11 @@ use Rattle.bl_tree.specs.declared.tree.Unit.{Unit as UnitDef}
 use Rattle.bl_tree.specs.declared.tree.Var.{Var}
 use Rattle.bl_tree.specs.Types.{scalar_in}
 use Rattle.bl_tree.specs.Typing.{is_activity}
-use Rattle.bl_named.specs.declared.item.NamedConstant.{NamedConstant}
-use Rattle.bl_named.specs.declared.item.NamedUnit.{NamedUnit}
-use Rattle.bl_named.specs.declared.item.NamedVar.{NamedVar}
-use Rattle.bl_named.specs.declared.types.NamedType.{NamedType, out-NamedType}
-use Rattle.bl_named.specs.declared.types.NamedType.TheOpen.{NamedType-F}
+use Rattle.bl_names_tree.specs.declared.item.NamedConstant.{NamedConstant}
+use Rattle.bl_names_tree.specs.declared.item.NamedUnit.{NamedUnit}
+use Rattle.bl_names_tree.specs.declared.item.NamedVar.{NamedVar}
+use Rattle.bl_names_tree.specs.declared.types.NamedType.{NamedType, out-NamedType}
+use Rattle.bl_names_tree.specs.declared.types.NamedType.TheOpen.{NamedType-F}
 use Rattle.bl_types.specs.declared.environment.Environment.{Environment}
 use Rattle.bl_types.specs.declared.environment.Variable.{Variable}
 use Rattle.bl_types.specs.Declarations.{Declaring, after_parameters, is_parameter}
@@ -90,8 +90,8 @@ unit_of unit body env = record {
 }
 
 -- what is known as a unit with this body is over
-abbrev pub left : NamedUnit → List Stmt → Environment → Environment
-left unit body env = record env { units = env.units ++ unit_of unit body env ∷ []; vars = []; result = None }
+abbrev pub environment_after : NamedUnit → List Stmt → Environment → Environment
+environment_after unit body env = record env { units = env.units ++ unit_of unit body env ∷ []; vars = []; result = None }
 
 -- after the head of a unit: its parameters and its result
 abbrev pub after_head : NamedUnit → Environment → Declaring
@@ -105,7 +105,7 @@ abbrev pub after_unit : List NamedConstant → NamedUnit → Environment → Dec
 after_unit constants unit env =
     let head : Declaring = after_head unit env in
     let body : Block Stmt = walked_block constants unit.vars unit.body head.env in
-    record { env = left unit body.made body.env; failures = head.failures ++ (body.failures ++ return_failures unit) }
+    record { env = environment_after unit body.made body.env; failures = head.failures ++ (body.failures ++ return_failures unit) }
 
 -- ---- the entry
 

@@ -25,10 +25,10 @@ use Rattle.bl_tree.specs.declared.scalar.Scalar.{Scalar as ScalarType}
 use Rattle.bl_tree.specs.declared.tree.Ty.{Ty}
 use Rattle.bl_tree.specs.declared.tree.Ty.TheVariants as type
 use Rattle.bl_tree.specs.Scalar.{is_whole}
-use Rattle.bl_named.specs.declared.types.NamedLength.{NamedLength}
-use Rattle.bl_named.specs.declared.types.NamedLength.TheVariants as length_of
-use Rattle.bl_named.specs.declared.types.NamedType.{NamedType, fold-NamedType}
-use Rattle.bl_named.specs.declared.types.NamedType.TheOpen.{NamedType-F}
+use Rattle.bl_names_tree.specs.declared.types.NamedLength.{NamedLength}
+use Rattle.bl_names_tree.specs.declared.types.NamedLength.TheVariants as length_of
+use Rattle.bl_names_tree.specs.declared.types.NamedType.{NamedType, fold-NamedType}
+use Rattle.bl_names_tree.specs.declared.types.NamedType.TheOpen.{NamedType-F}
 use Rattle.bl_types.specs.declared.environment.Constant.{Constant}
 use Rattle.bl_types.specs.Failures.{fails_at}
 

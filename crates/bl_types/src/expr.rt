@@ -21,7 +21,7 @@ use crate::target::{
     constant_found, path_found, to_element, to_field, type_of_constant, type_of_variable,
 };
 use crate::types::{copy_of, scalar_in};
-use bl_named::expr::{NamedExpr, NamedExprKind, NamedPart, NamedTarget, Root};
+use bl_names_tree::expr::{NamedExpr, NamedExprKind, NamedPart, NamedTarget, Root};
 use bl_tree::slices::element;
 use bl_tree::tree::{Expr, ExprKind, Role, Ty, Unit, UnitKind, Var};
 use bl_tree::{List, NoMemory, Place, Rule, Scalar};

@@ -7,7 +7,7 @@ ghost use Rattle.bl_types.specs.Failures.{noted};
 ghost use Rattle.bl_types.specs.Folded.{as_operand, constant_target_of, folded, is_constant, not_constant, number_in, number_or_zero};
 
 use crate::failure::Notes;
-use bl_named::expr::{NamedExpr, NamedExprKind, NamedTarget, Root};
+use bl_names_tree::expr::{NamedExpr, NamedExprKind, NamedTarget, Root};
 use bl_tree::tree::{Expr, ExprKind};
 use bl_tree::{Op, Rule, Scalar, checked, checked_one};
 

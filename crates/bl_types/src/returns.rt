@@ -9,8 +9,8 @@ ghost use Rattle.bl_types.specs.Returns.{activity_returns, arm_surely_returns, f
 ghost use Rattle.bl_types.specs.Returns.{strays_in, strays_in_arm, strays_in_branch, surely_returns};
 
 use crate::failure::Notes;
-use bl_named::item::NamedUnit;
-use bl_named::stmt::{NamedArm, NamedBranch, NamedStmt, NamedStmtKind};
+use bl_names_tree::item::NamedUnit;
+use bl_names_tree::stmt::{NamedArm, NamedBranch, NamedStmt, NamedStmtKind};
 use bl_tree::Rule;
 use bl_tree::tree::UnitKind;
 

@@ -5,7 +5,7 @@ ghost use Rattle.std.specs.Prelude.{◌≡◌, ◌++◌, ◌∷◌, [], ℕ, Lis
 ghost use Rattle.std.specs.Prelude.{length, option_map, string_bytes};
 ghost use Rattle.bl_tree.specs.declared.tree.Ty.{out-Ty};
 ghost use Rattle.bl_types.specs.Expressions.{field_among, field_in};
-ghost use Rattle.bl_types.specs.inner.Fields.{Tells};
+ghost use Rattle.bl_types.specs.inner.Fields.{IndexesFields};
 
 use bl_tree::slices::element;
 use bl_tree::tree::{Field, StructDef, Ty};
@@ -26,7 +26,7 @@ pub struct FieldAt<'a> {
 struct Known {
     def: StructDef,
     by_name: HashMap<String, usize>,
-    ghost tells: { Tells by_name def.fields },
+    ghost tells: { IndexesFields by_name def.fields },
 }
 
 impl Known {
@@ -51,7 +51,7 @@ impl Known {
 
 /// The positions of fields by their names, that of the first where several have one name.
 fn positions(alloc: Global, fields: &[Field]) -> Result<HashMap<String, usize>, NoMemory>
-    ensures { IfOk result (λ by_name. Tells by_name fields.now) }
+    ensures { IfOk result (λ by_name. IndexesFields by_name fields.now) }
 {
     let mut by_name = HashMap::new(alloc);
     for k in (0..fields.len()).rev() {

@@ -14,7 +14,7 @@ use crate::form::{Form, Found, Reached, Step};
 use crate::settle::{INT32, settle};
 use crate::structs::Structs;
 use crate::types::{copy_of, scalar_in};
-use bl_raw::name::Name;
+use bl_parse_tree::name::Name;
 use bl_tree::tree::{Expr, Part, Path, Ty};
 use bl_tree::{NoMemory, Place, Rule};
 use std::alloc::Global;

@@ -8,7 +8,7 @@ ghost use Rattle.bl_types.specs.Written.{as_length, bad_length, bad_lengths, con
 
 use crate::environment::Constant;
 use crate::failure::Notes;
-use bl_named::types::{NamedLength, NamedType};
+use bl_names_tree::types::{NamedLength, NamedType};
 use bl_tree::slices::element;
 use bl_tree::tree::Ty;
 use bl_tree::{Box, NoMemory, Place, Rule, Scalar};

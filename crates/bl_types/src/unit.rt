@@ -8,7 +8,7 @@ ghost use Rattle.bl_tree.specs.Types.{scalar_in};
 ghost use Rattle.bl_types.specs.Failures.{noted, unless};
 ghost use Rattle.bl_types.specs.Returns.{return_failures};
 ghost use Rattle.bl_types.specs.inner.States.{after, passed};
-ghost use Rattle.bl_types.specs.Units.{after_head, after_unit, can_be_driven, drives, entries, entry_among, entered, is_scalar, left, result_of};
+ghost use Rattle.bl_types.specs.Units.{after_head, after_unit, can_be_driven, drives, entries, entry_among, entered, is_scalar, environment_after, result_of};
 ghost use Rattle.bl_types.specs.Units.{var_of, vars_of};
 
 use crate::declare::{is_parameter, parameters};
@@ -18,8 +18,8 @@ use crate::returns::judge_returns;
 use crate::slices::keep;
 use crate::stmt::{Source, block};
 use crate::types::{scalar_in, typed};
-use bl_named::item::{NamedConstant, NamedUnit, NamedVar};
-use bl_named::types::NamedType;
+use bl_names_tree::item::{NamedConstant, NamedUnit, NamedVar};
+use bl_names_tree::types::NamedType;
 use bl_tree::tree::{Stmt, Ty, Unit, UnitKind, Var};
 use bl_tree::{List, NoMemory, Place, Rule, Scalar, Text};
 use std::alloc::Global;
@@ -104,7 +104,7 @@ fn leave(
     body: List<Stmt>,
     env: &mut Environment,
 ) -> Result<(), NoMemory>
-    ensures { OnOk result (env.new ≡ left unit.now body env.old) }
+    ensures { OnOk result (env.new ≡ environment_after unit.now body env.old) }
 {
     let vars = mem::replace(&mut env.vars, List::new(alloc));
     let made = Unit {
@@ -140,7 +140,7 @@ fn begin(alloc: Global, unit: &NamedUnit, state: &mut State) -> Result<(), NoMem
 
 /// After the body of a unit.
 fn end(alloc: Global, unit: &NamedUnit, body: List<Stmt>, state: &mut State) -> Result<(), NoMemory>
-    ensures { OnOk result (state.new ≡ passed state.old (left unit.now body state.old.env) (return_failures unit.now)) }
+    ensures { OnOk result (state.new ≡ passed state.old (environment_after unit.now body state.old.env) (return_failures unit.now)) }
 {
     judge_returns(unit, &mut state.notes);
     leave(alloc, unit, body, &mut state.env)

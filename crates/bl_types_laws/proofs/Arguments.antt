@@ -37,24 +37,24 @@ use Rattle.bl_tree.specs.declared.tree.Unit.{Unit as UnitDef}
 use Rattle.bl_tree.specs.declared.tree.Var.{Var}
 use Rattle.bl_tree.specs.Reduce.{all_of}
 use Rattle.bl_tree.specs.Types.{scalar}
-use Rattle.bl_tree.specs.Typing.{Site, arguments_fit, inputs_of, is_outlet, is_truth, outputs_of, type_of, type_of_path, types_match}
+use Rattle.bl_tree.specs.Typing.{TypingContext, arguments_fit, inputs_of, is_outlet, is_truth, outputs_of, type_of, type_of_path, types_match}
 use Rattle.bl_eval.proofs.OperatorFits.{scalar_alone}
 use Rattle.bl_eval.proofs.PassLemmas.{all_at, and_left, and_right, both}
-use Rattle.bl_named.specs.declared.expr.NamedExpr.{NamedExpr}
-use Rattle.bl_named.specs.declared.stmt.NamedPath.{NamedPath}
-use Rattle.bl_named.specs.Placed.{expr_placed, path_placed}
+use Rattle.bl_names_tree.specs.declared.expr.NamedExpr.{NamedExpr}
+use Rattle.bl_names_tree.specs.declared.stmt.NamedPath.{NamedPath}
+use Rattle.bl_names_tree.specs.Placed.{expr_placed, path_placed}
 use Rattle.bl_types.specs.declared.environment.Environment.{Environment}
 use Rattle.bl_types.specs.Expressions.{all_failures, all_made, but_first, fitted, judged, miscounted, params_of}
 use Rattle.bl_types.specs.Settled.{Settled}
 use Rattle.bl_types.specs.Statements.{Arguments, Lent, all_lent, arguments, arguments_from, condition, outputs_wanted, paths_failures, paths_made}
 use Rattle.bl_types_laws.specs.Fitting.{IsMade}
-use Rattle.bl_types_laws.specs.Within.{Within, calls_functions, has_parameters, known_in}
+use Rattle.bl_types_laws.specs.Within.{EnvironmentWithin, calls_functions, has_parameters, known_in}
 use Rattle.bl_types_laws.proofs.Expressions.{JudgedFits, expressions_fit, arguments_fit as inputs_fit, length-fitted, wanted_fits}
 use Rattle.bl_types_laws.proofs.Forms.{nil_left, nil_right, unless_holds}
 use Rattle.bl_types_laws.proofs.Paths.{all_lent_fit}
 
 -- an expression of type bool is a truth
-pub truth_is : (site : Site) (e : Expr) → type_of site e ≡ Some (scalar OfBool) → is_truth (type_of site e) ≡ true
+pub truth_is : (site : TypingContext) (e : Expr) → type_of site e ≡ Some (scalar OfBool) → is_truth (type_of site e) ≡ true
 truth_is site e typed = ap is_truth typed ∙ bool_is
   where
     bool_is : is_truth (Some (scalar OfBool)) ≡ true
@@ -79,10 +79,10 @@ complete_if true make inputs outputs a is = same_Some (make inputs outputs) a is
 complete_if false make inputs outputs a is = absurd (cc)
 
 -- arguments that fit are those that are made
-pub record Complete (site : Site) (arguments : Arguments) (callee : UnitDef) : Type 0 where
+pub record Complete (site : TypingContext) (arguments : Arguments) (callee : UnitDef) : Type 0 where
   pub fit : arguments_fit site arguments.inputs arguments.outputs callee ≡ true
 
-module _ (env : Environment) (site : Site) (within : Within env site) where
+module _ (env : Environment) (site : TypingContext) (within : EnvironmentWithin env site) where
   pub condition_fits : (e : NamedExpr) → expr_placed (known_in env) e ≡ true → calls_functions env.units e ≡ true →
       (condition env e).failures ≡ [] →
       IsMade site (scalar OfBool) (condition env e).made

@@ -17,24 +17,24 @@ use Rattle.bl_tree.specs.declared.tree.StmtKind.TheOpen.{StmtKind-F}
 use Rattle.bl_tree.specs.declared.tree.StmtKind.TheVariants as what
 use Rattle.bl_tree.specs.Reduce.{all_of}
 use Rattle.bl_tree.specs.Types.{scalar}
-use Rattle.bl_tree.specs.Typing.{Site, declaration_fits, fits, is_activity, is_inhabited, is_truth, type_of, var_at}
+use Rattle.bl_tree.specs.Typing.{TypingContext, declaration_fits, fits, is_activity, is_inhabited, is_truth, type_of, var_at}
 use Rattle.bl_eval.proofs.OperatorFits.{some_found, where_holds}
 use Rattle.bl_eval.proofs.PassLemmas.{and_left, and_right, both}
-use Rattle.bl_named.specs.declared.expr.NamedExpr.{NamedExpr}
-use Rattle.bl_named.specs.declared.item.NamedConstant.{NamedConstant}
-use Rattle.bl_named.specs.declared.item.NamedVar.{NamedVar}
-use Rattle.bl_named.specs.declared.stmt.NamedArm.{NamedArm, fold-roll-NamedArm, roll-NamedArm}
-use Rattle.bl_named.specs.declared.stmt.NamedBranch.{NamedBranch, fold-roll-NamedBranch, roll-NamedBranch}
-use Rattle.bl_named.specs.declared.stmt.NamedStmt.{NamedStmt, fold-roll-NamedStmt}
-use Rattle.bl_named.specs.declared.stmt.NamedStmtKind.{NamedStmtKind, fold-NamedStmtKind, fold-roll-NamedStmtKind, map-NamedStmtKind}
-use Rattle.bl_named.specs.declared.stmt.NamedStmtKind.TheOpen.{NamedStmtKind-F}
-use Rattle.bl_named.specs.Placed.{Earlier, Step, expr_placed, in_turn, stmt_step, tested}
-use Rattle.bl_named.specs.inner.Placed.{step_of_arm, step_of_branch}
+use Rattle.bl_names_tree.specs.declared.expr.NamedExpr.{NamedExpr}
+use Rattle.bl_names_tree.specs.declared.item.NamedConstant.{NamedConstant}
+use Rattle.bl_names_tree.specs.declared.item.NamedVar.{NamedVar}
+use Rattle.bl_names_tree.specs.declared.stmt.NamedArm.{NamedArm, fold-roll-NamedArm, roll-NamedArm}
+use Rattle.bl_names_tree.specs.declared.stmt.NamedBranch.{NamedBranch, fold-roll-NamedBranch, roll-NamedBranch}
+use Rattle.bl_names_tree.specs.declared.stmt.NamedStmt.{NamedStmt, fold-roll-NamedStmt}
+use Rattle.bl_names_tree.specs.declared.stmt.NamedStmtKind.{NamedStmtKind, fold-NamedStmtKind, fold-roll-NamedStmtKind, map-NamedStmtKind}
+use Rattle.bl_names_tree.specs.declared.stmt.NamedStmtKind.TheOpen.{NamedStmtKind-F}
+use Rattle.bl_names_tree.specs.Placed.{DeclaredBefore, PlacedStep, expr_placed, in_turn, stmt_step, tested}
+use Rattle.bl_names_tree.specs.inner.Placed.{step_of_arm, step_of_branch}
 use Rattle.bl_types.specs.declared.environment.Environment.{Environment}
 use Rattle.bl_types.specs.Settled.{Settled}
 use Rattle.bl_types.specs.Statements.{
   Block,
-  Walk,
+  StatementJudgement,
   Walked,
   arm_of,
   arm_walked,
@@ -104,7 +104,7 @@ inhabited_mapped f [] = refl
 inhabited_mapped f (x ∷ xs) = refl
 
 -- what must be made, as what may be
-may_be_made : {A : Type 0} (site : Site) (good : A → Bool) (env : Environment) (counts : Earlier) (after : Walked A) →
+may_be_made : {A : Type 0} (site : TypingContext) (good : A → Bool) (env : Environment) (counts : DeclaredBefore) (after : Walked A) →
     PartPassed true site good env counts after →
     PartPassed false site good env counts after
 may_be_made site good env counts after passed = record {
@@ -116,7 +116,7 @@ may_be_made site good env counts after passed = record {
 }
 
 -- a block of which something is made
-whole_passed : {A : Type 0} (site : Site) (good : A → Bool) (inhabited : Bool) (env : Environment) (counts : Earlier) (body : Block Stmt) (a : A) →
+whole_passed : {A : Type 0} (site : TypingContext) (good : A → Bool) (inhabited : Bool) (env : Environment) (counts : DeclaredBefore) (body : Block Stmt) (a : A) →
     BlockPassed site (fits site) inhabited env counts body →
     (all_of (map (fits site) body.made) ≡ true → good a ≡ true) → PartPassed true site good env counts (walked body.env (Some a) body.failures)
 whole_passed site good inhabited env counts body a passed fit = record {
@@ -127,7 +127,7 @@ whole_passed site good inhabited env counts body a passed fit = record {
   is_made = λ must there. (a, refl);
 }
 
-module _ (constants : List NamedConstant) (vars : List NamedVar) (site : Site) where
+module _ (constants : List NamedConstant) (vars : List NamedVar) (site : TypingContext) where
   abbrev P : NamedStmt → Type 0
   P s = stmt_named constants vars site.earlier s ≡ true → WalkFits false site (fits site) (walked_stmt constants vars s) (stmt_step vars constants s)
 
@@ -141,7 +141,7 @@ module _ (constants : List NamedConstant) (vars : List NamedVar) (site : Site) w
 
   body_fits : (body : List NamedStmt) → All P body → all_of (map (stmt_named constants vars site.earlier) body) ≡ true →
       (env : Environment) → Around env site →
-      Known env → (counts : Earlier) →
+      Known env → (counts : DeclaredBefore) →
       in_turn (map (stmt_step vars constants) body) (known_in env) ≡ Some counts →
       (in_order (map (walked_stmt constants vars) body) env).failures ≡ [] →
       BlockPassed site (fits site) false env counts (in_order (map (walked_stmt constants vars) body) env)
@@ -154,7 +154,7 @@ module _ (constants : List NamedConstant) (vars : List NamedVar) (site : Site) w
   under_passed : {A : Type 0} (good : A → Bool) (earlier : List Failure) (e : NamedExpr) (body : List NamedStmt)
       (make : Expr → List Stmt → A) → All P body →
       all_of (map (stmt_named constants vars site.earlier) body) ≡ true →
-      calls_functions site.earlier e ≡ true → (env : Environment) → Around env site → Known env → (counts : Earlier) →
+      calls_functions site.earlier e ≡ true → (env : Environment) → Around env site → Known env → (counts : DeclaredBefore) →
       tested e (map (stmt_step vars constants) body) (known_in env) ≡ Some counts →
       ((test : Expr) (body : List Stmt) → is_truth (type_of site test) ≡ true → all_of (map (fits site) body) ≡ true →
       good (make test body) ≡ true) →
@@ -194,7 +194,7 @@ module _ (constants : List NamedConstant) (vars : List NamedVar) (site : Site) w
   abbrev good : Place → StmtKind → Bool
   good place kind = fits site (stmt_made place kind)
 
-  in_place : (place : Place) (env : Environment) (counts : Earlier) (kind : Walked StmtKind) → PartPassed false site (good place) env counts kind →
+  in_place : (place : Place) (env : Environment) (counts : DeclaredBefore) (kind : Walked StmtKind) → PartPassed false site (good place) env counts kind →
       PartPassed false site (fits site) env counts (walked kind.env (option_map (stmt_made place) kind.made) kind.failures)
   in_place place env counts kind passed = record {
     grown = passed.grown;
@@ -209,11 +209,11 @@ module _ (constants : List NamedConstant) (vars : List NamedVar) (site : Site) w
   by_kind : (place : Place) (layer : Layer) → (named_by layer ≡ true → WalkFits false site (good place) (walked_by constants vars layer place)
       (step_by constants vars layer)) → P (stmt place layer)
   by_kind place layer fit named env around known counts step none =
-      subst (λ (walk : Walk Stmt). PartPassed false site (fits site) env counts (walk env)) (sym (walked_is constants vars place layer))
+      subst (λ (walk : StatementJudgement Stmt). PartPassed false site (fits site) env counts (walk env)) (sym (walked_is constants vars place layer))
       (in_place place env counts (walked_by constants vars layer place env)
-      (fit (sym (named_is place layer) ∙ named) env around known counts (ap (λ (step : Step). step (known_in env)) (sym (step_is constants vars place layer))
+      (fit (sym (named_is place layer) ∙ named) env around known counts (ap (λ (step : PlacedStep). step (known_in env)) (sym (step_is constants vars place layer))
       ∙ step)
-      (ap (λ (walk : Walk Stmt). (walk env).failures) (sym (walked_is constants vars place layer)) ∙ none)))
+      (ap (λ (walk : StatementJudgement Stmt). (walk env).failures) (sym (walked_is constants vars place layer)) ∙ none)))
 
   -- ---- statements with blocks
 
@@ -361,13 +361,13 @@ module _ (constants : List NamedConstant) (vars : List NamedVar) (site : Site) w
       let step_as : step_of_arm vars constants (roll-NamedArm (record { test = test; body = body })) ≡ tested test (map (stmt_step vars constants) body) =
       rw fold-roll-NamedArm refl in
       let named' : (calls_functions site.earlier test && all_of (map (stmt_named constants vars site.earlier) body)) ≡ true = sym named_as ∙ named in
-      subst (λ (walk : Walk Arm). PartPassed true site (good_arm site) env counts (walk env)) (sym walked_as)
+      subst (λ (walk : StatementJudgement Arm). PartPassed true site (good_arm site) env counts (walk env)) (sym walked_as)
       (under_passed (good_arm site) [] test body arm_of each
       (and_right (calls_functions site.earlier test) (all_of (map (stmt_named constants vars site.earlier) body)) named')
       (and_left (calls_functions site.earlier test) (all_of (map (stmt_named constants vars site.earlier) body)) named')
-      env around known counts (ap (λ (step : Step). step (known_in env)) (sym step_as) ∙ step)
+      env around known counts (ap (λ (step : PlacedStep). step (known_in env)) (sym step_as) ∙ step)
       (λ test made truth all. arm_is site test made ∙ both (is_truth (type_of site test)) (all_of (map (fits site) made)) truth all)
-      (ap (λ (walk : Walk Arm). (walk env).failures) (sym walked_as) ∙ none))
+      (ap (λ (walk : StatementJudgement Arm). (walk env).failures) (sym walked_as) ∙ none))
 
   branch_case : (weak : Bool) (body : List NamedStmt) → All P body → R (roll-NamedBranch (record { weak = weak; body = body }))
   branch_case weak body each named env around known counts step none =
@@ -378,10 +378,10 @@ module _ (constants : List NamedConstant) (vars : List NamedVar) (site : Site) w
       let step_as : step_of_branch vars constants (roll-NamedBranch (record { weak = weak; body = body })) ≡ in_turn (map (stmt_step vars constants) body) =
       rw fold-roll-NamedBranch refl in
       let all : Block Stmt = in_order (map (walked_stmt constants vars) body) env in
-      subst (λ (walk : Walk Branch). PartPassed true site (good_branch site) env counts (walk env)) (sym walked_as)
+      subst (λ (walk : StatementJudgement Branch). PartPassed true site (good_branch site) env counts (walk env)) (sym walked_as)
       (whole_passed site (good_branch site) false env counts all (roll-Branch (record { weak = weak; body = all.made }))
-      (body_fits body each (sym named_as ∙ named) env around known counts (ap (λ (step : Step). step (known_in env)) (sym step_as) ∙ step)
-      (ap (λ (walk : Walk Branch). (walk env).failures) (sym walked_as) ∙ none))
+      (body_fits body each (sym named_as ∙ named) env around known counts (ap (λ (step : PlacedStep). step (known_in env)) (sym step_as) ∙ step)
+      (ap (λ (walk : StatementJudgement Branch). (walk env).failures) (sym walked_as) ∙ none))
       (λ good. branch_is weak all.made ∙ good))
     where
       branch_is : (weak : Bool) (made : List Stmt) → good_branch site (roll-Branch (record { weak = weak; body = made })) ≡ all_of (map (fits site) made)
@@ -431,7 +431,7 @@ module _ (constants : List NamedConstant) (vars : List NamedVar) (site : Site) w
 
   pub arms_fit : (arms : List NamedArm) → all_of (map (named_arm constants vars site.earlier) arms) ≡ true → (env : Environment) →
       Around env site → Known env →
-      (counts : Earlier) →
+      (counts : DeclaredBefore) →
       in_turn (map (step_of_arm vars constants) arms) (known_in env) ≡ Some counts →
       (in_order (map (arm_walked constants vars) arms) env).failures ≡ [] →
       BlockPassed site (good_arm site) (true && is_inhabited arms) env counts (in_order (map (arm_walked constants vars) arms) env)
@@ -444,7 +444,7 @@ module _ (constants : List NamedConstant) (vars : List NamedVar) (site : Site) w
   -- and so do the statements of a block
   pub statements_fit : (body : List NamedStmt) → list_all (stmt_named constants vars site.earlier) body ≡ true →
       (env : Environment) → Around env site →
-      Known env → (counts : Earlier) →
+      Known env → (counts : DeclaredBefore) →
       in_turn (map (stmt_step vars constants) body) (known_in env) ≡ Some counts → (walked_block constants vars body env).failures ≡ [] →
       BlockPassed site (fits site) false env counts (walked_block constants vars body env)
   statements_fit body named = body_fits body (each_fits body) (all_mapped (stmt_named constants vars site.earlier) body named)

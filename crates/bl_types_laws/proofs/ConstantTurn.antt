@@ -1,16 +1,16 @@
 -- What is made of the items behind a constant.
 use Rattle.std.proofs.Common.{◌≡◌, refl, true, List, [], ◌∷◌, length, map, take, sym, ap, ◌∙◌, append-nil}
 use Rattle.bl_eval.proofs.PassLemmas.{and_right}
-use Rattle.bl_named.specs.declared.item.Item.TheVariants as kind
-use Rattle.bl_named.specs.declared.item.NamedConstant.{NamedConstant}
-use Rattle.bl_named.specs.declared.item.NamedUnit.{NamedUnit}
-use Rattle.bl_named.specs.declared.named.Named.{Named}
-use Rattle.bl_named.specs.Placed.{Earlier, constant_placed, expr_placed, holds_if, type_placed}
-use Rattle.bl_scopes.specs.Marks.{constant_marks, marks_of}
-use Rattle.bl_scopes.specs.Scopes.{Scopes, after}
-use Rattle.bl_raw.specs.declared.item.RawItem.{RawItem}
-use Rattle.bl_raw.specs.declared.item.RawItem.TheVariants as item
-use Rattle.bl_raw.specs.declared.stmt.RawConstant.{RawConstant}
+use Rattle.bl_names_tree.specs.declared.item.Item.TheVariants as kind
+use Rattle.bl_names_tree.specs.declared.item.NamedConstant.{NamedConstant}
+use Rattle.bl_names_tree.specs.declared.item.NamedUnit.{NamedUnit}
+use Rattle.bl_names_tree.specs.declared.named.Named.{Named}
+use Rattle.bl_names_tree.specs.Placed.{DeclaredBefore, constant_placed, expr_placed, holds_if, type_placed}
+use Rattle.bl_names_scopes.specs.Marks.{constant_marks, marks_of}
+use Rattle.bl_names_scopes.specs.Scopes.{Scopes, after}
+use Rattle.bl_parse_tree.specs.declared.item.RawItem.{RawItem}
+use Rattle.bl_parse_tree.specs.declared.item.RawItem.TheVariants as item
+use Rattle.bl_parse_tree.specs.declared.stmt.RawConstant.{RawConstant}
 use Rattle.bl_names.specs.Named.{along, constants_of, named_constant, structs_of, units_of}
 use Rattle.bl_names.specs.Order.{order_of}
 use Rattle.bl_names.proofs.FitLemmas.{fits_first, fits_second}
@@ -43,11 +43,11 @@ module _ (named : Named) (suits : Suits named) where
         (ends_first named.constants scopes.counts.constants (new_constant ∷ []) (along constants_of behind_constant items) at.constants)
 
     is_placed_there : constant_placed (known_in env) new_constant ≡ true
-    is_placed_there = ap (λ (e : Earlier). constant_placed e new_constant) at.counts ∙ placed_earlier
+    is_placed_there = ap (λ (e : DeclaredBefore). constant_placed e new_constant) at.counts ∙ placed_earlier
 
     calls : calls_functions env.units new_constant.value ≡ true
     calls =
-        let count : scopes.counts.units ≡ length env.units = ap (λ (e : Earlier). e.units) (sym at.counts) in
+        let count : scopes.counts.units ≡ length env.units = ap (λ (e : DeclaredBefore). e.units) (sym at.counts) in
         suits.constants scopes.counts.constants new_constant
         (ends_next named.constants scopes.counts.constants (new_constant ∷ along constants_of behind_constant items) at.constants) env.units (earlier scopes)
         count
@@ -69,10 +69,10 @@ module _ (named : Named) (suits : Suits named) where
               (along constants_of behind_constant items) on.more_constants at.constants;
           units = ends_on named.units scopes.counts.units behind_constant.counts.units [] (along units_of behind_constant items) on.more_units at.units;
           counts = same_counts (after_constant new_constant env).env behind_constant
-              (no_more (length env.structs) scopes.counts.structs behind_constant.counts.structs (ap (λ (e : Earlier). e.structs) at.counts) on.more_structs)
+              (no_more (length env.structs) scopes.counts.structs behind_constant.counts.structs (ap (λ (e : DeclaredBefore). e.structs) at.counts) on.more_structs)
               (one_more env.constants (constant_of new_constant.value (initial env new_constant.ty new_constant.value).valued) scopes.counts.constants
-              behind_constant.counts.constants (ap (λ (e : Earlier). e.constants) at.counts) on.more_constants)
-              (no_more (length env.units) scopes.counts.units behind_constant.counts.units (ap (λ (e : Earlier). e.units) at.counts) on.more_units)
+              behind_constant.counts.constants (ap (λ (e : DeclaredBefore). e.constants) at.counts) on.more_constants)
+              (no_more (length env.units) scopes.counts.units behind_constant.counts.units (ap (λ (e : DeclaredBefore). e.units) at.counts) on.more_units)
               (ap length at.between.vars ∙ sym on.none);
           between = constant_between new_constant env at.between is_placed_there calls none;
           kinds = at.kinds ∙ ap (map (λ (unit : NamedUnit). unit.kind)) (sym (append-nil at.units.before));

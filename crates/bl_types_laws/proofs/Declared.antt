@@ -9,14 +9,14 @@ use Rattle.bl_tree.specs.declared.tree.StmtKind.{StmtKind}
 use Rattle.bl_tree.specs.declared.tree.StmtKind.TheVariants as what
 use Rattle.bl_tree.specs.declared.tree.Ty.{Ty}
 use Rattle.bl_tree.specs.Types.{same_type, type_stands}
-use Rattle.bl_tree.specs.Typing.{Site, are_same, declaration_fits, is_fixed, is_variable, type_of, var_at}
+use Rattle.bl_tree.specs.Typing.{TypingContext, are_same, declaration_fits, is_fixed, is_variable, type_of, var_at}
 use Rattle.bl_eval.proofs.OperatorFits.{where_holds}
 use Rattle.bl_eval.proofs.PassLemmas.{and_left, and_right, both, get_seam}
-use Rattle.bl_named.specs.declared.expr.NamedExpr.{NamedExpr}
-use Rattle.bl_named.specs.declared.item.NamedConstant.{NamedConstant}
-use Rattle.bl_named.specs.declared.item.NamedVar.{NamedVar}
-use Rattle.bl_named.specs.Placed.{
-  Earlier,
+use Rattle.bl_names_tree.specs.declared.expr.NamedExpr.{NamedExpr}
+use Rattle.bl_names_tree.specs.declared.item.NamedConstant.{NamedConstant}
+use Rattle.bl_names_tree.specs.declared.item.NamedVar.{NamedVar}
+use Rattle.bl_names_tree.specs.Placed.{
+  DeclaredBefore,
   constant_placed,
   expr_placed,
   holds_if,
@@ -38,7 +38,7 @@ use Rattle.bl_types_laws.proofs.Expressions.{some_of}
 use Rattle.bl_types_laws.proofs.Forms.{map_found, same_type_self}
 use Rattle.bl_types_laws.proofs.Initials.{constant_fits, initial_fits}
 use Rattle.bl_types_laws.proofs.TypesStand.{typed_stands, vars_stand, written_stands}
-use Rattle.bl_named.specs.declared.types.NamedType.{NamedType}
+use Rattle.bl_names_tree.specs.declared.types.NamedType.{NamedType}
 use Rattle.bl_types_laws.proofs.Walks.{WalkFits, grown_there, not_must, site_in, within_in, within_of}
 
 -- what holds of each before and of one more
@@ -92,20 +92,20 @@ constant_known env constant known stands = record {
 }
 
 -- an optional type that is written stands
-pub optional_stands : (earlier : Earlier) (env : Environment) (ty : Option NamedType) (written : NamedType) → ty ≡ Some written →
+pub optional_stands : (earlier : DeclaredBefore) (env : Environment) (ty : Option NamedType) (written : NamedType) → ty ≡ Some written →
     holds_if (type_placed earlier) ty ≡ true → optional_lengths env ty ≡ [] →
     type_stands earlier.structs (written_type env.constants written) ≡ true
 optional_stands earlier env ty written is placed none =
     written_stands earlier env.constants written (ap (holds_if (type_placed earlier)) (sym is) ∙ placed) (ap (optional_lengths env) (sym is) ∙ none)
 
-pub variable_counts : (env : Environment) (var : NamedVar) (ty : Option Ty) (counts : Earlier) → Some (variable_counted (known_in env)) ≡ Some counts →
+pub variable_counts : (env : Environment) (var : NamedVar) (ty : Option Ty) (counts : DeclaredBefore) → Some (variable_counted (known_in env)) ≡ Some counts →
     known_in (with_variable env var ty) ≡ counts
 variable_counts env var ty counts is =
     ap (λ n. record { structs = length env.structs; constants = length env.constants; units = length env.units; variables = n })
     (length-append env.vars (record { name = var.name.text; place = var.name.place; ty = ty; role = var.role } ∷ []))
     ∙ same_Some (variable_counted (known_in env)) counts is
 
-pub constant_counts : (env : Environment) (constant : Constant) (counts : Earlier) → Some (constant_counted (known_in env)) ≡ Some counts →
+pub constant_counts : (env : Environment) (constant : Constant) (counts : DeclaredBefore) → Some (constant_counted (known_in env)) ≡ Some counts →
     known_in (with_constant env constant) ≡ counts
 constant_counts env constant counts is =
     ap (λ n. record { structs = length env.structs; constants = n; units = length env.units; variables = length env.vars })
@@ -113,14 +113,14 @@ constant_counts env constant counts is =
     ∙ same_Some (constant_counted (known_in env)) counts is
 
 -- the variable of the site that is declared next
-declared_there : (env : Environment) (site : Site) (var : NamedVar) (ty : Option Ty) (k : ℕ) → k ≡ length env.vars →
+declared_there : (env : Environment) (site : TypingContext) (var : NamedVar) (ty : Option Ty) (k : ℕ) → k ≡ length env.vars →
     VariablesThere (with_variable env var ty) site →
     VariableThere site k (record { name = var.name.text; place = var.name.place; ty = ty; role = var.role })
 declared_there env site var ty k is there =
     there k (record { name = var.name.text; place = var.name.place; ty = ty; role = var.role })
     (get_seam env.vars (record { name = var.name.text; place = var.name.place; ty = ty; role = var.role }) k is)
 
-declared_good : (site : Site) (k : ℕ) (known : Variable) (e : Expr) (ty : Ty) → VariableThere site k known →
+declared_good : (site : TypingContext) (k : ℕ) (known : Variable) (e : Expr) (ty : Ty) → VariableThere site k known →
     (is_variable known.role || is_fixed known.role) ≡ true → known.ty ≡ Some ty → type_of site e ≡ Some ty →
     declaration_fits site (Some e) (var_at site k) ≡ true
 declared_good site k known e ty there role is typed =
@@ -129,18 +129,18 @@ declared_good site k known e ty there role is typed =
     (ap (λ role. is_variable role || is_fixed role) (sym there.role) ∙ role)
     (ap (are_same (Some there.var.ty)) typed ∙ ap (λ other. same_type other ty) (same_Some there.var.ty ty (sym there.ty ∙ is)) ∙ same_type_self ty)
 
-bare_good : (site : Site) (k : ℕ) (known : Variable) → VariableThere site k known → is_variable known.role ≡ true →
+bare_good : (site : TypingContext) (k : ℕ) (known : Variable) → VariableThere site k known → is_variable known.role ≡ true →
     declaration_fits site None (var_at site k) ≡ true
 bare_good site k known there role = ap (declaration_fits site None) there.is_there ∙ ap is_variable (sym there.role) ∙ role
 
-module _ (site : Site) (good : StmtKind → Bool) where
+module _ (site : TypingContext) (good : StmtKind → Bool) where
   -- a declaration with a value
   with_value : (k : ℕ) (var : NamedVar) (e : NamedExpr) → ((it : Expr) → declaration_fits site (Some it) (var_at site k) ≡ true →
       good (what.Declare k (Some it)) ≡ true) →
       (is_variable var.role || is_fixed var.role) ≡ true → calls_functions site.earlier e ≡ true → (env : Environment) →
       Around env site → Known env →
       k ≡ length env.vars → expr_placed (known_in env) e ≡ true →
-      (counts : Earlier) → Some (variable_counted (known_in env)) ≡ Some counts → (initial env var.ty e).failures ≡ [] →
+      (counts : DeclaredBefore) → Some (variable_counted (known_in env)) ≡ Some counts → (initial env var.ty e).failures ≡ [] →
       PartPassed false site good env counts (declared_with var k (initial env var.ty e) env)
   with_value k var e fits role calls env around known next placed counts count none =
       let value : Initial = initial env var.ty e in
@@ -169,7 +169,7 @@ module _ (site : Site) (good : StmtKind → Bool) where
   without_value : (k : ℕ) (var : NamedVar) → (declaration_fits site None (var_at site k) ≡ true → good (what.Declare k None) ≡ true) →
       (is_variable var.role && is_some var.ty) ≡ true → (env : Environment) → Around env site → Known env → k ≡ length env.vars →
       var_placed (known_in env) var ≡ true →
-      (counts : Earlier) → Some (variable_counted (known_in env)) ≡ Some counts → optional_lengths env var.ty ≡ [] →
+      (counts : DeclaredBefore) → Some (variable_counted (known_in env)) ≡ Some counts → optional_lengths env var.ty ≡ [] →
       PartPassed false site good env counts (declared_without k (after_variable var env))
   without_value k var fits declared env around known next placed counts count none =
       let ty : Option Ty = option_map (written_type env.constants) var.ty in
@@ -186,7 +186,7 @@ module _ (site : Site) (good : StmtKind → Bool) where
         is_made = λ must there. absurd (not_must must);
       }
 
-  abbrev declare_step : ℕ → Option NamedVar → Option NamedExpr → Earlier → Option Earlier
+  abbrev declare_step : ℕ → Option NamedVar → Option NamedExpr → DeclaredBefore → Option DeclaredBefore
   declare_step k var e earlier = if nat_eq k earlier.variables && (holds_of (var_placed earlier) var && holds_if (expr_placed earlier) e) then Some
       (variable_counted earlier) else None
 
@@ -212,7 +212,7 @@ module _ (site : Site) (good : StmtKind → Bool) where
       (and_right (nat_eq k (length env.vars)) (var_placed (known_in env) var && expr_placed (known_in env) e) holds.0))
       counts holds.1 none
 
-  abbrev constant_step : ℕ → Option NamedConstant → Earlier → Option Earlier
+  abbrev constant_step : ℕ → Option NamedConstant → DeclaredBefore → Option DeclaredBefore
   constant_step k constant earlier = if nat_eq k earlier.constants && holds_of (constant_placed earlier) constant then Some (constant_counted earlier) else None
 
   pub constant_walk_fits : (k : ℕ) (constant : Option NamedConstant) → holds_of (λ (constant : NamedConstant). calls_functions site.earlier constant.value)

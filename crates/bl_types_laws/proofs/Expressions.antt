@@ -39,19 +39,19 @@ use Rattle.bl_tree.specs.Numbers.{number_of}
 use Rattle.bl_tree.specs.Reduce.{all_of}
 use Rattle.bl_tree.specs.Scalar.{in_range}
 use Rattle.bl_tree.specs.Types.{same_type, scalar, scalar_in}
-use Rattle.bl_tree.specs.Typing.{Site, call_type, inputs_of, is_function, literal_type, prev_type, types_match, type_of, var_at, where_same, after_parts}
+use Rattle.bl_tree.specs.Typing.{TypingContext, call_type, inputs_of, is_function, literal_type, prev_type, types_match, type_of, var_at, where_same, after_parts}
 use Rattle.bl_eval.proofs.OperatorFits.{scalar_alone}
 use Rattle.bl_eval.proofs.PartFits.{type_of_part}
 use Rattle.bl_eval.proofs.PassLemmas.{all_at, and_left, and_right, both}
-use Rattle.bl_named.specs.declared.expr.NamedExpr.{NamedExpr, fold-roll-NamedExpr}
-use Rattle.bl_named.specs.declared.expr.NamedExprKind.{NamedExprKind, fold-NamedExprKind, fold-roll-NamedExprKind, map-NamedExprKind}
-use Rattle.bl_named.specs.declared.expr.NamedExprKind.TheOpen.{NamedExprKind-F, NamedPart-F}
-use Rattle.bl_named.specs.declared.expr.NamedPart.{NamedPart, fold-NamedPart, fold_out-NamedPart, map-NamedPart, out-NamedPart}
-use Rattle.bl_named.specs.declared.expr.NamedTarget.{NamedTarget, fold-roll-NamedTarget, roll-NamedTarget}
-use Rattle.bl_named.specs.declared.expr.Root.{Root}
-use Rattle.bl_named.specs.declared.expr.Root.TheVariants as root
-use Rattle.bl_named.specs.Placed.{expr_layer_placed, expr_placed, holds_of, kind_placed, part_placed, root_placed, target_layer_placed, target_placed}
-use Rattle.bl_named.specs.inner.Placed.{step_placed}
+use Rattle.bl_names_tree.specs.declared.expr.NamedExpr.{NamedExpr, fold-roll-NamedExpr}
+use Rattle.bl_names_tree.specs.declared.expr.NamedExprKind.{NamedExprKind, fold-NamedExprKind, fold-roll-NamedExprKind, map-NamedExprKind}
+use Rattle.bl_names_tree.specs.declared.expr.NamedExprKind.TheOpen.{NamedExprKind-F, NamedPart-F}
+use Rattle.bl_names_tree.specs.declared.expr.NamedPart.{NamedPart, fold-NamedPart, fold_out-NamedPart, map-NamedPart, out-NamedPart}
+use Rattle.bl_names_tree.specs.declared.expr.NamedTarget.{NamedTarget, fold-roll-NamedTarget, roll-NamedTarget}
+use Rattle.bl_names_tree.specs.declared.expr.Root.{Root}
+use Rattle.bl_names_tree.specs.declared.expr.Root.TheVariants as root
+use Rattle.bl_names_tree.specs.Placed.{expr_layer_placed, expr_placed, holds_of, kind_placed, part_placed, root_placed, target_layer_placed, target_placed}
+use Rattle.bl_names_tree.specs.inner.Placed.{step_placed}
 use Rattle.bl_types.specs.declared.environment.Environment.{Environment}
 use Rattle.bl_types.specs.Expressions.{
   Formed,
@@ -91,7 +91,7 @@ use Rattle.bl_types.specs.Failures.{unless}
 use Rattle.bl_types.specs.Settled.{Settled, int32}
 use Rattle.bl_types_laws.specs.Fitting.{FormFits, FoundFits, IsMade, SettledFits}
 use Rattle.bl_types_laws.specs.Within.{
-  Within,
+  EnvironmentWithin,
   calls_functions,
   expr_layer_calls,
   has_parameters,
@@ -131,15 +131,15 @@ length-fitted [] params = refl
 length-fitted (argument ∷ rest) params = ap suc (length-fitted rest _)
 
 -- a judged expression that fits, where nothing fails
-abbrev pub JudgedFits : Site → Judged → Type 0
+abbrev pub JudgedFits : TypingContext → Judged → Type 0
 JudgedFits site judged = judged.failures ≡ [] → FormFits site judged.form
 
 -- arguments are made, one for each parameter, and have the types of the parameters
-pub record ArgumentsFit (site : Site) (params : List Var) (arguments : List Settled) : Type 0 where
+pub record ArgumentsFit (site : TypingContext) (params : List Var) (arguments : List Settled) : Type 0 where
   pub count : length (all_made arguments) ≡ length arguments
   pub match : types_match (map (type_of site) (all_made arguments)) params ≡ true
 
-made_first : (site : Site) (var : Var) (vars : List Var) (first : Settled) (rest : List Settled) → IsMade site var.ty first.made →
+made_first : (site : TypingContext) (var : Var) (vars : List Var) (first : Settled) (rest : List Settled) → IsMade site var.ty first.made →
     ArgumentsFit site vars rest →
     ArgumentsFit site (var ∷ vars) (first ∷ rest)
 made_first site var vars first rest made more = record {
@@ -150,7 +150,7 @@ made_first site var vars first rest made more = record {
       ∙ both (same_type var.ty var.ty) (types_match (map (type_of site) (all_made rest)) vars) (same_type_self var.ty) more.match;
 }
 
-pub arguments_fit : (site : Site) (arguments : List Judged) (params : List Var) → All (JudgedFits site) arguments → length arguments ≡ length params →
+pub arguments_fit : (site : TypingContext) (arguments : List Judged) (params : List Var) → All (JudgedFits site) arguments → length arguments ≡ length params →
     all_failures (fitted arguments params) ≡ [] →
     ArgumentsFit site params (fitted arguments params)
 arguments_fit site [] [] each same none = record { count = refl; match = refl }
@@ -167,7 +167,7 @@ pub some_of : {X : Type 0} (o : Option X) → is_some o ≡ true → (x : X) × 
 some_of None is = absurd (cc)
 some_of (Some x) is = (x, refl)
 
-call_by : (site : Site) (at : Place) (f : ℕ) (inputs : List Expr) (unit : UnitDef) (s : ScalarType) → slice_get site.earlier f ≡ Some unit →
+call_by : (site : TypingContext) (at : Place) (f : ℕ) (inputs : List Expr) (unit : UnitDef) (s : ScalarType) → slice_get site.earlier f ≡ Some unit →
     is_function unit.kind ≡ true → nat_eq unit.outputs 0 ≡ true →
     types_match (map (type_of site) inputs) (inputs_of unit) ≡ true → unit.result ≡ Some s → type_of site (call at f inputs) ≡ Some (scalar s)
 call_by site at f inputs unit s there function none match result =
@@ -177,14 +177,14 @@ call_by site at f inputs unit s there function none match result =
     (both (is_function unit.kind) _ function (both (nat_eq unit.outputs 0) (types_match (map (type_of site) inputs) (inputs_of unit)) none match))
     ∙ ap (option_map scalar) result
 
-form_by : (site : Site) (at : Place) (f : ℕ) (inputs : List Expr) (all : Bool) (result : Option ScalarType) (s : ScalarType) →
+form_by : (site : TypingContext) (at : Place) (f : ℕ) (inputs : List Expr) (all : Bool) (result : Option ScalarType) (s : ScalarType) →
     all ≡ true → result ≡ Some s →
     type_of site (call at f inputs) ≡ Some (scalar s) → FormFits site (call_form at f inputs all result)
 form_by site at f inputs all result s is are typed =
     subst (λ all. FormFits site (call_form at f inputs all result)) (sym is)
     (subst (λ result. FormFits site (call_form at f inputs true result)) (sym are) typed)
 
-call_fits : (site : Site) (at name : Place) (f : ℕ) (arguments : List Judged) (unit : UnitDef) → slice_get site.earlier f ≡ Some unit →
+call_fits : (site : TypingContext) (at name : Place) (f : ℕ) (arguments : List Judged) (unit : UnitDef) → slice_get site.earlier f ≡ Some unit →
     is_function unit.kind ≡ true → has_parameters unit ≡ true →
     All (JudgedFits site) arguments → FormedFits site (call_formed at name f (fitted arguments (inputs_of unit)) (Some unit))
 call_fits site at name f arguments unit there function has each none =
@@ -211,7 +211,7 @@ call_fits site at name f arguments unit there function has each none =
 
 -- ---- variables
 
-previous_at : (site : Site) (at : Place) (k : ℕ) (var : Var) → var_at site k ≡ Some var →
+previous_at : (site : TypingContext) (at : Place) (k : ℕ) (var : Var) → var_at site k ≡ Some var →
     FormedFits site (previous_typed site.kind at k var.role (Some var.ty))
 previous_at site at k var there none =
     previous_is site at k
@@ -222,7 +222,7 @@ truth_in : (b : Bool) → in_range OfBool (number_of b) ≡ true
 truth_in true = refl
 truth_in false = refl
 
-module _ (env : Environment) (site : Site) (within : Within env site) where
+module _ (env : Environment) (site : TypingContext) (within : EnvironmentWithin env site) where
   abbrev Fit : Bool → Bool → Judged → Type 0
   Fit placed calls judged = placed ≡ true → calls ≡ true → JudgedFits site judged
 

@@ -15,14 +15,14 @@ use Rattle.bl_tree.specs.Apart as names
 use Rattle.bl_tree.specs.Depths as depths
 use Rattle.bl_tree.specs.Numbers.{number_of}
 use Rattle.bl_tree.specs.Types.{scalar_in}
-use Rattle.bl_raw.specs.declared.name.Name.{Name}
-use Rattle.bl_named.specs.declared.expr.NamedExpr.{NamedExpr, fold-roll-NamedExpr}
-use Rattle.bl_named.specs.declared.expr.NamedExprKind.{NamedExprKind, fold-NamedExprKind, fold-roll-NamedExprKind, map-NamedExprKind}
-use Rattle.bl_named.specs.declared.expr.NamedExprKind.TheOpen.{NamedExprKind-F, NamedPart-F}
-use Rattle.bl_named.specs.declared.expr.NamedPart.{NamedPart, fold_out-NamedPart, map-NamedPart, out-NamedPart}
-use Rattle.bl_named.specs.declared.expr.NamedTarget.{NamedTarget, fold-roll-NamedTarget, roll-NamedTarget}
-use Rattle.bl_named.specs.declared.expr.Root.{Root}
-use Rattle.bl_named.specs.declared.expr.Root.TheVariants as root
+use Rattle.bl_parse_tree.specs.declared.name.Name.{Name}
+use Rattle.bl_names_tree.specs.declared.expr.NamedExpr.{NamedExpr, fold-roll-NamedExpr}
+use Rattle.bl_names_tree.specs.declared.expr.NamedExprKind.{NamedExprKind, fold-NamedExprKind, fold-roll-NamedExprKind, map-NamedExprKind}
+use Rattle.bl_names_tree.specs.declared.expr.NamedExprKind.TheOpen.{NamedExprKind-F, NamedPart-F}
+use Rattle.bl_names_tree.specs.declared.expr.NamedPart.{NamedPart, fold_out-NamedPart, map-NamedPart, out-NamedPart}
+use Rattle.bl_names_tree.specs.declared.expr.NamedTarget.{NamedTarget, fold-roll-NamedTarget, roll-NamedTarget}
+use Rattle.bl_names_tree.specs.declared.expr.Root.{Root}
+use Rattle.bl_names_tree.specs.declared.expr.Root.TheVariants as root
 use Rattle.bl_names_laws.specs.Apart as named
 use Rattle.bl_names_laws.specs.inner.Apart as apart
 use Rattle.bl_names_laws.specs.Depths as nested

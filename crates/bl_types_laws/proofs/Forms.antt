@@ -19,7 +19,7 @@ use Rattle.bl_tree.specs.declared.tree.Ty.TheOpen.{Ty-F}
 use Rattle.bl_tree.specs.Numbers.{takes_one, takes_two, type_of_result}
 use Rattle.bl_tree.specs.Scalar.{bits_of, in_range, is_whole}
 use Rattle.bl_tree.specs.Types.{same_as_array, same_as_scalar, same_as_struct, same_scalar, same_type, scalar, scalar_in}
-use Rattle.bl_tree.specs.Typing.{Site, cast_type, literal_type, one_type, two_type, type_of}
+use Rattle.bl_tree.specs.Typing.{TypingContext, cast_type, literal_type, one_type, two_type, type_of}
 use Rattle.bl_eval.proofs.FitLemmas.{same_type_is, scalar_is}
 use Rattle.bl_eval.proofs.OperatorFits.{scalar_alone}
 use Rattle.bl_eval.proofs.PassLemmas.{both}
@@ -154,10 +154,10 @@ two_taken op s stays takes =
     ∙ ap (λ holds. if holds then Some (scalar (type_of_result op s)) else None) (both (same_scalar s s) (takes_two op s) (same_scalar_self s) takes)
     ∙ ap (λ t. Some (scalar t)) (two_result op s stays)
 
-abbrev pub FormedFits : Site → Formed → Type 0
+abbrev pub FormedFits : TypingContext → Formed → Type 0
 FormedFits site formed = formed.failures ≡ [] → FormFits site formed.form
 
-module _ (site : Site) where
+module _ (site : TypingContext) where
   pub made_typed : (a : Expr) (ty : Ty) → IsMade site ty (Some a) → type_of site a ≡ Some ty
   made_typed a ty made = ap (type_of site) (same_Some a made.it made.is) ∙ made.is_typed
 

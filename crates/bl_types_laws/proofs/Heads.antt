@@ -32,14 +32,14 @@ use Rattle.bl_tree.specs.declared.tree.Ty.{Ty}
 use Rattle.bl_tree.specs.Program.{is_input, is_output}
 use Rattle.bl_tree.specs.Typing.{is_fixed, is_variable}
 use Rattle.bl_eval.proofs.PassLemmas.{and_left, and_right, both}
-use Rattle.bl_named.specs.declared.item.NamedVar.{NamedVar}
+use Rattle.bl_names_tree.specs.declared.item.NamedVar.{NamedVar}
 use Rattle.bl_types.specs.declared.environment.Environment.{Environment}
 use Rattle.bl_types.specs.declared.environment.Variable.{Variable}
 use Rattle.bl_types.specs.Declarations.{Declaring, optional_lengths, after_parameter, after_parameters, after_variable, is_parameter, unchanged, with_variable}
 use Rattle.bl_types.specs.Units.{var_typed, vars_of}
 use Rattle.bl_types.specs.Written.{written_type}
-use Rattle.bl_named.specs.declared.types.NamedType.{NamedType}
-use Rattle.bl_named.specs.Placed.{Earlier, holds_if, type_placed, var_placed}
+use Rattle.bl_names_tree.specs.declared.types.NamedType.{NamedType}
+use Rattle.bl_names_tree.specs.Placed.{DeclaredBefore, holds_if, type_placed, var_placed}
 use Rattle.bl_tree.specs.Types.{type_stands}
 use Rattle.bl_types.specs.declared.environment.Constant.{Constant}
 use Rattle.bl_types_laws.proofs.Forms.{nil_left, nil_right}
@@ -108,7 +108,7 @@ parameters_pass n constants (var ∷ rest) env structs same known all good =
     (and_right (is_typed_parameter var) (list_all is_typed_parameter rest) all)
     (and_right (written_good n constants var) (list_all (written_good n constants) rest) good))
 
-optional_good : (earlier : Earlier) (constants : List Constant) (env : Environment) (ty : Option NamedType) → env.constants ≡ constants →
+optional_good : (earlier : DeclaredBefore) (constants : List Constant) (env : Environment) (ty : Option NamedType) → env.constants ≡ constants →
     holds_if (type_placed earlier) ty ≡ true → optional_lengths env ty ≡ [] →
     holds_if (λ ty. type_stands earlier.structs (written_type constants ty)) ty ≡ true
 optional_good earlier constants env None same placed none = refl
@@ -116,7 +116,7 @@ optional_good earlier constants env (Some written) same placed none =
     ap (λ constants. type_stands earlier.structs (written_type constants written)) (sym same) ∙ written_stands earlier env.constants written placed none
 
 -- parameters none of whose lengths fails have types that stand
-parameters_good : (earlier : Earlier) (constants : List Constant) (vars : List NamedVar) (env : Environment) → env.constants ≡ constants →
+parameters_good : (earlier : DeclaredBefore) (constants : List Constant) (vars : List NamedVar) (env : Environment) → env.constants ≡ constants →
     list_all is_typed_parameter vars ≡ true → list_all (var_placed earlier) vars ≡ true →
     (after_parameters vars env).failures ≡ [] → list_all (written_good earlier.structs constants) vars ≡ true
 parameters_good earlier constants [] env same all placed none = refl
@@ -209,7 +209,7 @@ typed_parameters vars inputs outputs first next typed =
     typed
 
 -- after all the variables of a unit as many are known as it has parameters
-pub head_passes : (vars : List NamedVar) (n : ℕ) (earlier : Earlier) (env : Environment) → length env.structs ≡ earlier.structs → Known env →
+pub head_passes : (vars : List NamedVar) (n : ℕ) (earlier : DeclaredBefore) (env : Environment) → length env.structs ≡ earlier.structs → Known env →
     list_all is_typed_parameter (take n vars) ≡ true → list_all (var_placed earlier) (take n vars) ≡ true →
     list_all is_local (drop n vars) ≡ true → (after_parameters vars env).failures ≡ [] →
     ParametersPassed env (length (take n vars)) (after_parameters vars env).env

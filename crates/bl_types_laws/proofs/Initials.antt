@@ -16,7 +16,7 @@ use Rattle.bl_tree.specs.declared.tree.Unit.{Unit as UnitDef}
 use Rattle.bl_tree.specs.declared.tree.UnitKind.TheVariants.{Function}
 use Rattle.bl_tree.specs.Scalar.{in_range}
 use Rattle.bl_tree.specs.Types.{scalar, scalar_in}
-use Rattle.bl_tree.specs.Typing.{Site, cast_type, expr_type, kind_type, one_type, part_type, path_type, site_of, two_type, type_of, type_of_path}
+use Rattle.bl_tree.specs.Typing.{TypingContext, cast_type, expr_type, kind_type, one_type, part_type, path_type, site_of, two_type, type_of, type_of_path}
 use Rattle.bl_tree.proofs.ExprInduction.{Cases, expr, induct}
 use Rattle.bl_eval.specs.declared.datum.Operand.{Operand}
 use Rattle.bl_eval.specs.Meaning.{meaning_of}
@@ -25,10 +25,10 @@ use Rattle.bl_eval.proofs.FitLemmas.{scalar_is}
 use Rattle.bl_eval.proofs.OperatorFits.{DatumFits, OperandFits, operand_fits}
 use Rattle.bl_eval.proofs.PartFits.{type_of_part}
 use Rattle.bl_eval.proofs.PassLemmas.{and_left, and_right}
-use Rattle.bl_named.specs.declared.expr.NamedExpr.{NamedExpr, out-NamedExpr}
-use Rattle.bl_named.specs.declared.item.NamedConstant.{NamedConstant}
-use Rattle.bl_named.specs.declared.types.NamedType.{NamedType}
-use Rattle.bl_named.specs.Placed.{expr_placed}
+use Rattle.bl_names_tree.specs.declared.expr.NamedExpr.{NamedExpr, out-NamedExpr}
+use Rattle.bl_names_tree.specs.declared.item.NamedConstant.{NamedConstant}
+use Rattle.bl_names_tree.specs.declared.types.NamedType.{NamedType}
+use Rattle.bl_names_tree.specs.Placed.{expr_placed}
 use Rattle.bl_types.specs.declared.environment.Environment.{Environment}
 use Rattle.bl_types.specs.declared.form.Form.{Form}
 use Rattle.bl_types.specs.declared.form.Form.TheVariants.{Failing, Open, Of}
@@ -50,7 +50,7 @@ use Rattle.bl_types.specs.Folded.{folded, is_constant, no_values, not_constant, 
 use Rattle.bl_types.specs.Settled.{Settled, int32}
 use Rattle.bl_types.specs.Written.{bad_lengths, written_type}
 use Rattle.bl_types_laws.specs.Fitting.{FormFits, InitialFits, IsMade}
-use Rattle.bl_types_laws.specs.Within.{ConstantStands, Within, calls_functions, known_in}
+use Rattle.bl_types_laws.specs.Within.{ConstantStands, EnvironmentWithin, calls_functions, known_in}
 use Rattle.bl_types_laws.proofs.Expressions.{expressions_fit, some_of, wanted_fits}
 use Rattle.bl_types_laws.proofs.Forms.{nil_left, nil_right, unless_holds}
 use Rattle.bl_types_laws.proofs.Nameless.{Layer, MadeNameless, initial_nameless, is_nameless, nameless_by, nameless_is}
@@ -58,14 +58,14 @@ use Rattle.bl_types_laws.proofs.Typed.{kind_at}
 
 -- ---- what names nothing has the same type at each site
 
-module _ (site other : Site) where
+module _ (site other : TypingContext) where
   abbrev P : Expr → Type 0
   P e = is_nameless e ≡ true → type_of site e ≡ type_of other e
 
   abbrev Q : Path → Type 0
   Q path = Unit {0}
 
-  abbrev typed_by : Site → Layer → Option Ty
+  abbrev typed_by : TypingContext → Layer → Option Ty
   typed_by site layer = kind_type site
       (map-ExprKind ExprKind Part Expr Path (Option Ty) (Ty → Option Ty) (Option Ty) (Option Ty)
       (fold-ExprKind (Option Ty) (Ty → Option Ty) (Option Ty) (Option Ty) (kind_type site) (part_type site) expr_type (path_type site)) (type_of_part site)
@@ -110,7 +110,7 @@ number_of_type : (s : ScalarType) (found : Option Operand) (a : Operand) → IfS
 number_of_type s None a fit is = absurd (cc)
 number_of_type s (Some b) a fit is = subst (λ (a : Operand). in_range s a.n ≡ true) (same_Some b a is) fit.1
 
-number_fits : (site : Site) (e : Expr) (ty : Ty) (s : ScalarType) (a : Operand) → type_of site e ≡ Some ty → scalar_in ty ≡ Some s →
+number_fits : (site : TypingContext) (e : Expr) (ty : Ty) (s : ScalarType) (a : Operand) → type_of site e ≡ Some ty → scalar_in ty ≡ Some s →
     is_nameless e ≡ true →
     number_in e ≡ Some a → in_range s a.n ≡ true
 number_fits site e ty s a typed scalar_is nameless is =
@@ -125,7 +125,7 @@ not_none : (found : Option Operand) → not (is_none found) ≡ true → (a : Op
 not_none None there = absurd (cc)
 not_none (Some a) there = (a, refl)
 
-module _ (site : Site) where
+module _ (site : TypingContext) where
   closed_fits : (earlier : List Failure) (form : Form) → FormFits site form → (closed_form form).failures ≡ [] →
       InitialFits site (closed_initial earlier (closed_form form)).valued
   closed_fits earlier Failing fit none = absurd fit
@@ -144,7 +144,7 @@ module _ (site : Site) where
       InitialFits site (typed_initial ty earlier value).valued
   wanted_initial ty earlier value made = record { ty = ty; it = made.it; is_typed = refl; is_made = made.is; fits = made.is_typed }
 
-module _ (env : Environment) (site : Site) (within : Within env site) where
+module _ (env : Environment) (site : TypingContext) (within : EnvironmentWithin env site) where
   -- an initial value in which nothing fails has a type
   pub initial_fits : (ty : Option NamedType) (e : NamedExpr) → expr_placed (known_in env) e ≡ true → calls_functions env.units e ≡ true →
       (initial env ty e).failures ≡ [] → InitialFits site (initial env ty e).valued

@@ -37,14 +37,14 @@ use Rattle.bl_tree.specs.declared.tree.UnitKind.{UnitKind}
 use Rattle.bl_tree.specs.declared.tree.UnitKind.TheVariants as unit
 use Rattle.bl_tree.specs.Reduce.{all_of}
 use Rattle.bl_tree.specs.Typing.{is_activity, is_function}
-use Rattle.bl_named.specs.declared.item.NamedConstant.{NamedConstant}
-use Rattle.bl_named.specs.declared.item.NamedUnit.{NamedUnit}
-use Rattle.bl_named.specs.declared.item.NamedVar.{NamedVar}
-use Rattle.bl_named.specs.declared.stmt.NamedStmt.{NamedStmt}
-use Rattle.bl_named.specs.Placed.{holds_of}
-use Rattle.bl_scopes.specs.declared.kind.Kind.TheVariants as kinds
-use Rattle.bl_scopes.specs.declared.scopes.Counts.{Counts}
-use Rattle.bl_scopes.specs.Marks.{
+use Rattle.bl_names_tree.specs.declared.item.NamedConstant.{NamedConstant}
+use Rattle.bl_names_tree.specs.declared.item.NamedUnit.{NamedUnit}
+use Rattle.bl_names_tree.specs.declared.item.NamedVar.{NamedVar}
+use Rattle.bl_names_tree.specs.declared.stmt.NamedStmt.{NamedStmt}
+use Rattle.bl_names_tree.specs.Placed.{holds_of}
+use Rattle.bl_names_scopes.specs.declared.kind.Kind.TheVariants as kinds
+use Rattle.bl_names_scopes.specs.declared.scopes.Counts.{Counts}
+use Rattle.bl_names_scopes.specs.Marks.{
   closes,
   constant_marks,
   declares,
@@ -59,13 +59,13 @@ use Rattle.bl_scopes.specs.Marks.{
   type_marks,
   unit_marks,
 }
-use Rattle.bl_scopes.specs.Scopes.{Scopes, after, count_of, counted, enter}
-use Rattle.bl_raw.specs.declared.item.RawItem.{RawItem}
-use Rattle.bl_raw.specs.declared.item.RawItem.TheVariants as item
-use Rattle.bl_raw.specs.declared.item.RawStruct.{RawStruct}
-use Rattle.bl_raw.specs.declared.item.RawUnit.{RawUnit}
-use Rattle.bl_raw.specs.declared.stmt.RawConstant.{RawConstant}
-use Rattle.bl_raw.specs.Names.{item_stands, named, optional as if_there, param_named, stmt_stands, type_named, unit_stands}
+use Rattle.bl_names_scopes.specs.Scopes.{Scopes, after, count_of, counted, enter}
+use Rattle.bl_parse_tree.specs.declared.item.RawItem.{RawItem}
+use Rattle.bl_parse_tree.specs.declared.item.RawItem.TheVariants as item
+use Rattle.bl_parse_tree.specs.declared.item.RawStruct.{RawStruct}
+use Rattle.bl_parse_tree.specs.declared.item.RawUnit.{RawUnit}
+use Rattle.bl_parse_tree.specs.declared.stmt.RawConstant.{RawConstant}
+use Rattle.bl_parse_tree.specs.Names.{item_stands, named, optional as if_there, param_named, stmt_stands, type_named, unit_stands}
 use Rattle.bl_names.specs.Named.{along, block_piece, constants_in_unit, constants_of, named_constant, named_unit, opened, params_piece, role_piece, units_of}
 use Rattle.bl_names.proofs.FitLemmas.{Fits, fits_behind, fits_first, fits_second}
 use Rattle.bl_names.proofs.ItemLemmas.{struct_scopes, unit_scopes}

@@ -5,11 +5,11 @@ use Rattle.bl_tree.specs.declared.rule.Failure.{Failure}
 use Rattle.bl_tree.specs.declared.tree.StructDef.{StructDef}
 use Rattle.bl_tree.specs.Rules.{further_places}
 use Rattle.bl_tree.proofs.FirstLemmas.{in_contains}
-use Rattle.bl_named.specs.declared.named.Named.{Named}
-use Rattle.bl_scopes.specs.Rules.{Passes as NamesPass}
-use Rattle.bl_scopes.specs.Scopes.{file_scope}
-use Rattle.bl_raw.specs.declared.item.RawItem.{RawItem}
-use Rattle.bl_raw.specs.declared.item.RawItem.TheVariants as item
+use Rattle.bl_names_tree.specs.declared.named.Named.{Named}
+use Rattle.bl_names_scopes.specs.Rules.{Passes as NamesPass}
+use Rattle.bl_names_scopes.specs.Scopes.{file_scope}
+use Rattle.bl_parse_tree.specs.declared.item.RawItem.{RawItem}
+use Rattle.bl_parse_tree.specs.declared.item.RawItem.TheVariants as item
 use Rattle.bl_names.specs.Named.{named_program}
 use Rattle.bl_names.proofs.FitLemmas.{program_fits}
 use Rattle.bl_types.specs.declared.environment.Constant.{Constant}

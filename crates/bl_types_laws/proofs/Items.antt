@@ -7,9 +7,9 @@ use Rattle.bl_tree.specs.declared.tree.Field.{Field}
 use Rattle.bl_tree.specs.declared.tree.StructDef.{StructDef}
 use Rattle.bl_tree.specs.Types.{type_stands}
 use Rattle.bl_eval.proofs.PassLemmas.{and_right}
-use Rattle.bl_named.specs.declared.item.NamedConstant.{NamedConstant}
-use Rattle.bl_named.specs.declared.item.NamedStruct.{NamedStruct}
-use Rattle.bl_named.specs.Placed.{constant_placed, expr_placed, holds_if, struct_placed, type_placed}
+use Rattle.bl_names_tree.specs.declared.item.NamedConstant.{NamedConstant}
+use Rattle.bl_names_tree.specs.declared.item.NamedStruct.{NamedStruct}
+use Rattle.bl_names_tree.specs.Placed.{constant_placed, expr_placed, holds_if, struct_placed, type_placed}
 use Rattle.bl_types.specs.declared.environment.Environment.{Environment}
 use Rattle.bl_types.specs.declared.environment.Variable.{Variable}
 use Rattle.bl_types.specs.Declarations.{after_constant, after_struct, constant_of, initial, struct_of}

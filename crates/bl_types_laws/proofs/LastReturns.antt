@@ -11,15 +11,15 @@ use Rattle.bl_tree.specs.declared.tree.StmtKind.TheOpen.{StmtKind-F}
 use Rattle.bl_tree.specs.declared.tree.StmtKind.TheVariants as what
 use Rattle.bl_tree.specs.Returns.{has_return, is_return, is_return_kind, returns_last_alone}
 use Rattle.bl_eval.proofs.PassLemmas.{both}
-use Rattle.bl_named.specs.declared.expr.NamedExpr.{NamedExpr}
-use Rattle.bl_named.specs.declared.item.NamedConstant.{NamedConstant}
-use Rattle.bl_named.specs.declared.item.NamedVar.{NamedVar}
-use Rattle.bl_named.specs.declared.stmt.NamedStmt.{NamedStmt, out-NamedStmt, roll-out-NamedStmt, roll-NamedStmt}
-use Rattle.bl_named.specs.declared.stmt.NamedStmtKind.{NamedStmtKind, out-NamedStmtKind, roll-out-NamedStmtKind}
-use Rattle.bl_named.specs.declared.stmt.NamedStmtKind.TheOpen.{NamedStmtKind-F}
+use Rattle.bl_names_tree.specs.declared.expr.NamedExpr.{NamedExpr}
+use Rattle.bl_names_tree.specs.declared.item.NamedConstant.{NamedConstant}
+use Rattle.bl_names_tree.specs.declared.item.NamedVar.{NamedVar}
+use Rattle.bl_names_tree.specs.declared.stmt.NamedStmt.{NamedStmt, out-NamedStmt, roll-out-NamedStmt, roll-NamedStmt}
+use Rattle.bl_names_tree.specs.declared.stmt.NamedStmtKind.{NamedStmtKind, out-NamedStmtKind, roll-out-NamedStmtKind}
+use Rattle.bl_names_tree.specs.declared.stmt.NamedStmtKind.TheOpen.{NamedStmtKind-F}
 use Rattle.bl_types.specs.declared.environment.Environment.{Environment}
 use Rattle.bl_types.specs.Returns.{is_return as named_is_return, is_return_kind as named_return_kind, stray, strays, strays_in}
-use Rattle.bl_types.specs.Statements.{Walk, in_order, returned, stmt_made, walked_stmt}
+use Rattle.bl_types.specs.Statements.{StatementJudgement, in_order, returned, stmt_made, walked_stmt}
 use Rattle.bl_types_laws.proofs.Forms.{map_found, nil_left, nil_right}
 use Rattle.bl_types_laws.proofs.NamedStmtInduction.{stmt}
 use Rattle.bl_types_laws.proofs.Straying.{statement_none}
@@ -61,7 +61,7 @@ module _ (constants : List NamedConstant) (vars : List NamedVar) where
       (walked_stmt constants vars (stmt place layer) env).made ≡ Some t → is_return t ≡ true
   layer_returned place layer env t returns is =
       let made : option_map (stmt_made place) (walked_by constants vars layer place env).made ≡ Some t =
-      ap (λ (walk : Walk Stmt). (walk env).made) (sym (walked_is constants vars place layer)) ∙ is in
+      ap (λ (walk : StatementJudgement Stmt). (walk env).made) (sym (walked_is constants vars place layer)) ∙ is in
       let found = map_found (stmt_made place) (walked_by constants vars layer place env).made t made in
       ap is_return (sym found.2) ∙ kind_returned place layer env found.0 returns found.1
 

@@ -7,9 +7,9 @@ use Rattle.bl_tree.specs.Apart.{Naming, is_apart, naming_of}
 use Rattle.bl_tree.specs.Depths.{Depth, depth_of, is_shallow, of_all}
 use Rattle.bl_tree.specs.Reduce.{all_of}
 use Rattle.bl_eval.proofs.PassLemmas.{and_left, and_right, both}
-use Rattle.bl_named.specs.declared.item.NamedConstant.{NamedConstant}
-use Rattle.bl_named.specs.declared.item.NamedVar.{NamedVar}
-use Rattle.bl_named.specs.declared.stmt.NamedStmt.{NamedStmt}
+use Rattle.bl_names_tree.specs.declared.item.NamedConstant.{NamedConstant}
+use Rattle.bl_names_tree.specs.declared.item.NamedVar.{NamedVar}
+use Rattle.bl_names_tree.specs.declared.stmt.NamedStmt.{NamedStmt}
 use Rattle.bl_names_laws.specs.Apart as named
 use Rattle.bl_names_laws.specs.Depths as nested
 use Rattle.bl_types.specs.declared.environment.Environment.{Environment}

@@ -7,15 +7,15 @@ use Rattle.std.proofs.lemmas.List.Elements.{All-head, All-tail}
 use Rattle.bl_tree.specs.declared.place.Place.{Place}
 use Rattle.bl_tree.specs.Reduce.{all_of}
 use Rattle.bl_eval.proofs.PassLemmas.{and_left, and_right, both}
-use Rattle.bl_named.specs.declared.expr.NamedExpr.{NamedExpr, fold-roll-NamedExpr}
-use Rattle.bl_named.specs.declared.expr.NamedExprKind.{NamedExprKind, fold-NamedExprKind, fold-roll-NamedExprKind, map-NamedExprKind}
-use Rattle.bl_named.specs.declared.expr.NamedExprKind.TheOpen.{NamedExprKind-F, NamedPart-F}
-use Rattle.bl_named.specs.declared.expr.NamedPart.{NamedPart, fold_out-NamedPart, map-NamedPart, out-NamedPart}
-use Rattle.bl_named.specs.declared.expr.NamedTarget.{NamedTarget, fold-roll-NamedTarget, roll-NamedTarget}
-use Rattle.bl_named.specs.declared.expr.Root.{Root}
-use Rattle.bl_named.specs.declared.expr.Root.TheVariants as root
-use Rattle.bl_named.specs.Placed.{Earlier, expr_layer_placed, expr_placed, kind_placed, part_placed, root_placed, target_layer_placed, target_placed}
-use Rattle.bl_named.specs.inner.Placed.{step_placed}
+use Rattle.bl_names_tree.specs.declared.expr.NamedExpr.{NamedExpr, fold-roll-NamedExpr}
+use Rattle.bl_names_tree.specs.declared.expr.NamedExprKind.{NamedExprKind, fold-NamedExprKind, fold-roll-NamedExprKind, map-NamedExprKind}
+use Rattle.bl_names_tree.specs.declared.expr.NamedExprKind.TheOpen.{NamedExprKind-F, NamedPart-F}
+use Rattle.bl_names_tree.specs.declared.expr.NamedPart.{NamedPart, fold_out-NamedPart, map-NamedPart, out-NamedPart}
+use Rattle.bl_names_tree.specs.declared.expr.NamedTarget.{NamedTarget, fold-roll-NamedTarget, roll-NamedTarget}
+use Rattle.bl_names_tree.specs.declared.expr.Root.{Root}
+use Rattle.bl_names_tree.specs.declared.expr.Root.TheVariants as root
+use Rattle.bl_names_tree.specs.Placed.{DeclaredBefore, expr_layer_placed, expr_placed, kind_placed, part_placed, root_placed, target_layer_placed, target_placed}
+use Rattle.bl_names_tree.specs.inner.Placed.{step_placed}
 use Rattle.bl_types.specs.declared.environment.Environment.{Environment}
 use Rattle.bl_types_laws.specs.Standing.{Grown}
 use Rattle.bl_types_laws.specs.Within.{known_in}
@@ -27,25 +27,25 @@ more_below k n m less is = lt-ltb k m (let below = ltb-true k n is in omega arit
 abbrev Layer : Type 0
 Layer = NamedExprKind-F NamedExprKind NamedPart NamedExpr NamedTarget
 
-abbrev placed_by : Earlier → Layer → Bool
+abbrev placed_by : DeclaredBefore → Layer → Bool
 placed_by earlier layer = kind_placed earlier
     (map-NamedExprKind NamedExprKind NamedPart NamedExpr NamedTarget Bool Bool Bool Bool
     (fold-NamedExprKind Bool Bool Bool Bool (kind_placed earlier) part_placed expr_layer_placed (target_layer_placed earlier)) (step_placed earlier)
     (expr_placed earlier) (target_placed earlier) layer)
 
-placed_is : (earlier : Earlier) (place : Place) (layer : Layer) → expr_placed earlier (expr place layer) ≡ placed_by earlier layer
+placed_is : (earlier : DeclaredBefore) (place : Place) (layer : Layer) → expr_placed earlier (expr place layer) ≡ placed_by earlier layer
 placed_is earlier place layer = rw (fold-roll-NamedExpr, fold-roll-NamedExprKind) refl
 
-abbrev placed_part : Earlier → NamedPart-F NamedExprKind NamedPart NamedExpr NamedTarget → Bool
+abbrev placed_part : DeclaredBefore → NamedPart-F NamedExprKind NamedPart NamedExpr NamedTarget → Bool
 placed_part earlier layer = part_placed
     (map-NamedPart NamedExprKind NamedPart NamedExpr NamedTarget Bool Bool Bool Bool
     (fold-NamedExprKind Bool Bool Bool Bool (kind_placed earlier) part_placed expr_layer_placed (target_layer_placed earlier)) (step_placed earlier)
     (expr_placed earlier) (target_placed earlier) layer)
 
-placed_part_is : (earlier : Earlier) (part : NamedPart) → step_placed earlier part ≡ placed_part earlier (out-NamedPart part)
+placed_part_is : (earlier : DeclaredBefore) (part : NamedPart) → step_placed earlier part ≡ placed_part earlier (out-NamedPart part)
 placed_part_is earlier part = fold_out-NamedPart Bool Bool Bool Bool (kind_placed earlier) part_placed expr_layer_placed (target_layer_placed earlier) part
 
-target_is : (earlier : Earlier) (place : Place) (root : Root) (parts : List NamedPart) →
+target_is : (earlier : DeclaredBefore) (place : Place) (root : Root) (parts : List NamedPart) →
     target_placed earlier (roll-NamedTarget (record { place = place; root = root; parts = parts }))
     ≡ (root_placed earlier root && all_of (map (step_placed earlier) parts))
 target_is earlier place root parts = rw fold-roll-NamedTarget refl
@@ -57,7 +57,7 @@ all_more a b (x ∷ xs) each all =
     both (b x) (all_of (map b xs)) (All-head (λ x. a x ≡ true → b x ≡ true) x xs each (and_left (a x) (all_of (map a xs)) all))
     (all_more a b xs (All-tail (λ x. a x ≡ true → b x ≡ true) x xs each) (and_right (a x) (all_of (map a xs)) all))
 
-module _ (before after : Earlier) (constants : before.constants ≤ after.constants) (units : before.units ≤ after.units)
+module _ (before after : DeclaredBefore) (constants : before.constants ≤ after.constants) (units : before.units ≤ after.units)
     (variables : before.variables ≤ after.variables) where
   abbrev P : NamedExpr → Type 0
   P e = expr_placed before e ≡ true → expr_placed after e ≡ true

@@ -4,13 +4,13 @@ use Rattle.std.specs.Prelude.{All}
 use Rattle.bl_tree.specs.declared.place.Place.{Place}
 use Rattle.bl_tree.specs.declared.scalar.Op.{Op}
 use Rattle.bl_tree.specs.declared.scalar.Scalar.{Scalar}
-use Rattle.bl_named.specs.declared.expr.NamedExpr.{NamedExpr, ind-NamedExpr, roll-NamedExpr}
-use Rattle.bl_named.specs.declared.expr.NamedExprKind.{NamedExprKind, roll-NamedExprKind}
-use Rattle.bl_named.specs.declared.expr.NamedExprKind.TheFolds.{map-NamedExprKind, map-NamedPart}
-use Rattle.bl_named.specs.declared.expr.NamedExprKind.TheOpen.{NamedExprKind-F, NamedPart-F}
-use Rattle.bl_named.specs.declared.expr.NamedPart.{NamedPart, out-NamedPart, out-roll-NamedPart}
-use Rattle.bl_named.specs.declared.expr.NamedTarget.{NamedTarget, ind-NamedTarget, roll-NamedTarget}
-use Rattle.bl_named.specs.declared.expr.Root.{Root}
+use Rattle.bl_names_tree.specs.declared.expr.NamedExpr.{NamedExpr, ind-NamedExpr, roll-NamedExpr}
+use Rattle.bl_names_tree.specs.declared.expr.NamedExprKind.{NamedExprKind, roll-NamedExprKind}
+use Rattle.bl_names_tree.specs.declared.expr.NamedExprKind.TheFolds.{map-NamedExprKind, map-NamedPart}
+use Rattle.bl_names_tree.specs.declared.expr.NamedExprKind.TheOpen.{NamedExprKind-F, NamedPart-F}
+use Rattle.bl_names_tree.specs.declared.expr.NamedPart.{NamedPart, out-NamedPart, out-roll-NamedPart}
+use Rattle.bl_names_tree.specs.declared.expr.NamedTarget.{NamedTarget, ind-NamedTarget, roll-NamedTarget}
+use Rattle.bl_names_tree.specs.declared.expr.Root.{Root}
 use Rattle.bl_tree.proofs.StmtInduction.{each_such}
 
 -- an expression by its place and its kind's parts

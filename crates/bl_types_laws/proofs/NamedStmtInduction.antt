@@ -3,15 +3,15 @@ use Rattle.std.proofs.Common.{ℕ, Bool, List, subst}
 use Rattle.std.specs.Prelude.{All, Option}
 use Rattle.bl_tree.specs.declared.place.Place.{Place}
 use Rattle.bl_tree.specs.declared.tree.Guard.{Guard}
-use Rattle.bl_named.specs.declared.expr.NamedExpr.{NamedExpr}
-use Rattle.bl_named.specs.declared.expr.NamedTarget.{NamedTarget}
-use Rattle.bl_named.specs.declared.stmt.NamedArm.{NamedArm, ind-NamedArm, roll-NamedArm}
-use Rattle.bl_named.specs.declared.stmt.NamedBranch.{NamedBranch, ind-NamedBranch, roll-NamedBranch}
-use Rattle.bl_named.specs.declared.stmt.NamedPath.{NamedPath}
-use Rattle.bl_named.specs.declared.stmt.NamedStmt.{NamedStmt, ind-NamedStmt, roll-NamedStmt}
-use Rattle.bl_named.specs.declared.stmt.NamedStmtKind.{NamedStmtKind, roll-NamedStmtKind}
-use Rattle.bl_named.specs.declared.stmt.NamedStmtKind.TheFolds.{map-NamedStmtKind}
-use Rattle.bl_named.specs.declared.stmt.NamedStmtKind.TheOpen.{NamedStmtKind-F}
+use Rattle.bl_names_tree.specs.declared.expr.NamedExpr.{NamedExpr}
+use Rattle.bl_names_tree.specs.declared.expr.NamedTarget.{NamedTarget}
+use Rattle.bl_names_tree.specs.declared.stmt.NamedArm.{NamedArm, ind-NamedArm, roll-NamedArm}
+use Rattle.bl_names_tree.specs.declared.stmt.NamedBranch.{NamedBranch, ind-NamedBranch, roll-NamedBranch}
+use Rattle.bl_names_tree.specs.declared.stmt.NamedPath.{NamedPath}
+use Rattle.bl_names_tree.specs.declared.stmt.NamedStmt.{NamedStmt, ind-NamedStmt, roll-NamedStmt}
+use Rattle.bl_names_tree.specs.declared.stmt.NamedStmtKind.{NamedStmtKind, roll-NamedStmtKind}
+use Rattle.bl_names_tree.specs.declared.stmt.NamedStmtKind.TheFolds.{map-NamedStmtKind}
+use Rattle.bl_names_tree.specs.declared.stmt.NamedStmtKind.TheOpen.{NamedStmtKind-F}
 use Rattle.bl_tree.proofs.StmtInduction.{each_such}
 
 -- a statement by its place and its kind's parts

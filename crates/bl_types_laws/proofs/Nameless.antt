@@ -19,14 +19,14 @@ use Rattle.bl_tree.specs.Types.{same_type, scalar, scalar_in}
 use Rattle.bl_tree.specs.Typing.{cast_type, one_type}
 use Rattle.bl_tree.proofs.ExprInduction as trees
 use Rattle.bl_eval.proofs.PassLemmas.{and_left, and_right, both}
-use Rattle.bl_named.specs.declared.expr.NamedExpr.{NamedExpr, fold-roll-NamedExpr}
-use Rattle.bl_named.specs.declared.expr.NamedExprKind.{NamedExprKind, fold-NamedExprKind, fold-roll-NamedExprKind, map-NamedExprKind}
-use Rattle.bl_named.specs.declared.expr.NamedExprKind.TheOpen.{NamedExprKind-F}
-use Rattle.bl_named.specs.declared.expr.NamedPart.{NamedPart, fold-NamedPart}
-use Rattle.bl_named.specs.declared.expr.NamedTarget.{NamedTarget, fold-roll-NamedTarget, roll-NamedTarget}
-use Rattle.bl_named.specs.declared.expr.Root.{Root}
-use Rattle.bl_named.specs.declared.expr.Root.TheVariants as root
-use Rattle.bl_named.specs.declared.types.NamedType.{NamedType}
+use Rattle.bl_names_tree.specs.declared.expr.NamedExpr.{NamedExpr, fold-roll-NamedExpr}
+use Rattle.bl_names_tree.specs.declared.expr.NamedExprKind.{NamedExprKind, fold-NamedExprKind, fold-roll-NamedExprKind, map-NamedExprKind}
+use Rattle.bl_names_tree.specs.declared.expr.NamedExprKind.TheOpen.{NamedExprKind-F}
+use Rattle.bl_names_tree.specs.declared.expr.NamedPart.{NamedPart, fold-NamedPart}
+use Rattle.bl_names_tree.specs.declared.expr.NamedTarget.{NamedTarget, fold-roll-NamedTarget, roll-NamedTarget}
+use Rattle.bl_names_tree.specs.declared.expr.Root.{Root}
+use Rattle.bl_names_tree.specs.declared.expr.Root.TheVariants as root
+use Rattle.bl_names_tree.specs.declared.types.NamedType.{NamedType}
 use Rattle.bl_types.specs.declared.environment.Environment.{Environment}
 use Rattle.bl_types.specs.declared.form.Form.{Form}
 use Rattle.bl_types.specs.declared.form.Form.TheVariants.{Failing, Open, Of}

@@ -7,8 +7,8 @@ use Rattle.bl_tree.specs.declared.tree.Unit.{Unit as UnitDef}
 use Rattle.bl_tree.specs.Reduce.{all_of}
 use Rattle.bl_tree.specs.Typing.{is_function}
 use Rattle.bl_eval.proofs.PassLemmas.{and_left, and_right, both}
-use Rattle.bl_named.specs.declared.expr.NamedExpr.{NamedExpr, fold-roll-NamedExpr}
-use Rattle.bl_named.specs.declared.expr.NamedExprKind.{
+use Rattle.bl_names_tree.specs.declared.expr.NamedExpr.{NamedExpr, fold-roll-NamedExpr}
+use Rattle.bl_names_tree.specs.declared.expr.NamedExprKind.{
   NamedExprKind,
   fold-NamedExprKind,
   fold-roll-NamedExprKind,
@@ -16,19 +16,19 @@ use Rattle.bl_named.specs.declared.expr.NamedExprKind.{
   out-roll-NamedExprKind,
   roll-NamedExprKind,
 }
-use Rattle.bl_named.specs.declared.expr.NamedExprKind.TheOpen.{NamedExprKind-F, NamedPart-F}
-use Rattle.bl_named.specs.declared.expr.NamedPart.{NamedPart, fold_out-NamedPart, map-NamedPart, out-NamedPart}
-use Rattle.bl_named.specs.declared.expr.NamedTarget.{NamedTarget, fold-roll-NamedTarget, roll-NamedTarget}
-use Rattle.bl_named.specs.declared.expr.Root.{Root}
-use Rattle.bl_named.specs.Placed.{Earlier, expr_layer_placed, expr_placed, holds_of, kind_placed, part_placed, root_placed, target_layer_placed, target_placed}
-use Rattle.bl_named.specs.inner.Placed.{step_placed}
+use Rattle.bl_names_tree.specs.declared.expr.NamedExprKind.TheOpen.{NamedExprKind-F, NamedPart-F}
+use Rattle.bl_names_tree.specs.declared.expr.NamedPart.{NamedPart, fold_out-NamedPart, map-NamedPart, out-NamedPart}
+use Rattle.bl_names_tree.specs.declared.expr.NamedTarget.{NamedTarget, fold-roll-NamedTarget, roll-NamedTarget}
+use Rattle.bl_names_tree.specs.declared.expr.Root.{Root}
+use Rattle.bl_names_tree.specs.Placed.{DeclaredBefore, expr_layer_placed, expr_placed, holds_of, kind_placed, part_placed, root_placed, target_layer_placed, target_placed}
+use Rattle.bl_names_tree.specs.inner.Placed.{step_placed}
 use Rattle.bl_types_laws.specs.Within.{calls_functions, target_calls}
 use Rattle.bl_types_laws.proofs.NamedExprInduction.{Cases, EachIndex, OfIndex, expr, induct}
 use Rattle.bl_types_laws.proofs.ExprCalls.{Layer, PartLayer, calls_at, calls_by, calls_part, calls_step, step_at}
 
 -- ---- what stands in an expression
 
-module _ (earlier : Earlier) where
+module _ (earlier : DeclaredBefore) where
   abbrev placed_kind : NamedExprKind → Bool
   placed_kind = fold-NamedExprKind Bool Bool Bool Bool (kind_placed earlier) part_placed expr_layer_placed (target_layer_placed earlier)
 
@@ -76,7 +76,7 @@ abbrev pub Narrows : List UnitDef → List UnitDef → ℕ → Type 0
 Narrows whole first n = (f : ℕ) → nat_lt f n ≡ true → holds_of (λ unit. is_function unit.kind) (slice_get whole f) ≡ true →
     holds_of (λ unit. is_function unit.kind) (slice_get first f) ≡ true
 
-module _ (whole first : List UnitDef) (counts : Earlier) (narrows : Narrows whole first counts.units) where
+module _ (whole first : List UnitDef) (counts : DeclaredBefore) (narrows : Narrows whole first counts.units) where
   abbrev P : NamedExpr → Type 0
   P e = expr_placed counts e ≡ true → calls_functions whole e ≡ true → calls_functions first e ≡ true
 

@@ -46,7 +46,7 @@ use Rattle.bl_tree.specs.Within.{
   place_of,
 }
 use Rattle.bl_tree.proofs.FirstLemmas.{In, contains_in}
-use Rattle.bl_raw.specs.Starts.{ascends}
+use Rattle.bl_parse_tree.specs.Starts.{ascends}
 use Rattle.bl_types_laws.proofs.Starts.{ascends_rest, first_less, in_joined, one_part, one_position, part_ascends}
 
 -- ---- where statements begin

@@ -1,14 +1,14 @@
 -- What is counted and placed behind an item of a program in which the rules on names hold.
 use Rattle.std.proofs.Common.{◌≡◌, ℕ, ◌+◌, true, List, [], ◌∷◌, ◌++◌, length, Some, refl, sym, ap, subst, ◌∙◌, arith}
-use Rattle.bl_named.specs.declared.item.NamedConstant.{NamedConstant}
-use Rattle.bl_named.specs.declared.item.NamedStruct.{NamedStruct}
-use Rattle.bl_named.specs.declared.item.NamedUnit.{NamedUnit}
-use Rattle.bl_named.specs.Placed.{constant_placed, holds_of, unit_step}
-use Rattle.bl_scopes.specs.declared.kind.Kind.TheVariants as kinds
-use Rattle.bl_scopes.specs.Marks.{constant_marks, declares, expr_marks, optional, struct_marks, type_marks}
-use Rattle.bl_scopes.specs.Scopes.{Scopes, after}
-use Rattle.bl_raw.specs.declared.item.RawStruct.{RawStruct}
-use Rattle.bl_raw.specs.declared.stmt.RawConstant.{RawConstant}
+use Rattle.bl_names_tree.specs.declared.item.NamedConstant.{NamedConstant}
+use Rattle.bl_names_tree.specs.declared.item.NamedStruct.{NamedStruct}
+use Rattle.bl_names_tree.specs.declared.item.NamedUnit.{NamedUnit}
+use Rattle.bl_names_tree.specs.Placed.{constant_placed, holds_of, unit_step}
+use Rattle.bl_names_scopes.specs.declared.kind.Kind.TheVariants as kinds
+use Rattle.bl_names_scopes.specs.Marks.{constant_marks, declares, expr_marks, optional, struct_marks, type_marks}
+use Rattle.bl_names_scopes.specs.Scopes.{Scopes, after}
+use Rattle.bl_parse_tree.specs.declared.item.RawStruct.{RawStruct}
+use Rattle.bl_parse_tree.specs.declared.stmt.RawConstant.{RawConstant}
 use Rattle.bl_names.specs.Named.{named_constant, named_struct}
 use Rattle.bl_names.proofs.BelowLemmas.{Below, constant_below, struct_below}
 use Rattle.bl_names.proofs.FitLemmas.{Fits, fits_first}

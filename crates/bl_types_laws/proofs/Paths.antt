@@ -39,7 +39,7 @@ use Rattle.bl_tree.specs.Reduce.{all_of}
 use Rattle.bl_tree.specs.declared.scalar.Scalar.{Scalar as ScalarType}
 use Rattle.bl_tree.specs.Types.{same_type, scalar_in}
 use Rattle.bl_tree.specs.Typing.{
-  Site,
+  TypingContext,
   expr_ignored,
   is_assignable,
   is_outlet,
@@ -54,13 +54,13 @@ use Rattle.bl_tree.specs.Typing.{
 }
 use Rattle.bl_eval.proofs.FitLemmas.{same_type_is}
 use Rattle.bl_eval.proofs.PassLemmas.{and_left, and_right, both}
-use Rattle.bl_raw.specs.declared.name.Name.{Name}
-use Rattle.bl_named.specs.declared.expr.NamedTarget.{NamedTarget, fold_out-NamedTarget, out-NamedTarget}
-use Rattle.bl_named.specs.declared.expr.Root.{Root}
-use Rattle.bl_named.specs.declared.expr.Root.TheVariants as root
-use Rattle.bl_named.specs.declared.stmt.NamedPath.{NamedPath}
-use Rattle.bl_named.specs.Placed.{expr_layer_placed, kind_placed, part_placed, path_placed, root_placed, target_layer_placed, target_placed}
-use Rattle.bl_named.specs.inner.Placed.{step_placed}
+use Rattle.bl_parse_tree.specs.declared.name.Name.{Name}
+use Rattle.bl_names_tree.specs.declared.expr.NamedTarget.{NamedTarget, fold_out-NamedTarget, out-NamedTarget}
+use Rattle.bl_names_tree.specs.declared.expr.Root.{Root}
+use Rattle.bl_names_tree.specs.declared.expr.Root.TheVariants as root
+use Rattle.bl_names_tree.specs.declared.stmt.NamedPath.{NamedPath}
+use Rattle.bl_names_tree.specs.Placed.{expr_layer_placed, kind_placed, part_placed, path_placed, root_placed, target_layer_placed, target_placed}
+use Rattle.bl_names_tree.specs.inner.Placed.{step_placed}
 use Rattle.bl_types.specs.declared.environment.Environment.{Environment}
 use Rattle.bl_types.specs.declared.environment.Variable.{Variable}
 use Rattle.bl_types.specs.declared.form.Found.TheVariants as found
@@ -92,7 +92,7 @@ use Rattle.bl_types.specs.Expressions.{
 use Rattle.bl_types.specs.Failures.{fails_at}
 use Rattle.bl_types.specs.Statements.{Lent, all_lent, immutable, immutable_variable, lent, lent_as, paths_failures, paths_made}
 use Rattle.bl_types_laws.specs.Fitting.{AllLent, FoundFits, IsLent}
-use Rattle.bl_types_laws.specs.Within.{Within, known_in}
+use Rattle.bl_types_laws.specs.Within.{EnvironmentWithin, known_in}
 use Rattle.bl_types_laws.proofs.Expressions.{there_at, variable_found}
 use Rattle.bl_types_laws.proofs.Forms.{nil_left, nil_right, same_type_self}
 use Rattle.bl_types_laws.proofs.Targets.{LedFits, field_fits, first_leads, none_lead}
@@ -148,7 +148,7 @@ changes : (at : Place) (known : Variable) (may : Bool) → may_change known.role
 changes at known true is none = is
 changes at known false is none = absurd (cc)
 
-module _ (env : Environment) (site : Site) (within : Within env site) where
+module _ (env : Environment) (site : TypingContext) (within : EnvironmentWithin env site) where
   may_assign : (at : Place) (k : ℕ) (it : Path) → nat_lt k (length env.vars) ≡ true → (out-Path it).root ≡ k →
       immutable_variable at (slice_get env.vars k) ≡ [] → is_assignable site it ≡ true
   may_assign at k it less root_is none =

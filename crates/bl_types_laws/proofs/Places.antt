@@ -16,16 +16,16 @@ use Rattle.bl_tree.specs.declared.tree.StmtKind.TheOpen.{StmtKind-F}
 use Rattle.bl_tree.specs.declared.tree.StmtKind.TheVariants as what
 use Rattle.bl_tree.specs.Reduce.{joined}
 use Rattle.bl_tree.specs.Types.{scalar}
-use Rattle.bl_named.specs.declared.expr.NamedExpr.{NamedExpr}
-use Rattle.bl_named.specs.declared.item.NamedConstant.{NamedConstant}
-use Rattle.bl_named.specs.declared.item.NamedVar.{NamedVar}
-use Rattle.bl_named.specs.declared.stmt.NamedArm.{NamedArm, fold-roll-NamedArm, roll-NamedArm}
-use Rattle.bl_named.specs.declared.stmt.NamedBranch.{NamedBranch, fold-roll-NamedBranch, roll-NamedBranch}
-use Rattle.bl_named.specs.declared.stmt.NamedStmt.{NamedStmt, fold-roll-NamedStmt}
-use Rattle.bl_named.specs.declared.stmt.NamedStmtKind.{NamedStmtKind, fold-NamedStmtKind, fold-roll-NamedStmtKind, map-NamedStmtKind}
-use Rattle.bl_named.specs.declared.stmt.NamedStmtKind.TheOpen.{NamedStmtKind-F}
-use Rattle.bl_named.specs.Starts as named
-use Rattle.bl_named.specs.inner.Starts as spots
+use Rattle.bl_names_tree.specs.declared.expr.NamedExpr.{NamedExpr}
+use Rattle.bl_names_tree.specs.declared.item.NamedConstant.{NamedConstant}
+use Rattle.bl_names_tree.specs.declared.item.NamedVar.{NamedVar}
+use Rattle.bl_names_tree.specs.declared.stmt.NamedArm.{NamedArm, fold-roll-NamedArm, roll-NamedArm}
+use Rattle.bl_names_tree.specs.declared.stmt.NamedBranch.{NamedBranch, fold-roll-NamedBranch, roll-NamedBranch}
+use Rattle.bl_names_tree.specs.declared.stmt.NamedStmt.{NamedStmt, fold-roll-NamedStmt}
+use Rattle.bl_names_tree.specs.declared.stmt.NamedStmtKind.{NamedStmtKind, fold-NamedStmtKind, fold-roll-NamedStmtKind, map-NamedStmtKind}
+use Rattle.bl_names_tree.specs.declared.stmt.NamedStmtKind.TheOpen.{NamedStmtKind-F}
+use Rattle.bl_names_tree.specs.Starts as named
+use Rattle.bl_names_tree.specs.inner.Starts as spots
 use Rattle.bl_types.specs.declared.environment.Environment.{Environment}
 use Rattle.bl_types.specs.declared.form.Found.{Found}
 use Rattle.bl_types.specs.declared.form.Found.TheVariants as found
@@ -34,7 +34,7 @@ use Rattle.bl_types.specs.Expressions.{in_context, judged, targeted, with_made}
 use Rattle.bl_types.specs.Statements.{
   Arguments,
   Block,
-  Walk,
+  StatementJudgement,
   Walked,
   arguments,
   arm_of,
@@ -209,7 +209,7 @@ module _ (constants : List NamedConstant) (vars : List NamedVar) where
       P (stmt place layer)
   by_kind place layer picked env =
       subst (λ l. Picked (starts_if starts_of (walked_stmt constants vars (stmt place layer) env).made) l) (sym (named_is place layer))
-      (subst (λ (walk : Walk Stmt). Picked (starts_if starts_of (walk env).made) (place.start ∷ named_layer layer))
+      (subst (λ (walk : StatementJudgement Stmt). Picked (starts_if starts_of (walk env).made) (place.start ∷ named_layer layer))
       (sym (walked_is constants vars place layer))
       (starts_made place (walked_by constants vars layer place env).made (named_layer layer) (picked env)))
 
@@ -219,7 +219,7 @@ module _ (constants : List NamedConstant) (vars : List NamedVar) where
       let walked_as : arm_walked constants vars arm ≡ walked_arm (record { test = test; body = map (walked_stmt constants vars) body }) =
       rw fold-roll-NamedArm refl in
       let starts_as : spots.starts_of_arm arm ≡ named_block body = rw fold-roll-NamedArm refl in
-      subst (λ (walk : Walk Arm). Picked (starts_if starts_of_arm (walk env).made) (spots.starts_of_arm arm)) (sym walked_as)
+      subst (λ (walk : StatementJudgement Arm). Picked (starts_if starts_of_arm (walk env).made) (spots.starts_of_arm arm)) (sym walked_as)
       (subst (λ l. Picked (starts_if starts_of_arm (option_map (λ e. arm_of e (walked_body body env).made) (condition env test).made)) l) (sym starts_as)
       (arm_picked (condition env test).made (walked_body body env).made (named_block body) (body_picked body each env)))
 
@@ -231,7 +231,7 @@ module _ (constants : List NamedConstant) (vars : List NamedVar) where
       rw fold-roll-NamedBranch refl in
       let starts_as : spots.starts_of_branch branch ≡ named_block body = rw fold-roll-NamedBranch refl in
       let made_as : starts_of_branch made ≡ block_starts (walked_body body env).made = rw fold-roll-Branch refl in
-      subst (λ (walk : Walk Branch). Picked (starts_if starts_of_branch (walk env).made) (spots.starts_of_branch branch)) (sym walked_as)
+      subst (λ (walk : StatementJudgement Branch). Picked (starts_if starts_of_branch (walk env).made) (spots.starts_of_branch branch)) (sym walked_as)
       (subst (λ l. Picked (starts_of_branch made) l) (sym starts_as) (subst (λ l. Picked l (named_block body)) (sym made_as) (body_picked body each env)))
 
   branching_case : (place : Place) (arms : List NamedArm) (other : List NamedStmt) → All Q arms → All P other →

@@ -4,12 +4,12 @@ use Rattle.std.specs.List.{list_all}
 use Rattle.bl_tree.specs.Apart.{is_apart}
 use Rattle.bl_tree.specs.declared.tree.Unit.{Unit as UnitDef}
 use Rattle.bl_tree.specs.Depths.{is_shallow}
-use Rattle.bl_named.specs.declared.item.NamedConstant.{NamedConstant}
-use Rattle.bl_named.specs.declared.item.NamedUnit.{NamedUnit}
-use Rattle.bl_named.specs.declared.item.NamedVar.{NamedVar}
-use Rattle.bl_named.specs.declared.named.Named.{Named}
-use Rattle.bl_named.specs.declared.stmt.NamedStmt.{NamedStmt}
-use Rattle.bl_named.specs.Placed.{Earlier, expr_placed, unit_step}
+use Rattle.bl_names_tree.specs.declared.item.NamedConstant.{NamedConstant}
+use Rattle.bl_names_tree.specs.declared.item.NamedUnit.{NamedUnit}
+use Rattle.bl_names_tree.specs.declared.item.NamedVar.{NamedVar}
+use Rattle.bl_names_tree.specs.declared.named.Named.{Named}
+use Rattle.bl_names_tree.specs.declared.stmt.NamedStmt.{NamedStmt}
+use Rattle.bl_names_tree.specs.Placed.{DeclaredBefore, expr_placed, unit_step}
 use Rattle.bl_names_laws.specs.Apart.{is_apart as names_apart}
 use Rattle.bl_names_laws.specs.Depths.{is_shallow as names_shallow}
 use Rattle.bl_types.specs.declared.environment.Environment.{Environment}
@@ -23,12 +23,12 @@ use Rattle.bl_types_laws.specs.Within.{calls_functions}
 abbrev pub UnitsSuit : Named → Type 0
 UnitsSuit named = (k : ℕ) (unit : NamedUnit) → slice_get named.units k ≡ Some unit → (before : List UnitDef) →
     map (λ (unit : UnitDef). unit.kind) before ≡ map (λ (unit : NamedUnit). unit.kind) (take k named.units) →
-    (counts behind : Earlier) → counts.units ≡ k → unit_step named.constants unit counts ≡ Some behind →
+    (counts behind : DeclaredBefore) → counts.units ≡ k → unit_step named.constants unit counts ≡ Some behind →
     unit_named named.constants before unit ≡ true
 
 -- the value of a constant, likewise
 abbrev pub ConstantsSuit : Named → Type 0
-ConstantsSuit named = (k : ℕ) (constant : NamedConstant) → slice_get named.constants k ≡ Some constant → (before : List UnitDef) (counts : Earlier) →
+ConstantsSuit named = (k : ℕ) (constant : NamedConstant) → slice_get named.constants k ≡ Some constant → (before : List UnitDef) (counts : DeclaredBefore) →
     counts.units ≡ length before →
     map (λ (unit : UnitDef). unit.kind) before ≡ map (λ (unit : NamedUnit). unit.kind) (take (length before) named.units) →
     expr_placed counts constant.value ≡ true → calls_functions before constant.value ≡ true

@@ -26,17 +26,17 @@ use Rattle.bl_tree.specs.declared.tree.StructDef.{StructDef}
 use Rattle.bl_tree.specs.declared.tree.Unit.{Unit as UnitDef}
 use Rattle.bl_tree.specs.Program.{is_entry, structs_stand_from, units_stand_after}
 use Rattle.bl_tree.specs.Reduce.{joined}
-use Rattle.bl_named.specs.declared.item.Item.TheVariants as kind
-use Rattle.bl_named.specs.declared.item.NamedConstant.{NamedConstant}
-use Rattle.bl_named.specs.declared.item.NamedStruct.{NamedStruct}
-use Rattle.bl_named.specs.declared.item.NamedUnit.{NamedUnit}
-use Rattle.bl_named.specs.declared.named.Named.{Named}
-use Rattle.bl_named.specs.Placed.{Earlier}
-use Rattle.bl_named.specs.Starts.{unit_starts as named_starts}
-use Rattle.bl_scopes.specs.Marks.{marks_of}
-use Rattle.bl_scopes.specs.Scopes.{Scopes}
-use Rattle.bl_names_laws.specs.Keeps.{struct_stands as struct_keeps, unit_stands as unit_keeps}
-use Rattle.bl_raw.specs.declared.item.RawItem.{RawItem}
+use Rattle.bl_names_tree.specs.declared.item.Item.TheVariants as kind
+use Rattle.bl_names_tree.specs.declared.item.NamedConstant.{NamedConstant}
+use Rattle.bl_names_tree.specs.declared.item.NamedStruct.{NamedStruct}
+use Rattle.bl_names_tree.specs.declared.item.NamedUnit.{NamedUnit}
+use Rattle.bl_names_tree.specs.declared.named.Named.{Named}
+use Rattle.bl_names_tree.specs.Placed.{DeclaredBefore}
+use Rattle.bl_names_tree.specs.Starts.{unit_starts as named_starts}
+use Rattle.bl_names_scopes.specs.Marks.{marks_of}
+use Rattle.bl_names_scopes.specs.Scopes.{Scopes}
+use Rattle.bl_names_laws.specs.WellFormed.{struct_stands as struct_keeps, unit_stands as unit_keeps}
+use Rattle.bl_parse_tree.specs.declared.item.RawItem.{RawItem}
 use Rattle.bl_names.specs.Named.{along, constants_of, structs_of, units_of}
 use Rattle.bl_names.specs.Order.{kind_of_item, order_of}
 use Rattle.bl_names.proofs.BelowLemmas.{Below}
@@ -97,21 +97,21 @@ module _ (named : Named) where
         after_item named kind.Struct env ≡ after_struct def env
     struct_next def first =
         ap (λ next. after_next after_struct next env)
-        (ap (λ (e : Earlier). slice_get named.structs e.structs) at.counts
+        (ap (λ (e : DeclaredBefore). slice_get named.structs e.structs) at.counts
         ∙ ends_next named.structs scopes.counts.structs (along structs_of scopes items) at.structs ∙ first)
 
     pub constant_next : (def : NamedConstant) → slice_get (along constants_of scopes items) 0 ≡ Some def →
         after_item named kind.Constant env ≡ after_constant def env
     constant_next def first =
         ap (λ next. after_next after_constant next env)
-        (ap (λ (e : Earlier). slice_get named.constants e.constants) at.counts
+        (ap (λ (e : DeclaredBefore). slice_get named.constants e.constants) at.counts
         ∙ ends_next named.constants scopes.counts.constants (along constants_of scopes items) at.constants ∙ first)
 
     pub unit_next : (def : NamedUnit) → slice_get (along units_of scopes items) 0 ≡ Some def →
         after_item named kind.Unit env ≡ after_unit named.constants def env
     unit_next def first =
         ap (λ next. after_next (after_unit named.constants) next env)
-        (ap (λ (e : Earlier). slice_get named.units e.units) at.counts ∙ ends_next named.units scopes.counts.units (along units_of scopes items) at.units
+        (ap (λ (e : DeclaredBefore). slice_get named.units e.units) at.counts ∙ ends_next named.units scopes.counts.units (along units_of scopes items) at.units
         ∙ first)
 
   -- ---- one item after another

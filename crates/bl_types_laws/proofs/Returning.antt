@@ -15,19 +15,19 @@ use Rattle.bl_tree.specs.declared.tree.StmtKind.TheVariants as what
 use Rattle.bl_tree.specs.Reduce.{all_of}
 use Rattle.bl_tree.specs.Returns.{arm_returns, branch_returns, kind_returns, last_of, stmt_returns, surely_returns}
 use Rattle.bl_tree.specs.Types.{scalar}
-use Rattle.bl_tree.specs.Typing.{Site}
+use Rattle.bl_tree.specs.Typing.{TypingContext}
 use Rattle.bl_eval.proofs.OperatorFits.{some_found, where_holds}
 use Rattle.bl_eval.proofs.PassLemmas.{and_left, and_right, both}
-use Rattle.bl_named.specs.declared.expr.NamedExpr.{NamedExpr}
-use Rattle.bl_named.specs.declared.item.NamedConstant.{NamedConstant}
-use Rattle.bl_named.specs.declared.item.NamedVar.{NamedVar}
-use Rattle.bl_named.specs.declared.stmt.NamedArm.{NamedArm, fold-roll-NamedArm, roll-NamedArm}
-use Rattle.bl_named.specs.declared.stmt.NamedBranch.{NamedBranch, fold-NamedBranch}
-use Rattle.bl_named.specs.declared.stmt.NamedStmt.{NamedStmt, fold-roll-NamedStmt}
-use Rattle.bl_named.specs.declared.stmt.NamedStmtKind.{NamedStmtKind, fold-NamedStmtKind, fold-roll-NamedStmtKind, map-NamedStmtKind}
-use Rattle.bl_named.specs.declared.stmt.NamedStmtKind.TheOpen.{NamedStmtKind-F}
-use Rattle.bl_named.specs.Placed.{Earlier, Step, declares_none, expr_placed, holds_if, in_turn, stmt_step, tested}
-use Rattle.bl_named.specs.inner.Placed.{step_of_arm}
+use Rattle.bl_names_tree.specs.declared.expr.NamedExpr.{NamedExpr}
+use Rattle.bl_names_tree.specs.declared.item.NamedConstant.{NamedConstant}
+use Rattle.bl_names_tree.specs.declared.item.NamedVar.{NamedVar}
+use Rattle.bl_names_tree.specs.declared.stmt.NamedArm.{NamedArm, fold-roll-NamedArm, roll-NamedArm}
+use Rattle.bl_names_tree.specs.declared.stmt.NamedBranch.{NamedBranch, fold-NamedBranch}
+use Rattle.bl_names_tree.specs.declared.stmt.NamedStmt.{NamedStmt, fold-roll-NamedStmt}
+use Rattle.bl_names_tree.specs.declared.stmt.NamedStmtKind.{NamedStmtKind, fold-NamedStmtKind, fold-roll-NamedStmtKind, map-NamedStmtKind}
+use Rattle.bl_names_tree.specs.declared.stmt.NamedStmtKind.TheOpen.{NamedStmtKind-F}
+use Rattle.bl_names_tree.specs.Placed.{DeclaredBefore, PlacedStep, declares_none, expr_placed, holds_if, in_turn, stmt_step, tested}
+use Rattle.bl_names_tree.specs.inner.Placed.{step_of_arm}
 use Rattle.bl_types.specs.declared.environment.Environment.{Environment}
 use Rattle.bl_types.specs.Expressions.{in_context, judged}
 use Rattle.bl_types.specs.Returns.{
@@ -38,7 +38,7 @@ use Rattle.bl_types.specs.Returns.{
   layer_returns,
   surely_returns as named_surely_returns,
 }
-use Rattle.bl_types.specs.Statements.{Block, Walk, Walked, arm_of, arm_walked, condition, in_order, returned, stmt_made, walked_arm, walked_stmt}
+use Rattle.bl_types.specs.Statements.{Block, StatementJudgement, Walked, arm_of, arm_walked, condition, in_order, returned, stmt_made, walked_arm, walked_stmt}
 use Rattle.bl_types_laws.specs.Standing.{Around, Known, stmt_named}
 use Rattle.bl_types_laws.specs.Within.{calls_functions, known_in}
 use Rattle.bl_types_laws.specs.inner.Named.{named_arm}
@@ -93,11 +93,11 @@ named_kind_surely layer = named_kind_returns
 pub named_surely_is : (place : Place) (layer : Layer) → named_surely_returns (stmt place layer) ≡ named_kind_surely layer
 named_surely_is place layer = rw (fold-roll-NamedStmt, fold-roll-NamedStmtKind) refl
 
-module _ (constants : List NamedConstant) (vars : List NamedVar) (site : Site) where
+module _ (constants : List NamedConstant) (vars : List NamedVar) (site : TypingContext) where
   -- what is known where a part of a body begins in which nothing fails
-  abbrev Walking : {A : Type 0} → (A → Bool) → Bool → Bool → (Environment → Walked A) → Step → Type 0
+  abbrev Walking : {A : Type 0} → (A → Bool) → Bool → Bool → (Environment → Walked A) → PlacedStep → Type 0
   Walking returns named surely walk step =
-      named ≡ true → surely ≡ true → (env : Environment) → Around env site → Known env → (counts : Earlier) →
+      named ≡ true → surely ≡ true → (env : Environment) → Around env site → Known env → (counts : DeclaredBefore) →
       step (known_in env) ≡ Some counts →
       (walk env).failures ≡ [] → ReturnMade returns (walk env).made
 
@@ -113,7 +113,7 @@ module _ (constants : List NamedConstant) (vars : List NamedVar) (site : Site) w
 
   body_returns : (body : List NamedStmt) → All P body → all_of (map (stmt_named constants vars site.earlier) body) ≡ true →
       last_of (map named_surely_returns body) ≡ true → (env : Environment) → Around env site → Known env →
-      (counts : Earlier) → in_turn (map (stmt_step vars constants) body) (known_in env) ≡ Some counts →
+      (counts : DeclaredBefore) → in_turn (map (stmt_step vars constants) body) (known_in env) ≡ Some counts →
       (in_order (map (walked_stmt constants vars) body) env).failures ≡ [] →
       last_of (map surely_returns (in_order (map (walked_stmt constants vars) body) env).made) ≡ true
   body_returns [] each named last env around known counts step none = absurd (cc)
@@ -138,7 +138,7 @@ module _ (constants : List NamedConstant) (vars : List NamedVar) (site : Site) w
 
   arms_return : (arms : List NamedArm) → All Q arms → all_of (map (named_arm constants vars site.earlier) arms) ≡ true →
       all_of (map arm_surely_returns arms) ≡ true → (env : Environment) → Around env site → Known env →
-      (counts : Earlier) → in_turn (map (step_of_arm vars constants) arms) (known_in env) ≡ Some counts →
+      (counts : DeclaredBefore) → in_turn (map (step_of_arm vars constants) arms) (known_in env) ≡ Some counts →
       (in_order (map (arm_walked constants vars) arms) env).failures ≡ [] →
       all_of (map arm_surely (in_order (map (arm_walked constants vars) arms) env).made) ≡ true
   arms_return [] each named all env around known counts step none = refl
@@ -168,11 +168,11 @@ module _ (constants : List NamedConstant) (vars : List NamedVar) (site : Site) w
   by_kind : (place : Place) (layer : Layer) → Walking (kind_is_made place) (named_by constants vars site layer) (named_kind_surely layer)
       (walked_by constants vars layer place) (step_by constants vars layer) → P (stmt place layer)
   by_kind place layer made named surely env around known counts step none =
-      subst (λ (walk : Walk Stmt). ReturnMade surely_returns (walk env).made) (sym (walked_is constants vars place layer))
+      subst (λ (walk : StatementJudgement Stmt). ReturnMade surely_returns (walk env).made) (sym (walked_is constants vars place layer))
       (in_place place (walked_by constants vars layer place env).made
       (made (sym (named_is constants vars site place layer) ∙ named) (sym (named_surely_is place layer) ∙ surely) env around known counts
-      (ap (λ (step : Step). step (known_in env)) (sym (step_is constants vars place layer)) ∙ step)
-      (ap (λ (walk : Walk Stmt). (walk env).failures) (sym (walked_is constants vars place layer)) ∙ none)))
+      (ap (λ (step : PlacedStep). step (known_in env)) (sym (step_is constants vars place layer)) ∙ step)
+      (ap (λ (walk : StatementJudgement Stmt). (walk env).failures) (sym (walked_is constants vars place layer)) ∙ none)))
 
   never : (place : Place) (layer : Layer) → named_kind_surely layer ≡ false → P (stmt place layer)
   never place layer is = by_kind place layer (λ named surely env around known counts step none. absurd (let no : false ≡ true = sym is ∙ surely in cc))
@@ -181,7 +181,7 @@ module _ (constants : List NamedConstant) (vars : List NamedVar) (site : Site) w
   return_is place e = surely_is place (what.Return e) (StmtKind-F.Return e) (what.outs-Return e)
 
   return_by : (place : Place) (e : Option NamedExpr) (result : Option ScalarType) (env : Environment) → holds_if (calls_functions site.earlier) e ≡ true →
-      Around env site → Known env → (counts : Earlier) →
+      Around env site → Known env → (counts : DeclaredBefore) →
       declares_none (holds_if (expr_placed (known_in env)) e) (known_in env) ≡ Some counts → (returned place e result env).failures ≡ [] →
       ReturnMade (kind_is_made place) (returned place e result env).made
   return_by place (Some e) (Some s) env named around known counts step none =
@@ -235,15 +235,15 @@ module _ (constants : List NamedConstant) (vars : List NamedVar) (site : Site) w
       let own = sym named_as ∙ named in
       let all : Block Stmt = in_order (map (walked_stmt constants vars) body) env in
       let holds = where_holds (expr_placed (known_in env) test) (in_turn (map (stmt_step vars constants) body) (known_in env)) counts
-      (ap (λ (step : Step). step (known_in env)) (sym step_as) ∙ step) in
-      let fine : (condition env test).failures ++ all.failures ≡ [] = ap (λ (walk : Walk Arm). (walk env).failures) (sym walked_as) ∙ none in
+      (ap (λ (step : PlacedStep). step (known_in env)) (sym step_as) ∙ step) in
+      let fine : (condition env test).failures ++ all.failures ≡ [] = ap (λ (walk : StatementJudgement Arm). (walk env).failures) (sym walked_as) ∙ none in
       let made = condition_fits env (site_in env) (within_in env site around known) test holds.0
       (own_calls env site around test (and_left (calls_functions site.earlier test) (all_of (map (stmt_named constants vars site.earlier) body)) own))
       (nil_left (condition env test).failures all.failures fine) in
       let last = body_returns body each (and_right (calls_functions site.earlier test) (all_of (map (stmt_named constants vars site.earlier) body)) own)
       (sym surely_as ∙ surely) env around known counts holds.1
       (nil_right (condition env test).failures all.failures fine) in
-      subst (λ (walk : Walk Arm). ReturnMade arm_surely (walk env).made) (sym walked_as)
+      subst (λ (walk : StatementJudgement Arm). ReturnMade arm_surely (walk env).made) (sym walked_as)
       (record { it = arm_of made.it all.made; is = ap (option_map (λ e. arm_of e all.made)) made.is; is_returning = arm_surely_is made.it all.made ∙ last })
 
   return_cases : Cases P Q R
@@ -274,7 +274,7 @@ module _ (constants : List NamedConstant) (vars : List NamedVar) (site : Site) w
 
   -- a body that surely returns as it is named does so as it is made
   pub bodies_return : (body : List NamedStmt) → all_of (map (stmt_named constants vars site.earlier) body) ≡ true →
-      last_of (map named_surely_returns body) ≡ true → (env : Environment) → Around env site → Known env → (counts : Earlier) →
+      last_of (map named_surely_returns body) ≡ true → (env : Environment) → Around env site → Known env → (counts : DeclaredBefore) →
       in_turn (map (stmt_step vars constants) body) (known_in env) ≡ Some counts →
       (in_order (map (walked_stmt constants vars) body) env).failures ≡ [] →
       last_of (map surely_returns (in_order (map (walked_stmt constants vars) body) env).made) ≡ true

@@ -33,9 +33,9 @@ use Rattle.bl_tree.specs.declared.tree.Var.{Var}
 use Rattle.bl_tree.specs.Program.{is_entry, is_input, is_output, roles_stand}
 use Rattle.bl_tree.specs.Typing.{is_activity, is_fixed, is_variable}
 use Rattle.bl_eval.proofs.PassLemmas.{all_at, and_left, and_right, both, get_front}
-use Rattle.bl_named.specs.declared.item.NamedUnit.{NamedUnit}
-use Rattle.bl_named.specs.declared.item.NamedVar.{NamedVar}
-use Rattle.bl_named.specs.Placed.{parameters, roles_placed}
+use Rattle.bl_names_tree.specs.declared.item.NamedUnit.{NamedUnit}
+use Rattle.bl_names_tree.specs.declared.item.NamedVar.{NamedVar}
+use Rattle.bl_names_tree.specs.Placed.{parameters, roles_placed}
 use Rattle.bl_types.specs.declared.environment.Environment.{Environment}
 use Rattle.bl_types.specs.declared.environment.Variable.{Variable}
 use Rattle.bl_types.specs.Declarations.{after_parameter, after_parameters, is_parameter, with_variable}

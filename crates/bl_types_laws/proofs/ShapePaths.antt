@@ -12,10 +12,10 @@ use Rattle.bl_tree.specs.Apart as names
 use Rattle.bl_tree.specs.Depths as depths
 use Rattle.bl_tree.specs.Reduce.{joined}
 use Rattle.bl_tree.specs.Types.{same_type}
-use Rattle.bl_raw.specs.declared.name.Name.{Name}
-use Rattle.bl_named.specs.declared.expr.NamedExpr.{NamedExpr}
-use Rattle.bl_named.specs.declared.stmt.NamedPath.{NamedPath}
-use Rattle.bl_named.specs.declared.types.NamedType.{NamedType}
+use Rattle.bl_parse_tree.specs.declared.name.Name.{Name}
+use Rattle.bl_names_tree.specs.declared.expr.NamedExpr.{NamedExpr}
+use Rattle.bl_names_tree.specs.declared.stmt.NamedPath.{NamedPath}
+use Rattle.bl_names_tree.specs.declared.types.NamedType.{NamedType}
 use Rattle.bl_names_laws.specs.Apart as named
 use Rattle.bl_types.specs.declared.environment.Environment.{Environment}
 use Rattle.bl_types.specs.declared.form.Found.{Found}

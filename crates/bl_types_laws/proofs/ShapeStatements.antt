@@ -18,15 +18,15 @@ use Rattle.bl_tree.specs.Apart as names
 use Rattle.bl_tree.specs.Depths.{Depth}
 use Rattle.bl_tree.specs.Depths as depths
 use Rattle.bl_tree.specs.Types.{scalar}
-use Rattle.bl_named.specs.declared.expr.NamedExpr.{NamedExpr}
-use Rattle.bl_named.specs.declared.item.NamedConstant.{NamedConstant}
-use Rattle.bl_named.specs.declared.item.NamedVar.{NamedVar}
-use Rattle.bl_named.specs.declared.stmt.NamedArm.{NamedArm, fold-roll-NamedArm, roll-NamedArm}
-use Rattle.bl_named.specs.declared.stmt.NamedBranch.{NamedBranch, fold-roll-NamedBranch, roll-NamedBranch}
-use Rattle.bl_named.specs.declared.stmt.NamedPath.{NamedPath}
-use Rattle.bl_named.specs.declared.stmt.NamedStmt.{NamedStmt, fold-roll-NamedStmt}
-use Rattle.bl_named.specs.declared.stmt.NamedStmtKind.{NamedStmtKind, fold-NamedStmtKind, fold-roll-NamedStmtKind, map-NamedStmtKind}
-use Rattle.bl_named.specs.declared.stmt.NamedStmtKind.TheOpen.{NamedStmtKind-F}
+use Rattle.bl_names_tree.specs.declared.expr.NamedExpr.{NamedExpr}
+use Rattle.bl_names_tree.specs.declared.item.NamedConstant.{NamedConstant}
+use Rattle.bl_names_tree.specs.declared.item.NamedVar.{NamedVar}
+use Rattle.bl_names_tree.specs.declared.stmt.NamedArm.{NamedArm, fold-roll-NamedArm, roll-NamedArm}
+use Rattle.bl_names_tree.specs.declared.stmt.NamedBranch.{NamedBranch, fold-roll-NamedBranch, roll-NamedBranch}
+use Rattle.bl_names_tree.specs.declared.stmt.NamedPath.{NamedPath}
+use Rattle.bl_names_tree.specs.declared.stmt.NamedStmt.{NamedStmt, fold-roll-NamedStmt}
+use Rattle.bl_names_tree.specs.declared.stmt.NamedStmtKind.{NamedStmtKind, fold-NamedStmtKind, fold-roll-NamedStmtKind, map-NamedStmtKind}
+use Rattle.bl_names_tree.specs.declared.stmt.NamedStmtKind.TheOpen.{NamedStmtKind-F}
 use Rattle.bl_names_laws.specs.Apart as named
 use Rattle.bl_names_laws.specs.inner.Apart as apart
 use Rattle.bl_names_laws.specs.Depths as nested
@@ -39,7 +39,7 @@ use Rattle.bl_types.specs.Expressions.{in_context, judged, params_of, targeted}
 use Rattle.bl_types.specs.Statements.{
   Arguments,
   Block,
-  Walk,
+  StatementJudgement,
   arguments,
   arm_of,
   arm_walked,
@@ -335,7 +335,7 @@ module _ (constants : List NamedConstant) (vars : List NamedVar) where
   by_kind place layer most env =
       subst (λ shape. ShapeIn depths.depth_of names.naming_of shape (walked_stmt constants vars (stmt place layer) env).made)
       (sym (named_shape_is place layer))
-      (subst (λ (walk : Walk Stmt). ShapeIn depths.depth_of names.naming_of (named_kind_shape layer) (walk env).made)
+      (subst (λ (walk : StatementJudgement Stmt). ShapeIn depths.depth_of names.naming_of (named_kind_shape layer) (walk env).made)
       (sym (walked_is constants vars place layer))
       (made_in place (named_kind_shape layer) (walked_by constants vars layer place env).made (most env)))
 
@@ -349,7 +349,7 @@ module _ (constants : List NamedConstant) (vars : List NamedVar) where
       rw fold-roll-NamedArm refl in
       let depth_is : levels.depth_of_arm arm ≡ (tested_shape (named_size test) (named_bodies body)).depth = rw fold-roll-NamedArm refl in
       let naming_is : apart.naming_of_arm arm ≡ (tested_shape (named_size test) (named_bodies body)).naming = rw fold-roll-NamedArm refl in
-      subst (λ (walk : Walk Arm). ShapeIn arm_depth arm_naming (record { depth = levels.depth_of_arm arm; naming = apart.naming_of_arm arm }) (walk env).made)
+      subst (λ (walk : StatementJudgement Arm). ShapeIn arm_depth arm_naming (record { depth = levels.depth_of_arm arm; naming = apart.naming_of_arm arm }) (walk env).made)
       (sym walked_as)
       (subst (λ shape. ShapeIn arm_depth arm_naming shape (option_map (λ e. arm_of e (walked_body body env).made) (condition env test).made))
       (λ i. record { depth = sym depth_is i; naming = sym naming_is i })
@@ -362,7 +362,7 @@ module _ (constants : List NamedConstant) (vars : List NamedVar) where
       rw fold-roll-NamedBranch refl in
       let depth_is : levels.depth_of_branch branch ≡ (block_shape (named_bodies body)).depth = rw fold-roll-NamedBranch refl in
       let naming_is : apart.naming_of_branch branch ≡ (block_shape (named_bodies body)).naming = rw fold-roll-NamedBranch refl in
-      subst (λ (walk : Walk Branch). ShapeIn branch_depth branch_naming (record
+      subst (λ (walk : StatementJudgement Branch). ShapeIn branch_depth branch_naming (record
       { depth = levels.depth_of_branch branch; naming = apart.naming_of_branch branch }) (walk env).made) (sym walked_as)
       (subst (λ shape. ShapeIn branch_depth branch_naming shape (Some (roll-Branch (record { weak = weak; body = (walked_body body env).made }))))
       (λ i. record { depth = sym depth_is i; naming = sym naming_is i })

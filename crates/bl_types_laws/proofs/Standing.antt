@@ -39,12 +39,12 @@ use Rattle.bl_tree.specs.Types.{type_stands}
 use Rattle.bl_tree.specs.Typing.{fits, is_inhabited, site_of}
 use Rattle.bl_tree.specs.Words.{are_distinct, is_name}
 use Rattle.bl_eval.proofs.PassLemmas.{and_left, and_right, both}
-use Rattle.bl_named.specs.declared.item.NamedConstant.{NamedConstant}
-use Rattle.bl_named.specs.declared.item.NamedStruct.{NamedStruct}
-use Rattle.bl_named.specs.declared.item.NamedUnit.{NamedUnit}
-use Rattle.bl_named.specs.declared.item.NamedVar.{NamedVar}
-use Rattle.bl_named.specs.Placed.{Earlier, parameters, struct_placed}
-use Rattle.bl_names_laws.specs.Keeps.{
+use Rattle.bl_names_tree.specs.declared.item.NamedConstant.{NamedConstant}
+use Rattle.bl_names_tree.specs.declared.item.NamedStruct.{NamedStruct}
+use Rattle.bl_names_tree.specs.declared.item.NamedUnit.{NamedUnit}
+use Rattle.bl_names_tree.specs.declared.item.NamedVar.{NamedVar}
+use Rattle.bl_names_tree.specs.Placed.{DeclaredBefore, parameters, struct_placed}
+use Rattle.bl_names_laws.specs.WellFormed.{
   body_apart,
   body_filled,
   body_shallow,
@@ -108,7 +108,7 @@ pub record Passing (structs : List StructDef) (unit : NamedUnit) (earlier : List
   pub entry : drives unit ≡ true → is_entry (Some made) ≡ true
   pub returns : unit_returns made ≡ true
 
-module _ (structs : List StructDef) (constants : List NamedConstant) (unit : NamedUnit) (env : Environment) (counts : Earlier)
+module _ (structs : List StructDef) (constants : List NamedConstant) (unit : NamedUnit) (env : Environment) (counts : DeclaredBefore)
     (passed : UnitPassed structs unit env counts (after_unit constants unit env).env) where
   same_made : passed.made ≡ made_of constants unit env
   same_made = same_last env.units (walked_block constants unit.vars unit.body (after_head unit env).env).env.units passed.made (made_of constants unit env)

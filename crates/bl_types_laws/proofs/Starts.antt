@@ -29,7 +29,7 @@ use Rattle.std.proofs.lemmas.Option.{same_Some}
 use Rattle.bl_tree.specs.Reduce.{joined}
 use Rattle.bl_tree.proofs.FirstLemmas.{In}
 use Rattle.bl_eval.proofs.PassLemmas.{and_left, and_right, both}
-use Rattle.bl_raw.specs.Starts.{ascends}
+use Rattle.bl_parse_tree.specs.Starts.{ascends}
 
 -- ---- lists picked from others
 

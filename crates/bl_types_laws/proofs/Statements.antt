@@ -21,7 +21,7 @@ use Rattle.bl_tree.specs.declared.tree.Unit.{Unit as UnitDef}
 use Rattle.bl_tree.specs.Reduce.{all_of}
 use Rattle.bl_tree.specs.Types.{scalar}
 use Rattle.bl_tree.specs.Typing.{
-  Site,
+  TypingContext,
   are_same,
   arguments_fit,
   arm_fits,
@@ -43,10 +43,10 @@ use Rattle.bl_tree.specs.Typing.{
 }
 use Rattle.bl_eval.proofs.OperatorFits.{where_holds}
 use Rattle.bl_eval.proofs.PassLemmas.{and_left, and_right, both}
-use Rattle.bl_named.specs.declared.expr.NamedExpr.{NamedExpr}
-use Rattle.bl_named.specs.declared.expr.NamedTarget.{NamedTarget, out-NamedTarget}
-use Rattle.bl_named.specs.declared.stmt.NamedPath.{NamedPath}
-use Rattle.bl_named.specs.Placed.{Earlier, arguments_placed, declares_none, expr_placed, holds_if, holds_of, path_placed, target_placed}
+use Rattle.bl_names_tree.specs.declared.expr.NamedExpr.{NamedExpr}
+use Rattle.bl_names_tree.specs.declared.expr.NamedTarget.{NamedTarget, out-NamedTarget}
+use Rattle.bl_names_tree.specs.declared.stmt.NamedPath.{NamedPath}
+use Rattle.bl_names_tree.specs.Placed.{DeclaredBefore, arguments_placed, declares_none, expr_placed, holds_if, holds_of, path_placed, target_placed}
 use Rattle.bl_types.specs.declared.environment.Environment.{Environment}
 use Rattle.bl_types.specs.declared.form.Found.{Found}
 use Rattle.bl_types.specs.declared.form.Found.TheVariants as found
@@ -79,7 +79,7 @@ use Rattle.bl_types.specs.Statements.{
 }
 use Rattle.bl_types_laws.specs.Fitting.{FoundFits, IsLent, IsMade}
 use Rattle.bl_types_laws.specs.Standing.{Around, Known, PartPassed}
-use Rattle.bl_types_laws.specs.Within.{Within, calls_functions, known_in, target_calls}
+use Rattle.bl_types_laws.specs.Within.{EnvironmentWithin, calls_functions, known_in, target_calls}
 use Rattle.bl_types_laws.proofs.Arguments.{complete_if, arguments_good, condition_fits, truth_is}
 use Rattle.bl_types_laws.proofs.Expressions.{targets_fit, there_at, wanted_fits}
 use Rattle.bl_types_laws.proofs.Forms.{map_found, nil_left, nil_right, same_type_self, unless_holds}
@@ -88,7 +88,7 @@ use Rattle.bl_types_laws.proofs.Walks.{own_calls, WalkFits, passed_still}
 
 -- ---- statements by their kinds
 
-module _ (site : Site) where
+module _ (site : TypingContext) where
   abbrev pub good_arm : Arm → Bool
   good_arm = fold-Arm Bool Bool Bool Bool (kind_fits site) (arm_fits site) branch_fits stmt_fits
 
@@ -197,11 +197,11 @@ module _ (site : Site) where
 
 -- ---- what declares nothing
 
-placed_of : (env : Environment) (placed : Bool) (counts : Earlier) → declares_none placed (known_in env) ≡ Some counts →
+placed_of : (env : Environment) (placed : Bool) (counts : DeclaredBefore) → declares_none placed (known_in env) ≡ Some counts →
     (placed ≡ true) × (known_in env ≡ counts)
 placed_of env placed counts is = let holds = where_holds placed (Some (known_in env)) counts is in (holds.0, same_Some (known_in env) counts holds.1)
 
-module _ (site : Site) (at : Place) where
+module _ (site : TypingContext) (at : Place) where
   abbrev pub good : StmtKind → Bool
   good kind = fits site (stmt_made at kind)
 
@@ -265,7 +265,7 @@ module _ (site : Site) (at : Place) where
       (nil_left given.failures (has_result name (slice_get env.units f)) none) in
       call_good site at f given unit a there function bare complete.fit is)
 
-  target_by : (env : Environment) → Within env site → (unit : UnitDef) (target : Option NamedPath) →
+  target_by : (env : Environment) → EnvironmentWithin env site → (unit : UnitDef) (target : Option NamedPath) →
       holds_if (path_placed (known_in env)) target ≡ true →
       (run_target env (Some unit) target).failures ≡ [] →
       (path : Option Path) → (run_target env (Some unit) target).made ≡ Some path → target_fits site unit.result path ≡ true
@@ -337,7 +337,7 @@ module _ (site : Site) (at : Place) where
 
   return_by : (e : Option NamedExpr) (result : Option ScalarType) (env : Environment) → env.result ≡ result →
       holds_if (calls_functions site.earlier) e ≡ true →
-      Around env site → Known env → (counts : Earlier) →
+      Around env site → Known env → (counts : DeclaredBefore) →
       declares_none (holds_if (expr_placed (known_in env)) e) (known_in env) ≡ Some counts → (returned at e result env).failures ≡ [] →
       PartPassed false site good env counts (returned at e result env)
   return_by (Some e) (Some s) env result named around known counts step none =

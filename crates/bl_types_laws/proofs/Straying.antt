@@ -16,14 +16,14 @@ use Rattle.bl_tree.specs.declared.tree.StmtKind.TheOpen.{StmtKind-F}
 use Rattle.bl_tree.specs.declared.tree.StmtKind.TheVariants as what
 use Rattle.bl_tree.specs.Reduce.{any_of, joined}
 use Rattle.bl_tree.specs.Returns.{arm_has_return, branch_has_return, has_return, kind_has_return, stmt_returns}
-use Rattle.bl_named.specs.declared.expr.NamedExpr.{NamedExpr}
-use Rattle.bl_named.specs.declared.item.NamedConstant.{NamedConstant}
-use Rattle.bl_named.specs.declared.item.NamedVar.{NamedVar}
-use Rattle.bl_named.specs.declared.stmt.NamedArm.{NamedArm, fold-roll-NamedArm, roll-NamedArm}
-use Rattle.bl_named.specs.declared.stmt.NamedBranch.{NamedBranch, fold-roll-NamedBranch, roll-NamedBranch}
-use Rattle.bl_named.specs.declared.stmt.NamedStmt.{NamedStmt, fold-roll-NamedStmt}
-use Rattle.bl_named.specs.declared.stmt.NamedStmtKind.{NamedStmtKind, fold-NamedStmtKind, fold-roll-NamedStmtKind, map-NamedStmtKind}
-use Rattle.bl_named.specs.declared.stmt.NamedStmtKind.TheOpen.{NamedStmtKind-F}
+use Rattle.bl_names_tree.specs.declared.expr.NamedExpr.{NamedExpr}
+use Rattle.bl_names_tree.specs.declared.item.NamedConstant.{NamedConstant}
+use Rattle.bl_names_tree.specs.declared.item.NamedVar.{NamedVar}
+use Rattle.bl_names_tree.specs.declared.stmt.NamedArm.{NamedArm, fold-roll-NamedArm, roll-NamedArm}
+use Rattle.bl_names_tree.specs.declared.stmt.NamedBranch.{NamedBranch, fold-roll-NamedBranch, roll-NamedBranch}
+use Rattle.bl_names_tree.specs.declared.stmt.NamedStmt.{NamedStmt, fold-roll-NamedStmt}
+use Rattle.bl_names_tree.specs.declared.stmt.NamedStmtKind.{NamedStmtKind, fold-NamedStmtKind, fold-roll-NamedStmtKind, map-NamedStmtKind}
+use Rattle.bl_names_tree.specs.declared.stmt.NamedStmtKind.TheOpen.{NamedStmtKind-F}
 use Rattle.bl_types.specs.declared.environment.Environment.{Environment}
 use Rattle.bl_types.specs.declared.form.Found.{Found}
 use Rattle.bl_types.specs.declared.form.Found.TheVariants as found
@@ -31,7 +31,7 @@ use Rattle.bl_types.specs.Returns.{arm_layer_strays, branch_layer_strays, kind_s
 use Rattle.bl_types.specs.Statements.{
   Arguments,
   Block,
-  Walk,
+  StatementJudgement,
   Walked,
   arguments,
   run_target,
@@ -125,7 +125,7 @@ module _ (constants : List NamedConstant) (vars : List NamedVar) where
       (walked_by constants vars layer place env).made ≡ Some kind → has_return (stmt_made place kind) ≡ false) → P (stmt place layer)
   by_kind place layer none_of none env t is =
       let made : option_map (stmt_made place) (walked_by constants vars layer place env).made ≡ Some t =
-      ap (λ (walk : Walk Stmt). (walk env).made) (sym (walked_is constants vars place layer)) ∙ is in
+      ap (λ (walk : StatementJudgement Stmt). (walk env).made) (sym (walked_is constants vars place layer)) ∙ is in
       let found = map_found (stmt_made place) (walked_by constants vars layer place env).made t made in
       ap has_return (sym found.2) ∙ none_of (sym (strays_is place layer) ∙ none) env found.0 found.1
 
@@ -174,7 +174,7 @@ module _ (constants : List NamedConstant) (vars : List NamedVar) where
       let walked_as : arm_walked constants vars (roll-NamedArm (record { test = test; body = body }))
       ≡ walked_arm (record { test = test; body = map (walked_stmt constants vars) body }) = rw fold-roll-NamedArm refl in
       let all : Block Stmt = in_order (map (walked_stmt constants vars) body) env in
-      let found = map_found (λ e. arm_of e all.made) (condition env test).made a (ap (λ (walk : Walk Arm). (walk env).made) (sym walked_as) ∙ is) in
+      let found = map_found (λ e. arm_of e all.made) (condition env test).made a (ap (λ (walk : StatementJudgement Arm). (walk env).made) (sym walked_as) ∙ is) in
       ap arm_has (sym found.2) ∙ arm_has_is found.0 all.made ∙ body_none body each (sym strays_as ∙ none) env
 
   branch_case : (weak : Bool) (body : List NamedStmt) → All P body → R (roll-NamedBranch (record { weak = weak; body = body }))
@@ -185,7 +185,7 @@ module _ (constants : List NamedConstant) (vars : List NamedVar) where
       ≡ walked_branch (record { weak = weak; body = map (walked_stmt constants vars) body }) = rw fold-roll-NamedBranch refl in
       let all : Block Stmt = in_order (map (walked_stmt constants vars) body) env in
       let made : Branch = roll-Branch (record { weak = weak; body = all.made }) in
-      let same : made ≡ a = same_Some made a (ap (λ (walk : Walk Branch). (walk env).made) (sym walked_as) ∙ is) in
+      let same : made ≡ a = same_Some made a (ap (λ (walk : StatementJudgement Branch). (walk env).made) (sym walked_as) ∙ is) in
       ap branch_has (sym same) ∙ branch_has_is weak all.made ∙ body_none body each (sym strays_as ∙ none) env
 
   stray_cases : Cases P Q R

@@ -4,17 +4,17 @@ use Rattle.std.specs.List.{list_all}
 use Rattle.std.proofs.lemmas.List.{length-append}
 use Rattle.bl_tree.specs.Program.{struct_stands, structs_stand_from}
 use Rattle.bl_eval.proofs.PassLemmas.{and_left, and_right, both}
-use Rattle.bl_named.specs.declared.item.Item.TheVariants as kind
-use Rattle.bl_named.specs.declared.item.NamedStruct.{NamedStruct}
-use Rattle.bl_named.specs.declared.item.NamedUnit.{NamedUnit}
-use Rattle.bl_named.specs.declared.named.Named.{Named}
-use Rattle.bl_named.specs.Placed.{Earlier, struct_placed}
-use Rattle.bl_scopes.specs.Marks.{marks_of, struct_marks}
-use Rattle.bl_scopes.specs.Scopes.{Scopes, after}
-use Rattle.bl_names_laws.specs.Keeps.{struct_stands as struct_keeps}
-use Rattle.bl_raw.specs.declared.item.RawItem.{RawItem}
-use Rattle.bl_raw.specs.declared.item.RawItem.TheVariants as item
-use Rattle.bl_raw.specs.declared.item.RawStruct.{RawStruct}
+use Rattle.bl_names_tree.specs.declared.item.Item.TheVariants as kind
+use Rattle.bl_names_tree.specs.declared.item.NamedStruct.{NamedStruct}
+use Rattle.bl_names_tree.specs.declared.item.NamedUnit.{NamedUnit}
+use Rattle.bl_names_tree.specs.declared.named.Named.{Named}
+use Rattle.bl_names_tree.specs.Placed.{DeclaredBefore, struct_placed}
+use Rattle.bl_names_scopes.specs.Marks.{marks_of, struct_marks}
+use Rattle.bl_names_scopes.specs.Scopes.{Scopes, after}
+use Rattle.bl_names_laws.specs.WellFormed.{struct_stands as struct_keeps}
+use Rattle.bl_parse_tree.specs.declared.item.RawItem.{RawItem}
+use Rattle.bl_parse_tree.specs.declared.item.RawItem.TheVariants as item
+use Rattle.bl_parse_tree.specs.declared.item.RawStruct.{RawStruct}
 use Rattle.bl_names.specs.Named.{along, constants_of, named_struct, structs_of, units_of}
 use Rattle.bl_names.specs.Order.{order_of}
 use Rattle.bl_names.proofs.FitLemmas.{fits_first, fits_second}
@@ -42,7 +42,7 @@ module _ (named : Named) where
     struct_chosen = struct_next named scopes (item.Struct def ∷ items) env at new_struct refl
 
     struct_there : struct_placed (known_in env) new_struct ≡ true
-    struct_there = ap (λ (e : Earlier). struct_placed e new_struct) at.counts
+    struct_there = ap (λ (e : DeclaredBefore). struct_placed e new_struct) at.counts
         ∙ struct_is scopes def at.below (fits_first scopes (struct_marks def) (marks_of items) at.fits)
 
     at_struct : (after_struct new_struct env).failures ≡ [] → At named behind_struct items (after_struct new_struct env).env
@@ -59,11 +59,11 @@ module _ (named : Named) where
               on.more_constants at.constants;
           units = ends_on named.units scopes.counts.units behind_struct.counts.units [] (along units_of behind_struct items) on.more_units at.units;
           counts = same_counts (after_struct new_struct env).env behind_struct
-              (one_more env.structs (struct_of env new_struct) scopes.counts.structs behind_struct.counts.structs (ap (λ (e : Earlier). e.structs) at.counts)
+              (one_more env.structs (struct_of env new_struct) scopes.counts.structs behind_struct.counts.structs (ap (λ (e : DeclaredBefore). e.structs) at.counts)
               on.more_structs)
-              (no_more (length env.constants) scopes.counts.constants behind_struct.counts.constants (ap (λ (e : Earlier). e.constants) at.counts)
+              (no_more (length env.constants) scopes.counts.constants behind_struct.counts.constants (ap (λ (e : DeclaredBefore). e.constants) at.counts)
               on.more_constants)
-              (no_more (length env.units) scopes.counts.units behind_struct.counts.units (ap (λ (e : Earlier). e.units) at.counts) on.more_units)
+              (no_more (length env.units) scopes.counts.units behind_struct.counts.units (ap (λ (e : DeclaredBefore). e.units) at.counts) on.more_units)
               (ap length at.between.vars ∙ sym on.none);
           between = between;
           kinds = at.kinds ∙ ap (map (λ (unit : NamedUnit). unit.kind)) (sym (append-nil at.units.before));

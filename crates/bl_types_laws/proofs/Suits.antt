@@ -4,12 +4,12 @@ use Rattle.std.specs.List.{list_all}
 use Rattle.std.proofs.lemmas.List.{length-append}
 use Rattle.std.proofs.lemmas.List.Folds.{list_all-append}
 use Rattle.bl_tree.specs.declared.tree.Unit.{Unit as UnitDef}
-use Rattle.bl_named.specs.declared.item.NamedConstant.{NamedConstant}
-use Rattle.bl_named.specs.declared.item.NamedVar.{NamedVar}
-use Rattle.bl_scopes.specs.declared.kind.Kind.TheVariants as kind
-use Rattle.bl_scopes.specs.Marks.{Marks, closes, declares, in_scope}
-use Rattle.bl_scopes.specs.Scopes.{Scopes, after, enter}
-use Rattle.bl_raw.specs.declared.name.Name.{Name}
+use Rattle.bl_names_tree.specs.declared.item.NamedConstant.{NamedConstant}
+use Rattle.bl_names_tree.specs.declared.item.NamedVar.{NamedVar}
+use Rattle.bl_names_scopes.specs.declared.kind.Kind.TheVariants as kind
+use Rattle.bl_names_scopes.specs.Marks.{Marks, closes, declares, in_scope}
+use Rattle.bl_names_scopes.specs.Scopes.{Scopes, after, enter}
+use Rattle.bl_parse_tree.specs.declared.name.Name.{Name}
 use Rattle.bl_names.specs.Named.{opened}
 use Rattle.bl_names.proofs.PlacedStmt.{closed_is}
 use Rattle.bl_names.proofs.StillLemmas.{Still, after-append}

@@ -15,12 +15,12 @@ use Rattle.bl_tree.specs.declared.tree.Ty.{Ty, out-Ty, out-roll-Ty}
 use Rattle.bl_tree.specs.declared.tree.Ty.TheOpen.{Ty-F}
 use Rattle.bl_tree.specs.Scalar.{is_whole}
 use Rattle.bl_tree.specs.Types.{scalar, scalar_in}
-use Rattle.bl_tree.specs.Typing.{Site, after_parts, element_in, field_in, type_of, where_whole}
+use Rattle.bl_tree.specs.Typing.{TypingContext, after_parts, element_in, field_in, type_of, where_whole}
 use Rattle.bl_eval.proofs.FitLemmas.{scalar_is}
 use Rattle.bl_eval.proofs.OperatorFits.{scalar_alone, some_found}
 use Rattle.bl_eval.proofs.PartFits.{type_of_part}
 use Rattle.bl_eval.proofs.PassLemmas.{get_front}
-use Rattle.bl_raw.specs.declared.name.Name.{Name}
+use Rattle.bl_parse_tree.specs.declared.name.Name.{Name}
 use Rattle.bl_types.specs.declared.form.Form.{Form}
 use Rattle.bl_types.specs.declared.form.Form.TheVariants.{Failing, Open, Of}
 use Rattle.bl_types.specs.Expressions.{
@@ -43,12 +43,12 @@ use Rattle.bl_types.specs.declared.environment.Environment.{Environment}
 use Rattle.bl_types.specs.Failures.{unless}
 use Rattle.bl_types.specs.Settled.{Settled, int32, kept, unfit}
 use Rattle.bl_types_laws.specs.Fitting.{FormFits, IsMade}
-use Rattle.bl_types_laws.specs.Within.{Within}
+use Rattle.bl_types_laws.specs.Within.{EnvironmentWithin}
 use Rattle.bl_types_laws.proofs.Forms.{nil_left, nil_right}
 use Rattle.bl_types_laws.proofs.Typed.{field_is, index_is}
 
 -- a step leads from the type to the next
-pub record StepFits (site : Site) (ty : Ty) (step : Stepped) : Type 0 where
+pub record StepFits (site : TypingContext) (ty : Ty) (step : Stepped) : Type 0 where
   pub next : Ty
   pub made : Part
   pub is_next : step.ty ≡ Some next
@@ -56,7 +56,7 @@ pub record StepFits (site : Site) (ty : Ty) (step : Stepped) : Type 0 where
   pub leads : type_of_part site made ty ≡ Some next
 
 -- parts lead from the type to an end
-pub record LedFits (site : Site) (ty : Ty) (led : Led) : Type 0 where
+pub record LedFits (site : TypingContext) (ty : Ty) (led : Led) : Type 0 where
   pub end : Ty
   pub is_end : led.ty ≡ Some end
   pub leads : after_parts (map (type_of_part site) led.parts) ty ≡ Some end
@@ -91,7 +91,7 @@ field_there fields name found is =
     let same : found.position ≡ among.far = omega (arith, among.position) in
     ap (λ k. option_map (λ (field : Field). field.ty) (slice_get fields k)) same ∙ among.is_typed
 
-module _ (env : Environment) (site : Site) (within : Within env site) where
+module _ (env : Environment) (site : TypingContext) (within : EnvironmentWithin env site) where
   field_typed : (name : List ℕ) (layer : Ty-F Ty) (found : FieldAt) → field_named env.structs name layer ≡ Some found →
       field_in site.structs found.position layer ≡ Some found.ty
   field_typed name (Ty-F.Scalar s) found is = absurd (cc)
@@ -122,12 +122,12 @@ module _ (env : Environment) (site : Site) (within : Within env site) where
 -- ---- indexes
 
 -- an index of a whole-number type is made
-pub record IndexFits (site : Site) (made : Option Expr) : Type 0 where
+pub record IndexFits (site : TypingContext) (made : Option Expr) : Type 0 where
   pub ty : ScalarType
   pub is_whole_number : is_whole ty ≡ true
   pub is_made : IsMade site (scalar ty) made
 
-module _ (site : Site) where
+module _ (site : TypingContext) where
   whole_by : (at : Place) (ty : Ty) (s : ScalarType) (e : Expr) (whole : Bool) → scalar_in ty ≡ Some s → is_whole s ≡ whole →
       type_of site e ≡ Some ty →
       (if whole then kept e else unfit at).failures ≡ [] → IndexFits site (if whole then kept e else unfit at).made
@@ -206,13 +206,13 @@ no_element index s none =
 
 -- ---- one part after another
 
-pub led_first : (site : Site) (ty : Ty) (first : Stepped) (further : Led) (step : StepFits site ty first) → LedFits site step.next further →
+pub led_first : (site : TypingContext) (ty : Ty) (first : Stepped) (further : Led) (step : StepFits site ty first) → LedFits site step.next further →
     after_parts (map (type_of_part site) (cons_option first.part further.parts)) ty ≡ after_parts (map (type_of_part site) further.parts) step.next
 led_first site ty first further step led =
     ap (λ part. after_parts (map (type_of_part site) (cons_option part further.parts)) ty) step.is_made
     ∙ ap (option_and_then (after_parts (map (type_of_part site) further.parts))) step.leads
 
-module _ {X : Type 0} (site : Site) (to : X → Option Ty → Stepped) where
+module _ {X : Type 0} (site : TypingContext) (to : X → Option Ty → Stepped) where
   abbrev EachSteps : X → Type 0
   EachSteps x = (ty : Ty) → (to x (Some ty)).failures ≡ [] → StepFits site ty (to x (Some ty))
 

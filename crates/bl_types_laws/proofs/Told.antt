@@ -30,15 +30,15 @@ use Rattle.std.proofs.lemmas.List.Folds.{list_all-append}
 use Rattle.bl_tree.specs.declared.tree.Unit.{Unit as UnitDef}
 use Rattle.bl_tree.specs.declared.tree.UnitKind.{UnitKind}
 use Rattle.bl_tree.specs.Typing.{is_activity, is_function}
-use Rattle.bl_raw.specs.declared.name.Name.{Name}
-use Rattle.bl_named.specs.Placed.{holds_of}
-use Rattle.bl_scopes.specs.declared.kind.Kind.{Kind}
-use Rattle.bl_scopes.specs.declared.kind.Kind.TheVariants as kinds
-use Rattle.bl_scopes.specs.declared.kind.Wanted.TheVariants as wants
-use Rattle.bl_scopes.specs.declared.scopes.Declaration.{Declaration}
-use Rattle.bl_scopes.specs.Kinds.{suits}
-use Rattle.bl_scopes.specs.Marks.{declares}
-use Rattle.bl_scopes.specs.Scopes.{Declared, Scopes, bound, bound_around, count_of, declaration_of, declared, enter, found}
+use Rattle.bl_parse_tree.specs.declared.name.Name.{Name}
+use Rattle.bl_names_tree.specs.Placed.{holds_of}
+use Rattle.bl_names_scopes.specs.declared.kind.Kind.{Kind}
+use Rattle.bl_names_scopes.specs.declared.kind.Kind.TheVariants as kinds
+use Rattle.bl_names_scopes.specs.declared.kind.Wanted.TheVariants as wants
+use Rattle.bl_names_scopes.specs.declared.scopes.Declaration.{Declaration}
+use Rattle.bl_names_scopes.specs.Kinds.{suits}
+use Rattle.bl_names_scopes.specs.Marks.{declares}
+use Rattle.bl_names_scopes.specs.Scopes.{Declared, Scopes, bound, bound_around, count_of, declaration_of, declared, enter, found}
 use Rattle.bl_names.specs.Naming.{position, position_of}
 use Rattle.bl_eval.proofs.PassLemmas.{and_left, and_right, both, get_front}
 

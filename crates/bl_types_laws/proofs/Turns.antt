@@ -12,22 +12,22 @@ use Rattle.bl_tree.specs.declared.tree.Stmt.{Stmt}
 use Rattle.bl_tree.specs.declared.tree.Ty.{Ty}
 use Rattle.bl_eval.proofs.OperatorFits.{some_found, where_holds}
 use Rattle.bl_eval.proofs.PassLemmas.{and_left, and_right}
-use Rattle.bl_named.specs.declared.expr.NamedExpr.{NamedExpr}
-use Rattle.bl_named.specs.declared.item.NamedConstant.{NamedConstant}
-use Rattle.bl_named.specs.declared.item.NamedVar.{NamedVar}
-use Rattle.bl_named.specs.declared.stmt.NamedArm.{NamedArm, fold-roll-NamedArm, roll-NamedArm}
-use Rattle.bl_named.specs.declared.stmt.NamedBranch.{NamedBranch, fold-roll-NamedBranch, roll-NamedBranch}
-use Rattle.bl_named.specs.declared.stmt.NamedStmt.{NamedStmt}
-use Rattle.bl_named.specs.declared.stmt.NamedStmtKind.TheOpen.{NamedStmtKind-F}
-use Rattle.bl_named.specs.Placed.{Earlier, Step, constant_placed, declares_none, expr_placed, holds_if, holds_of, in_turn, stmt_step, tested}
-use Rattle.bl_named.specs.Placed.{var_placed, with_constant as constant_counted, with_variable as variable_counted}
-use Rattle.bl_named.specs.inner.Placed.{step_of_arm, step_of_branch}
+use Rattle.bl_names_tree.specs.declared.expr.NamedExpr.{NamedExpr}
+use Rattle.bl_names_tree.specs.declared.item.NamedConstant.{NamedConstant}
+use Rattle.bl_names_tree.specs.declared.item.NamedVar.{NamedVar}
+use Rattle.bl_names_tree.specs.declared.stmt.NamedArm.{NamedArm, fold-roll-NamedArm, roll-NamedArm}
+use Rattle.bl_names_tree.specs.declared.stmt.NamedBranch.{NamedBranch, fold-roll-NamedBranch, roll-NamedBranch}
+use Rattle.bl_names_tree.specs.declared.stmt.NamedStmt.{NamedStmt}
+use Rattle.bl_names_tree.specs.declared.stmt.NamedStmtKind.TheOpen.{NamedStmtKind-F}
+use Rattle.bl_names_tree.specs.Placed.{DeclaredBefore, PlacedStep, constant_placed, declares_none, expr_placed, holds_if, holds_of, in_turn, stmt_step, tested}
+use Rattle.bl_names_tree.specs.Placed.{var_placed, with_constant as constant_counted, with_variable as variable_counted}
+use Rattle.bl_names_tree.specs.inner.Placed.{step_of_arm, step_of_branch}
 use Rattle.bl_types.specs.declared.environment.Environment.{Environment}
 use Rattle.bl_types.specs.declared.environment.Variable.{Variable}
 use Rattle.bl_types.specs.Declarations.{constant_of, initial, with_variable}
 use Rattle.bl_types.specs.Statements.{
   Block,
-  Walk,
+  StatementJudgement,
   Walked,
   after_optional_constant,
   arm_walked,
@@ -49,23 +49,23 @@ use Rattle.bl_types_laws.proofs.Declared.{constant_counts, variable_counts}
 use Rattle.bl_types_laws.proofs.NamedStmtInduction.{Cases, induct, stmt}
 
 -- what is known after a part of a body is as much as is counted, and variables are those that are named
-pub record Turned (vars : List NamedVar) (counts : Earlier) (after : Environment) : Type 0 where
+pub record Turned (vars : List NamedVar) (counts : DeclaredBefore) (after : Environment) : Type 0 where
   pub counts_are : known_in after ≡ counts
   pub named : VariablesNamed vars after.vars
 
-abbrev pub Turns : {A : Type 0} → List NamedVar → (Environment → Walked A) → Step → Type 0
-Turns vars walk step = (env : Environment) (counts : Earlier) → VariablesNamed vars env.vars → step (known_in env) ≡ Some counts →
+abbrev pub Turns : {A : Type 0} → List NamedVar → (Environment → Walked A) → PlacedStep → Type 0
+Turns vars walk step = (env : Environment) (counts : DeclaredBefore) → VariablesNamed vars env.vars → step (known_in env) ≡ Some counts →
     Turned vars counts (walk env).env
 
-turned_still : (vars : List NamedVar) (placed : Bool) (env : Environment) (counts : Earlier) → VariablesNamed vars env.vars →
+turned_still : (vars : List NamedVar) (placed : Bool) (env : Environment) (counts : DeclaredBefore) → VariablesNamed vars env.vars →
     declares_none placed (known_in env) ≡ Some counts → Turned vars counts env
 turned_still vars placed env counts named step = record {
   counts_are = same_Some (known_in env) counts (where_holds placed (Some (known_in env)) counts step).1;
   named = named;
 }
 
-module _ {X A : Type 0} (vars : List NamedVar) (walk : X → Environment → Walked A) (step : X → Step) where
-  pub block_turns : (xs : List X) → All (λ x. Turns vars (walk x) (step x)) xs → (env : Environment) (counts : Earlier) →
+module _ {X A : Type 0} (vars : List NamedVar) (walk : X → Environment → Walked A) (step : X → PlacedStep) where
+  pub block_turns : (xs : List X) → All (λ x. Turns vars (walk x) (step x)) xs → (env : Environment) (counts : DeclaredBefore) →
       VariablesNamed vars env.vars →
       in_turn (map step xs) (known_in env) ≡ Some counts → Turned vars counts (in_order (map walk xs) env).env
   block_turns [] each env counts named is = record { counts_are = same_Some (known_in env) counts is; named = named }
@@ -91,7 +91,7 @@ pub push_named : (vars : List NamedVar) (xs : List Variable) (x : Variable) → 
 push_named vars xs x named one = push_further (NamedAs vars) xs x named one
 
 module _ (constants : List NamedConstant) (vars : List NamedVar) where
-  declared_turns : (k : ℕ) (var : NamedVar) (ty : Option Ty) (env : Environment) (counts : Earlier) → slice_get vars k ≡ Some var →
+  declared_turns : (k : ℕ) (var : NamedVar) (ty : Option Ty) (env : Environment) (counts : DeclaredBefore) → slice_get vars k ≡ Some var →
       k ≡ length env.vars →
       (is_scalar var.ty ≡ true → has_scalar ty ≡ true) → VariablesNamed vars env.vars → Some (variable_counted (known_in env)) ≡ Some counts →
       Turned vars counts (with_variable env var ty)
@@ -146,15 +146,15 @@ module _ (constants : List NamedConstant) (vars : List NamedVar) where
 
   by_kind : (place : Place) (layer : Layer) → Turns vars (walked_by constants vars layer place) (step_by constants vars layer) → P (stmt place layer)
   by_kind place layer turns env counts named step =
-      subst (λ (walk : Walk Stmt). Turned vars counts (walk env).env) (sym (walked_is constants vars place layer))
-      (turns env counts named (ap (λ (step : Step). step (known_in env)) (sym (step_is constants vars place layer)) ∙ step))
+      subst (λ (walk : StatementJudgement Stmt). Turned vars counts (walk env).env) (sym (walked_is constants vars place layer))
+      (turns env counts named (ap (λ (step : PlacedStep). step (known_in env)) (sym (step_is constants vars place layer)) ∙ step))
 
-  body_turns : (body : List NamedStmt) → All P body → (env : Environment) (counts : Earlier) → VariablesNamed vars env.vars →
+  body_turns : (body : List NamedStmt) → All P body → (env : Environment) (counts : DeclaredBefore) → VariablesNamed vars env.vars →
       in_turn (map (stmt_step vars constants) body) (known_in env) ≡ Some counts →
       Turned vars counts (in_order (map (walked_stmt constants vars) body) env).env
   body_turns body each = block_turns vars (walked_stmt constants vars) (stmt_step vars constants) body each
 
-  tested_turns : (e : NamedExpr) (body : List NamedStmt) → All P body → (env : Environment) (counts : Earlier) → VariablesNamed vars env.vars →
+  tested_turns : (e : NamedExpr) (body : List NamedStmt) → All P body → (env : Environment) (counts : DeclaredBefore) → VariablesNamed vars env.vars →
       tested e (map (stmt_step vars constants) body) (known_in env) ≡ Some counts →
       Turned vars counts (in_order (map (walked_stmt constants vars) body) env).env
   tested_turns e body each env counts named step =
@@ -175,8 +175,8 @@ module _ (constants : List NamedConstant) (vars : List NamedVar) where
       ≡ walked_arm (record { test = test; body = map (walked_stmt constants vars) body }) = rw fold-roll-NamedArm refl in
       let step_as : step_of_arm vars constants (roll-NamedArm (record { test = test; body = body })) ≡ tested test (map (stmt_step vars constants) body) =
       rw fold-roll-NamedArm refl in
-      subst (λ (walk : Walk Arm). Turned vars counts (walk env).env) (sym walked_as)
-      (tested_turns test body each env counts named (ap (λ (step : Step). step (known_in env)) (sym step_as) ∙ step))
+      subst (λ (walk : StatementJudgement Arm). Turned vars counts (walk env).env) (sym walked_as)
+      (tested_turns test body each env counts named (ap (λ (step : PlacedStep). step (known_in env)) (sym step_as) ∙ step))
 
   branch_case : (weak : Bool) (body : List NamedStmt) → All P body → R (roll-NamedBranch (record { weak = weak; body = body }))
   branch_case weak body each env counts named step =
@@ -184,8 +184,8 @@ module _ (constants : List NamedConstant) (vars : List NamedVar) where
       ≡ walked_branch (record { weak = weak; body = map (walked_stmt constants vars) body }) = rw fold-roll-NamedBranch refl in
       let step_as : step_of_branch vars constants (roll-NamedBranch (record { weak = weak; body = body })) ≡ in_turn (map (stmt_step vars constants) body) =
       rw fold-roll-NamedBranch refl in
-      subst (λ (walk : Walk Branch). Turned vars counts (walk env).env) (sym walked_as)
-      (body_turns body each env counts named (ap (λ (step : Step). step (known_in env)) (sym step_as) ∙ step))
+      subst (λ (walk : StatementJudgement Branch). Turned vars counts (walk env).env) (sym walked_as)
+      (body_turns body each env counts named (ap (λ (step : PlacedStep). step (known_in env)) (sym step_as) ∙ step))
 
   turn_cases : Cases P Q R
   turn_cases = record {
@@ -219,7 +219,7 @@ module _ (constants : List NamedConstant) (vars : List NamedVar) where
   each_turns (s ∷ rest) = All-cons P s rest (stmt_turns s) (each_turns rest)
 
   -- after a body each variable is the one that is named at its position
-  pub bodies_turn : (body : List NamedStmt) (env : Environment) (counts : Earlier) → VariablesNamed vars env.vars →
+  pub bodies_turn : (body : List NamedStmt) (env : Environment) (counts : DeclaredBefore) → VariablesNamed vars env.vars →
       in_turn (map (stmt_step vars constants) body) (known_in env) ≡ Some counts →
       Turned vars counts (in_order (map (walked_stmt constants vars) body) env).env
   bodies_turn body = body_turns body (each_turns body)

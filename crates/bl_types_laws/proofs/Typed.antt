@@ -17,7 +17,7 @@ use Rattle.bl_tree.specs.declared.tree.Var.{Var}
 use Rattle.bl_tree.specs.Scalar.{in_range}
 use Rattle.bl_tree.specs.Types.{scalar_in}
 use Rattle.bl_tree.specs.Typing.{
-  Site,
+  TypingContext,
   after_parts,
   call_type,
   cast_type,
@@ -42,7 +42,7 @@ use Rattle.bl_types.specs.Expressions.{call, cast, path, previous, read}
 use Rattle.bl_types.specs.Failures.{unless}
 use Rattle.bl_types.specs.Settled.{Settled, behind, literal, one, one_made, settled, settled_kind, settled_layer, settled_part, settled_path, two, two_made}
 
-module _ (site : Site) where
+module _ (site : TypingContext) where
   pub kind_at : (at : Place) (kind : ExprKind) (layer : ExprKind-F ExprKind Part Expr Path) → out-ExprKind kind ≡ layer →
       type_of site (roll-Expr (record { place = at; what = kind }))
       ≡ kind_type site (map-ExprKind ExprKind Part Expr Path (Option Ty) (Ty → Option Ty) (Option Ty) (Option Ty)

@@ -45,7 +45,7 @@ use Rattle.bl_tree.specs.Reduce.{joined}
 use Rattle.bl_tree.specs.Scalar.{in_range, is_whole}
 use Rattle.bl_tree.specs.Types.{scalar_at, same_scalar, same_type, scalar, scalar_in, type_stands, type_stands_level}
 use Rattle.bl_tree.specs.Typing.{
-  Site,
+  TypingContext,
   after_parts,
   call_type,
   cast_type,
@@ -64,11 +64,11 @@ use Rattle.bl_tree.proofs.ExprInduction.{Cases, induct}
 use Rattle.bl_eval.proofs.OperatorFits.{some_found, where_holds}
 use Rattle.bl_eval.proofs.PartFits.{type_of_part}
 use Rattle.bl_eval.proofs.PassLemmas.{all_at, and_left, and_right, both}
-use Rattle.bl_named.specs.declared.item.NamedField.{NamedField}
-use Rattle.bl_named.specs.declared.item.NamedStruct.{NamedStruct}
-use Rattle.bl_named.specs.declared.types.NamedLength.{NamedLength}
-use Rattle.bl_named.specs.declared.types.NamedLength.TheVariants as length_of
-use Rattle.bl_named.specs.declared.types.NamedType.{
+use Rattle.bl_names_tree.specs.declared.item.NamedField.{NamedField}
+use Rattle.bl_names_tree.specs.declared.item.NamedStruct.{NamedStruct}
+use Rattle.bl_names_tree.specs.declared.types.NamedLength.{NamedLength}
+use Rattle.bl_names_tree.specs.declared.types.NamedLength.TheVariants as length_of
+use Rattle.bl_names_tree.specs.declared.types.NamedType.{
   NamedType,
   fold_out-NamedType,
   out-NamedType,
@@ -77,11 +77,11 @@ use Rattle.bl_named.specs.declared.types.NamedType.{
   map-NamedType,
   roll-NamedType,
 }
-use Rattle.bl_named.specs.declared.types.NamedType.TheOpen.{NamedType-F}
-use Rattle.bl_named.specs.Placed.{Earlier, length_placed, struct_placed, type_placed}
+use Rattle.bl_names_tree.specs.declared.types.NamedType.TheOpen.{NamedType-F}
+use Rattle.bl_names_tree.specs.Placed.{DeclaredBefore, length_placed, struct_placed, type_placed}
 use Rattle.bl_types.specs.declared.environment.Constant.{Constant}
 use Rattle.bl_types.specs.declared.environment.Environment.{Environment}
-use Rattle.bl_named.specs.declared.expr.NamedExpr.{NamedExpr}
+use Rattle.bl_names_tree.specs.declared.expr.NamedExpr.{NamedExpr}
 use Rattle.bl_types.specs.Declarations.{initial, after_struct, field_lengths, field_of, struct_of}
 use Rattle.bl_types.specs.Written.{
   type_level,
@@ -129,7 +129,7 @@ length_stands at (Some m) each none = each m refl
 stands_at : (n : ℕ) (ty : Ty) (layer : Ty-F Ty) → out-Ty ty ≡ layer → type_stands n ty ≡ type_stands_level n (map-Ty Ty Bool (type_stands n) layer)
 stands_at n ty layer is = fold_out-Ty Bool (type_stands_level n) ty ∙ ap (λ layer. type_stands_level n (map-Ty Ty Bool (type_stands n) layer)) is
 
-module _ (earlier : Earlier) (constants : List Constant) where
+module _ (earlier : DeclaredBefore) (constants : List Constant) where
   abbrev Stands : NamedType → Type 0
   Stands ty = type_placed earlier ty ≡ true → bad_lengths constants ty ≡ [] → type_stands earlier.structs (written_type constants ty) ≡ true
 
@@ -158,7 +158,7 @@ module _ (earlier : Earlier) (constants : List Constant) where
   written_stands = ind-NamedType Stands (λ x y is. subst (λ level. Stands (roll-NamedType level)) is (stands_by y))
 
 -- and so do those of the fields of a struct
-pub fields_stand : (earlier : Earlier) (env : Environment) (fields : List NamedField) →
+pub fields_stand : (earlier : DeclaredBefore) (env : Environment) (fields : List NamedField) →
     list_all (λ (field : NamedField). type_placed earlier field.ty) fields ≡ true → joined (map (field_lengths env) fields) ≡ [] →
     list_all (λ (field : Field). type_stands earlier.structs field.ty) (map (field_of env) fields) ≡ true
 fields_stand earlier env [] placed none = refl
@@ -192,7 +192,7 @@ module _ (n m : ℕ) (less : n ≤ m) where
   pub stands_more : (ty : Ty) → type_stands n ty ≡ true → type_stands m ty ≡ true
   stands_more = ind-Ty More (λ x y is. subst (λ layer. More (roll-Ty layer)) is (more_by y))
 
-module _ (site : Site) (fields : FieldsStand site.structs) (vars : list_all (λ (var : Var). type_stands (length site.structs) var.ty) site.vars ≡ true) where
+module _ (site : TypingContext) (fields : FieldsStand site.structs) (vars : list_all (λ (var : Var). type_stands (length site.structs) var.ty) site.vars ≡ true) where
   abbrev stands : Ty → Bool
   stands = type_stands (length site.structs)
 

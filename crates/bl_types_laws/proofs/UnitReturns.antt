@@ -7,16 +7,16 @@ use Rattle.bl_tree.specs.declared.tree.Stmt.{Stmt}
 use Rattle.bl_tree.specs.declared.tree.Unit.{Unit as UnitDef}
 use Rattle.bl_tree.specs.Reduce.{all_of}
 use Rattle.bl_tree.specs.Returns.{activity_returns, function_returns, is_return, last_of, returns_last_alone, surely_returns, unit_returns}
-use Rattle.bl_tree.specs.Typing.{Site, is_activity}
+use Rattle.bl_tree.specs.Typing.{TypingContext, is_activity}
 use Rattle.bl_eval.proofs.OperatorFits.{some_found}
 use Rattle.bl_eval.proofs.PassLemmas.{and_left, and_right, both}
-use Rattle.bl_named.specs.declared.item.NamedConstant.{NamedConstant}
-use Rattle.bl_named.specs.declared.item.NamedUnit.{NamedUnit}
-use Rattle.bl_named.specs.declared.item.NamedVar.{NamedVar}
-use Rattle.bl_named.specs.declared.stmt.NamedStmt.{NamedStmt, out-NamedStmt}
-use Rattle.bl_named.specs.declared.stmt.NamedStmtKind.{out-NamedStmtKind}
-use Rattle.bl_named.specs.declared.stmt.NamedStmtKind.TheOpen.{NamedStmtKind-F}
-use Rattle.bl_named.specs.Placed.{Earlier, in_turn, stmt_step}
+use Rattle.bl_names_tree.specs.declared.item.NamedConstant.{NamedConstant}
+use Rattle.bl_names_tree.specs.declared.item.NamedUnit.{NamedUnit}
+use Rattle.bl_names_tree.specs.declared.item.NamedVar.{NamedVar}
+use Rattle.bl_names_tree.specs.declared.stmt.NamedStmt.{NamedStmt, out-NamedStmt}
+use Rattle.bl_names_tree.specs.declared.stmt.NamedStmtKind.{out-NamedStmtKind}
+use Rattle.bl_names_tree.specs.declared.stmt.NamedStmtKind.TheOpen.{NamedStmtKind-F}
+use Rattle.bl_names_tree.specs.Placed.{DeclaredBefore, in_turn, stmt_step}
 use Rattle.bl_types.specs.declared.environment.Environment.{Environment}
 use Rattle.bl_types.specs.Failures.{unless}
 use Rattle.bl_types.specs.Returns.{
@@ -61,11 +61,11 @@ either_by false b c d is one other = ap (λ d. c || d) (other is) ∙ or_true c
     or_true true = refl
     or_true false = refl
 
-module _ (constants : List NamedConstant) (vars : List NamedVar) (site : Site) where
+module _ (constants : List NamedConstant) (vars : List NamedVar) (site : TypingContext) where
   -- a body whose last statement is a `return` is made one
   body_last : (body : List NamedStmt) → all_of (map (stmt_named constants vars site.earlier) body) ≡ true →
       last_of (map named_is_return body) ≡ true →
-      (env : Environment) → Around env site → Known env → (counts : Earlier) →
+      (env : Environment) → Around env site → Known env → (counts : DeclaredBefore) →
       in_turn (map (stmt_step vars constants) body) (known_in env) ≡ Some counts →
       (in_order (map (walked_stmt constants vars) body) env).failures ≡ [] →
       last_of (map is_return (in_order (map (walked_stmt constants vars) body) env).made) ≡ true
@@ -90,7 +90,7 @@ module _ (constants : List NamedConstant) (vars : List NamedVar) (site : Site) w
       (ap (in_turn (map (stmt_step vars constants) (t ∷ rest))) passed.counts_are ∙ found.2)
       (nil_right (walked_stmt constants vars s env).failures further.failures none))
 
-  module _ (unit : NamedUnit) (made : UnitDef) (env : Environment) (counts : Earlier) (kind : made.kind ≡ unit.kind) (outputs : made.outputs ≡ unit.outputs)
+  module _ (unit : NamedUnit) (made : UnitDef) (env : Environment) (counts : DeclaredBefore) (kind : made.kind ≡ unit.kind) (outputs : made.outputs ≡ unit.outputs)
       (result : is_none unit.result ≡ true → is_none made.result ≡ true)
       (body : made.body ≡ (in_order (map (walked_stmt constants vars) unit.body) env).made)
       (named : all_of (map (stmt_named constants vars site.earlier) unit.body) ≡ true) (around : Around env site) (known : Known env)

@@ -30,17 +30,17 @@ use Rattle.bl_tree.specs.declared.tree.UnitKind.{UnitKind}
 use Rattle.bl_tree.specs.Depths.{is_shallow}
 use Rattle.bl_tree.specs.Program.{is_entry, structs_stand_from, unit_stands, units_stand_after}
 use Rattle.bl_eval.proofs.PassLemmas.{and_left, and_right, both}
-use Rattle.bl_named.specs.declared.item.Item.TheVariants as kind
-use Rattle.bl_named.specs.declared.item.NamedConstant.{NamedConstant}
-use Rattle.bl_named.specs.declared.item.NamedUnit.{NamedUnit}
-use Rattle.bl_named.specs.declared.named.Named.{Named}
-use Rattle.bl_named.specs.Placed.{Earlier, unit_step}
-use Rattle.bl_scopes.specs.Marks.{marks_of, unit_marks}
-use Rattle.bl_scopes.specs.Scopes.{Scopes, after}
-use Rattle.bl_names_laws.specs.Keeps.{unit_stands as unit_keeps}
-use Rattle.bl_raw.specs.declared.item.RawItem.{RawItem}
-use Rattle.bl_raw.specs.declared.item.RawItem.TheVariants as item
-use Rattle.bl_raw.specs.declared.item.RawUnit.{RawUnit}
+use Rattle.bl_names_tree.specs.declared.item.Item.TheVariants as kind
+use Rattle.bl_names_tree.specs.declared.item.NamedConstant.{NamedConstant}
+use Rattle.bl_names_tree.specs.declared.item.NamedUnit.{NamedUnit}
+use Rattle.bl_names_tree.specs.declared.named.Named.{Named}
+use Rattle.bl_names_tree.specs.Placed.{DeclaredBefore, unit_step}
+use Rattle.bl_names_scopes.specs.Marks.{marks_of, unit_marks}
+use Rattle.bl_names_scopes.specs.Scopes.{Scopes, after}
+use Rattle.bl_names_laws.specs.WellFormed.{unit_stands as unit_keeps}
+use Rattle.bl_parse_tree.specs.declared.item.RawItem.{RawItem}
+use Rattle.bl_parse_tree.specs.declared.item.RawItem.TheVariants as item
+use Rattle.bl_parse_tree.specs.declared.item.RawUnit.{RawUnit}
 use Rattle.bl_names.specs.Named.{along, constants_in_unit, constants_of, named_unit, structs_of, units_of}
 use Rattle.bl_names.specs.Order.{order_of}
 use Rattle.bl_names.proofs.FitLemmas.{fits_first, fits_second}
@@ -94,7 +94,7 @@ module _ (named : Named) (suits : Suits named) (shapes : Shapes) where
         (ends_first named.constants scopes.counts.constants inside (along constants_of behind_unit items) at.constants)
 
     step : unit_step named.constants new_unit (known_in env) ≡ Some (earlier behind_unit)
-    step = ap (λ (e : Earlier). unit_step named.constants new_unit e) at.counts ∙ holds.steps
+    step = ap (λ (e : DeclaredBefore). unit_step named.constants new_unit e) at.counts ∙ holds.steps
 
     is_named : unit_named named.constants env.units new_unit ≡ true
     is_named =

@@ -36,14 +36,14 @@ use Rattle.bl_tree.specs.Program.{is_input, is_output}
 use Rattle.bl_tree.specs.declared.tree.Var.{Var}
 use Rattle.bl_tree.specs.Types.{type_stands}
 use Rattle.bl_tree.specs.Reduce.{all_of}
-use Rattle.bl_tree.specs.Typing.{is_activity, Site, fits, is_fixed, is_variable, site_of}
+use Rattle.bl_tree.specs.Typing.{is_activity, TypingContext, fits, is_fixed, is_variable, site_of}
 use Rattle.bl_eval.proofs.OperatorFits.{some_found, where_holds}
 use Rattle.bl_eval.proofs.PassLemmas.{and_left, and_right, both}
-use Rattle.bl_named.specs.declared.item.NamedConstant.{NamedConstant}
-use Rattle.bl_named.specs.declared.item.NamedUnit.{NamedUnit}
-use Rattle.bl_named.specs.declared.item.NamedVar.{NamedVar}
-use Rattle.bl_named.specs.Placed.{
-  Earlier,
+use Rattle.bl_names_tree.specs.declared.item.NamedConstant.{NamedConstant}
+use Rattle.bl_names_tree.specs.declared.item.NamedUnit.{NamedUnit}
+use Rattle.bl_names_tree.specs.declared.item.NamedVar.{NamedVar}
+use Rattle.bl_names_tree.specs.Placed.{
+  DeclaredBefore,
   behind_unit,
   head_placed,
   holds_if,
@@ -59,11 +59,11 @@ use Rattle.bl_named.specs.Placed.{
 use Rattle.bl_types.specs.declared.environment.Environment.{Environment}
 use Rattle.bl_types.specs.declared.environment.Variable.{Variable}
 use Rattle.bl_tree.specs.declared.place.Place.{Place}
-use Rattle.bl_named.specs.declared.types.NamedType.{NamedType}
+use Rattle.bl_names_tree.specs.declared.types.NamedType.{NamedType}
 use Rattle.bl_types.specs.Declarations.{is_parameter, Declaring, after_parameters}
 use Rattle.bl_types.specs.Returns.{return_failures}
 use Rattle.bl_types.specs.Statements.{Block, walked_block}
-use Rattle.bl_types.specs.Units.{can_be_driven, after_head, after_unit, entered, left, result_of, unit_of, vars_of}
+use Rattle.bl_types.specs.Units.{can_be_driven, after_head, after_unit, entered, environment_after, result_of, unit_of, vars_of}
 use Rattle.bl_types_laws.specs.Standing.{Around, BetweenUnits, BlockPassed, Known, UnitPassed, VariablesThere, stmt_named, unit_named}
 use Rattle.bl_types_laws.specs.Within.{has_parameters, known_in}
 use Rattle.bl_types_laws.specs.inner.Named.{VariablesNamed}
@@ -157,7 +157,7 @@ unit_head unit env known roles typed placed none =
     typed_all
 
 -- the site of a unit whose body has come to this
-around_head : (unit : NamedUnit) (env head : Environment) (site : Site) (later : List StructDef) → HeadPassed unit env head →
+around_head : (unit : NamedUnit) (env head : Environment) (site : TypingContext) (later : List StructDef) → HeadPassed unit env head →
     site.structs ≡ env.structs ++ later → env.units ≡ site.earlier → unit.kind ≡ site.kind → head.result ≡ site.result →
     list_all has_parameters site.earlier ≡ true → Around head site
 around_head unit env head site later passed structs units kind result heads = record {
@@ -193,7 +193,7 @@ later_stand structs later env body front same known =
 
 left_between : (unit : NamedUnit) (made : List Stmt) (env body : Environment) → Known body → body.units ≡ env.units →
     list_all has_parameters env.units ≡ true →
-    has_parameters (unit_of unit made body) ≡ true → BetweenUnits (left unit made body)
+    has_parameters (unit_of unit made body) ≡ true → BetweenUnits (environment_after unit made body)
 left_between unit made env body known units heads has = record {
   vars = refl;
   known = record { vars = λ k variable is. absurd (nothing_there k variable is); fields = known.fields; constants = known.constants };
@@ -207,20 +207,20 @@ left_between unit made env body known units heads has = record {
     nothing_there : (k : ℕ) (variable : Variable) → slice_get [] k ≡ Some variable → ⊥
     nothing_there k variable is = absurd (cc)
 
-left_counts : (unit : NamedUnit) (made : List Stmt) (body : Environment) (inner counts : Earlier) → known_in body ≡ inner →
-    Some (record inner { units = inner.units + 1; variables = 0 }) ≡ Some counts → known_in (left unit made body) ≡ counts
+left_counts : (unit : NamedUnit) (made : List Stmt) (body : Environment) (inner counts : DeclaredBefore) → known_in body ≡ inner →
+    Some (record inner { units = inner.units + 1; variables = 0 }) ≡ Some counts → known_in (environment_after unit made body) ≡ counts
 left_counts unit made body inner counts is are =
     ap (λ n. record { structs = length body.structs; constants = length body.constants; units = n; variables = 0 })
     (length-append body.units (unit_of unit made body ∷ []))
-    ∙ ap (λ (inner : Earlier). record inner { units = inner.units + 1; variables = 0 }) is
+    ∙ ap (λ (inner : DeclaredBefore). record inner { units = inner.units + 1; variables = 0 }) is
     ∙ same_Some (record inner { units = inner.units + 1; variables = 0 }) counts are
 
 module _ (constants : List NamedConstant) (unit : NamedUnit) (env : Environment) (structs later : List StructDef) (front : structs ≡ env.structs ++ later)
     (between : BetweenUnits env) (named : unit_named constants env.units unit ≡ true) where
-  body_passes : (head : Environment) (inner : Earlier) → HeadPassed unit env head →
+  body_passes : (head : Environment) (inner : DeclaredBefore) → HeadPassed unit env head →
       in_turn (map (stmt_step unit.vars constants) unit.body) (known_in head) ≡ Some inner →
       (walked_block constants unit.vars unit.body head).failures ≡ [] →
-      (site : Site) → site.structs ≡ env.structs ++ later → env.units ≡ site.earlier → unit.kind ≡ site.kind → head.result ≡ site.result →
+      (site : TypingContext) → site.structs ≡ env.structs ++ later → env.units ≡ site.earlier → unit.kind ≡ site.kind → head.result ≡ site.result →
       BlockPassed site (fits site) false head inner (walked_block constants unit.vars unit.body head)
   body_passes head inner passed step none site structs units kind result =
       statements_fit constants unit.vars site unit.body
@@ -231,21 +231,21 @@ module _ (constants : List NamedConstant) (unit : NamedUnit) (env : Environment)
       (subst (λ units. list_all has_parameters units ≡ true) units between.heads))
       passed.known inner step none
 
-  unit_by : (head : Environment) (inner counts : Earlier) → HeadPassed unit env head →
+  unit_by : (head : Environment) (inner counts : DeclaredBefore) → HeadPassed unit env head →
       in_turn (map (stmt_step unit.vars constants) unit.body) (known_in head) ≡ Some inner → behind_unit unit inner ≡ Some counts →
       parameters unit ≤ length unit.vars → roles_placed unit ≡ true →
       (walked_block constants unit.vars unit.body head).failures ≡ [] → return_failures unit ≡ [] →
-      UnitPassed structs unit env counts (left unit (walked_block constants unit.vars unit.body head).made
+      UnitPassed structs unit env counts (environment_after unit (walked_block constants unit.vars unit.body head).made
       (walked_block constants unit.vars unit.body head).env)
   unit_by head inner counts passed step behind enough roles none returning =
       let body : Block Stmt = walked_block constants unit.vars unit.body head in
       let made : UnitDef = unit_of unit body.made body.env in
-      let bare : Site = record { structs = structs; earlier = env.units; kind = unit.kind; vars = []; result = head.result } in
+      let bare : TypingContext = record { structs = structs; earlier = env.units; kind = unit.kind; vars = []; result = head.result } in
       let first = body_passes head inner passed step none bare front refl refl refl in
-      let site : Site = site_of structs env.units made in
+      let site : TypingContext = site_of structs env.units made in
       let second = body_passes head inner passed step none site front refl refl (sym first.grown.result) in
       let holds = where_holds (nat_eq inner.variables (length unit.vars)) (Some (record inner { units = inner.units + 1; variables = 0 })) counts behind in
-      let count : length body.env.vars ≡ length unit.vars = ap (λ (earlier : Earlier). earlier.variables) first.counts_are
+      let count : length body.env.vars ≡ length unit.vars = ap (λ (earlier : DeclaredBefore). earlier.variables) first.counts_are
       ∙ eqb-true inner.variables (length unit.vars) holds.0 in
       let units : body.env.units ≡ env.units = first.grown.units ∙ passed.units in
       let turned = bodies_turn constants unit.vars unit.body head inner passed.named step in
@@ -278,7 +278,7 @@ module _ (constants : List NamedConstant) (unit : NamedUnit) (env : Environment)
         vars_stand = later_stand structs later env body.env front (first.grown.structs ∙ passed.structs) first.known;
       }
 
-  unit_step_by : (counts : Earlier) → unit_step constants unit (known_in env) ≡ Some counts → (after_unit constants unit env).failures ≡ [] →
+  unit_step_by : (counts : DeclaredBefore) → unit_step constants unit (known_in env) ≡ Some counts → (after_unit constants unit env).failures ≡ [] →
       UnitPassed structs unit env counts (after_unit constants unit env).env
   unit_step_by counts step none =
       let holds = where_holds (head_placed (known_in env) unit) (option_and_then (behind_unit unit)
@@ -304,7 +304,7 @@ module _ (constants : List NamedConstant) (unit : NamedUnit) (env : Environment)
 -- each statement of a unit in which nothing fails fits
 pub unit_passes : (constants : List NamedConstant) (unit : NamedUnit) (env : Environment) (structs later : List StructDef) →
     structs ≡ env.structs ++ later →
-    BetweenUnits env → unit_named constants env.units unit ≡ true → (counts : Earlier) →
+    BetweenUnits env → unit_named constants env.units unit ≡ true → (counts : DeclaredBefore) →
     unit_step constants unit (known_in env) ≡ Some counts → (after_unit constants unit env).failures ≡ [] →
     UnitPassed structs unit env counts (after_unit constants unit env).env
 unit_passes constants unit env structs later front between named = unit_step_by constants unit env structs later front between named

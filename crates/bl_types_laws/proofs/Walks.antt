@@ -28,20 +28,20 @@ use Rattle.std.proofs.lemmas.Option.{same_Some}
 use Rattle.bl_tree.specs.declared.rule.Failure.{Failure}
 use Rattle.bl_tree.specs.declared.tree.Ty.{Ty}
 use Rattle.bl_tree.specs.Reduce.{all_of}
-use Rattle.bl_tree.specs.Typing.{Site, is_inhabited}
+use Rattle.bl_tree.specs.Typing.{TypingContext, is_inhabited}
 use Rattle.bl_eval.proofs.OperatorFits.{some_found}
 use Rattle.bl_eval.proofs.PassLemmas.{both, get_front}
-use Rattle.bl_named.specs.declared.expr.NamedExpr.{NamedExpr}
-use Rattle.bl_named.specs.Placed.{Earlier, in_turn}
+use Rattle.bl_names_tree.specs.declared.expr.NamedExpr.{NamedExpr}
+use Rattle.bl_names_tree.specs.Placed.{DeclaredBefore, in_turn}
 use Rattle.bl_types.specs.declared.environment.Environment.{Environment}
 use Rattle.bl_types.specs.declared.environment.Variable.{Variable}
 use Rattle.bl_types.specs.Statements.{Block, Walked, in_order, walked}
 use Rattle.bl_types.specs.Units.{var_of, var_typed, vars_of}
 use Rattle.bl_types_laws.specs.Standing.{Around, BlockPassed, Grown, Known, PartPassed, VariableKnown, VariablesThere}
-use Rattle.bl_types_laws.specs.Within.{Within, calls_functions, has_parameters, known_in}
+use Rattle.bl_types_laws.specs.Within.{EnvironmentWithin, calls_functions, has_parameters, known_in}
 use Rattle.bl_types_laws.proofs.Forms.{nil_left, nil_right}
 
-pub within_of : (env : Environment) (site : Site) → Around env site → Known env → VariablesThere env site → Within env site
+pub within_of : (env : Environment) (site : TypingContext) → Around env site → Known env → VariablesThere env site → EnvironmentWithin env site
 within_of env site around known there = record {
   later = around.later;
   structs = around.structs;
@@ -54,7 +54,7 @@ within_of env site around known there = record {
 }
 
 -- calls that name functions of the site name those that are known
-pub own_calls : (env : Environment) (site : Site) → Around env site → (e : NamedExpr) → calls_functions site.earlier e ≡ true →
+pub own_calls : (env : Environment) (site : TypingContext) → Around env site → (e : NamedExpr) → calls_functions site.earlier e ≡ true →
     calls_functions env.units e ≡ true
 own_calls env site around e calls = ap (λ units. calls_functions units e) around.units ∙ calls
 
@@ -85,7 +85,7 @@ grown_further a b c one more = record {
   result = more.result ∙ one.result;
 }
 
-pub grown_around : (before after : Environment) (site : Site) → Grown before after → Around before site → Around after site
+pub grown_around : (before after : Environment) (site : TypingContext) → Grown before after → Around before site → Around after site
 grown_around before after site grown around = record {
   later = around.later;
   structs = around.structs ∙ ap (λ structs. structs ++ around.later) (sym grown.structs);
@@ -95,7 +95,7 @@ grown_around before after site grown around = record {
   heads = around.heads;
 }
 
-pub grown_there : (before after : Environment) (site : Site) → Grown before after → VariablesThere after site → VariablesThere before site
+pub grown_there : (before after : Environment) (site : TypingContext) → Grown before after → VariablesThere after site → VariablesThere before site
 grown_there before after site grown there k known is =
     there k known (ap (λ vars. slice_get vars k) grown.has_vars ∙ get_front before.vars grown.vars k known is)
 
@@ -114,7 +114,7 @@ typed_at n (x ∷ xs) typed (suc k) known ty is are =
     ap (λ found. slice_get (cons_option (option_map (var_typed x) found) (vars_of xs)) (suc k)) first.is_typed
     ∙ typed_at n xs (λ k known is. typed (suc k) known is) k known ty is are
 
-abbrev pub site_in : Environment → Site
+abbrev pub site_in : Environment → TypingContext
 site_in env = record { structs = env.structs; earlier = env.units; kind = env.kind; vars = vars_of env.vars; result = env.result }
 
 -- the variables that are known are those of the site that has these
@@ -130,7 +130,7 @@ there_in env known k var is =
       role = refl;
     }
 
-pub within_in : (env : Environment) (site : Site) → Around env site → Known env → Within env (site_in env)
+pub within_in : (env : Environment) (site : TypingContext) → Around env site → Known env → EnvironmentWithin env (site_in env)
 within_in env site around known = record {
   later = [];
   structs = sym (append-nil env.structs);
@@ -155,12 +155,12 @@ must_of false is = absurd (cc)
 pub not_must : false ≡ true → ⊥
 not_must is = absurd (cc)
 
-abbrev pub WalkFits : {A : Type 0} → Bool → Site → (A → Bool) → (Environment → Walked A) → (Earlier → Option Earlier) → Type 0
+abbrev pub WalkFits : {A : Type 0} → Bool → TypingContext → (A → Bool) → (Environment → Walked A) → (DeclaredBefore → Option DeclaredBefore) → Type 0
 WalkFits must site good walk step =
-    (env : Environment) → Around env site → Known env → (counts : Earlier) → step (known_in env) ≡ Some counts → (walk env).failures ≡ [] →
+    (env : Environment) → Around env site → Known env → (counts : DeclaredBefore) → step (known_in env) ≡ Some counts → (walk env).failures ≡ [] →
     PartPassed must site good env counts (walk env)
 
-module _ {X A : Type 0} (must : Bool) (site : Site) (good : A → Bool) (walk : X → Environment → Walked A) (step : X → Earlier → Option Earlier) where
+module _ {X A : Type 0} (must : Bool) (site : TypingContext) (good : A → Bool) (walk : X → Environment → Walked A) (step : X → DeclaredBefore → Option DeclaredBefore) where
   abbrev Each : X → Type 0
   Each x = WalkFits must site good (walk x) (step x)
 
@@ -172,7 +172,7 @@ module _ {X A : Type 0} (must : Bool) (site : Site) (good : A → Bool) (walk : 
   inhabited_first : (made : Option A) (rest : List A) (a : A) → made ≡ Some a → is_inhabited (cons_option made rest) ≡ true
   inhabited_first made rest a is = ap (λ made. is_inhabited (cons_option made rest)) is
 
-  pub block_fits : (xs : List X) → All Each xs → (env : Environment) → Around env site → Known env → (counts : Earlier) →
+  pub block_fits : (xs : List X) → All Each xs → (env : Environment) → Around env site → Known env → (counts : DeclaredBefore) →
       in_turn (map step xs) (known_in env) ≡ Some counts → (in_order (map walk xs) env).failures ≡ [] →
       BlockPassed site good (must && is_inhabited xs) env counts (in_order (map walk xs) env)
   block_fits [] each env around known counts is none = record {
@@ -201,9 +201,9 @@ module _ {X A : Type 0} (must : Bool) (site : Site) (good : A → Bool) (walk : 
 
 -- ---- what declares nothing
 
-pub passed_still : {A : Type 0} (site : Site) (good : A → Bool) (env : Environment) (counts : Earlier) (made : Option A) (failures : List Failure) →
+pub passed_still : {A : Type 0} (site : TypingContext) (good : A → Bool) (env : Environment) (counts : DeclaredBefore) (made : Option A) (failures : List Failure) →
     Around env site → Known env → known_in env ≡ counts →
-    (Within env site → (a : A) → made ≡ Some a → good a ≡ true) → PartPassed false site good env counts (walked env made failures)
+    (EnvironmentWithin env site → (a : A) → made ≡ Some a → good a ≡ true) → PartPassed false site good env counts (walked env made failures)
 passed_still site good env counts made failures around known is fit = record {
   grown = grown_self env;
   known = known;

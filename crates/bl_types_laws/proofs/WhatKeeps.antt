@@ -4,15 +4,15 @@ use Rattle.std.specs.Prelude.{slice_get}
 use Rattle.std.specs.List.{list_all}
 use Rattle.bl_tree.specs.declared.tree.StructDef.{StructDef}
 use Rattle.bl_tree.specs.declared.tree.Unit.{Unit as UnitDef}
-use Rattle.bl_tree.specs.Program.{Keeps, all_names, is_entry, structs_stand_from, units_stand_after}
+use Rattle.bl_tree.specs.Program.{IsWellTyped, all_names, is_entry, structs_stand_from, units_stand_after}
 use Rattle.bl_tree.specs.Reduce.{joined}
 use Rattle.bl_tree.specs.Words.{are_distinct, is_name}
-use Rattle.bl_scopes.specs.Rules.{Passes as NamesPass}
-use Rattle.bl_scopes.specs.Scopes.{file_scope}
-use Rattle.bl_names_laws.specs.Keeps.{NamedKeeps, all_names as named_names}
-use Rattle.bl_raw.specs.declared.item.RawItem.{RawItem}
-use Rattle.bl_raw.specs.Starts.{ascends}
-use Rattle.bl_raw.specs.Keeps.{RawKeeps}
+use Rattle.bl_names_scopes.specs.Rules.{Passes as NamesPass}
+use Rattle.bl_names_scopes.specs.Scopes.{file_scope}
+use Rattle.bl_names_laws.specs.WellFormed.{NamedIsWellFormed, all_names as named_names}
+use Rattle.bl_parse_tree.specs.declared.item.RawItem.{RawItem}
+use Rattle.bl_parse_tree.specs.Starts.{ascends}
+use Rattle.bl_parse_tree.specs.WellFormed.{RawIsWellFormed}
 use Rattle.bl_names.specs.Named.{named_program}
 use Rattle.bl_types.specs.declared.environment.Environment.{Environment}
 use Rattle.bl_types.specs.Programs.{after_program, fresh, text_end, typed_program}
@@ -28,7 +28,7 @@ use Rattle.bl_types_laws.proofs.Starts.{picked_ascends}
 use Rattle.bl_types_laws.proofs.ItemTurns.{at_start, no_failure, turns}
 
 program_made : (items : List RawItem) (bytes : ℕ) → Suits (named_program items bytes) → Shapes →
-    NamedKeeps (named_program items bytes) → NamesPass items →
+    NamedIsWellFormed (named_program items bytes) → NamesPass items →
     TypesPass (named_program items bytes) →
     Made file_scope items fresh (after_program (named_program items bytes)).env
 program_made items bytes suits shapes keeps passes types =
@@ -44,9 +44,9 @@ same_names items bytes made =
     λ i. structs i ++ units i
 
 pub what_keeps : (items : List RawItem) (bytes : ℕ) → Suits (named_program items bytes) → Shapes →
-    NamedKeeps (named_program items bytes) → NamesPass items →
+    NamedIsWellFormed (named_program items bytes) → NamesPass items →
     TypesPass (named_program items bytes) →
-    Keeps (typed_program (named_program items bytes)).structs (typed_program (named_program items bytes)).units
+    IsWellTyped (typed_program (named_program items bytes)).structs (typed_program (named_program items bytes)).units
     (typed_program (named_program items bytes)).entry
 what_keeps items bytes suits shapes keeps passes types =
     let named = named_program items bytes in
@@ -68,12 +68,12 @@ what_keeps items bytes suits shapes keeps passes types =
     }
 
 -- the same, of what the laws of the crates below say
-pub laws_keep : ((items : List RawItem) (bytes : ℕ) → RawKeeps items → NamesPass items → NamedKeeps (named_program items bytes)) →
-    ((items : List RawItem) (bytes : ℕ) → RawKeeps items → NamesPass items → UnitsSuit (named_program items bytes)) →
-    ((items : List RawItem) (bytes : ℕ) → RawKeeps items → NamesPass items → ConstantsSuit (named_program items bytes)) →
+pub laws_keep : ((items : List RawItem) (bytes : ℕ) → RawIsWellFormed items → NamesPass items → NamedIsWellFormed (named_program items bytes)) →
+    ((items : List RawItem) (bytes : ℕ) → RawIsWellFormed items → NamesPass items → UnitsSuit (named_program items bytes)) →
+    ((items : List RawItem) (bytes : ℕ) → RawIsWellFormed items → NamesPass items → ConstantsSuit (named_program items bytes)) →
     ShallowStays → ApartStays →
-    (items : List RawItem) (bytes : ℕ) → RawKeeps items → NamesPass items → TypesPass (named_program items bytes) →
-    Keeps (typed_program (named_program items bytes)).structs (typed_program (named_program items bytes)).units
+    (items : List RawItem) (bytes : ℕ) → RawIsWellFormed items → NamesPass items → TypesPass (named_program items bytes) →
+    IsWellTyped (typed_program (named_program items bytes)).structs (typed_program (named_program items bytes)).units
     (typed_program (named_program items bytes)).entry
 laws_keep keeps units constants shallow apart items bytes raw names types =
     what_keeps items bytes (record { units = units items bytes raw names; constants = constants items bytes raw names })
@@ -82,7 +82,7 @@ laws_keep keeps units constants shallow apart items bytes raw names types =
 -- ---- depth
 
 what_is_shallow : (items : List RawItem) (bytes : ℕ) → Suits (named_program items bytes) → Shapes →
-    NamedKeeps (named_program items bytes) → NamesPass items →
+    NamedIsWellFormed (named_program items bytes) → NamesPass items →
     TypesPass (named_program items bytes) →
     are_shallow (typed_program (named_program items bytes)).units ≡ true
 what_is_shallow items bytes suits shapes keeps passes types =
@@ -90,11 +90,11 @@ what_is_shallow items bytes suits shapes keeps passes types =
     ap are_shallow made.units ∙ made.shallow
 
 -- the same, of what the laws of the crates below say
-pub laws_are_shallow : ((items : List RawItem) (bytes : ℕ) → RawKeeps items → NamesPass items → NamedKeeps (named_program items bytes)) →
-    ((items : List RawItem) (bytes : ℕ) → RawKeeps items → NamesPass items → UnitsSuit (named_program items bytes)) →
-    ((items : List RawItem) (bytes : ℕ) → RawKeeps items → NamesPass items → ConstantsSuit (named_program items bytes)) →
+pub laws_are_shallow : ((items : List RawItem) (bytes : ℕ) → RawIsWellFormed items → NamesPass items → NamedIsWellFormed (named_program items bytes)) →
+    ((items : List RawItem) (bytes : ℕ) → RawIsWellFormed items → NamesPass items → UnitsSuit (named_program items bytes)) →
+    ((items : List RawItem) (bytes : ℕ) → RawIsWellFormed items → NamesPass items → ConstantsSuit (named_program items bytes)) →
     ShallowStays → ApartStays →
-    (items : List RawItem) (bytes : ℕ) → RawKeeps items → NamesPass items → TypesPass (named_program items bytes) →
+    (items : List RawItem) (bytes : ℕ) → RawIsWellFormed items → NamesPass items → TypesPass (named_program items bytes) →
     are_shallow (typed_program (named_program items bytes)).units ≡ true
 laws_are_shallow keeps units constants shallow apart items bytes raw names types =
     what_is_shallow items bytes (record { units = units items bytes raw names; constants = constants items bytes raw names })

@@ -7,13 +7,13 @@ use Rattle.std.proofs.lemmas.Option.{same_Some}
 use Rattle.bl_tree.specs.declared.tree.Unit.{Unit as UnitDef}
 use Rattle.bl_tree.specs.declared.tree.UnitKind.{UnitKind}
 use Rattle.bl_tree.specs.Typing.{is_function}
-use Rattle.bl_raw.specs.declared.item.RawItem.{RawItem}
-use Rattle.bl_raw.specs.Keeps.{RawKeeps}
-use Rattle.bl_named.specs.declared.item.NamedConstant.{NamedConstant}
-use Rattle.bl_named.specs.declared.item.NamedUnit.{NamedUnit}
-use Rattle.bl_named.specs.Placed.{Earlier, expr_placed, holds_of}
-use Rattle.bl_scopes.specs.Rules.{Passes}
-use Rattle.bl_scopes.specs.Scopes.{file_scope}
+use Rattle.bl_parse_tree.specs.declared.item.RawItem.{RawItem}
+use Rattle.bl_parse_tree.specs.WellFormed.{RawIsWellFormed}
+use Rattle.bl_names_tree.specs.declared.item.NamedConstant.{NamedConstant}
+use Rattle.bl_names_tree.specs.declared.item.NamedUnit.{NamedUnit}
+use Rattle.bl_names_tree.specs.Placed.{DeclaredBefore, expr_placed, holds_of}
+use Rattle.bl_names_scopes.specs.Rules.{Passes}
+use Rattle.bl_names_scopes.specs.Scopes.{file_scope}
 use Rattle.bl_names.specs.Named.{named_program}
 use Rattle.bl_names.proofs.FitLemmas.{program_fits}
 use Rattle.bl_names.proofs.PlacedStmt.{Within}
@@ -28,7 +28,7 @@ use Rattle.bl_types_laws.proofs.Told.{kind_at, kinds_of}
 whole : {A : Type 0} (xs : List A) → Within xs 0 xs
 whole xs = record { before = []; rest = []; there = sym (append-nil xs); is_at = refl }
 
-program_suits : (items : List RawItem) (bytes : ℕ) → RawKeeps items → Passes items →
+program_suits : (items : List RawItem) (bytes : ℕ) → RawIsWellFormed items → Passes items →
     ItemsSuit (named_program items bytes).constants [] (named_program items bytes).units (named_program items bytes).constants
 program_suits items bytes keeps passes =
     items_suit (named_program items bytes).constants items [] file_scope
@@ -42,7 +42,7 @@ program_suits items bytes keeps passes =
           whole (named_program items bytes).constants;
     })
 
-pub units_are_named : (items : List RawItem) (bytes : ℕ) → RawKeeps items → Passes items → (k : ℕ) (unit : NamedUnit) →
+pub units_are_named : (items : List RawItem) (bytes : ℕ) → RawIsWellFormed items → Passes items → (k : ℕ) (unit : NamedUnit) →
     slice_get (named_program items bytes).units k ≡ Some unit → (earlier : List UnitDef) →
     map (λ (u : UnitDef). u.kind) earlier ≡ map (λ (u : NamedUnit). u.kind) (take k (named_program items bytes).units) →
     unit_named (named_program items bytes).constants earlier unit ≡ true
@@ -72,9 +72,9 @@ narrows all kinds earlier n is first f less there =
     ∙ ap (λ units. holds_of is_function (slice_get units f)) (sym is)
     ∙ sym (kind_at is_function all f) ∙ there
 
-pub constants_call_functions : (items : List RawItem) (bytes : ℕ) → RawKeeps items → Passes items → (k : ℕ) (constant : NamedConstant) →
+pub constants_call_functions : (items : List RawItem) (bytes : ℕ) → RawIsWellFormed items → Passes items → (k : ℕ) (constant : NamedConstant) →
     slice_get (named_program items bytes).constants k ≡ Some constant →
-    (earlier : List UnitDef) (counts : Earlier) → counts.units ≡ length earlier →
+    (earlier : List UnitDef) (counts : DeclaredBefore) → counts.units ≡ length earlier →
     map (λ (u : UnitDef). u.kind) earlier ≡ map (λ (u : NamedUnit). u.kind) (take (length earlier) (named_program items bytes).units) →
     expr_placed counts constant.value ≡ true → calls_functions earlier constant.value ≡ true
 constants_call_functions items bytes keeps passes k constant there earlier counts known kinds placed =

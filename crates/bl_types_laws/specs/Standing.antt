@@ -28,14 +28,14 @@ use Rattle.bl_tree.specs.Program.{is_entry, names_of, roles_stand}
 use Rattle.bl_tree.specs.Reduce.{all_of}
 use Rattle.bl_tree.specs.Returns.{unit_returns}
 use Rattle.bl_tree.specs.Types.{type_stands}
-use Rattle.bl_tree.specs.Typing.{Site, fits, is_activity, is_fixed, is_function, is_inhabited, is_variable, site_of}
-use Rattle.bl_named.specs.declared.expr.NamedExpr.{NamedExpr}
-use Rattle.bl_named.specs.declared.item.NamedConstant.{NamedConstant}
-use Rattle.bl_named.specs.declared.item.NamedUnit.{NamedUnit}
-use Rattle.bl_named.specs.declared.item.NamedVar.{NamedVar}
-use Rattle.bl_named.specs.declared.stmt.NamedStmt.{NamedStmt, fold-NamedStmt}
-use Rattle.bl_named.specs.declared.stmt.NamedStmtKind.TheOpen.{NamedStmtKind-F, NamedArm-F, NamedBranch-F, NamedStmt-F}
-use Rattle.bl_named.specs.Placed.{Earlier, holds_if, holds_of, parameters}
+use Rattle.bl_tree.specs.Typing.{TypingContext, fits, is_activity, is_fixed, is_function, is_inhabited, is_variable, site_of}
+use Rattle.bl_names_tree.specs.declared.expr.NamedExpr.{NamedExpr}
+use Rattle.bl_names_tree.specs.declared.item.NamedConstant.{NamedConstant}
+use Rattle.bl_names_tree.specs.declared.item.NamedUnit.{NamedUnit}
+use Rattle.bl_names_tree.specs.declared.item.NamedVar.{NamedVar}
+use Rattle.bl_names_tree.specs.declared.stmt.NamedStmt.{NamedStmt, fold-NamedStmt}
+use Rattle.bl_names_tree.specs.declared.stmt.NamedStmtKind.TheOpen.{NamedStmtKind-F, NamedArm-F, NamedBranch-F, NamedStmt-F}
+use Rattle.bl_names_tree.specs.Placed.{DeclaredBefore, holds_if, holds_of, parameters}
 use Rattle.bl_types.specs.declared.environment.Constant.{Constant}
 use Rattle.bl_types.specs.declared.environment.Environment.{Environment}
 use Rattle.bl_types.specs.declared.environment.Variable.{Variable}
@@ -92,7 +92,7 @@ abbrev pub FieldsStand : List StructDef → Type 0
 FieldsStand structs = (k : ℕ) (def : StructDef) → slice_get structs k ≡ Some def → list_all (λ field. type_stands k field.ty) def.fields ≡ true
 
 -- what a statement sees beside variables and constants is that of the site
-pub record Around (env : Environment) (site : Site) : Type 0 where
+pub record Around (env : Environment) (site : TypingContext) : Type 0 where
   pub later : List StructDef
   pub structs : site.structs ≡ env.structs ++ later
   pub units : env.units ≡ site.earlier
@@ -113,7 +113,7 @@ pub record Known (env : Environment) : Type 0 where
   pub constants : (k : ℕ) (constant : Constant) → slice_get env.constants k ≡ Some constant → ConstantStands constant
 
 -- each variable is the one of the site at its position
-abbrev pub VariablesThere : Environment → Site → Type 0
+abbrev pub VariablesThere : Environment → TypingContext → Type 0
 VariablesThere env site = (k : ℕ) (known : Variable) → slice_get env.vars k ≡ Some known → VariableThere site k known
 
 -- variables and constants are added alone
@@ -129,7 +129,7 @@ pub record Grown (before after : Environment) : Type 0 where
 
 -- what is known after a part of a body: as much as is counted, and what is made of the part is good where the variables are those
 -- of the site; it is made, where it must be
-pub record PartPassed {A : Type 0} (must : Bool) (site : Site) (good : A → Bool) (before : Environment) (counts : Earlier) (after : Walked A) : Type 0 where
+pub record PartPassed {A : Type 0} (must : Bool) (site : TypingContext) (good : A → Bool) (before : Environment) (counts : DeclaredBefore) (after : Walked A) : Type 0 where
   pub grown : Grown before after.env
   pub known : Known after.env
   pub counts_are : known_in after.env ≡ counts
@@ -137,7 +137,7 @@ pub record PartPassed {A : Type 0} (must : Bool) (site : Site) (good : A → Boo
   pub is_made : must ≡ true → VariablesThere after.env site → (a : A) × (after.made ≡ Some a)
 
 -- the same of a list of parts; something is made where something must be, and there are parts
-pub record BlockPassed {A : Type 0} (site : Site) (good : A → Bool) (inhabited : Bool) (before : Environment) (counts : Earlier) (after : Block A) : Type 0
+pub record BlockPassed {A : Type 0} (site : TypingContext) (good : A → Bool) (inhabited : Bool) (before : Environment) (counts : DeclaredBefore) (after : Block A) : Type 0
   where
     pub grown : Grown before after.env
     pub known : Known after.env
@@ -160,7 +160,7 @@ unit_named constants units unit = list_all (λ var. is_some var.ty) (take (param
 
 -- what is known after a unit: as much as is counted, and the unit with its types, each of whose
 -- statements fits, and whose variables have types that stand, and the names and roles that are named
-pub record UnitPassed (structs : List StructDef) (unit : NamedUnit) (before : Environment) (counts : Earlier) (after : Environment) : Type 0 where
+pub record UnitPassed (structs : List StructDef) (unit : NamedUnit) (before : Environment) (counts : DeclaredBefore) (after : Environment) : Type 0 where
   pub between : BetweenUnits after
   pub counts_are : known_in after ≡ counts
   pub same_structs : after.structs ≡ before.structs

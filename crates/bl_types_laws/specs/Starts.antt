@@ -6,11 +6,11 @@ use Rattle.bl_tree.specs.declared.tree.StmtKind.TheOpen.{StmtKind-F, Arm-F, Bran
 use Rattle.bl_tree.specs.Reduce.{joined}
 
 -- the places of statements by where they begin in the text, in bytes
-abbrev pub Starts : Type 0
-Starts = List ℕ
+abbrev pub StatementOffsets : Type 0
+StatementOffsets = List ℕ
 
 -- where the statements in the blocks of a kind of statement begin
-abbrev pub stmt_kind_starts : StmtKind-F Starts Starts Starts Starts → Starts
+abbrev pub stmt_kind_starts : StmtKind-F StatementOffsets StatementOffsets StatementOffsets StatementOffsets → StatementOffsets
 stmt_kind_starts (StmtKind-F.Declare k value) = []
 stmt_kind_starts (StmtKind-F.Assign path e) = []
 stmt_kind_starts (StmtKind-F.Call f inputs outputs) = []
@@ -25,25 +25,25 @@ stmt_kind_starts (StmtKind-F.While e body) = joined body
 stmt_kind_starts (StmtKind-F.Return e) = []
 
 -- where the statements in an arm begin, from those of each
-abbrev pub arm_layer_starts : Arm-F Starts Starts Starts Starts → Starts
+abbrev pub arm_layer_starts : Arm-F StatementOffsets StatementOffsets StatementOffsets StatementOffsets → StatementOffsets
 arm_layer_starts arm = joined arm.body
 
 -- where the statements in a branch begin, from those of each
-abbrev pub branch_layer_starts : Branch-F Starts Starts Starts Starts → Starts
+abbrev pub branch_layer_starts : Branch-F StatementOffsets StatementOffsets StatementOffsets StatementOffsets → StatementOffsets
 branch_layer_starts branch = joined branch.body
 
 -- where a statement begins, and then those in it
-abbrev pub stmt_layer_starts : Stmt-F Starts Starts Starts Starts → Starts
+abbrev pub stmt_layer_starts : Stmt-F StatementOffsets StatementOffsets StatementOffsets StatementOffsets → StatementOffsets
 stmt_layer_starts s = s.place.start ∷ s.what
 
 -- where a statement and those in it begin, in source order
-abbrev pub starts_of : Stmt → Starts
-starts_of = fold-Stmt Starts Starts Starts Starts stmt_kind_starts arm_layer_starts branch_layer_starts stmt_layer_starts
+abbrev pub starts_of : Stmt → StatementOffsets
+starts_of = fold-Stmt StatementOffsets StatementOffsets StatementOffsets StatementOffsets stmt_kind_starts arm_layer_starts branch_layer_starts stmt_layer_starts
 
 -- where the statements of a unit begin, in source order
-abbrev pub unit_starts : UnitDef → Starts
+abbrev pub unit_starts : UnitDef → StatementOffsets
 unit_starts unit = joined (map starts_of unit.body)
 
 -- where the statements of all units begin, in source order
-abbrev pub all_starts : List UnitDef → Starts
+abbrev pub all_starts : List UnitDef → StatementOffsets
 all_starts units = joined (map unit_starts units)

@@ -7,17 +7,17 @@ use Rattle.bl_tree.specs.declared.tree.Unit.{Unit as UnitDef}
 use Rattle.bl_tree.specs.declared.tree.Var.{Var}
 use Rattle.bl_tree.specs.Reduce.{all_of}
 use Rattle.bl_tree.specs.Scalar.{in_range}
-use Rattle.bl_tree.specs.Typing.{Site, is_function, var_at}
-use Rattle.bl_named.specs.declared.expr.NamedExpr.{NamedExpr, fold-NamedExpr}
-use Rattle.bl_named.specs.declared.expr.NamedExprKind.TheOpen.{NamedExprKind-F, NamedPart-F, NamedExpr-F, NamedTarget-F}
-use Rattle.bl_named.specs.declared.expr.NamedTarget.{NamedTarget, fold-NamedTarget}
-use Rattle.bl_named.specs.Placed.{Earlier, holds_of}
+use Rattle.bl_tree.specs.Typing.{TypingContext, is_function, var_at}
+use Rattle.bl_names_tree.specs.declared.expr.NamedExpr.{NamedExpr, fold-NamedExpr}
+use Rattle.bl_names_tree.specs.declared.expr.NamedExprKind.TheOpen.{NamedExprKind-F, NamedPart-F, NamedExpr-F, NamedTarget-F}
+use Rattle.bl_names_tree.specs.declared.expr.NamedTarget.{NamedTarget, fold-NamedTarget}
+use Rattle.bl_names_tree.specs.Placed.{DeclaredBefore, holds_of}
 use Rattle.bl_types.specs.declared.environment.Constant.{Constant}
 use Rattle.bl_types.specs.declared.environment.Environment.{Environment}
 use Rattle.bl_types.specs.declared.environment.Variable.{Variable}
 
 -- a variable has a type, and is the one of the site at its position
-pub record VariableThere (site : Site) (k : ℕ) (known : Variable) : Type 0 where
+pub record VariableThere (site : TypingContext) (k : ℕ) (known : Variable) : Type 0 where
   pub var : Var
   pub is_there : var_at site k ≡ Some var
   pub name : known.name ≡ var.name
@@ -35,7 +35,7 @@ abbrev pub has_parameters : UnitDef → Bool
 has_parameters unit = nat_le (unit.inputs + unit.outputs) (length unit.vars)
 
 -- what is known is a part of what the site has
-pub record Within (env : Environment) (site : Site) : Type 0 where
+pub record EnvironmentWithin (env : Environment) (site : TypingContext) : Type 0 where
   pub later : List StructDef
   pub structs : site.structs ≡ env.structs ++ later
   pub units : env.units ≡ site.earlier
@@ -46,7 +46,7 @@ pub record Within (env : Environment) (site : Site) : Type 0 where
   pub heads : list_all has_parameters site.earlier ≡ true
 
 -- how much is known
-abbrev pub known_in : Environment → Earlier
+abbrev pub known_in : Environment → DeclaredBefore
 known_in env = record { structs = length env.structs; constants = length env.constants; units = length env.units; variables = length env.vars }
 
 -- ---- calls

@@ -1,10 +1,10 @@
 //! Laws of typed programs, each the contract of a function that does nothing.
 
 ghost use Rattle.std.specs.Prelude.{◌≡◌, ℕ, List, true};
-ghost use Rattle.bl_tree.specs.Program.{Keeps};
-ghost use Rattle.bl_raw.specs.declared.item.RawItem.{RawItem};
-ghost use Rattle.bl_raw.specs.Keeps.{RawKeeps};
-ghost use Rattle.bl_scopes.specs.Rules.{Passes as NamesPass};
+ghost use Rattle.bl_tree.specs.Program.{IsWellTyped};
+ghost use Rattle.bl_parse_tree.specs.declared.item.RawItem.{RawItem};
+ghost use Rattle.bl_parse_tree.specs.WellFormed.{RawIsWellFormed};
+ghost use Rattle.bl_names_scopes.specs.Rules.{Passes as NamesPass};
 ghost use Rattle.bl_names.specs.Named.{named_program};
 ghost use Rattle.bl_types.specs.Programs.{typed_program};
 ghost use Rattle.bl_types.specs.Rules.{Passes as TypesPass};
@@ -18,11 +18,11 @@ use bl_names_laws::kept::what_is_named_keeps;
 /// those of a source.
 pub fn what_is_typed_keeps()
     ensures keeps { (items : List RawItem) (bytes : ℕ) →
-        RawKeeps items → NamesPass items → TypesPass (named_program items bytes) →
-        Keeps (typed_program (named_program items bytes)).structs (typed_program (named_program items bytes)).units
+        RawIsWellFormed items → NamesPass items → TypesPass (named_program items bytes) →
+        IsWellTyped (typed_program (named_program items bytes)).structs (typed_program (named_program items bytes)).units
         (typed_program (named_program items bytes)).entry }
     ensures shallow { (items : List RawItem) (bytes : ℕ) →
-        RawKeeps items → NamesPass items → TypesPass (named_program items bytes) →
+        RawIsWellFormed items → NamesPass items → TypesPass (named_program items bytes) →
         are_shallow (typed_program (named_program items bytes)).units ≡ true }
 {
     what_is_named_keeps();

@@ -1,10 +1,10 @@
 //! The law that the statements of a typed program begin one after another, as the contract of a function that does nothing.
 
 ghost use Rattle.std.specs.Prelude.{ℕ, List, IsTrue};
-ghost use Rattle.bl_raw.specs.declared.item.RawItem.{RawItem};
-ghost use Rattle.bl_raw.specs.Keeps.{RawKeeps};
-ghost use Rattle.bl_raw.specs.Starts.{ascends};
-ghost use Rattle.bl_scopes.specs.Rules.{Passes as NamesPass};
+ghost use Rattle.bl_parse_tree.specs.declared.item.RawItem.{RawItem};
+ghost use Rattle.bl_parse_tree.specs.WellFormed.{RawIsWellFormed};
+ghost use Rattle.bl_parse_tree.specs.Starts.{ascends};
+ghost use Rattle.bl_names_scopes.specs.Rules.{Passes as NamesPass};
 ghost use Rattle.bl_names.specs.Named.{named_program};
 ghost use Rattle.bl_types.specs.Programs.{typed_program};
 ghost use Rattle.bl_types.specs.Rules.{Passes as TypesPass};
@@ -16,7 +16,7 @@ use bl_names_laws::kept::what_is_named_keeps;
 
 /// The statements of a program in which no rule fails begin one after another, so no two of them have one place.
 pub fn statements_begin_in_order()
-    ensures { (items : List RawItem) (bytes : ℕ) → RawKeeps items → NamesPass items → TypesPass (named_program items bytes) →
+    ensures { (items : List RawItem) (bytes : ℕ) → RawIsWellFormed items → NamesPass items → TypesPass (named_program items bytes) →
         IsTrue (ascends (all_starts (typed_program (named_program items bytes)).units)) }
 {
     what_is_named_keeps();

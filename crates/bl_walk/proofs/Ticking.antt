@@ -16,18 +16,18 @@ use Rattle.bl_ctree.specs.Points.{Point, points}
 use Rattle.bl_ctree.specs.Reaches.{ReachesInside}
 use Rattle.bl_ctree.specs.Store.{outputs_row, woken_store}
 use Rattle.bl_ctree.specs.Ticks.{End, Rests, Steps, Trapped, resting_outcome}
-use Rattle.bl_steps.specs.Running.{Acted, State, action_of, stepped, stepped_by}
-use Rattle.bl_steps.specs.declared.action.Action.{Action as Told}
+use Rattle.bl_ctree_run.specs.Running.{Acted, RunState, action_of, stepped, stepped_by}
+use Rattle.bl_ctree_run.specs.declared.action.Action.{Action as Told}
 use Rattle.bl_walk.specs.declared.choice.Choice.{Choice}
 use Rattle.bl_walk.specs.Choices.{moved, picked}
 use Rattle.bl_walk.specs.inner.Ticks.{
   Begun,
-  Between,
   Reacted,
-  Stands,
   Steady,
+  StepsTo,
   Ticked,
   Took,
+  WalkBetweenTicks,
   breaks_off,
   ends,
   fails,
@@ -44,20 +44,20 @@ use Rattle.bl_walk.proofs.Picking.{picks_append}
 -- ---- one step
 
 -- what an action leaves, where it doesn't trap
-record Leaves (w : Setting) (s : State) (point : Point Control) (t : State) : Type 0 where
+record Leaves (w : Setting) (s : RunState) (point : Point Control) (t : RunState) : Type 0 where
   done : Performed
   performs : perform w point.action s.store ≡ Some done
   is : record { control = point.after done.answer; store = done.store } ≡ t
 
-abbrev stepped_from : State → Point Control → Option Performed → Option State
+abbrev stepped_from : RunState → Point Control → Option Performed → Option RunState
 stepped_from s point found = option_map (λ (p : Performed). record { control = point.after p.answer; store = p.store }) found
 
-leaves_from : (w : Setting) (s : State) (point : Point Control) (t : State) (found : Option Performed) → perform w point.action s.store ≡ found →
+leaves_from : (w : Setting) (s : RunState) (point : Point Control) (t : RunState) (found : Option Performed) → perform w point.action s.store ≡ found →
     stepped_from s point found ≡ Some t → Leaves w s point t
 leaves_from w s point t (Some p) e is = record { done = p; performs = e; is = cc }
 leaves_from w s point t None e is = absurd cc
 
-traps_from : (w : Setting) (s : State) (point : Point Control) (found : Option Performed) → perform w point.action s.store ≡ found →
+traps_from : (w : Setting) (s : RunState) (point : Point Control) (found : Option Performed) → perform w point.action s.store ≡ found →
     stepped_from s point found ≡ None → perform w point.action s.store ≡ None
 traps_from w s point (Some p) e is = absurd cc
 traps_from w s point None e is = e
@@ -72,7 +72,7 @@ nth [] k low = absurd (omega arith)
 nth (x ∷ xs) zero low = record { element = x; is = refl }
 nth (x ∷ xs) (suc k) low = let more = nth xs k (omega arith) in record { element = more.element; is = more.is }
 
-took : (w : Setting) (choice : Choice) (s t : State) (old new : List Place) (point : Point Control) → IsPicked w choice s.control point →
+took : (w : Setting) (choice : Choice) (s t : RunState) (old new : List Place) (point : Point Control) → IsPicked w choice s.control point →
     new ≡ old ++ point.action.place ∷ [] → (result : Result Did NoMemory) → Acted (stepped_by w s point) s t result →
     IfOk result (Took w choice s t old new)
 took w choice s t old new point is grew (Ok Done) acted = goes point is acted grew
@@ -80,7 +80,7 @@ took w choice s t old new point is grew (Ok Trap) acted = fails point is acted.0
 took w choice s t old new point is grew (Err e) acted = tt
 
 -- the action that was picked is done
-pub took_by : (w : Setting) (choice : Choice) (s t : State) (old new : List Place) (count : ℕ) (action : Told) (at number : ℕ)
+pub took_by : (w : Setting) (choice : Choice) (s t : RunState) (old new : List Place) (count : ℕ) (action : Told) (at number : ℕ)
     (result : Result Did NoMemory) → count ≡ length (points w 0 s.control) → at ≡ picked choice count → at < count → number ≡ at
     → option_map action_of (slice_get (points w 0 s.control) number) ≡ Some action → new ≡ old ++ action.place ∷ []
     → Acted (stepped w s number) s t result → IfOk result (Took w choice s t old new)
@@ -96,16 +96,16 @@ took_by w choice s t old new count action at number result size pick low same to
     (subst (λ o. Acted o s t result) outcome acted)
 
 -- as many as they were counted in the same state
-pub left_by : (w w' : Setting) (s s' : State) (left : ℕ) → w' ≡ w → s' ≡ s → left ≡ length (points w 0 s.control) →
+pub left_by : (w w' : Setting) (s s' : RunState) (left : ℕ) → w' ≡ w → s' ≡ s → left ≡ length (points w 0 s.control) →
     left ≡ length (points w' 0 s'.control)
 left_by w w' s s' left is_w is_s counted =
     counted ∙ (λ j. length (points (sym is_w j) 0 (sym is_s j).control))
 
 -- ---- lists of steps
 
-module _ (w : Setting) (s : State) where
+module _ (w : Setting) (s : RunState) where
   -- before the first step
-  pub stands_first : (choice : Choice) (places : List Place) → places ≡ [] → Stands w choice s choice s places
+  pub stands_first : (choice : Choice) (places : List Place) → places ≡ [] → StepsTo w choice s choice s places
   stands_first choice places e = record { actions = []; picks = no_step; told = e }
 
   told_more : (actions : List Action) (a : Action) (old new : List Place) → old ≡ places_of actions → new ≡ old ++ a.place ∷ [] →
@@ -114,23 +114,23 @@ module _ (w : Setting) (s : State) where
       e ∙ ap (λ front. front ++ a.place ∷ []) told ∙ sym (map-append (λ (b : Action). b.place) actions (a ∷ []))
 
   -- one step more
-  stands_on : (choice now : Choice) (t u : State) (old new : List Place) → Stands w choice s now t old → (point : Point Control) →
+  stands_on : (choice now : Choice) (t u : RunState) (old new : List Place) → StepsTo w choice s now t old → (point : Point Control) →
       IsPicked w (moved now) t.control point → Leaves w t point u → new ≡ old ++ point.action.place ∷ [] →
-      Stands w choice s (moved now) u new
+      StepsTo w choice s (moved now) u new
   stands_on choice now t u old new stands point is leaves e = record {
     actions = stands.actions ++ point.action ∷ [];
-    picks = picks_append stands.picks (subst (λ (u : State). Picks w now t.control t.store (point.action ∷ []) (moved now) (Rests u.control u.store))
+    picks = picks_append stands.picks (subst (λ (u : RunState). Picks w now t.control t.store (point.action ∷ []) (moved now) (Rests u.control u.store))
         leaves.is (one_step point leaves.done is leaves.performs no_step));
     told = told_more stands.actions point.action old new stands.told e;
   }
 
-  pub stands_took : (choice now : Choice) (t u : State) (old new : List Place) → Stands w choice s now t old → Took w (moved now) t u old new Done →
-      Stands w choice s (moved now) u new
+  pub stands_took : (choice now : Choice) (t u : RunState) (old new : List Place) → StepsTo w choice s now t old → Took w (moved now) t u old new Done →
+      StepsTo w choice s (moved now) u new
   stands_took choice now t u old new stands (goes point is steps e) =
       stands_on choice now t u old new stands point is (leaves_from w t point u (perform w point.action t.store) refl steps) e
 
   -- a trap is the last step
-  pub reacted_trap : (choice now : Choice) (t u : State) (old new : List Place) → Stands w choice s now t old → Took w (moved now) t u old new Trap →
+  pub reacted_trap : (choice now : Choice) (t u : RunState) (old new : List Place) → StepsTo w choice s now t old → Took w (moved now) t u old new Trap →
       Reacted w choice s (moved now) u new Trap
   reacted_trap choice now t u old new stands (fails point is steps e) =
       breaks_off (stands.actions ++ point.action ∷ [])
@@ -145,10 +145,10 @@ module _ (w : Setting) (s : State) where
     tree = begun.tree;
     store = begun.store;
     before = begun.reached;
-    steps = subst (λ (s : State). Steps w s.control s.store actions end) begun.is steps;
+    steps = subst (λ (s : RunState). Steps w s.control s.store actions end) begun.is steps;
   }
 
-  pub few_steps : Steady w → Begun w s → PicksAreSteps → (choice now : Choice) (t : State) (places : List Place) → Stands w choice s now t places →
+  pub few_steps : Steady w → Begun w s → PicksAreSteps → (choice now : Choice) (t : RunState) (places : List Place) → StepsTo w choice s now t places →
       length places ≤ most_steps w
   few_steps steady begun are_steps choice now t places stands =
       let few : length stands.actions ≤ most_steps w =
@@ -159,8 +159,8 @@ module _ (w : Setting) (s : State) where
       omega (arith, few, same)
 
   -- where no point may act nothing is left to do
-  pub settled_there : Steady w → Begun w s → PicksAreSteps → StillIsUnlisted → (choice now : Choice) (t : State) (places : List Place) →
-      Stands w choice s now t places → points w 0 t.control ≡ [] → is_settled t.control ≡ true
+  pub settled_there : Steady w → Begun w s → PicksAreSteps → StillIsUnlisted → (choice now : Choice) (t : RunState) (places : List Place) →
+      StepsTo w choice s now t places → points w 0 t.control ≡ [] → is_settled t.control ≡ true
   settled_there steady begun are_steps still choice now t places stands none =
       steady.never_stuck begun.rows begun.row stands.actions t.control t.store
       (reaches begun stands.actions (Rests t.control t.store)
@@ -172,21 +172,21 @@ none_of [] count size is = refl
 none_of (x ∷ xs) count size is = absurd (omega (arith, size, is))
 
 -- a step makes the list of places longer
-pub one_place_more : (w : Setting) (choice : Choice) (s t : State) (old new : List Place) → Took w choice s t old new Done →
+pub one_place_more : (w : Setting) (choice : Choice) (s t : RunState) (old new : List Place) → Took w choice s t old new Done →
     length new ≡ length old + 1
 one_place_more w choice s t old new (goes point is steps e) = ap length e ∙ length-append old (point.action.place ∷ [])
 
 -- ---- steps as they are told
 
-module _ (w w' : Setting) (same : w' ≡ w) (choice : Choice) (s : State) (now next : Choice) (turned : next ≡ moved now) (t u : State)
-    (old new : List Place) (stands : Stands w choice s now t old) where
+module _ (w w' : Setting) (same : w' ≡ w) (choice : Choice) (s : RunState) (now next : Choice) (turned : next ≡ moved now) (t u : RunState)
+    (old new : List Place) (stands : StepsTo w choice s now t old) where
   by_moved : (did : Did) → Took w' next t u old new did → Took w (moved now) t u old new did
   by_moved did took =
       subst (λ n. Took w n t u old new did) turned (subst (λ (v : Setting). Took v next t u old new did) same took)
 
-  pub stands_by : (did : Did) → did ≡ Done → Took w' next t u old new did → Stands w choice s next u new
+  pub stands_by : (did : Did) → did ≡ Done → Took w' next t u old new did → StepsTo w choice s next u new
   stands_by did is took =
-      subst (λ n. Stands w choice s n u new) (sym turned)
+      subst (λ n. StepsTo w choice s n u new) (sym turned)
       (stands_took w s choice now t u old new stands (subst (λ d. Took w (moved now) t u old new d) is (by_moved did took)))
 
   pub reacted_by : (did : Did) → did ≡ Trap → Took w' next t u old new did → Reacted w choice s next u new did
@@ -199,12 +199,12 @@ module _ (w w' : Setting) (same : w' ≡ w) (choice : Choice) (s : State) (now n
 
 -- ---- the whole tick
 
-module _ (w : Setting) (choice : Choice) (row : List ℤ) (s : State) where
+module _ (w : Setting) (choice : Choice) (row : List ℤ) (s : RunState) where
   -- what has awoken
-  abbrev awake : State
+  abbrev awake : RunState
   awake = record { control = woken s.control; store = woken_store row s.store }
 
-  pub begins : Between w s → (t : State) → t ≡ awake → Begun w t
+  pub begins : WalkBetweenTicks w s → (t : RunState) → t ≡ awake → Begun w t
   begins between t e = record {
     rows = between.rows;
     row = row;
@@ -222,7 +222,7 @@ module _ (w : Setting) (choice : Choice) (row : List ℤ) (s : State) where
       maximal = record { steps = are_steps w choice now awake.control awake.store actions Trapped picks; over = tt };
     }
 
-    rested_tick : StillIsUnlisted → SettledIsStill → (now : Choice) (t : State) (actions : List Action) →
+    rested_tick : StillIsUnlisted → SettledIsStill → (now : Choice) (t : RunState) (actions : List Action) →
         Picks w choice awake.control awake.store actions now (Rests t.control t.store) → is_settled t.control ≡ true →
         PickedTick w choice row s.control s.store actions now (Rests t.control t.store)
     rested_tick still settled_still now t actions picks settled = record {
@@ -234,15 +234,15 @@ module _ (w : Setting) (choice : Choice) (row : List ℤ) (s : State) where
     }
 
     -- a tick that trapped
-    pub ticked_trap : (first : State) → first ≡ awake → (now : Choice) (t : State) (places : List Place) → Reacted w choice first now t places Trap →
+    pub ticked_trap : (first : RunState) → first ≡ awake → (now : Choice) (t : RunState) (places : List Place) → Reacted w choice first now t places Trap →
         (outs outs' : List (List ℤ)) (lists lists' : List (List Place)) → outs' ≡ outs → lists' ≡ lists ++ places ∷ [] →
         Ticked w choice row s now t outs outs' lists lists' last.Trap
     ticked_trap first e now t places (breaks_off actions picks told) outs outs' lists lists' same grew =
         tick_traps actions
-        (trapped_tick now actions (subst (λ (f : State). Picks w choice f.control f.store actions now Trapped) e picks)) same
+        (trapped_tick now actions (subst (λ (f : RunState). Picks w choice f.control f.store actions now Trapped) e picks)) same
         (grew ∙ ap (λ p. lists ++ p ∷ []) told)
 
-    by_nil : (still : StillIsUnlisted) (settled_still : SettledIsStill) (now : Choice) (t : State) (actions : List Action) →
+    by_nil : (still : StillIsUnlisted) (settled_still : SettledIsStill) (now : Choice) (t : RunState) (actions : List Action) →
         Picks w choice awake.control awake.store actions now (Rests t.control t.store) → is_settled t.control ≡ true →
         (outs outs' : List (List ℤ)) (lists lists' : List (List Place)) → outs' ≡ outs ++ outputs_row w t.store ∷ [] →
         lists' ≡ lists ++ places_of actions ∷ [] → (nil : Bool) → is_nil t.control ≡ nil →
@@ -254,20 +254,20 @@ module _ (w : Setting) (choice : Choice) (row : List ℤ) (s : State) where
         (ap (λ nil. resting_outcome nil (is_settled t.control)) e ∙ ap (λ b. resting_outcome false b) settled) rowed grew
 
     -- one that didn't
-    pub ticked_row : StillIsUnlisted → SettledIsStill → (first : State) → first ≡ awake → (now : Choice) (t : State) (places : List Place) →
+    pub ticked_row : StillIsUnlisted → SettledIsStill → (first : RunState) → first ≡ awake → (now : Choice) (t : RunState) (places : List Place) →
         Reacted w choice first now t places Done → (outs outs' : List (List ℤ)) (lists lists' : List (List Place)) →
         outs' ≡ outs ++ outputs_row w t.store ∷ [] → lists' ≡ lists ++ places ∷ [] → (stand : Last) →
         stand ≡ (if is_nil t.control then last.Ended else last.Open) → Ticked w choice row s now t outs outs' lists lists' stand
     ticked_row still settled_still first e now t places (rests stands settled) outs outs' lists lists' rowed grew stand is =
         subst (λ (l : Last). Ticked w choice row s now t outs outs' lists lists' l) (sym is)
         (by_nil still settled_still now t stands.actions
-        (subst (λ (f : State). Picks w choice f.control f.store stands.actions now (Rests t.control t.store)) e stands.picks) settled
+        (subst (λ (f : RunState). Picks w choice f.control f.store stands.actions now (Rests t.control t.store)) e stands.picks) settled
         outs outs' lists lists' rowed (grew ∙ ap (λ p. lists ++ p ∷ []) stands.told) (is_nil t.control) refl)
 
 -- ---- the whole tick as it is told
 
-module _ (w w' : Setting) (same : w' ≡ w) (choice : Choice) (row : List ℤ) (s first : State)
-    (e : first ≡ record { control = woken s.control; store = woken_store row s.store }) (are_steps : PicksAreSteps) (now : Choice) (t : State)
+module _ (w w' : Setting) (same : w' ≡ w) (choice : Choice) (row : List ℤ) (s first : RunState)
+    (e : first ≡ record { control = woken s.control; store = woken_store row s.store }) (are_steps : PicksAreSteps) (now : Choice) (t : RunState)
     (places : List Place) (did : Did) (reacted : Reacted w' choice first now t places did) (lists lists' : List (List Place))
     (grew : lists' ≡ lists ++ places ∷ []) where
   there : (kind : Did) → did ≡ kind → Reacted w choice first now t places kind

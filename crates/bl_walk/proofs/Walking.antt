@@ -38,14 +38,14 @@ use Rattle.bl_ctree.specs.Instances.{Setting, setting_of}
 use Rattle.bl_ctree.specs.Laws.{StillIsUnlisted}
 use Rattle.bl_ctree.specs.Means.{
   Allows,
-  Shown,
+  ShownTrace,
   ends as allows_end,
   entry_items,
   goes_on as allows_more,
   is_stuck as allows_stuck,
   nothing_more,
   row_then,
-  shown,
+  shown_trace,
   stays_open as allows_none,
   traps as allows_trap,
 }
@@ -53,10 +53,10 @@ use Rattle.bl_ctree.specs.Measure.{steps as steps_within}
 use Rattle.bl_ctree.specs.Reaches.{Bounded, NeverStuck, after_tick, at_first}
 use Rattle.bl_ctree.specs.Store.{Store, first_store, outputs_row}
 use Rattle.bl_ctree.specs.Ticks.{Tick, End}
-use Rattle.bl_steps.specs.Running.{State}
+use Rattle.bl_ctree_run.specs.Running.{RunState}
 use Rattle.bl_walk.specs.declared.choice.Choice.{Choice}
 use Rattle.bl_walk.specs.Choices.{choice_of}
-use Rattle.bl_walk.specs.inner.Ticks.{Between, Steady, Ticked, ends as tick_ends, pauses as tick_pauses, traps as tick_traps}
+use Rattle.bl_walk.specs.inner.Ticks.{Steady, Ticked, WalkBetweenTicks, ends as tick_ends, pauses as tick_pauses, traps as tick_traps}
 use Rattle.bl_walk.specs.Laws.{BeginsNoMoreTicks, ClosedStayClosed, FrontsShowFronts, ShowsNoMoreRows, UnsettledGoOn, WalksAreAllowed, WalksAreMeant}
 use Rattle.bl_walk.specs.Walks.{Appended, PickedTick, Walks, ends, goes_on, places_of, stays_open, traps}
 
@@ -67,21 +67,21 @@ module _ (w : Setting) where
       PickedTick w choice row c store actions last end → Tick w row c store end
   tick_of {actions = actions} tick = record { actions = actions; maximal = tick.maximal }
 
-  allowed : {choice : Choice} {rows : List (List ℤ)} {c : Control} {store : Store} {shows : Shown} {lists : List (List Action)} →
+  allowed : {choice : Choice} {rows : List (List ℤ)} {c : Control} {store : Store} {shows : ShownTrace} {lists : List (List Action)} →
       Walks w choice rows c store shows lists → Allows w rows c store shows
   allowed stays_open = allows_none
   allowed (traps tick) = allows_trap (tick_of tick)
   allowed (ends tick e) = allows_end (tick_of tick) e
   allowed (goes_on tick e more) = allows_more (tick_of tick) e (allowed more)
 
-  no_more : {rows : List (List ℤ)} {c : Control} {store : Store} {shows : Shown} → Allows w rows c store shows → length shows.rows ≤ length rows
+  no_more : {rows : List (List ℤ)} {c : Control} {store : Store} {shows : ShownTrace} → Allows w rows c store shows → length shows.rows ≤ length rows
   no_more allows_none = omega arith
   no_more (allows_trap tick) = omega arith
   no_more (allows_stuck tick e) = omega arith
   no_more (allows_end {rows = rows} tick e) = omega arith
   no_more (allows_more tick e rest) = let few = no_more rest in omega arith
 
-  no_more_ticks : {choice : Choice} {rows : List (List ℤ)} {c : Control} {store : Store} {shows : Shown} {lists : List (List Action)} →
+  no_more_ticks : {choice : Choice} {rows : List (List ℤ)} {c : Control} {store : Store} {shows : ShownTrace} {lists : List (List Action)} →
       Walks w choice rows c store shows lists → length lists ≤ length rows
   no_more_ticks stays_open = omega arith
   no_more_ticks (traps tick) = omega arith
@@ -89,7 +89,7 @@ module _ (w : Setting) where
   no_more_ticks (goes_on tick e rest) = let few = no_more_ticks rest in omega arith
 
   -- whatever rows come behind a run that is closed
-  closed : (more : List (List ℤ)) {rows : List (List ℤ)} {c : Control} {store : Store} {shows : Shown} → Allows w rows c store shows →
+  closed : (more : List (List ℤ)) {rows : List (List ℤ)} {c : Control} {store : Store} {shows : ShownTrace} → Allows w rows c store shows →
       shows.last ≢ Some last.Open → Allows w (rows ++ more) c store shows
   closed more allows_none opened = absurd (opened refl)
   closed more (allows_trap tick) opened = allows_trap tick
@@ -98,14 +98,14 @@ module _ (w : Setting) where
   closed more (allows_more tick e rest) opened = allows_more tick e (closed more rest opened)
 
 -- what is allowed over the first rows
-record Front (w : Setting) (rows : List (List ℤ)) (c : Control) (store : Store) (shows : Shown) : Type 0 where
-  front : Shown
+record Front (w : Setting) (rows : List (List ℤ)) (c : Control) (store : Store) (shows : ShownTrace) : Type 0 where
+  front : ShownTrace
   allows : Allows w rows c store front
   more : List (List ℤ)
   are : shows.rows ≡ front.rows ++ more
 
 module _ (w : Setting) where
-  front_of : (rows more : List (List ℤ)) {c : Control} {store : Store} {shows : Shown} → Allows w (rows ++ more) c store shows →
+  front_of : (rows more : List (List ℤ)) {c : Control} {store : Store} {shows : ShownTrace} → Allows w (rows ++ more) c store shows →
       Front w rows c store shows
   front_of [] more {shows = shows} allows =
       record { front = nothing_more (Some last.Open); allows = allows_none; more = shows.rows; are = refl }
@@ -162,14 +162,14 @@ pub steady_at : (structs : List StructDef) (units : List UnitDef) (entry : ℕ) 
 steady_at structs units entry bounded never w e = subst Steady (sym e) (record { bounded = bounded; never_stuck = never })
 
 -- a walk from where a run stands is one from where it began
-pub record Onward (w : Setting) (choice : Choice) (rows : List (List ℤ)) (s : State) (lists : List (List Place)) (now : Choice)
-    (rows2 : List (List ℤ)) (t : State) (outs : List (List ℤ)) (lists2 : List (List Place)) : Type 0 where
+pub record Onward (w : Setting) (choice : Choice) (rows : List (List ℤ)) (s : RunState) (lists : List (List Place)) (now : Choice)
+    (rows2 : List (List ℤ)) (t : RunState) (outs : List (List ℤ)) (lists2 : List (List Place)) : Type 0 where
   pub steps : List (List Action)
   pub told : lists2 ≡ lists ++ map places_of steps
-  pub on : (shows : Shown) (more : List (List Action)) → Walks w now rows2 t.control t.store shows more →
+  pub on : (shows : ShownTrace) (more : List (List Action)) → Walks w now rows2 t.control t.store shows more →
       Walks w choice rows s.control s.store (record { rows = outs ++ shows.rows; last = shows.last }) (steps ++ more)
 
-module _ (w : Setting) (choice : Choice) (rows : List (List ℤ)) (s : State) (lists : List (List Place)) where
+module _ (w : Setting) (choice : Choice) (rows : List (List ℤ)) (s : RunState) (lists : List (List Place)) where
   pub onward_first : Onward w choice rows s lists choice rows s [] lists
   onward_first = record { steps = []; told = sym (append-nil lists); on = λ shows more walks. walks }
 
@@ -181,10 +181,10 @@ module _ (w : Setting) (choice : Choice) (rows : List (List ℤ)) (s : State) (l
 
   -- ---- after a tick
 
-  abbrev From : Choice → List (List ℤ) → State → List (List ℤ) → List (List Place) → Type 0
+  abbrev From : Choice → List (List ℤ) → RunState → List (List ℤ) → List (List Place) → Type 0
   From now rows2 t outs lists2 = Onward w choice rows s lists now rows2 t outs lists2
 
-  pub onward_pause : (now later : Choice) (row : List ℤ) (rows2 rows3 : List (List ℤ)) (t u : State) (outs outs' : List (List ℤ))
+  pub onward_pause : (now later : Choice) (row : List ℤ) (rows2 rows3 : List (List ℤ)) (t u : RunState) (outs outs' : List (List ℤ))
       (lists2 lists3 : List (List Place)) → From now rows2 t outs lists2 → rows2 ≡ row ∷ rows3 →
       Ticked w now row t later u outs outs' lists2 lists3 last.Open → From later rows3 u outs' lists3
   onward_pause now later row rows2 rows3 t u outs outs' lists2 lists3 onward next (tick_pauses actions tick e rowed grew) = record {
@@ -209,10 +209,10 @@ module _ (w : Setting) (choice : Choice) (rows : List (List ℤ)) (s : State) (l
   -- all steps, with what is shown
   pub record Whole (trace : Trace) (after : List (List Place)) : Type 0 where
     pub all : List (List Action)
-    pub walks : Walks w choice rows s.control s.store (shown trace) all
+    pub walks : Walks w choice rows s.control s.store (shown_trace trace) all
     pub told : after ≡ lists ++ map places_of all
 
-  pub whole_open : (now : Choice) (t : State) (outs : List (List ℤ)) (after : List (List Place)) (rows2 : List (List ℤ)) → rows2 ≡ [] →
+  pub whole_open : (now : Choice) (t : RunState) (outs : List (List ℤ)) (after : List (List Place)) (rows2 : List (List ℤ)) → rows2 ≡ [] →
       From now rows2 t outs after → Whole (record { rows = outs; last = last.Open }) after
   whole_open now t outs after rows2 none onward = record {
     all = onward.steps ++ [];
@@ -222,7 +222,7 @@ module _ (w : Setting) (choice : Choice) (rows : List (List ℤ)) (s : State) (l
     told = onward.told ∙ ap (λ steps. lists ++ map places_of steps) (sym (append-nil onward.steps));
   }
 
-  pub whole_closed : (now later : Choice) (row : List ℤ) (rows2 rows3 : List (List ℤ)) (t u : State) (outs outs' : List (List ℤ))
+  pub whole_closed : (now later : Choice) (row : List ℤ) (rows2 rows3 : List (List ℤ)) (t u : RunState) (outs outs' : List (List ℤ))
       (lists2 after : List (List Place)) → From now rows2 t outs lists2 → rows2 ≡ row ∷ rows3 → (stand : Last) → (stand ≡ last.Open → ⊥) →
       Ticked w now row t later u outs outs' lists2 after stand → Whole (record { rows = outs'; last = stand }) after
   whole_closed now later row rows2 rows3 t u outs outs' lists2 after onward next _ opened (tick_pauses actions tick e rowed grew) = absurd (opened refl)
@@ -246,19 +246,19 @@ module _ (w : Setting) (choice : Choice) (rows : List (List ℤ)) (s : State) (l
   }
 
 -- a run stands between two ticks again
-pub between_pause : (w : Setting) (now later : Choice) (row : List ℤ) (t u : State) (outs outs' : List (List ℤ)) (lists lists' : List (List Place)) →
-    Between w t → Ticked w now row t later u outs outs' lists lists' last.Open → Between w u
+pub between_pause : (w : Setting) (now later : Choice) (row : List ℤ) (t u : RunState) (outs outs' : List (List ℤ)) (lists lists' : List (List Place)) →
+    WalkBetweenTicks w t → Ticked w now row t later u outs outs' lists lists' last.Open → WalkBetweenTicks w u
 between_pause w now later row t u outs outs' lists lists' between (tick_pauses actions tick e rowed grew) = record {
   rows = between.rows ++ row ∷ [];
   reached = after_tick between.reached (tick_of w tick) e refl;
 }
 
-pub between_first : (w : Setting) (s : State) → s ≡ record { control = Idle (entry_items w); store = first_store w } → Between w s
-between_first w s e = subst (Between w) (sym e) (record { rows = []; reached = at_first })
+pub between_first : (w : Setting) (s : RunState) → s ≡ record { control = Idle (entry_items w); store = first_store w } → WalkBetweenTicks w s
+between_first w s e = subst (WalkBetweenTicks w) (sym e) (record { rows = []; reached = at_first })
 
 -- what a program's walk appended
 pub appended : (structs : List StructDef) (units : List UnitDef) (entry seed : ℕ) (rows : List (List ℤ)) (trace : Trace)
-    (lists after : List (List Place)) (w : Setting) (s : State) (choice : Choice) → w ≡ setting_of structs units entry →
+    (lists after : List (List Place)) (w : Setting) (s : RunState) (choice : Choice) → w ≡ setting_of structs units entry →
     s ≡ record { control = Idle (entry_items w); store = first_store w } → choice ≡ choice_of seed → Whole w choice rows s lists trace after →
     Appended structs units entry seed rows trace lists after
 appended structs units entry seed rows trace lists after w s choice we se ce whole = record {
@@ -266,9 +266,9 @@ appended structs units entry seed rows trace lists after w s choice we se ce who
   walked = record {
     steps = whole.all;
     walks =
-        subst (λ (w : Setting). Walks w (choice_of seed) rows (Idle (entry_items w)) (first_store w) (shown trace) whole.all) we
-        (subst (λ (ch : Choice). Walks w ch rows (Idle (entry_items w)) (first_store w) (shown trace) whole.all) ce
-        (subst (λ (st : State). Walks w choice rows st.control st.store (shown trace) whole.all) se whole.walks));
+        subst (λ (w : Setting). Walks w (choice_of seed) rows (Idle (entry_items w)) (first_store w) (shown_trace trace) whole.all) we
+        (subst (λ (ch : Choice). Walks w ch rows (Idle (entry_items w)) (first_store w) (shown_trace trace) whole.all) ce
+        (subst (λ (st : RunState). Walks w choice rows st.control st.store (shown_trace trace) whole.all) se whole.walks));
     places = refl;
   };
   grew = whole.told;
@@ -279,13 +279,13 @@ appended structs units entry seed rows trace lists after w s choice we se ce who
 pub next_row : {A : Type 0} (rows : List A) (k : ℕ) (row : A) → k < length rows → row ≡ get_or rows k row → drop k rows ≡ row ∷ drop (k + 1) rows
 next_row rows k row low is = rw add-one (drop-cons rows k row low ∙ ap (λ x. x ∷ drop (suc k) rows) (sym is))
 
-module _ (w w' : Setting) (same : w' ≡ w) (choice : Choice) (rows : List (List ℤ)) (s : State) (lists : List (List Place)) (now later : Choice)
-    (row : List ℤ) (rows2 rows3 : List (List ℤ)) (t u : State) (outs outs' : List (List ℤ)) (lists2 lists3 : List (List Place))
+module _ (w w' : Setting) (same : w' ≡ w) (choice : Choice) (rows : List (List ℤ)) (s : RunState) (lists : List (List Place)) (now later : Choice)
+    (row : List ℤ) (rows2 rows3 : List (List ℤ)) (t u : RunState) (outs outs' : List (List ℤ)) (lists2 lists3 : List (List Place))
     (onward : Onward w choice rows s lists now rows2 t outs lists2) where
   -- a run that pauses goes on
-  pub going_on : Between w t → rows2 ≡ row ∷ rows3 → (stand : Last) → stand ≡ last.Open →
+  pub going_on : WalkBetweenTicks w t → rows2 ≡ row ∷ rows3 → (stand : Last) → stand ≡ last.Open →
       Ticked w' now row t later u outs outs' lists2 lists3 stand →
-      Between w u × Onward w choice rows s lists later rows3 u outs' lists3
+      WalkBetweenTicks w u × Onward w choice rows s lists later rows3 u outs' lists3
   going_on between next stand is ticked =
       let here : Ticked w now row t later u outs outs' lists2 lists3 last.Open =
       subst (λ l. Ticked w now row t later u outs outs' lists2 lists3 l) is
@@ -305,8 +305,8 @@ module _ (w w' : Setting) (same : w' ≡ w) (choice : Choice) (rows : List (List
       (subst (λ (v : Setting). Ticked v now row t later u outs outs' lists2 lists3 stand) same ticked))
 
 -- and so was one whose rows are used up
-pub walked_open : (w : Setting) (choice : Choice) (rows : List (List ℤ)) (s : State) (lists : List (List Place)) (now : Choice)
-    (rows2 : List (List ℤ)) (t : State) (outs : List (List ℤ)) (lists2 : List (List Place)) → Onward w choice rows s lists now rows2 t outs lists2 →
+pub walked_open : (w : Setting) (choice : Choice) (rows : List (List ℤ)) (s : RunState) (lists : List (List Place)) (now : Choice)
+    (rows2 : List (List ℤ)) (t : RunState) (outs : List (List ℤ)) (lists2 : List (List Place)) → Onward w choice rows s lists now rows2 t outs lists2 →
     (structs : List StructDef) (units : List UnitDef) (entry seed : ℕ) → w ≡ setting_of structs units entry →
     s ≡ record { control = Idle (entry_items w); store = first_store w } → choice ≡ choice_of seed → rows2 ≡ [] →
     Appended structs units entry seed rows (record { rows = outs; last = last.Open }) lists lists2

@@ -8,8 +8,8 @@ use Rattle.bl_tree.specs.declared.tree.Unit.{Unit as UnitDef}
 use Rattle.bl_ctree.specs.Actions.{Action, Performed, perform}
 use Rattle.bl_ctree.specs.Control.{Control, is_settled}
 use Rattle.bl_ctree.specs.Instances.{Setting, setting_of}
-use Rattle.bl_ctree.specs.Means.{Allows, Means, Shown, shown}
-use Rattle.bl_ctree.specs.Points.{Among, Point, points}
+use Rattle.bl_ctree.specs.Means.{Allows, Means, ShownTrace, shown_trace}
+use Rattle.bl_ctree.specs.Points.{IsMember, Point, points}
 use Rattle.bl_ctree.specs.Reaches.{NeverStuck, ReachesInside}
 use Rattle.bl_ctree.specs.Steps.{Step, Traps}
 use Rattle.bl_ctree.specs.Store.{Store}
@@ -19,9 +19,9 @@ use Rattle.bl_walk.specs.Walks.{HasWalked, Picks, Walks}
 
 -- a point that may act steps, or traps
 pub record PointsStepOrTrap : Type 0 where
-  pub steps : (w : Setting) (c : Control) (store : Store) (point : Point Control) (done : Performed) → Among (Point Control) point (points w 0 c) →
+  pub steps : (w : Setting) (c : Control) (store : Store) (point : Point Control) (done : Performed) → IsMember (Point Control) point (points w 0 c) →
       perform w point.action store ≡ Some done → Step w c store point.action (point.after done.answer) done.store
-  pub traps : (w : Setting) (c : Control) (store : Store) (point : Point Control) → Among (Point Control) point (points w 0 c) →
+  pub traps : (w : Setting) (c : Control) (store : Store) (point : Point Control) → IsMember (Point Control) point (points w 0 c) →
       perform w point.action store ≡ None → Traps w c store point.action
 
 -- a list of picked steps is a list of steps
@@ -38,17 +38,17 @@ UnsettledGoOn = (structs : List StructDef) (units : List UnitDef) (entry : ℕ) 
 
 -- what a walk shows the meaning allows
 abbrev pub WalksAreAllowed : Type 0
-WalksAreAllowed = (w : Setting) (choice : Choice) (rows : List (List ℤ)) (c : Control) (store : Store) (shows : Shown) (lists : List (List Action)) →
+WalksAreAllowed = (w : Setting) (choice : Choice) (rows : List (List ℤ)) (c : Control) (store : Store) (shows : ShownTrace) (lists : List (List Action)) →
     Walks w choice rows c store shows lists → Allows w rows c store shows
 
 -- so for each seed the walk of a program has a trace that the meaning allows: where that is one alone, it is this one
 abbrev pub WalksAreMeant : Type 0
 WalksAreMeant = (structs : List StructDef) (units : List UnitDef) (entry seed : ℕ) (rows : List (List ℤ)) (trace : Trace) (lists : List (List Place)) →
-    HasWalked structs units entry seed rows trace lists → Means structs units entry rows (shown trace)
+    HasWalked structs units entry seed rows trace lists → Means structs units entry rows (shown_trace trace)
 
 -- no more rows are shown than there are
 abbrev pub ShowsNoMoreRows : Type 0
-ShowsNoMoreRows = (w : Setting) (rows : List (List ℤ)) (c : Control) (store : Store) (shows : Shown) → Allows w rows c store shows →
+ShowsNoMoreRows = (w : Setting) (rows : List (List ℤ)) (c : Control) (store : Store) (shows : ShownTrace) → Allows w rows c store shows →
     length shows.rows ≤ length rows
 
 -- and no more ticks are begun
@@ -57,18 +57,18 @@ BeginsNoMoreTicks = (structs : List StructDef) (units : List UnitDef) (entry see
     (lists : List (List Place)) → HasWalked structs units entry seed rows trace lists → length lists ≤ length rows
 
 -- what the meaning allows over the first of some rows, of which something was shown
-pub record ShowsFront (structs : List StructDef) (units : List UnitDef) (entry : ℕ) (rows : List (List ℤ)) (shows : Shown) : Type 0 where
-  pub front : Shown
+pub record ShowsFront (structs : List StructDef) (units : List UnitDef) (entry : ℕ) (rows : List (List ℤ)) (shows : ShownTrace) : Type 0 where
+  pub front : ShownTrace
   pub means : Means structs units entry rows front
   pub more : List (List ℤ)
   pub are : shows.rows ≡ front.rows ++ more
 
 -- what is shown over rows begins with what is shown over the first of them
 abbrev pub FrontsShowFronts : Type 0
-FrontsShowFronts = (structs : List StructDef) (units : List UnitDef) (entry : ℕ) (rows more : List (List ℤ)) (shows : Shown) →
+FrontsShowFronts = (structs : List StructDef) (units : List UnitDef) (entry : ℕ) (rows more : List (List ℤ)) (shows : ShownTrace) →
     Means structs units entry (rows ++ more) shows → ShowsFront structs units entry rows shows
 
 -- a run that has ended or trapped is as it was, whatever rows come behind
 abbrev pub ClosedStayClosed : Type 0
-ClosedStayClosed = (structs : List StructDef) (units : List UnitDef) (entry : ℕ) (rows more : List (List ℤ)) (shows : Shown) →
+ClosedStayClosed = (structs : List StructDef) (units : List UnitDef) (entry : ℕ) (rows more : List (List ℤ)) (shows : ShownTrace) →
     Means structs units entry rows shows → shows.last ≢ Some Open → Means structs units entry (rows ++ more) shows

@@ -8,7 +8,7 @@ use Rattle.bl_tree.specs.declared.tree.Unit.{Unit as UnitDef}
 use Rattle.bl_ctree.specs.Actions.{Action, Performed, perform}
 use Rattle.bl_ctree.specs.Control.{Control, Idle, woken}
 use Rattle.bl_ctree.specs.Instances.{Setting, setting_of}
-use Rattle.bl_ctree.specs.Means.{Shown, entry_items, nothing_more, row_then, shown}
+use Rattle.bl_ctree.specs.Means.{ShownTrace, entry_items, nothing_more, row_then, shown_trace}
 use Rattle.bl_ctree.specs.Points.{Point, points}
 use Rattle.bl_ctree.specs.Store.{Store, first_store, outputs_row, woken_store}
 use Rattle.bl_ctree.specs.Ticks.{End, Ended, Maximal, Paused, Rests, Trapped, outcome_at}
@@ -37,7 +37,7 @@ pub record PickedTick (w : Setting) (choice : Choice) (row : List ℤ) (c : Cont
 
 -- a run over rows of inputs, from a tree and a store between ticks, whose ticks are picked, the choice going on from tick to tick: what
 -- it shows, and the list of steps of each tick that it begins
-pub data Walks (w : Setting) : Choice → List (List ℤ) → Control → Store → Shown → List (List Action) → Type 0 where
+pub data Walks (w : Setting) : Choice → List (List ℤ) → Control → Store → ShownTrace → List (List Action) → Type 0 where
   stays_open : {choice : Choice} {c : Control} {store : Store} → Walks w choice [] c store (nothing_more (Some Open)) []
   traps : {choice last : Choice} {row : List ℤ} {rows : List (List ℤ)} {c : Control} {store : Store} {actions : List Action} →
       PickedTick w choice row c store actions last Trapped → Walks w choice (row ∷ rows) c store (nothing_more (Some HasTrapped)) (actions ∷ [])
@@ -45,7 +45,7 @@ pub data Walks (w : Setting) : Choice → List (List ℤ) → Control → Store 
       {c' : Control} {store' : Store} → PickedTick w choice row c store actions last (Rests c' store') → outcome_at (Rests c' store') ≡ Ended →
       Walks w choice (row ∷ rows) c store (row_then (outputs_row w store') (nothing_more (Some HasEnded))) (actions ∷ [])
   goes_on : {choice last : Choice} {row : List ℤ} {rows : List (List ℤ)} {c : Control} {store : Store} {actions : List Action}
-      {c' : Control} {store' : Store} {rest : Shown} {lists : List (List Action)} →
+      {c' : Control} {store' : Store} {rest : ShownTrace} {lists : List (List Action)} →
       PickedTick w choice row c store actions last (Rests c' store') → outcome_at (Rests c' store') ≡ Paused →
       Walks w last rows c' store' rest lists → Walks w choice (row ∷ rows) c store (row_then (outputs_row w store') rest) (actions ∷ lists)
 
@@ -58,7 +58,7 @@ pub record HasWalked (structs : List StructDef) (units : List UnitDef) (entry se
     (lists : List (List Place)) : Type 0 where
   pub steps : List (List Action)
   pub walks :
-      let w = setting_of structs units entry in Walks w (choice_of seed) rows (Idle (entry_items w)) (first_store w) (shown trace) steps
+      let w = setting_of structs units entry in Walks w (choice_of seed) rows (Idle (entry_items w)) (first_store w) (shown_trace trace) steps
   pub places : lists ≡ map places_of steps
 
 -- such lists were appended

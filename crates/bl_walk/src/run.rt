@@ -2,17 +2,17 @@
 
 ghost use Rattle.std.specs.Prelude.{◌≡◌, ◌<◌, ◌^◌, length, slice_get, IfOk};
 ghost use Rattle.bl_ctree.specs.Instances.{instances_of};
-ghost use Rattle.bl_ctree.specs.Means.{Means, shown};
+ghost use Rattle.bl_ctree.specs.Means.{Means, shown_trace};
 ghost use Rattle.bl_ctree.specs.Measure.{steps as steps_within};
 ghost use Rattle.bl_ctree.specs.Reaches.{Bounded, NeverStuck};
-ghost use Rattle.bl_steps.specs.Outputs.{outputs_of_unit};
+ghost use Rattle.bl_ctree_run.specs.Outputs.{outputs_of_unit};
 ghost use Rattle.bl_walk.specs.Walks.{Appended};
 
 use crate::choice::Choice;
 use crate::laws::walks_are_allowed;
 use crate::tick::tick;
 use bl_cause::Accepted;
-use bl_steps::Tree;
+use bl_ctree_run::Tree;
 use bl_tree::{Last, List, NoMemory, Place, Program, Row, Trace};
 use std::alloc::Global;
 
@@ -30,7 +30,7 @@ pub fn walk(
     requires bounded { Bounded (steps_within a.now.program.structs a.now.program.units a.now.program.entry)
         a.now.program.structs a.now.program.units a.now.program.entry }
     requires never_stuck { NeverStuck a.now.program.structs a.now.program.units a.now.program.entry }
-    ensures means { IfOk result (λ trace. Means a.now.program.structs a.now.program.units a.now.program.entry rows.now (shown trace)) }
+    ensures means { IfOk result (λ trace. Means a.now.program.structs a.now.program.units a.now.program.entry rows.now (shown_trace trace)) }
     ensures walked { IfOk result (λ trace. Appended a.now.program.structs a.now.program.units a.now.program.entry seed rows.now trace
         steps.old steps.new) }
 {
@@ -48,7 +48,7 @@ fn walk_program(
     requires bounded { Bounded (steps_within program.now.structs program.now.units program.now.entry)
         program.now.structs program.now.units program.now.entry }
     requires never_stuck { NeverStuck program.now.structs program.now.units program.now.entry }
-    ensures means { IfOk result (λ trace. Means program.now.structs program.now.units program.now.entry rows.now (shown trace)) }
+    ensures means { IfOk result (λ trace. Means program.now.structs program.now.units program.now.entry rows.now (shown_trace trace)) }
     ensures walked { IfOk result (λ trace. Appended program.now.structs program.now.units program.now.entry seed rows.now trace
         steps.old steps.new) }
 {

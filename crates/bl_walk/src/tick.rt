@@ -4,16 +4,16 @@ ghost use Rattle.std.specs.Prelude.{◌≡◌, ◌<◌, [], length, if◌then◌
 ghost use Rattle.bl_ctree.specs.Control.{is_nil};
 ghost use Rattle.bl_ctree.specs.Points.{points};
 ghost use Rattle.bl_ctree.specs.Store.{outputs_row};
-ghost use Rattle.bl_steps.specs.Outputs.{count_of_outputs};
-ghost use Rattle.bl_steps.specs.Running.{setting, state};
+ghost use Rattle.bl_ctree_run.specs.Outputs.{count_of_outputs};
+ghost use Rattle.bl_ctree_run.specs.Running.{setting, state};
 ghost use Rattle.bl_walk.specs.Choices.{moved};
-ghost use Rattle.bl_walk.specs.inner.Ticks.{Begun, Between, Reacted, Steady, Ticked, Took};
+ghost use Rattle.bl_walk.specs.inner.Ticks.{Begun, Reacted, Steady, Ticked, Took, WalkBetweenTicks};
 
 use crate::choice::Choice;
 use crate::laws::picked_lists_are_steps;
 use bl_ctree::laws::{points_are_steps, settled_trees_are_still};
+use bl_ctree_run::Tree;
 use bl_eval::Did;
-use bl_steps::Tree;
 use bl_tree::{Last, List, NoMemory, Place, Row};
 use std::alloc::Global;
 
@@ -29,7 +29,7 @@ pub fn tick(
     steps: &mut List<List<Place>>,
 ) -> Result<Last, NoMemory>
     requires steady { Steady (setting tree.old) }
-    requires between { Between (setting tree.old) (state tree.old) }
+    requires between { WalkBetweenTicks (setting tree.old) (state tree.old) }
     requires width { width ≡ count_of_outputs (setting tree.old) }
     ensures setting { setting tree.new ≡ setting tree.old }
     ensures ticked { IfOk result (Ticked (setting tree.old) choice.old row.now (state tree.old) choice.new (state tree.new)

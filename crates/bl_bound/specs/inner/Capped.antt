@@ -2,9 +2,9 @@
 use Rattle.std.specs.Prelude.{ℕ, ◌^◌, min, List, Option, Some, None, option_map}
 use Rattle.std.specs.Borrow.{Bor}
 use Rattle.std.specs.HashMap.{HashMap}
-use Rattle.bl_cmeaning.specs.Cost.{Costs}
-use Rattle.bl_cmeaning.specs.Tables.{Table}
-use Rattle.bl_cmeaning.specs.inner.Maps.{text_at}
+use Rattle.bl_ctext_semantics.specs.Cost.{Costs}
+use Rattle.bl_ctext_semantics.specs.Tables.{Table}
+use Rattle.bl_ctext_semantics.specs.inner.Maps.{text_at}
 use Rattle.bl_bound.specs.declared.cost.Cost.{Cost}
 use Rattle.bl_bound.specs.declared.cost.Cost.TheVariants.{Number, Over}
 

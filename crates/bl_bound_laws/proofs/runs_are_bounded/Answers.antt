@@ -1,4 +1,4 @@
-use Rattle.bl_cmeaning.specs.Parts.{parts_of}
+use Rattle.bl_ctext_semantics.specs.Parts.{parts_of}
 use Rattle.bl_bound_laws.proofs.Counting.{file-bounded}
 use Rattle.bl_bound_laws.proofs.runs_are_bounded.Goals as goal
 

@@ -26,12 +26,12 @@ use Rattle.std.specs.Prelude.{
 use Rattle.bl_tree.specs.declared.graph.Edge.{Edge}
 use Rattle.bl_cause.specs.declared.finishing.Frame.{Frame}
 use Rattle.bl_cause.specs.declared.finishing.Search.{Search}
-use Rattle.bl_cause.specs.Walks.{Walk}
+use Rattle.bl_cause.specs.Walks.{EdgeWalk}
 use Rattle.bl_cause.specs.inner.Lists.{In, Rows, edges_from, unseen}
 
 -- some walk leads from the one node to the other
 abbrev pub Reaches : List Edge → ℕ → ℕ → Type 0
-Reaches edges first last = (walk : List Edge) × Walk edges first walk last
+Reaches edges first last = (walk : List Edge) × EdgeWalk edges first walk last
 
 -- what a node leads to stands behind it, but where that leads back to it
 abbrev pub Sorted : List Edge → List ℕ → Type 0
@@ -57,45 +57,45 @@ Nested edges rows seen (frame ∷ rest) =
     ((node : ℕ) → Open node rest → Reaches edges node frame.node) × Looked rows seen frame × Nested edges rows seen rest
 
 -- a search: the nodes that were seen, the frames and the nodes that are done
-pub record State : Type 0 where
+pub record SearchState : Type 0 where
   pub seen : List Bool
   pub stack : List Frame
   pub order : List ℕ
 
 -- the state of a search as the code keeps it
-abbrev pub state_of : Search → State
+abbrev pub state_of : Search → SearchState
 state_of search = record { seen = search.seen; stack = search.stack.items; order = search.order }
 
 -- the node is entered, unless it was seen before
-abbrev pub entered_unless : Bool → ℕ → State → State
+abbrev pub entered_unless : Bool → ℕ → SearchState → SearchState
 entered_unless true node s = s
 entered_unless false node s =
     record { seen = slice_set s.seen node true; stack = s.stack ++ record { node = node; next = 0 } ∷ []; order = s.order }
 
 -- the node is entered, where it wasn't seen before
-abbrev pub entered : ℕ → State → State
+abbrev pub entered : ℕ → SearchState → SearchState
 entered node s = entered_unless (slice_index_or s.seen node false) node s
 
 -- the frame is put back with its next edge looked at, or, without one, its node is done
-abbrev pub at_edge : Frame → Option Edge → State → State
+abbrev pub at_edge : Frame → Option Edge → SearchState → SearchState
 at_edge frame None s = record { seen = s.seen; stack = s.stack; order = s.order ++ frame.node ∷ [] }
 at_edge frame (Some edge) s =
     entered edge.to (record { seen = s.seen; stack = s.stack ++ record { node = frame.node; next = frame.next + 1 } ∷ []; order = s.order })
 
 -- the same for the next edge of the row
-abbrev pub advanced : Frame → List Edge → State → State
+abbrev pub advanced : Frame → List Edge → SearchState → SearchState
 advanced frame row s = at_edge frame (slice_get row frame.next) s
 
 -- what a search keeps
-pub record Keeps (edges : List Edge) (rows : List (List Edge)) (s : State) : Type 0 where
+pub record SearchInvariant (edges : List Edge) (rows : List (List Edge)) (s : SearchState) : Type 0 where
   pub nested : Nested edges rows s.seen (reverse s.stack)
   pub sorted : Sorted edges (reverse s.order)
   pub held : (node : ℕ) → slice_index_or s.seen node false ≡ true → In node (reverse s.order) ⊎ Open node (reverse s.stack)
   pub counted : unseen s.seen + (length s.order + length s.stack) ≡ length s.seen
 
 -- a search over these rows keeps what it kept, in every graph with so many nodes
-abbrev pub KeepsOn : ℕ → List (List Edge) → State → State → Type 0
-KeepsOn count rows before after = (edges : List Edge) → Rows (edges_from edges) count rows → Keeps edges rows before → Keeps edges rows after
+abbrev pub SearchKeepsInvariant : ℕ → List (List Edge) → SearchState → SearchState → Type 0
+SearchKeepsInvariant count rows before after = (edges : List Edge) → Rows (edges_from edges) count rows → SearchInvariant edges rows before → SearchInvariant edges rows after
 
 -- each node of the order gets its position there, counted from this number on
 abbrev pub ranked : List ℕ → ℕ → List ℕ → List ℕ

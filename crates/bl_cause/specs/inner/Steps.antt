@@ -3,7 +3,7 @@ use Rattle.std.specs.Prelude.{◌≡◌, ◌<◌, ◌⊎◌, ℕ, Bool, true, fa
 use Rattle.bl_tree.specs.declared.graph.Edge.{Edge}
 use Rattle.bl_cause.specs.declared.way_back.Reached.{Reached}
 use Rattle.bl_cause.specs.declared.way_back.Step.{Step}
-use Rattle.bl_cause.specs.Walks.{Walk}
+use Rattle.bl_cause.specs.Walks.{EdgeWalk}
 
 -- a step ends at the node
 abbrev pub Ends : ℕ → List Step → Type 0
@@ -55,4 +55,4 @@ gone_along before (edge ∷ row) reached = gone_along before row (gone before ed
 -- the walk leads from the end of the first step to that of the step at the position
 abbrev pub LeadsTo : List Step → ℕ → List Edge → Type 0
 LeadsTo steps last walk =
-    (edges : List Edge) (first : Edge) (d : Step) → Tree edges first steps → Walk edges first.to walk (slice_index_or steps last d).edge.to
+    (edges : List Edge) (first : Edge) (d : Step) → Tree edges first steps → EdgeWalk edges first.to walk (slice_index_or steps last d).edge.to

@@ -1,9 +1,9 @@
 -- What is expected behind what is read of an expression or of the statements of a function.
 use Rattle.std.specs.Prelude.{ℕ, Bool, true, false, List, [], ◌∷◌, ◌++◌, Result, MatchResult, codes}
 use Rattle.bl_ctext.specs.Token.{Token}
-use Rattle.bl_csyntax.specs.declared.grammar.Part.TheVariants.{Else, Stmts, Expr, Steps, Arg, ArgRest}
-use Rattle.bl_csyntax.specs.Grammar.{Wanted}
-use Rattle.bl_csyntax.specs.Expects.{Expects}
+use Rattle.bl_cparse_syntax.specs.declared.grammar.Part.TheVariants.{Else, Stmts, Expr, Steps, Arg, ArgRest}
+use Rattle.bl_cparse_syntax.specs.Grammar.{Wanted}
+use Rattle.bl_cparse_syntax.specs.Expects.{Expects}
 use Rattle.bl_cparse.specs.declared.refusal.CRefusal.{CRefusal}
 use Rattle.bl_cparse.specs.declared.parser.expr.Use.{Use}
 use Rattle.bl_cparse.specs.declared.parser.expr.Use.TheVariants.{Value, Address}

@@ -4,15 +4,15 @@ use Rattle.bl_tree.specs.declared.scalar.Width.{Width}
 use Rattle.bl_tree.specs.declared.scalar.Width.TheVariants.{W16, W32, W64, W8}
 use Rattle.bl_ctext.specs.Token.{Token}
 use Rattle.bl_grammar.specs.declared.symbol.Symbol.TheVariants.{Nonterminal, Terminal}
-use Rattle.bl_csyntax.specs.declared.grammar.Digits.TheVariants.{Elements}
-use Rattle.bl_csyntax.specs.declared.grammar.Group.TheVariants.{IndexFunctions, Operators, PlainLiterals, PreludeFunctions, ScalarTypes}
-use Rattle.bl_csyntax.specs.declared.grammar.Part.{Part}
-use Rattle.bl_csyntax.specs.declared.grammar.Part.TheVariants.{AssignTail, Expr, Steps, Stmts}
-use Rattle.bl_csyntax.specs.Classes.{Class}
-use Rattle.bl_csyntax.specs.Classes.Class.{a_name, exactly, number, one_of}
-use Rattle.bl_csyntax.specs.Grammar.{Wanted}
-use Rattle.bl_csyntax.specs.Expects.{Expects}
-use Rattle.bl_csyntax.specs.Follow.{constant_starts}
+use Rattle.bl_cparse_syntax.specs.declared.grammar.Digits.TheVariants.{Elements}
+use Rattle.bl_cparse_syntax.specs.declared.grammar.Group.TheVariants.{IndexFunctions, Operators, PlainLiterals, PreludeFunctions, ScalarTypes}
+use Rattle.bl_cparse_syntax.specs.declared.grammar.Part.{Part}
+use Rattle.bl_cparse_syntax.specs.declared.grammar.Part.TheVariants.{AssignTail, Expr, Steps, Stmts}
+use Rattle.bl_cparse_syntax.specs.Classes.{Class}
+use Rattle.bl_cparse_syntax.specs.Classes.Class.{a_name, exactly, number, one_of}
+use Rattle.bl_cparse_syntax.specs.Grammar.{Wanted}
+use Rattle.bl_cparse_syntax.specs.Expects.{Expects}
+use Rattle.bl_cparse_syntax.specs.Follow.{constant_starts}
 use Rattle.bl_cparse.specs.declared.refusal.CRefusal.{CRefusal}
 use Rattle.bl_cparse.specs.Places.{WantsMemory}
 

@@ -7,11 +7,11 @@ ghost use Rattle.bl_ctext.specs.Spelling.{with_commas, type_tokens, length_token
 ghost use Rattle.bl_ctext.specs.Spelling.{returned_tokens, static_if, func_front, func_rest, func_tokens, stmt_tokens};
 ghost use Rattle.bl_ctext.specs.Spellable.{has_any, spells_type, spells_length, spells_member, spells_struct, spells_param, spells_local};
 ghost use Rattle.bl_ctext.specs.Spellable.{spells_returned, spells_func, spells_stmt};
-ghost use Rattle.bl_csyntax.specs.declared.grammar.Part.{Part};
-ghost use Rattle.bl_csyntax.specs.Pieces.{first_of};
-ghost use Rattle.bl_csyntax.specs.Grammar.{Wanted, most_open};
-ghost use Rattle.bl_csyntax.specs.Tables.{has};
-ghost use Rattle.bl_csyntax.specs.Expects.{Expects};
+ghost use Rattle.bl_cparse_syntax.specs.declared.grammar.Part.{Part};
+ghost use Rattle.bl_cparse_syntax.specs.Pieces.{first_of};
+ghost use Rattle.bl_cparse_syntax.specs.Grammar.{Wanted, most_open};
+ghost use Rattle.bl_cparse_syntax.specs.Tables.{has};
+ghost use Rattle.bl_cparse_syntax.specs.Expects.{Expects};
 ghost use Rattle.bl_cparse.specs.inner.Reading.{sign, name_of, part, local_starts, Follows, Turns};
 ghost use Rattle.bl_cparse.specs.Places.{WantsMemory};
 

@@ -2,15 +2,15 @@
 
 ghost use Rattle.std.specs.Prelude.{◌≡◌, ℕ, List, [], ◌∷◌, ◌++◌, IsTrue, IfOk, MatchResult};
 ghost use Rattle.bl_ctext.specs.Names.{is_name, is_struct_name, is_function_name, is_callee, is_turn_name};
-ghost use Rattle.bl_csyntax.specs.declared.grammar.Part.{Part};
-ghost use Rattle.bl_csyntax.specs.Grammar.{Wanted};
-ghost use Rattle.bl_csyntax.specs.Expects.{Expects};
+ghost use Rattle.bl_cparse_syntax.specs.declared.grammar.Part.{Part};
+ghost use Rattle.bl_cparse_syntax.specs.Grammar.{Wanted};
+ghost use Rattle.bl_cparse_syntax.specs.Expects.{Expects};
 ghost use Rattle.bl_cparse.specs.inner.Reading.{name_of, prelude_function, behind_turn, part, Follows};
 ghost use Rattle.bl_cparse.specs.Places.{WantsMemory};
 
 use crate::reader::Reader;
 use crate::refusal::CRefusal;
-use bl_csyntax::words;
+use bl_cparse_syntax::words;
 use bl_tree::Text;
 
 pub fn name(r: &mut Reader<'_>) -> Result<Text, CRefusal>

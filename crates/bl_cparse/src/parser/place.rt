@@ -7,9 +7,9 @@ ghost use Rattle.std.specs.Fmt.{decimal};
 ghost use Rattle.bl_ctext.specs.Names.{is_name, is_callee};
 ghost use Rattle.bl_ctext.specs.Spelling.{with_commas, if_any, root_tokens, index_front, place_tokens, step_tokens, index_tokens, ccall_tokens, arg_tokens};
 ghost use Rattle.bl_ctext.specs.Spellable.{is_length, none_or, spells_place, spells_step, spells_index, spells_call, spells_arg};
-ghost use Rattle.bl_csyntax.specs.declared.grammar.Part.{Part};
-ghost use Rattle.bl_csyntax.specs.Pieces.{first_of};
-ghost use Rattle.bl_csyntax.specs.Classes.{Class, matches};
+ghost use Rattle.bl_cparse_syntax.specs.declared.grammar.Part.{Part};
+ghost use Rattle.bl_cparse_syntax.specs.Pieces.{first_of};
+ghost use Rattle.bl_cparse_syntax.specs.Classes.{Class, matches};
 ghost use Rattle.bl_cparse.specs.inner.Reading.{sign, name_of, index_function, elements, part, index_word, GoesOnAPlace, Follows};
 
 use crate::parser::{expr, literal, name};

@@ -4,7 +4,7 @@ ghost use Rattle.std.specs.Prelude.{◌≡◌, ◌≤◌, List, length};
 ghost use Rattle.bl_ctext.specs.Token.{Token};
 ghost use Rattle.bl_cparse.specs.HasPlaces.{start_of, span, next, past};
 
-use bl_csyntax::piece::next_piece;
+use bl_cparse_syntax::piece::next_piece;
 use bl_tree::Place;
 use std::marker::Model;
 

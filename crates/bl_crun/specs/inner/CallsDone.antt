@@ -1,35 +1,35 @@
 -- What calls of a file's functions come to in the machine.
 use Rattle.std.specs.Prelude.{List, None, Option, Some, drop, is_some, length, min, take, true, ℕ, ℤ, ◌+◌, ◌-◌, ◌^◌, ◌≡◌}
 use Rattle.std.specs.Prelude.{◌≤◌, []}
-use Rattle.bl_bytecode.specs.Code.{Code}
-use Rattle.bl_bytecode.specs.Laws.{begun, ended_as}
-use Rattle.bl_bytecode.specs.Machine.{Room, Runs}
-use Rattle.bl_bytecode_compiler.specs.Entries.{entry_for}
-use Rattle.bl_bytecode_compiler.specs.declared.here.Entry.{Entry as CodeEntry}
+use Rattle.bl_crun_bytecode.specs.Code.{Code}
+use Rattle.bl_crun_bytecode.specs.Laws.{ended_as, entry_state}
+use Rattle.bl_crun_bytecode.specs.Vm.{Room, StepsInRoom}
+use Rattle.bl_crun_bytecode_compiler.specs.Entries.{entry_for}
+use Rattle.bl_crun_bytecode_compiler.specs.declared.here.Entry.{Entry as CodeEntry}
 use Rattle.bl_tree.specs.Ports.{row_fits}
-use Rattle.bl_cmeaning_laws.specs.Flat.{Left, left}
-use Rattle.bl_bytecode_machine.specs.Shown.{Shown}
-use Rattle.bl_cmeaning.specs.Cells.{outputs_of}
-use Rattle.bl_cmeaning.specs.Parts.{Parts}
-use Rattle.bl_cmeaning.specs.Trace.{reply_of, start_cells, starts, tick_c}
-use Rattle.bl_cinterface.specs.Ports.{outputs_start}
+use Rattle.bl_ctext_semantics_laws.specs.Flat.{FlatAnswer, flat_answer}
+use Rattle.bl_crun_bytecode_vm.specs.Shown.{VmView}
+use Rattle.bl_ctext_semantics.specs.Cells.{outputs_of}
+use Rattle.bl_ctext_semantics.specs.Parts.{Parts}
+use Rattle.bl_ctext_semantics.specs.Trace.{reply_of, start_cells, starts, tick_c}
+use Rattle.bl_crun_ports.specs.Ports.{outputs_start}
 use Rattle.bl_crun.specs.declared.call.Called.{Called}
 use Rattle.bl_crun.specs.Done.{CellsKeep, first_cells}
 
 -- in so many steps the function at an entry of some code does this, and the room that a machine has is enough
-pub record Halting (steps : ℕ) (code : Code) (entry : CodeEntry) (base : ℕ) (args : List ℤ) (m : Shown) (l : Left ℤ) : Type 0 where
+pub record Halting (steps : ℕ) (code : Code) (entry : CodeEntry) (base : ℕ) (args : List ℤ) (m : VmView) (l : FlatAnswer ℤ) : Type 0 where
   pub room : Room
-  pub runs : Runs code room steps (begun (entry_for entry) base args m.state.cells [] 0) (ended_as (begun (entry_for entry) base args m.state.cells [] 0) l)
+  pub runs : StepsInRoom code room steps (entry_state (entry_for entry) base args m.state.cells [] 0) (ended_as (entry_state (entry_for entry) base args m.state.cells [] 0) l)
   pub numbers_fit : room.numbers ≤ m.numbers
   pub calls_fit : room.calls ≤ m.calls
 
 -- the same of a function that may be there; else nothing is done, and it traps
-abbrev pub Comes : ℕ → Code → Option CodeEntry → ℕ → List ℤ → Shown → Left ℤ → Type 0
-Comes steps code None base args m l = l ≡ left m.state.cells None
+abbrev pub Comes : ℕ → Code → Option CodeEntry → ℕ → List ℤ → VmView → FlatAnswer ℤ → Type 0
+Comes steps code None base args m l = l ≡ flat_answer m.state.cells None
 Comes steps code (Some entry) base args m l = Halting steps code entry base args m l
 
 -- a machine has done so
-pub record CallDone (l : Left ℤ) (before : Shown) (called : Called) (after : Shown) : Type 0 where
+pub record CallDone (l : FlatAnswer ℤ) (before : VmView) (called : Called) (after : VmView) : Type 0 where
   pub answer : called.answer ≡ l.answer
   pub count : called.count ≡ min l.count (2 ^ 128 - 1)
   pub cells : after.state.cells ≡ l.cells
@@ -37,16 +37,16 @@ pub record CallDone (l : Left ℤ) (before : Shown) (called : Called) (after : S
   pub calls : after.calls ≡ before.calls
 
 -- a routine does what the start does
-pub record IsStart (file : Parts) (left : Left ℤ) : Type 0 where
-  pub ready : is_some left.answer ≡ starts file
-  pub cells : first_cells file left.cells ≡ start_cells file
-  pub keeps : CellsKeep file left.cells
+pub record IsStart (file : Parts) (flat_answer : FlatAnswer ℤ) : Type 0 where
+  pub ready : is_some flat_answer.answer ≡ starts file
+  pub cells : first_cells file flat_answer.cells ≡ start_cells file
+  pub keeps : CellsKeep file flat_answer.cells
 
 -- a routine does what a tick does
-pub record IsTick (file : Parts) (cells ins : List ℤ) (left : Left ℤ) : Type 0 where
-  pub reply : reply_of left.answer ≡ (tick_c file cells ins).reply
-  pub outputs : take (length (outputs_of file)) (drop (outputs_start file.structs + 1) left.cells) ≡ (tick_c file cells ins).outputs
+pub record IsTick (file : Parts) (cells ins : List ℤ) (flat_answer : FlatAnswer ℤ) : Type 0 where
+  pub reply : reply_of flat_answer.answer ≡ (tick_c file cells ins).reply
+  pub outputs : take (length (outputs_of file)) (drop (outputs_start file.structs + 1) flat_answer.cells) ≡ (tick_c file cells ins).outputs
   pub ranges : row_fits (outputs_of file) (tick_c file cells ins).outputs ≡ true
-  pub after : first_cells file left.cells ≡ (tick_c file cells ins).cells
-  pub count : left.count ≡ (tick_c file cells ins).count
-  pub keeps : CellsKeep file left.cells
+  pub after : first_cells file flat_answer.cells ≡ (tick_c file cells ins).cells
+  pub count : flat_answer.count ≡ (tick_c file cells ins).count
+  pub keeps : CellsKeep file flat_answer.cells

@@ -1,8 +1,8 @@
 -- What a tick leaves in a runner.
 use Rattle.std.specs.Prelude.{List, drop, length, min, take, true, ℕ, ℤ, ◌+◌, ◌-◌, ◌<◌, ◌^◌, ◌≡◌}
 use Rattle.bl_tree.specs.Ports.{row_fits}
-use Rattle.bl_cmeaning.specs.Parts.{Parts}
-use Rattle.bl_cmeaning.specs.Trace.{reply_of, tick_c}
+use Rattle.bl_ctext_semantics.specs.Parts.{Parts}
+use Rattle.bl_ctext_semantics.specs.Trace.{reply_of, tick_c}
 use Rattle.bl_crun.specs.declared.call.Called.{Called}
 use Rattle.bl_crun.specs.declared.prepared.Prepared.{Prepared}
 use Rattle.bl_crun.specs.Prepared.{numbers_in}

@@ -1,6 +1,6 @@
 -- Deeds stay inside the instance of their tree.
 use Rattle.std.proofs.Common.{ℕ, Bool}
-use Rattle.bl_nodes.specs.Steps.{StepLabel}
+use Rattle.bl_graph_nodes.specs.Steps.{StepLabel}
 use Rattle.bl_ctree.specs.Instances.{Setting}
 use Rattle.bl_ctree_laws.specs.Pending.{Deed}
 use Rattle.bl_ctree_laws.specs.Steps.{
@@ -38,7 +38,7 @@ use Rattle.bl_ctree_laws.specs.Steps.{
 }
 use Rattle.bl_ctree_laws.specs.Trees.{Tree, Trees}
 use Rattle.bl_ctree_laws_confluence.specs.Deeds.Nesting.{Inside, deeper, itself}
-use Rattle.bl_ctree_laws_confluence.specs.Apart.Seen.{AllCallsStand, CallsStand, DeedsStayInside}
+use Rattle.bl_ctree_laws_confluence.specs.Apart.Seen.{AllCallsMatchCallees, CallsMatchCallees, DeedsStayInside}
 
 -- what is inside what is inside is inside
 pub inside_both : {w : Setting} {i j k : ℕ} → Inside w i j → Inside w j k → Inside w i k
@@ -46,7 +46,7 @@ inside_both one itself = one
 inside_both one (deeper j place more begun) = deeper j place (inside_both one more) begun
 
 mutual
-  pub stays : {w : Setting} {i : ℕ} {c : Tree} {d : Bool} {a : Deed} {n : StepLabel} {c' : Tree} → CallsStand w i c → Moves Anyway w i c d a n c' →
+  pub stays : {w : Setting} {i : ℕ} {c : Tree} {d : Bool} {a : Deed} {n : StepLabel} {c' : Tree} → CallsMatchCallees w i c → Moves Anyway w i c d a n c' →
       Inside w i a.instance
   stays stand acts = itself
   stays stand takes = itself
@@ -75,7 +75,7 @@ mutual
   stays stand (in_guard move) = stays stand move
   stays {i = i} stand (in_run {s = s} move) = inside_both (deeper i s.place itself stand.0) (stays stand.1.1 move)
 
-  one_stays : {w : Setting} {i : ℕ} {branches : Trees} {d : Bool} {a : Deed} {n : StepLabel} {branches' : Trees} → AllCallsStand w i branches →
+  one_stays : {w : Setting} {i : ℕ} {branches : Trees} {d : Bool} {a : Deed} {n : StepLabel} {branches' : Trees} → AllCallsMatchCallees w i branches →
       OneMoves Anyway w i branches d a n branches' → Inside w i a.instance
   one_stays stand (first move free) = stays stand.0 move
   one_stays stand (later move free) = one_stays stand.1 move

@@ -11,13 +11,13 @@ use Rattle.bl_tree.specs.declared.tree.StmtKind.TheOpen.{StmtKind-F}
 use Rattle.bl_tree.specs.Apart.{Naming, Roots, arm_naming, branch_naming, naming_of, stmt_kind_naming, stmt_layer_naming}
 use Rattle.bl_tree.specs.Reduce.{joined}
 use Rattle.bl_tree.proofs.StmtInduction.{Cases, Each, EachArm, EachBranch, induct, stmt}
-use Rattle.bl_nodes.specs.Laws.{plain_arm, plain_branch}
-use Rattle.bl_nodes.specs.Plain.{Label, Plain, Position, Act, If, block_from, bodies_from, else_at, inside, label_at, never, passed_one, plain, plain_block}
-use Rattle.bl_nodes.proofs.Equations.{plain_statements}
+use Rattle.bl_graph_nodes.specs.Laws.{plain_arm, plain_branch}
+use Rattle.bl_graph_nodes.specs.Plain.{Label, Plain, Position, Act, If, block_from, bodies_from, else_at, inside, label_at, never, passed_one, plain, plain_block}
+use Rattle.bl_graph_nodes.proofs.Equations.{plain_statements}
 use Rattle.bl_ctree.specs.Actions.{Effect, Silent, Acts, Asks, Copies, Gives}
 use Rattle.bl_ctree.specs.Instances.{Setting}
 use Rattle.bl_ctree_laws_confluence.specs.Apart.Named.{BodiesDeclareWhatTheyDo, OneOf, effect_declares}
-use Rattle.bl_ctree_laws_confluence.specs.Apart.Owned.{Does, SomeIn, SomeInEach, SomeOf}
+use Rattle.bl_ctree_laws_confluence.specs.Apart.Owned.{HasEffect, SomeIn, SomeInEach, SomeOf}
 use Rattle.bl_ctree_laws_confluence.proofs.OnApart.Named.{folded_arm, folded_branch, naming_at, naming_parts, not_one, one_left, one_right}
 
 -- the variables that these declare
@@ -26,7 +26,7 @@ all_declared namings = joined (map (λ n. n.declared) namings)
 
 module _ (w : Setting) (i : ℕ) (effect : Effect) (k : ℕ) (one : OneOf k (effect_declares effect)) where
   abbrev D : Plain → Type 0
-  D = Does w i effect
+  D = HasEffect w i effect
 
   abbrev S : Stmt → Type 0
   S s = (at : Position) → SomeOf D (plain s at) → OneOf k (naming_of s).declared

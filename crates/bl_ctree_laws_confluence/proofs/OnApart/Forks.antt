@@ -48,8 +48,8 @@ use Rattle.bl_tree.specs.Apart.{
 }
 use Rattle.bl_tree.specs.Reduce.{all_of}
 use Rattle.bl_tree.proofs.StmtInduction.{Cases, Each, EachArm, EachBranch, induct, stmt}
-use Rattle.bl_nodes.specs.Laws.{plain_arm, plain_branch}
-use Rattle.bl_nodes.specs.Plain.{
+use Rattle.bl_graph_nodes.specs.Laws.{plain_arm, plain_branch}
+use Rattle.bl_graph_nodes.specs.Plain.{
   Label,
   Plain,
   Position,
@@ -64,13 +64,13 @@ use Rattle.bl_nodes.specs.Plain.{
   plain,
   plain_block,
 }
-use Rattle.bl_nodes.proofs.Equations.{plain_statements}
+use Rattle.bl_graph_nodes.proofs.Equations.{plain_statements}
 use Rattle.bl_ctree.specs.Actions.{Effect}
 use Rattle.bl_ctree.specs.Instances.{Setting}
 use Rattle.bl_ctree_laws.proofs.Tests.{and_first, and_second, or_left, or_right}
 use Rattle.bl_ctree_laws_confluence.specs.Apart.Forks.{BranchesKeepApart, EachFork, EachForkIn, EachForkInEach, Foreign, KeepApart}
 use Rattle.bl_ctree_laws_confluence.specs.Apart.Named.{OneOf, effect_declares, effect_roots}
-use Rattle.bl_ctree_laws_confluence.specs.Apart.Owned.{Does, SomeIn, SomeInEach}
+use Rattle.bl_ctree_laws_confluence.specs.Apart.Owned.{HasEffect, SomeIn, SomeInEach}
 use Rattle.bl_ctree_laws_confluence.proofs.OnApart.Declared.{bodies_declare_so}
 use Rattle.bl_ctree_laws_confluence.proofs.OnApart.Named.{bodies_name_so, folded_arm, folded_branch, naming_at, naming_parts}
 
@@ -107,7 +107,7 @@ apart_so e other n m one two apart = (
       (one.declares k declared) (two.names k named),
 )
 
-branch_known : (w : Setting) (i : ℕ) (e : Effect) (branch : Branch) (at : Position) → SomeIn (Does w i e) (plain_block (out-Branch branch).body at) →
+branch_known : (w : Setting) (i : ℕ) (e : Effect) (branch : Branch) (at : Position) → SomeIn (HasEffect w i e) (plain_block (out-Branch branch).body at) →
     Known e (folded_branch branch)
 branch_known w i e branch at some =
     subst (Known e) (sym (fold_out-Branch Naming Naming Naming Naming stmt_kind_naming arm_naming branch_naming stmt_layer_naming branch)) (record {
@@ -117,7 +117,7 @@ branch_known w i e branch at some =
 
 -- one of the further branches does it
 others_apart : (w : Setting) (i : ℕ) (e other : Effect) (n : Naming) (branches : List Branch) (j : ℕ) (l : Label) → Known e n →
-    list_all (keep_apart n) (map folded_branch branches) ≡ true → SomeInEach (Does w i other) (bodies_from (map plain_branch branches) j l) →
+    list_all (keep_apart n) (map folded_branch branches) ≡ true → SomeInEach (HasEffect w i other) (bodies_from (map plain_branch branches) j l) →
     Foreign e other × Foreign other e
 others_apart w i e other n [] j l known apart some = absurd some
 others_apart w i e other n (branch ∷ rest) j l known apart (inl some) =

@@ -9,7 +9,7 @@ use Rattle.bl_tree.specs.declared.tree.Stmt.{Stmt}
 use Rattle.bl_tree.specs.declared.tree.StmtKind.{StmtKind}
 use Rattle.bl_tree.specs.declared.tree.StmtKind.TheOpen.{StmtKind-F}
 use Rattle.bl_tree.specs.Returns.{is_return_kind}
-use Rattle.bl_nodes.specs.Plain.{
+use Rattle.bl_graph_nodes.specs.Plain.{
   Block,
   Bodies,
   Plain,
@@ -34,7 +34,7 @@ use Rattle.bl_ctree.specs.Positions.{stmt_kind}
 use Rattle.bl_ctree_laws_confluence.specs.Deeds.Deeds.{effect_frames, effect_results, kind_frames}
 use Rattle.bl_ctree_laws_confluence.specs.Deeds.Nesting.{itself}
 use Rattle.bl_ctree_laws_confluence.specs.Apart.Frames.{FramesAreOfCalls, ResultsAreOfCalls}
-use Rattle.bl_ctree_laws_confluence.specs.Apart.Owned.{Called, Does, RunsAt, SomeIn, SomeInEach, SomeOf}
+use Rattle.bl_ctree_laws_confluence.specs.Apart.Owned.{HasEffect, IsInsideCall, RunsAt, SomeIn, SomeInEach, SomeOf}
 use Rattle.bl_ctree_laws_confluence.specs.Apart.Returns.{Returns}
 
 -- ---- what is known of some statement is known of it in its body
@@ -122,7 +122,7 @@ module _ (w : Setting) (i : ℕ) (effect : Effect) (frame : ℕ) where
     asks : {A : Type 0} (e : Expr) → effect ≡ Asks e → A
     asks e is = none_of frame (frames_of (Asks e) is)
 
-    touches : (s : Plain) → Does w i effect s → (k : Touch w i frame) × By k s
+    touches : (s : Plain) → HasEffect w i effect s → (k : Touch w i frame) × By k s
     touches (Act l s) is = let found = returned i frame (stmt_kind s) (frames_of (Acts s) is) in (returning found.0, found.1)
     touches (Await l at e) (inl is) = silent is
     touches (Await l at e) (inr is) = asks e is
@@ -150,7 +150,7 @@ module _ (w : Setting) (i : ℕ) (effect : Effect) (frame : ℕ) where
     no_answer : {A : Type 0} (e : Expr) → effect ≡ Asks e → A
     no_answer e is = none_of frame (results_of (Asks e) is)
 
-    gives : (s : Plain) → Does w i effect s → (k : (place : Place) × (callee_of w i place ≡ Some frame)) × RunsAt k.0 s
+    gives : (s : Plain) → HasEffect w i effect s → (k : (place : Place) × (callee_of w i place ≡ Some frame)) × RunsAt k.0 s
     gives (Act l s) is = none_of frame (results_of (Acts s) is)
     gives (Await l at e) (inl is) = no_result is
     gives (Await l at e) (inr is) = no_answer e is
@@ -169,17 +169,17 @@ module _ (w : Setting) (i : ℕ) (effect : Effect) (frame : ℕ) where
     gives (Again l at body e) (inr is) = no_answer e is
 
 called_at : {w : Setting} {i : ℕ} {body : Block} {frame : ℕ} (place : Place) → callee_of w i place ≡ Some frame → SomeIn (RunsAt place) body →
-    Called w i body frame
+    IsInsideCall w i body frame
 called_at {frame = frame} place begins stands = record { place = place; stands = stands; callee = frame; begins = begins; inside = itself }
 
 pub frames_are_of_calls_so : FramesAreOfCalls
-frames_are_of_calls_so w i body effect frame some has = by_touch (picked (Does w i effect) By (touches w i effect frame has) body some)
+frames_are_of_calls_so w i body effect frame some has = by_touch (picked (HasEffect w i effect) By (touches w i effect frame has) body some)
   where
-    by_touch : (k : Touch w i frame) × SomeIn (By k) body → ((frame ≡ i) × SomeIn Returns body) ⊎ Called w i body frame
+    by_touch : (k : Touch w i frame) × SomeIn (By k) body → ((frame ≡ i) × SomeIn Returns body) ⊎ IsInsideCall w i body frame
     by_touch (returning is, some) = inl (is, some)
     by_touch (calling place begins, some) = inr (called_at place begins some)
 
 pub results_are_of_calls_so : ResultsAreOfCalls
 results_are_of_calls_so w i body effect frame some has =
-    let one = picked (Does w i effect) (λ k s. RunsAt k.0 s) (gives w i effect frame has) body some in
+    let one = picked (HasEffect w i effect) (λ k s. RunsAt k.0 s) (gives w i effect frame has) body some in
     called_at one.0.0 one.0.1 one.1

@@ -45,14 +45,14 @@ use Rattle.bl_tree.specs.Apart.{
 }
 use Rattle.bl_tree.specs.Reduce.{joined}
 use Rattle.bl_tree.proofs.StmtInduction.{Cases, Each, EachArm, EachBranch, induct, stmt}
-use Rattle.bl_nodes.specs.Laws.{plain_arm, plain_branch}
-use Rattle.bl_nodes.specs.Plain.{Label, Plain, Position, Act, If, block_from, bodies_from, else_at, inside, label_at, never, passed_one, plain, plain_block}
-use Rattle.bl_nodes.proofs.Equations.{plain_statements}
+use Rattle.bl_graph_nodes.specs.Laws.{plain_arm, plain_branch}
+use Rattle.bl_graph_nodes.specs.Plain.{Label, Plain, Position, Act, If, block_from, bodies_from, else_at, inside, label_at, never, passed_one, plain, plain_block}
+use Rattle.bl_graph_nodes.proofs.Equations.{plain_statements}
 use Rattle.bl_ctree.specs.Actions.{Effect, Silent, Acts, Asks, Copies, Gives}
 use Rattle.bl_ctree.specs.Instances.{Setting}
 use Rattle.bl_ctree_laws.proofs.Tests.{or_right}
 use Rattle.bl_ctree_laws_confluence.specs.Apart.Named.{BodiesNameWhatTheyDo, OneOf, effect_roots}
-use Rattle.bl_ctree_laws_confluence.specs.Apart.Owned.{Does, SomeIn, SomeInEach, SomeOf}
+use Rattle.bl_ctree_laws_confluence.specs.Apart.Owned.{HasEffect, SomeIn, SomeInEach, SomeOf}
 
 pub one_left : (k : ℕ) (xs ys : Roots) → OneOf k xs → OneOf k (xs ++ ys)
 one_left k [] ys e = absurd cc
@@ -100,7 +100,7 @@ never_names place = rw (fold-roll-Expr, fold-roll-ExprKind) refl
 
 module _ (w : Setting) (i : ℕ) (effect : Effect) (k : ℕ) (one : OneOf k (effect_roots effect)) where
   abbrev D : Plain → Type 0
-  D = Does w i effect
+  D = HasEffect w i effect
 
   abbrev S : Stmt → Type 0
   S s = (at : Position) → SomeOf D (plain s at) → OneOf k (naming_of s).named

@@ -43,14 +43,14 @@ use Rattle.bl_tree.specs.declared.tree.StmtKind.{StmtKind, fold-StmtKind, fold-r
 use Rattle.bl_tree.specs.declared.tree.StmtKind.TheOpen.{StmtKind-F}
 use Rattle.bl_tree.specs.declared.tree.StructDef.{StructDef}
 use Rattle.bl_tree.specs.declared.tree.Unit.{Unit as UnitDef}
-use Rattle.bl_tree.specs.Program.{Keeps}
+use Rattle.bl_tree.specs.Program.{IsWellTyped}
 use Rattle.bl_tree.specs.Reduce.{joined}
 use Rattle.bl_tree.specs.Rules.{same_place}
 use Rattle.bl_tree.specs.Static.{static_of}
 use Rattle.bl_tree.specs.Within.{StandsIn, Within, is_run, is_run_kind, itself, kind_children, place_of}
 use Rattle.bl_tree.proofs.StmtInduction.{Cases, Each, EachArm, EachBranch, induct, stmt}
 use Rattle.bl_effects.proofs.EntryLemmas.{same_place_is}
-use Rattle.bl_nodes.specs.Plain.{
+use Rattle.bl_graph_nodes.specs.Plain.{
   Block,
   Bodies,
   Plain,
@@ -89,10 +89,10 @@ use Rattle.bl_ctree.specs.Instances.{
   unit_at,
   unit_of,
 }
-use Rattle.bl_ctree_laws.specs.Left.{
-  Left,
-  LeftEach,
-  LeftOf,
+use Rattle.bl_ctree_laws.specs.Residual.{
+  PlainResidual,
+  PlainResidualEach,
+  PlainResidualOf,
   ended,
   none_left,
   nothing,
@@ -115,16 +115,16 @@ use Rattle.bl_ctree_laws.specs.Left.{
 use Rattle.bl_ctree_laws.specs.Steps.{turn}
 use Rattle.bl_ctree_laws.specs.Trees.{Tree, Trees}
 use Rattle.bl_ctree_laws.proofs.Tests.{and_first, and_second}
-use Rattle.bl_ctree_laws_confluence.specs.Deeds.Origins.{Called, CalledBy}
+use Rattle.bl_ctree_laws_confluence.specs.Deeds.Origins.{CalledBy, HasCaller}
 use Rattle.bl_ctree_laws_confluence.proofs.OnDeeds.Accepted.{contains_at}
 use Rattle.bl_ctree_laws_confluence.proofs.OnDeeds.Activities.{AllOf, all_both, one_a_place_so}
 use Rattle.bl_ctree_laws_confluence.proofs.OnDeeds.Aliases.{of_member}
 use Rattle.bl_ctree_laws_confluence.proofs.OnDeeds.Nesting.{one_some}
 use Rattle.bl_ctree_laws_confluence.proofs.OnDeeds.Origins.{instances_have_callers_so}
 use Rattle.bl_ctree_laws_confluence.specs.Apart.Forks.{EachFork, EachForkIn, EachForkInEach}
-use Rattle.bl_ctree_laws_confluence.specs.Apart.Outputs.{BranchesHaveOutputs, LeftCallsStand, RunsHaveOutputs, RunsWith, TypedRunsHaveOutputs}
+use Rattle.bl_ctree_laws_confluence.specs.Apart.Outputs.{BranchesHaveOutputs, ResidualCallsMatch, RunsHaveOutputs, RunsWith, TypedRunsHaveOutputs}
 use Rattle.bl_ctree_laws_confluence.specs.Apart.Owned.{SomeIn, SomeInEach, SomeOf}
-use Rattle.bl_ctree_laws_confluence.specs.Apart.Seen.{AllCallsStand, CallsStand, HasOutputs}
+use Rattle.bl_ctree_laws_confluence.specs.Apart.Seen.{AllCallsMatchCallees, CallsMatchCallees, HasOutputs}
 use Rattle.bl_ctree_laws_confluence.proofs.OnApart.Owned.{looped, stands_in}
 use Rattle.bl_ctree_laws_confluence.proofs.OnApart.Running.{layer_at, outputs_at, outputs_of, placed_at, run_found, stands_below, stands_first, stands_left}
 use Rattle.bl_ctree_laws_confluence.proofs.OnApart.Running.{stands_right}
@@ -261,7 +261,7 @@ got_or [] k d within = absurd (omega arith)
 got_or (x ∷ xs) zero d within = refl
 got_or (x ∷ xs) (suc k) d within = got_or xs k d (omega arith)
 
-module _ (structs : List StructDef) (units : List UnitDef) (entry : ℕ) (keeps : Keeps structs units entry) where
+module _ (structs : List StructDef) (units : List UnitDef) (entry : ℕ) (keeps : IsWellTyped structs units entry) where
   abbrev W : Setting
   W = setting_of structs units entry
 
@@ -296,7 +296,7 @@ module _ (structs : List StructDef) (units : List UnitDef) (entry : ℕ) (keeps 
   has_outputs i unit is place outputs callee some begun instance origin test there began any =
       let at = begins i callee place instance origin begun there began in
       let called : CalledBy units W.instances callee instance origin =
-      subst (Called units entry W.instances callee instance) began (instances_have_callers_so units entry callee instance there) in
+      subst (HasCaller units entry W.instances callee instance) began (instances_have_callers_so units entry callee instance there) in
       let caller : unit_at W i ≡ Some called.unit =
       subst (λ i. unit_at W i ≡ Some called.unit) at.caller (ap (option_and_then (unit_of W)) called.there ∙ called.body) in
       let same : called.unit ≡ unit = one_some called.unit unit (unit_at W i) caller is in
@@ -328,14 +328,14 @@ fewer w i In Out so has place outputs callee some begun = has place outputs call
 
 module _ {w : Setting} (all : (i : ℕ) (unit : UnitDef) → unit_at w i ≡ Some unit → RunsHaveOutputs w i (plain_body unit.body)) where
   mutual
-    standing : {stood : Bool} {i : ℕ} {body : Block} {c : Tree} → Left w stood i body c → Has w i (λ P. SomeIn P body) → CallsStand w i c
+    standing : {stood : Bool} {i : ℕ} {body : Block} {c : Tree} → PlainResidual w stood i body c → Has w i (λ P. SomeIn P body) → CallsMatchCallees w i c
     standing nothing has = tt
     standing {body = body} (of_last {s = s} stands of) has =
         standing_of of (fewer w _ (λ P. SomeOf P s) (λ P. SomeIn P body) (λ P some. stands_in P stands some) has)
     standing {body = body} (of_one {s = s} stands of busy) has =
         standing_of of (fewer w _ (λ P. SomeOf P s) (λ P. SomeIn P body) (λ P some. stands_in P stands some) has)
 
-    standing_of : {stood : Bool} {i : ℕ} {s : Plain} {c : Tree} → LeftOf w stood i s c → Has w i (λ P. SomeOf P s) → CallsStand w i c
+    standing_of : {stood : Bool} {i : ℕ} {s : Plain} {c : Tree} → PlainResidualOf w stood i s c → Has w i (λ P. SomeOf P s) → CallsMatchCallees w i c
     standing_of to_begin has = tt
     standing_of ended has = tt
     standing_of paused has = tt
@@ -361,9 +361,9 @@ module _ {w : Setting} (all : (i : ℕ) (unit : UnitDef) → unit_at w i ≡ Som
     standing_of (of_run {at = at} {outputs = outputs} {callee = callee} {unit = unit} begun is kept checked left) has =
         (begun, (has at outputs callee (refl, refl) begun, standing left (all callee unit is)))
 
-    standing_in : {stood : Bool} {i : ℕ} {bodies : Bodies} {branches : Trees} → LeftEach w stood i bodies branches →
+    standing_in : {stood : Bool} {i : ℕ} {bodies : Bodies} {branches : Trees} → PlainResidualEach w stood i bodies branches →
         Has w i (λ P. SomeInEach P bodies) →
-        AllCallsStand w i branches
+        AllCallsMatchCallees w i branches
     standing_in none_left has = tt
     standing_in {bodies = bodies} (one_left {body = body} {bodies = rest} left each) has = (
       standing left (fewer w _ (λ P. SomeIn P body) (λ P. SomeInEach P bodies) (λ P some. inl some) has),
@@ -410,6 +410,6 @@ module _ (w : Setting) (i : ℕ) where
 pub outputs_in_forks : (w : Setting) (i : ℕ) (body : Block) → RunsHaveOutputs w i body → EachForkIn (BranchesHaveOutputs w i) body
 outputs_in_forks w i body has = forked w i body has
 
-pub left_calls_stand_so : LeftCallsStand
+pub left_calls_stand_so : ResidualCallsMatch
 left_calls_stand_so structs units entry stood i body c keeps has left =
     standing (λ i unit is. typed_runs_have_outputs_so structs units entry i unit keeps is) left has

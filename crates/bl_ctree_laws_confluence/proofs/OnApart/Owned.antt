@@ -1,14 +1,14 @@
 -- Deeds of what is left of a body are those of its statements, or lie in its calls.
 use Rattle.std.proofs.Common.{◌≡◌, ◌⊎◌, inl, inr, ℕ, Bool, Some, refl, sym, subst}
 use Rattle.bl_tree.specs.declared.place.Place.{Place}
-use Rattle.bl_nodes.specs.Plain.{Block, Bodies, Plain, Done, Then}
-use Rattle.bl_nodes.specs.Steps.{StepLabel}
+use Rattle.bl_graph_nodes.specs.Plain.{Block, Bodies, Plain, Done, Then}
+use Rattle.bl_graph_nodes.specs.Steps.{StepLabel}
 use Rattle.bl_ctree.specs.Instances.{Setting, callee_of}
-use Rattle.bl_ctree_laws.specs.Left.{
-  Left,
-  LeftEach,
-  LeftOf,
-  Stands,
+use Rattle.bl_ctree_laws.specs.Residual.{
+  BlockSplitsAt,
+  PlainResidual,
+  PlainResidualEach,
+  PlainResidualOf,
   ended,
   here,
   none_left,
@@ -66,12 +66,12 @@ use Rattle.bl_ctree_laws.specs.Steps.{
 }
 use Rattle.bl_ctree_laws.specs.Trees.{Tree, Trees, Do, before}
 use Rattle.bl_ctree_laws_confluence.specs.Deeds.Nesting.{Inside, deeper, itself}
-use Rattle.bl_ctree_laws_confluence.specs.Apart.Owned.{Called, DeedsAreOfBodies, Does, Own, RunsAt, SomeIn, SomeInEach, SomeOf}
+use Rattle.bl_ctree_laws_confluence.specs.Apart.Owned.{DeedsAreOfBodies, HasEffect, IsInsideCall, Own, RunsAt, SomeIn, SomeInEach, SomeOf}
 use Rattle.bl_ctree_laws_confluence.proofs.OnApart.Calls.{inside_both}
 
 -- the deed is that of a statement of a part of a body, or lies in a call by one; In P says that P holds of a statement there
 data Found (w : Setting) (i : ℕ) (In : (Plain → Type 0) → Type 0) (a : Deed) : Type 0 where
-  by_own : a.instance ≡ i → In (Does w i a.effect) → Found w i In a
+  by_own : a.instance ≡ i → In (HasEffect w i a.effect) → Found w i In a
   by_call : (place : Place) (callee : ℕ) → In (RunsAt place) → callee_of w i place ≡ Some callee → Inside w callee a.instance → Found w i In a
 
 found : {w : Setting} {i : ℕ} {a : Deed} (In Out : (Plain → Type 0) → Type 0) → ((P : Plain → Type 0) → In P → Out P) →
@@ -83,7 +83,7 @@ found_inside : {w : Setting} {i : ℕ} {a : Deed} {In : (Plain → Type 0) → T
 found_inside {w} {i} (by_own is does) = subst (Inside w i) (sym is) itself
 found_inside {w} {i} (by_call place callee stands begins inside) = inside_both (deeper i place itself begins) inside
 
-pub stands_in : (P : Plain → Type 0) {s : Plain} {rest body : Block} → Stands s rest body → SomeOf P s → SomeIn P body
+pub stands_in : (P : Plain → Type 0) {s : Plain} {rest body : Block} → BlockSplitsAt s rest body → SomeOf P s → SomeIn P body
 stands_in P here some = inl some
 stands_in P (there stands) some = inr (stands_in P stands some)
 
@@ -124,7 +124,7 @@ begins_so guards = by_own refl (inl (inl refl))
 
 mutual
   owned : {w : Setting} {stood : Bool} {i : ℕ} {body : Block} {c : Tree} {d : Bool} {a : Deed} {n : StepLabel} {c' : Tree} →
-      Left w stood i body c → Moves Anyway w i c d a n c' → Found w i (λ P. SomeIn P body) a
+      PlainResidual w stood i body c → Moves Anyway w i c d a n c' → Found w i (λ P. SomeIn P body) a
   owned nothing move = elim move [ ]
   owned {body = body} (of_last {s = s} stands of) move =
       found (λ P. SomeOf P s) (λ P. SomeIn P body) (λ P some. stands_in P stands some) (owned_of of move)
@@ -132,7 +132,7 @@ mutual
       found (λ P. SomeOf P s) (λ P. SomeIn P body) (λ P some. stands_in P stands some) (owned_of of move)
 
   owned_of : {w : Setting} {stood : Bool} {i : ℕ} {s : Plain} {c : Tree} {d : Bool} {a : Deed} {n : StepLabel} {c' : Tree} →
-      LeftOf w stood i s c → Moves Anyway w i c d a n c' → Found w i (λ P. SomeOf P s) a
+      PlainResidualOf w stood i s c → Moves Anyway w i c d a n c' → Found w i (λ P. SomeOf P s) a
   owned_of to_begin move = begins_so move
   owned_of ended move = elim move [ ]
   owned_of paused move = elim move [ ]
@@ -164,7 +164,7 @@ mutual
       by_call at callee refl begins (found_inside (owned left move))
 
   owned_in : {w : Setting} {stood : Bool} {i : ℕ} {bodies : Bodies} {branches : Trees} {d : Bool} {a : Deed} {n : StepLabel} {branches' : Trees} →
-      LeftEach w stood i bodies branches → OneMoves Anyway w i branches d a n branches' → Found w i (λ P. SomeInEach P bodies) a
+      PlainResidualEach w stood i bodies branches → OneMoves Anyway w i branches d a n branches' → Found w i (λ P. SomeInEach P bodies) a
   owned_in none_left move = elim move [ ]
   owned_in {bodies = bodies} (one_left {body = body} left each) (first move free) =
       found (λ P. SomeIn P body) (λ P. SomeInEach P bodies) (λ P some. inl some) (owned left move)
@@ -174,7 +174,7 @@ mutual
 pub deeds_are_of_bodies_so : DeedsAreOfBodies
 deeds_are_of_bodies_so w stood i body c d a n c' left move = by_found (owned left move)
   where
-    by_found : Found w i (λ P. SomeIn P body) a → Own w i body a ⊎ Called w i body a.instance
+    by_found : Found w i (λ P. SomeIn P body) a → Own w i body a ⊎ IsInsideCall w i body a.instance
     by_found (by_own is does) = inl (record { instance = is; does = does })
     by_found (by_call place callee stands begins inside) =
         inr (record { place = place; stands = stands; callee = callee; begins = begins; inside = inside })

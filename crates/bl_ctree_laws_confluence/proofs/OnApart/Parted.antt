@@ -1,6 +1,6 @@
 -- Deeds that are done in either order are those of two branches of one `cobegin`.
 use Rattle.std.proofs.Common.{◌⊎◌, inl, inr, ℕ, Bool, []}
-use Rattle.bl_nodes.specs.Plain.{
+use Rattle.bl_graph_nodes.specs.Plain.{
   Block,
   Bodies,
   Plain,
@@ -33,11 +33,11 @@ use Rattle.bl_ctree_laws.specs.Commutes.{
   under_guard,
   under_run,
 }
-use Rattle.bl_ctree_laws.specs.Left.{
-  Left,
-  LeftEach,
-  LeftOf,
-  Stands,
+use Rattle.bl_ctree_laws.specs.Residual.{
+  BlockSplitsAt,
+  PlainResidual,
+  PlainResidualEach,
+  PlainResidualOf,
   ended,
   here,
   none_left,
@@ -109,7 +109,7 @@ module _ (P Q R : Bodies → Type 0) (so : (bodies : Bodies) → P bodies → Q 
 
 -- ---- steps of different branches
 
-fork_at : (P : Bodies → Type 0) {s : Plain} {rest body : Block} → Stands s rest body → EachForkIn P body → EachFork P s
+fork_at : (P : Bodies → Type 0) {s : Plain} {rest body : Block} → BlockSplitsAt s rest body → EachForkIn P body → EachFork P s
 fork_at P here forks = forks.0
 fork_at P (there stands) forks = fork_at P stands forks.1
 
@@ -119,14 +119,14 @@ turned P (Then s body) next forks last = (forks.0, turned P body next forks.1 la
 
 module _ {w : Setting} (all : AllKeepApart w) where
   mutual
-    parted : {stood : Bool} {i : ℕ} {body : Block} {c : Tree} {a b : Deed} → Left w stood i body c → Apart w i c a b →
+    parted : {stood : Bool} {i : ℕ} {body : Block} {c : Tree} {a b : Deed} → PlainResidual w stood i body c → Apart w i c a b →
         EachForkIn (StandApart w i) body →
         TwoBranches w a b ⊎ TwoBranches w b a
     parted nothing two forks = elim two [ ]
     parted (of_last stands of) two forks = parted_of of two (fork_at (StandApart w _) stands forks)
     parted (of_one stands of busy) (in_sequence two) forks = parted_of of two (fork_at (StandApart w _) stands forks)
 
-    parted_of : {stood : Bool} {i : ℕ} {s : Plain} {c : Tree} {a b : Deed} → LeftOf w stood i s c → Apart w i c a b → EachFork (StandApart w i) s →
+    parted_of : {stood : Bool} {i : ℕ} {s : Plain} {c : Tree} {a b : Deed} → PlainResidualOf w stood i s c → Apart w i c a b → EachFork (StandApart w i) s →
         TwoBranches w a b ⊎ TwoBranches w b a
     parted_of to_begin two forks = elim two [ ]
     parted_of ended two forks = elim two [ ]
@@ -142,7 +142,7 @@ module _ {w : Setting} (all : AllKeepApart w) where
     parted_of (of_guard kept checked left) (under_guard two) forks = parted left two forks
     parted_of (of_run {callee = callee} {unit = unit} begins is kept checked left) (under_run two) forks = parted left two (all callee unit is)
 
-    parted_in : {stood : Bool} {i : ℕ} {bodies : Bodies} {branches : Trees} {a b : Deed} → LeftEach w stood i bodies branches →
+    parted_in : {stood : Bool} {i : ℕ} {bodies : Bodies} {branches : Trees} {a b : Deed} → PlainResidualEach w stood i bodies branches →
         ApartIn w i branches a b → StandApart w i bodies → EachForkInEach (StandApart w i) bodies → TwoBranches w a b ⊎ TwoBranches w b a
     parted_in none_left two apart forks = elim two [ ]
     parted_in (one_left left each) (in_first two) apart forks = parted left two forks.0

@@ -43,8 +43,8 @@ use Rattle.bl_tree.specs.Returns.{
   stmt_returns,
 }
 use Rattle.bl_tree.proofs.StmtInduction.{Cases, Each, EachArm, EachBranch, induct, stmt}
-use Rattle.bl_nodes.specs.Laws.{plain_arm, plain_branch}
-use Rattle.bl_nodes.specs.Plain.{
+use Rattle.bl_graph_nodes.specs.Laws.{plain_arm, plain_branch}
+use Rattle.bl_graph_nodes.specs.Plain.{
   Block,
   Bodies,
   Label,
@@ -74,7 +74,7 @@ use Rattle.bl_nodes.specs.Plain.{
   plain,
   plain_block,
 }
-use Rattle.bl_nodes.proofs.Equations.{made_of_parts, plain_statements}
+use Rattle.bl_graph_nodes.proofs.Equations.{made_of_parts, plain_statements}
 use Rattle.bl_ctree_laws.proofs.Tests.{and_first, and_second, or_left, or_right}
 use Rattle.bl_ctree_laws_confluence.proofs.OnDeeds.Accepted.{accepted_is_orderly}
 use Rattle.bl_ctree_laws_confluence.specs.Apart.Forks.{EachFork, EachForkIn, EachForkInEach}

@@ -49,12 +49,12 @@ use Rattle.bl_tree.specs.Within.{
   place_of,
 }
 use Rattle.bl_tree.proofs.StmtInduction.{Cases, Each, EachArm, EachBranch, induct, stmt}
-use Rattle.bl_nodes.specs.Laws.{plain_arm, plain_branch}
-use Rattle.bl_nodes.specs.Plain.{Label, Plain, Position, Act, If, block_from, bodies_from, else_at, inside, label_at, never, passed_one, plain, plain_block}
-use Rattle.bl_nodes.proofs.Equations.{plain_statements}
+use Rattle.bl_graph_nodes.specs.Laws.{plain_arm, plain_branch}
+use Rattle.bl_graph_nodes.specs.Plain.{Label, Plain, Position, Act, If, block_from, bodies_from, else_at, inside, label_at, never, passed_one, plain, plain_block}
+use Rattle.bl_graph_nodes.proofs.Equations.{plain_statements}
 use Rattle.bl_ctree_laws_confluence.proofs.OnDeeds.Accepted.{accepted_is_orderly}
 use Rattle.bl_ctree_laws_confluence.specs.Apart.Forks.{EachFork, EachForkIn, EachForkInEach}
-use Rattle.bl_ctree_laws_confluence.specs.Apart.Owned.{Runs, RunsAt, SomeIn, SomeInEach, SomeOf}
+use Rattle.bl_ctree_laws_confluence.specs.Apart.Owned.{IsRunWith, RunsAt, SomeIn, SomeInEach, SomeOf}
 use Rattle.bl_ctree_laws_confluence.specs.Apart.Running.{AcceptedRunsApart, BranchesRunApart, RunApart, RunStands, RunsAreOfStatements}
 
 -- ---- the parts of a statement that is made of them
@@ -122,19 +122,19 @@ run_moved so one = record { statement = one.statement; stands = so one.statement
 
 module _ (R : Place → List Path → Type 0) where
   abbrev S : Stmt → Type 0
-  S s = (at : Position) → SomeOf (Runs R) (plain s at) → RunWithin R s
+  S s = (at : Position) → SomeOf (IsRunWith R) (plain s at) → RunWithin R s
 
   first_run : (s : Stmt) (rest : List Stmt) → RunWithin R s → RunFound R (s ∷ rest)
   first_run s rest one = record { statement = one.statement; stands = stands_first s rest one.within; runs = one.runs; holds = one.holds }
 
-  block_so : (body : List Stmt) (n : ℕ) (at : Position) → Each S body → SomeIn (Runs R) (block_from (map plain body) n at) → RunFound R body
+  block_so : (body : List Stmt) (n : ℕ) (at : Position) → Each S body → SomeIn (IsRunWith R) (block_from (map plain body) n at) → RunFound R body
   block_so [] n at each some = absurd some
   block_so (s ∷ rest) n at each (inl some) = first_run s rest (All-head S s rest each (at ++ n ∷ []) some)
   block_so (s ∷ rest) n at each (inr some) =
       run_moved (λ inner one. stands_right (s ∷ []) rest one) (block_so rest (suc n) at (All-tail S s rest each) some)
 
   arms_so : (l : Label) (arms : List Arm) (other : List Stmt) → EachArm S arms → Each S other →
-      SomeIn (Runs R) (else_at l (map plain_arm arms) (plain_block other)) → RunFound R (joined (map (λ arm. (out-Arm arm).body) arms) ++ other)
+      SomeIn (IsRunWith R) (else_at l (map plain_arm arms) (plain_block other)) → RunFound R (joined (map (λ arm. (out-Arm arm).body) arms) ++ other)
   arms_so l [] other each others some = block_so other 0 (inside l l.passed) others some
   arms_so l (arm ∷ rest) other each others (inr none) = absurd none
   arms_so l (arm ∷ rest) other each others (inl (inl none)) = absurd none
@@ -147,7 +147,7 @@ module _ (R : Place → List Path → Type 0) where
       (arms_so (passed_one l) rest other (All-tail (λ arm. Each S (out-Arm arm).body) arm rest each) others some)
 
   branches_so : (branches : List Branch) (n : ℕ) (l : Label) → EachBranch S branches →
-      SomeInEach (Runs R) (bodies_from (map plain_branch branches) n l) → RunFound R (joined (map (λ branch. (out-Branch branch).body) branches))
+      SomeInEach (IsRunWith R) (bodies_from (map plain_branch branches) n l) → RunFound R (joined (map (λ branch. (out-Branch branch).body) branches))
   branches_so [] n l each some = absurd some
   branches_so (branch ∷ rest) n l each (inl some) =
       run_moved (λ inner one. stands_left (out-Branch branch).body (joined (map (λ branch. (out-Branch branch).body) rest)) one)
@@ -157,14 +157,14 @@ module _ (R : Place → List Path → Type 0) where
       (branches_so rest (suc n) l (All-tail (λ branch. Each S (out-Branch branch).body) branch rest each) some)
 
   by_parts : (place : Place) (layer : StmtKind-F StmtKind Arm Branch Stmt) (at : Position) (q : Plain) → plain (stmt place layer) at ≡ q →
-      (SomeOf (Runs R) q → RunFound R (kind_children layer)) → SomeOf (Runs R) (plain (stmt place layer) at) → RunWithin R (stmt place layer)
+      (SomeOf (IsRunWith R) q → RunFound R (kind_children layer)) → SomeOf (IsRunWith R) (plain (stmt place layer) at) → RunWithin R (stmt place layer)
   by_parts place layer at q is so some =
-      let one = so (subst (SomeOf (Runs R)) is some) in
+      let one = so (subst (SomeOf (IsRunWith R)) is some) in
       record { statement = one.statement; within = stands_below place layer one.stands; runs = one.runs; holds = one.holds }
 
   act_so : (place : Place) (layer : StmtKind-F StmtKind Arm Branch Stmt) (at : Position) →
       plain (stmt place layer) at ≡ Act (label_at at) (stmt place layer) →
-      SomeOf (Runs R) (plain (stmt place layer) at) → RunWithin R (stmt place layer)
+      SomeOf (IsRunWith R) (plain (stmt place layer) at) → RunWithin R (stmt place layer)
   act_so place layer at is = by_parts place layer at (Act (label_at at) (stmt place layer)) is (λ none. absurd none)
 
   run_so : (place : Place) (layer : StmtKind-F StmtKind Arm Branch Stmt) → is_run_kind layer ≡ true → R place (kind_outputs layer) →
@@ -177,17 +177,17 @@ module _ (R : Place → List Path → Type 0) where
         (subst (R place) (sym (outputs_at place layer)) is);
   }
 
-  in_body : (body : List Stmt) (at : Position) → Each S body → ⊥ ⊎ SomeIn (Runs R) (plain_block body at) → RunFound R body
+  in_body : (body : List Stmt) (at : Position) → Each S body → ⊥ ⊎ SomeIn (IsRunWith R) (plain_block body at) → RunFound R body
   in_body body at each (inl none) = absurd none
   in_body body at each (inr some) = block_so body 0 at each some
 
   in_branches : (branches : List Branch) (l : Label) → EachBranch S branches →
-      ⊥ ⊎ SomeInEach (Runs R) (bodies_from (map plain_branch branches) 0 l) → RunFound R (joined (map (λ branch. (out-Branch branch).body) branches))
+      ⊥ ⊎ SomeInEach (IsRunWith R) (bodies_from (map plain_branch branches) 0 l) → RunFound R (joined (map (λ branch. (out-Branch branch).body) branches))
   in_branches branches l each (inl none) = absurd none
   in_branches branches l each (inr some) = branches_so branches 0 l each some
 
   no_arm_so : (other : List Stmt) (one two : Position) → Each S other →
-      ⊥ ⊎ (SomeIn (Runs R) (plain_block other one) ⊎ SomeIn (Runs R) (plain_block other two)) → RunFound R other
+      ⊥ ⊎ (SomeIn (IsRunWith R) (plain_block other one) ⊎ SomeIn (IsRunWith R) (plain_block other two)) → RunFound R other
   no_arm_so other one two others (inl none) = absurd none
   no_arm_so other one two others (inr (inl some)) = block_so other 0 one others some
   no_arm_so other one two others (inr (inr some)) = block_so other 0 two others some
@@ -209,7 +209,7 @@ module _ (R : Place → List Path → Type 0) where
     call = λ place f inputs outputs at. act_so place (StmtKind-F.Call f inputs outputs) at (plain_statements.call place at f inputs outputs);
     await = λ place e at. by_parts place (StmtKind-F.Await e) at _ (plain_statements.pause place at e) (λ none. absurd none);
     run = λ place target a inputs outputs at some. run_so place (StmtKind-F.Run target a inputs outputs) refl
-        (subst (SomeOf (Runs R)) (plain_statements.run place at target a inputs outputs) some);
+        (subst (SomeOf (IsRunWith R)) (plain_statements.run place at target a inputs outputs) some);
     branching = branching_so;
     cobegin = λ place branches each at. by_parts place (StmtKind-F.Cobegin branches) at _ (plain_statements.parallel place at branches)
         (in_branches branches (label_at at) each);
@@ -224,7 +224,7 @@ module _ (R : Place → List Path → Type 0) where
     returns = λ place e at. act_so place (StmtKind-F.Return e) at (plain_statements.returns place at e);
   }
 
-  pub run_found : (body : List Stmt) (at : Position) → SomeIn (Runs R) (plain_block body at) → RunFound R body
+  pub run_found : (body : List Stmt) (at : Position) → SomeIn (IsRunWith R) (plain_block body at) → RunFound R body
   run_found body at some = block_so body 0 at (λ n d within. induct S stmt_cases (get_or body n d)) some
 
 pub runs_are_of_statements_so : RunsAreOfStatements

@@ -38,7 +38,7 @@ use Rattle.bl_tree.specs.declared.tree.StructDef.{StructDef}
 use Rattle.bl_tree.specs.declared.tree.Unit.{Unit as UnitDef}
 use Rattle.bl_tree.specs.Effects.{target_static, writes}
 use Rattle.bl_tree.specs.Static.{is_front, static_of}
-use Rattle.bl_nodes.specs.Steps.{StepLabel}
+use Rattle.bl_graph_nodes.specs.Steps.{StepLabel}
 use Rattle.bl_ctree.specs.Actions.{Effect, Silent, Acts, Asks, Copies, Gives}
 use Rattle.bl_ctree.specs.Control.{Body}
 use Rattle.bl_ctree.specs.Instances.{Setting, callee_of, setting_of}
@@ -86,7 +86,7 @@ use Rattle.bl_ctree_laws_confluence.specs.Deeds.Deeds.{effect_writes}
 use Rattle.bl_ctree_laws_confluence.specs.Deeds.Nesting.{Inside, IsOutput}
 use Rattle.bl_ctree_laws_confluence.proofs.OnDeeds.Nesting.{programs_nest}
 use Rattle.bl_ctree_laws_confluence.proofs.OnDeeds.Origins.{map_got}
-use Rattle.bl_ctree_laws_confluence.specs.Apart.Seen.{AllCallsStand, CallsStand, HasOutputs, InCall, WritesAreSeen}
+use Rattle.bl_ctree_laws_confluence.specs.Apart.Seen.{AllCallsMatchCallees, CallsMatchCallees, HasOutputs, InCall, WritesAreSeen}
 use Rattle.bl_ctree_laws_confluence.proofs.OnApart.Calls.{stays}
 
 -- ---- homes that overlap
@@ -224,7 +224,7 @@ module _ (structs : List StructDef) (units : List UnitDef) (entry : ℕ) (over :
 
   mutual
     seen : {i : ℕ} {c : Tree} {d : Bool} {a : Deed} {n : StepLabel} {c' : Tree} (k : ℕ) (at : Location) →
-        overlap over at ≡ true → CallsStand W i c →
+        overlap over at ≡ true → CallsMatchCallees W i c →
         Moves Anyway W i c d a n c' → slice_get (effect_writes W a.instance a.effect) k ≡ Some at → Seen i c at
     seen {i = i} k at o stand (acts {s = s}) e = inl (any_home W i at over (writes s) k e o)
     seen k at o stand takes e = nothing_written k at e
@@ -258,7 +258,7 @@ module _ (structs : List StructDef) (units : List UnitDef) (entry : ℕ) (over :
         (moving_is_unsettled W i _ _ _ _ _ (in_run {s = s} {stood = stood} move)) (stays stand.1.1 move) e o
 
     one_seen : {i : ℕ} {branches : Trees} {d : Bool} {a : Deed} {n : StepLabel} {branches' : Trees} (k : ℕ) (at : Location) → overlap over at ≡ true →
-        AllCallsStand W i branches → OneMoves Anyway W i branches d a n branches' → slice_get (effect_writes W a.instance a.effect) k ≡ Some at →
+        AllCallsMatchCallees W i branches → OneMoves Anyway W i branches d a n branches' → slice_get (effect_writes W a.instance a.effect) k ≡ Some at →
         (any_writes W i branches over ≡ true) ⊎ InCall W i at.instance
     one_seen {i = i} k at o stand (first {c = c} {others = others} move free) e =
         either (or_left (may_write W i c over) (any_writes W i others over)) (seen k at o stand.0 move e)

@@ -66,10 +66,10 @@ use Rattle.bl_tree.specs.Apart.{
 }
 use Rattle.bl_tree.specs.Effects.{arm_writes, branch_paths, kind_writes, stmt_set, target_static, writes}
 use Rattle.bl_tree.specs.Reduce.{all_of, joined}
-use Rattle.bl_tree.specs.Static.{Reach, Step, expr_mentions, kind_mentions, part_step, path_reach, set_of, static_of, whole}
+use Rattle.bl_tree.specs.Static.{Reach, StaticStep, expr_mentions, kind_mentions, part_step, path_reach, set_of, static_of, whole}
 use Rattle.bl_tree.specs.Types.{scalar as scalar_type}
 use Rattle.bl_tree.specs.Typing.{
-  Site,
+  TypingContext,
   are_same,
   arguments_fit,
   arm_fits,
@@ -111,13 +111,13 @@ use Rattle.bl_effects.specs.Rules.{
   together,
 }
 use Rattle.bl_effects.proofs.SetLemmas.{set_members}
-use Rattle.bl_nodes.specs.Laws.{plain_arm, plain_branch}
-use Rattle.bl_nodes.specs.Plain.{Label, Plain, Position, Act, block_from, bodies_from, else_at, inside, label_at, passed_one, plain, plain_block}
-use Rattle.bl_nodes.proofs.Equations.{plain_statements}
+use Rattle.bl_graph_nodes.specs.Laws.{plain_arm, plain_branch}
+use Rattle.bl_graph_nodes.specs.Plain.{Label, Plain, Position, Act, block_from, bodies_from, else_at, inside, label_at, passed_one, plain, plain_block}
+use Rattle.bl_graph_nodes.proofs.Equations.{plain_statements}
 use Rattle.bl_ctree_laws.proofs.Tests.{and_first, and_second, or_left}
 use Rattle.bl_ctree_laws_confluence.specs.Apart.Named.{OneOf}
 use Rattle.bl_ctree_laws_confluence.specs.Apart.Owned.{SomeIn, SomeInEach, SomeOf}
-use Rattle.bl_ctree_laws_confluence.specs.Apart.Writing.{Writes}
+use Rattle.bl_ctree_laws_confluence.specs.Apart.Writing.{StatementWrites}
 use Rattle.bl_ctree_laws_confluence.proofs.OnApart.Members.{In, contains_in, in_left, in_map, in_right}
 use Rattle.bl_ctree_laws_confluence.proofs.OnApart.Named.{folded_arm, folded_branch, naming_at, naming_parts, one_left, one_right}
 
@@ -168,7 +168,7 @@ written_in place layer p there =
     ((set_members (kind_writes (written_parts layer)) p).0 (subst (λ xs. Contains xs p) (written_at place layer) there))
 
 static_at : (path : Path) → (static_of path).root ≡ (out-Path path).root
-static_at path = ap (λ reach. reach.static.root) (fold_out-Path (List Static) Step (List Static) Reach kind_mentions part_step expr_mentions path_reach path)
+static_at path = ap (λ reach. reach.static.root) (fold_out-Path (List Static) StaticStep (List Static) Reach kind_mentions part_step expr_mentions path_reach path)
 
 root_named : (path : Path) → OneOf (static_of path).root (roots_in_path path)
 root_named path =
@@ -248,7 +248,7 @@ later_before {p = p} q qs other n ns one =
 acted : (place : Place) (p : Static) (xs : List Static) → In p xs → OneMark p (acting place xs).writes
 acted place p xs there = (record { place = place; path = p }, (in_map (λ path. record { place = place; path = path }) p xs there, refl))
 
-module _ (site : Site) (p : Static) where
+module _ (site : TypingContext) (p : Static) where
   -- there is such a variable
   abbrev Known : ℕ → Type 0
   Known k = (var : Var) × (slice_get site.vars k ≡ Some var)
@@ -336,45 +336,45 @@ module _ (site : Site) (p : Static) where
 
 -- ---- typed statements
 
-abbrev pub arm_fitted : Site → Arm → Bool
+abbrev pub arm_fitted : TypingContext → Arm → Bool
 arm_fitted site = fold-Arm Bool Bool Bool Bool (kind_fits site) (arm_fits site) branch_fits stmt_fits
 
-abbrev pub branch_fitted : Site → Branch → Bool
+abbrev pub branch_fitted : TypingContext → Branch → Bool
 branch_fitted site = fold-Branch Bool Bool Bool Bool (kind_fits site) (arm_fits site) branch_fits stmt_fits
 
-abbrev pub fit_parts : Site → StmtKind-F StmtKind Arm Branch Stmt → StmtKind-F Bool Bool Bool Bool
+abbrev pub fit_parts : TypingContext → StmtKind-F StmtKind Arm Branch Stmt → StmtKind-F Bool Bool Bool Bool
 fit_parts site = map-StmtKind StmtKind Arm Branch Stmt Bool Bool Bool Bool
     (fold-StmtKind Bool Bool Bool Bool (kind_fits site) (arm_fits site) branch_fits stmt_fits) (arm_fitted site) (branch_fitted site) (fits site)
 
-pub fit_at : (site : Site) (place : Place) (layer : StmtKind-F StmtKind Arm Branch Stmt) →
+pub fit_at : (site : TypingContext) (place : Place) (layer : StmtKind-F StmtKind Arm Branch Stmt) →
     fits site (stmt place layer) ≡ kind_fits site (fit_parts site layer)
 fit_at site place layer = rw (fold-roll-Stmt, fold-roll-StmtKind) refl
 
 -- a typed block
-abbrev pub Fit : Site → List Stmt → Type 0
+abbrev pub Fit : TypingContext → List Stmt → Type 0
 Fit site body = all_of (map (fits site) body) ≡ true
 
-pub fit_first : (site : Site) (s : Stmt) (rest : List Stmt) → Fit site (s ∷ rest) → fits site s ≡ true
+pub fit_first : (site : TypingContext) (s : Stmt) (rest : List Stmt) → Fit site (s ∷ rest) → fits site s ≡ true
 fit_first site s rest fit = and_first (fits site s) (all_of (map (fits site) rest)) fit
 
-pub fit_rest : (site : Site) (s : Stmt) (rest : List Stmt) → Fit site (s ∷ rest) → Fit site rest
+pub fit_rest : (site : TypingContext) (s : Stmt) (rest : List Stmt) → Fit site (s ∷ rest) → Fit site rest
 fit_rest site s rest fit = and_second (fits site s) (all_of (map (fits site) rest)) fit
 
-pub fit_arm : (site : Site) (arm : Arm) → arm_fitted site arm ≡ true → Fit site (out-Arm arm).body
+pub fit_arm : (site : TypingContext) (arm : Arm) → arm_fitted site arm ≡ true → Fit site (out-Arm arm).body
 fit_arm site arm fit =
     and_second (is_truth (type_of site (out-Arm arm).test)) (all_of (map (fits site) (out-Arm arm).body))
     (sym (fold_out-Arm Bool Bool Bool Bool (kind_fits site) (arm_fits site) branch_fits stmt_fits arm) ∙ fit)
 
-pub fit_branch : (site : Site) (branch : Branch) → branch_fitted site branch ≡ true → Fit site (out-Branch branch).body
+pub fit_branch : (site : TypingContext) (branch : Branch) → branch_fitted site branch ≡ true → Fit site (out-Branch branch).body
 fit_branch site branch fit = sym (fold_out-Branch Bool Bool Bool Bool (kind_fits site) (arm_fits site) branch_fits stmt_fits branch) ∙ fit
 
-abbrev pub ArmsFit : Site → List Arm → Type 0
+abbrev pub ArmsFit : TypingContext → List Arm → Type 0
 ArmsFit site arms = all_of (map (arm_fitted site) arms) ≡ true
 
-abbrev pub BranchesFit : Site → List Branch → Type 0
+abbrev pub BranchesFit : TypingContext → List Branch → Type 0
 BranchesFit site branches = all_of (map (branch_fitted site) branches) ≡ true
 
-pub fit_arms : (site : Site) (arms : List Arm) (other : List Stmt) → kind_fits site (fit_parts site (StmtKind-F.If arms other)) ≡ true →
+pub fit_arms : (site : TypingContext) (arms : List Arm) (other : List Stmt) → kind_fits site (fit_parts site (StmtKind-F.If arms other)) ≡ true →
     ArmsFit site arms × Fit site other
 fit_arms site arms other fit =
     let both = and_second (is_inhabited (map (arm_fitted site) arms))
@@ -383,13 +383,13 @@ fit_arms site arms other fit =
       and_second (all_of (map (arm_fitted site) arms)) (all_of (map (fits site) other)) both,
     )
 
-pub fit_branches : (site : Site) (branches : List Branch) →
+pub fit_branches : (site : TypingContext) (branches : List Branch) →
     kind_fits site (fit_parts site (StmtKind-F.Cobegin branches)) ≡ true → BranchesFit site branches
 fit_branches site branches fit =
     and_second (is_inhabited (map (branch_fitted site) branches)) (all_of (map (branch_fitted site) branches))
     (and_second (is_activity site.kind) (is_inhabited (map (branch_fitted site) branches) && all_of (map (branch_fitted site) branches)) fit)
 
-pub fit_guarded : (site : Site) (e : Expr) (body : List Stmt) →
+pub fit_guarded : (site : TypingContext) (e : Expr) (body : List Stmt) →
     (is_activity site.kind && (is_truth (type_of site e) && all_of (map (fits site) body))) ≡ true → Fit site body
 fit_guarded site e body fit =
     and_second (is_truth (type_of site e)) (all_of (map (fits site) body))
@@ -397,9 +397,9 @@ fit_guarded site e body fit =
 
 -- ---- what is told of a statement, a block and a branch
 
-module _ (site : Site) (p : Static) where
+module _ (site : TypingContext) (p : Static) where
   abbrev P : Plain → Type 0
-  P = Writes p
+  P = StatementWrites p
 
   abbrev V : Parallel → Naming → Type 0
   V = Told site.vars p

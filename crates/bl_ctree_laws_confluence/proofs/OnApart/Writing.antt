@@ -38,20 +38,20 @@ use Rattle.bl_tree.specs.declared.tree.Var.{Var}
 use Rattle.bl_tree.specs.Apart.{Naming, all_apart, is_apart, is_foreign, keep_apart, naming_of, stmt_kind_naming}
 use Rattle.bl_tree.specs.Reduce.{all_of, joined}
 use Rattle.bl_tree.specs.Static.{is_front, overlaps}
-use Rattle.bl_tree.specs.Typing.{Site, fits, is_truth, kind_fits, site_of, type_of}
+use Rattle.bl_tree.specs.Typing.{TypingContext, fits, is_truth, kind_fits, site_of, type_of}
 use Rattle.bl_tree.proofs.StmtInduction.{Cases, Each, EachArm, EachBranch, induct, stmt}
 use Rattle.bl_effects.specs.declared.marked.Marked.{Marked}
 use Rattle.bl_effects.specs.Rules.{Parallel, Split, kind_parallel, parallel_of, splits_after, splits_of}
-use Rattle.bl_nodes.specs.Laws.{plain_arm, plain_branch}
-use Rattle.bl_nodes.specs.Plain.{Label, Plain, Position, block_from, bodies_from, else_at, inside, label_at, never, passed_one, plain, plain_block}
-use Rattle.bl_nodes.proofs.Equations.{plain_statements}
+use Rattle.bl_graph_nodes.specs.Laws.{plain_arm, plain_branch}
+use Rattle.bl_graph_nodes.specs.Plain.{Label, Plain, Position, block_from, bodies_from, else_at, inside, label_at, never, passed_one, plain, plain_block}
+use Rattle.bl_graph_nodes.proofs.Equations.{plain_statements}
 use Rattle.bl_ctree_laws.proofs.Tests.{and_first, and_second}
 use Rattle.bl_ctree_laws_confluence.specs.Deeds.Orderly.{OrderlyUnit}
 use Rattle.bl_ctree_laws_confluence.proofs.OnDeeds.Accepted.{accepted_is_orderly}
 use Rattle.bl_ctree_laws_confluence.specs.Apart.Forks.{EachFork, EachForkIn, EachForkInEach}
 use Rattle.bl_ctree_laws_confluence.specs.Apart.Named.{OneOf}
 use Rattle.bl_ctree_laws_confluence.specs.Apart.Owned.{SomeInEach}
-use Rattle.bl_ctree_laws_confluence.specs.Apart.Writing.{AcceptedWritesApart, WriteApart, Writes}
+use Rattle.bl_ctree_laws_confluence.specs.Apart.Writing.{AcceptedWritesApart, StatementWrites, WriteApart}
 use Rattle.bl_ctree_laws_confluence.proofs.OnApart.Forks.{all_true, each_apart, foreign_so}
 use Rattle.bl_ctree_laws_confluence.proofs.OnApart.Members.{In, in_contains, in_left, in_right}
 use Rattle.bl_ctree_laws_confluence.proofs.OnApart.Named.{folded_arm, folded_branch, naming_at, naming_parts}
@@ -98,7 +98,7 @@ Clear vars split =
 abbrev AllClear : List Var → List Split → Type 0
 AllClear vars splits = (split : Split) → In split splits → Clear vars split
 
-module _ (site : Site) where
+module _ (site : TypingContext) where
   abbrev L : Static → Parallel → Naming → Type 0
   L = Told site.vars
 
@@ -127,7 +127,7 @@ module _ (site : Site) where
   others_apart : (p : Static) (one : Parallel) (n : Naming) → L p one n → (earlier : List Marked) (branches : List Branch) (k : ℕ) (l : Label) →
       ((mark : Marked) → In mark one.writes → In mark earlier) → BranchesFit site branches →
       list_all (keep_apart n) (map folded_branch branches) ≡ true → AllClear site.vars (splits_after earlier (map folded_branch_parallel branches)) →
-      (q : Static) → SomeInEach (Writes q) (bodies_from (map plain_branch branches) k l) → overlaps p q ≡ false
+      (q : Static) → SomeInEach (StatementWrites q) (bodies_from (map plain_branch branches) k l) → overlaps p q ≡ false
   others_apart p one n first earlier [] k l among fit apart clear q some = absurd some
   others_apart p one n first earlier (branch ∷ rest) k l among fit apart clear q (inl some) =
       let other : Parallel = folded_branch_parallel branch in

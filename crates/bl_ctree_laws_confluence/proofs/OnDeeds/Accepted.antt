@@ -35,19 +35,19 @@ use Rattle.bl_tree.specs.declared.tree.Unit.{Unit as UnitDef}
 use Rattle.bl_tree.specs.Apart.{is_apart}
 use Rattle.bl_tree.specs.Depths.{is_shallow}
 use Rattle.bl_tree.specs.Instant.{is_instant_block}
-use Rattle.bl_tree.specs.Program.{Keeps, is_entry, names_of, parameters_of, roles_stand, unit_stands, units_stand_after}
+use Rattle.bl_tree.specs.Program.{IsWellTyped, is_entry, names_of, parameters_of, roles_stand, unit_stands, units_stand_after}
 use Rattle.bl_tree.specs.Reduce.{all_of, joined}
 use Rattle.bl_tree.specs.Returns.{activity_returns, function_returns, unit_returns}
 use Rattle.bl_tree.specs.Static.{overlaps}
 use Rattle.bl_tree.specs.Types.{scalar_in, type_stands}
-use Rattle.bl_tree.specs.Typing.{Site, fits, is_activity, site_of}
+use Rattle.bl_tree.specs.Typing.{TypingContext, fits, is_activity, site_of}
 use Rattle.bl_tree.specs.Words.{are_distinct, is_name}
-use Rattle.bl_nodes.proofs.Instants.{blocks_are_instant}
+use Rattle.bl_graph_nodes.proofs.Instants.{blocks_are_instant}
 use Rattle.bl_effects.specs.Rules.{Passes, aliases_in}
 use Rattle.bl_ctree.specs.declared.instance.Instance.{Instance}
 use Rattle.bl_ctree.specs.Instances.{Setting, expanded, setting_of, runs_of, unit_at, unit_of}
 use Rattle.bl_ctree_laws_confluence.specs.Deeds.Homes.{AreApart, OutputsAreApart}
-use Rattle.bl_ctree_laws_confluence.specs.Deeds.Origins.{Called, CalledBy}
+use Rattle.bl_ctree_laws_confluence.specs.Deeds.Origins.{CalledBy, HasCaller}
 use Rattle.bl_ctree_laws_confluence.specs.Deeds.Orderly.{AcceptedIsOrderly, OrderlyUnit}
 use Rattle.bl_ctree_laws_confluence.proofs.OnDeeds.Aliases.{of_member, unit_outputs}
 use Rattle.bl_ctree_laws_confluence.proofs.OnDeeds.Origins.{instances_have_callers_so}
@@ -132,14 +132,14 @@ entry_is units entry (Some unit) there is = record {
       and_left (is_activity unit.kind) (is_none unit.result && list_all (λ var. is_some (scalar_in var.ty)) (parameters_of unit)) is;
 }
 
-module _ (structs : List StructDef) (units : List UnitDef) (entry : ℕ) (keeps : Keeps structs units entry) (passes : Passes units) where
+module _ (structs : List StructDef) (units : List UnitDef) (entry : ℕ) (keeps : IsWellTyped structs units entry) (passes : Passes units) where
   abbrev W : Setting
   W = setting_of structs units entry
 
   stands_at : (k : ℕ) (unit : UnitDef) → slice_get units k ≡ Some unit → Standing structs (take k units) unit
   stands_at k unit there = standing structs (take k units) unit (unit_stands_at structs [] units k unit keeps.units_stand there)
 
-  typed_at : (k : ℕ) (unit : UnitDef) → slice_get units k ≡ Some unit → (site : Site) × (site.earlier ≡ take k units)
+  typed_at : (k : ℕ) (unit : UnitDef) → slice_get units k ≡ Some unit → (site : TypingContext) × (site.earlier ≡ take k units)
       × (all_of (map (fits site) unit.body) ≡ true)
   typed_at k unit there = (site_of structs (take k units) unit, refl, (stands_at k unit there).typed)
 
@@ -199,7 +199,7 @@ module _ (structs : List StructDef) (units : List UnitDef) (entry : ℕ) (keeps 
   outputs_are_apart : OutputsAreApart W
   outputs_are_apart i instance origin there began =
       let called : CalledBy units W.instances i instance origin =
-      subst (Called units entry W.instances i instance) began (instances_have_callers_so units entry i instance there) in
+      subst (HasCaller units entry W.instances i instance) began (instances_have_callers_so units entry i instance there) in
       let at_caller : unit_at W origin.caller ≡ Some called.unit = ap (option_and_then (unit_of W)) called.there ∙ called.body in
       let within = called.runs.1 in
       subst AreApart (sym called.outputs)

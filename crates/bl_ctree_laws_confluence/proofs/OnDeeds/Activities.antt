@@ -41,7 +41,7 @@ use Rattle.bl_tree.specs.declared.tree.Unit.{Unit as UnitDef}
 use Rattle.bl_tree.specs.Reduce.{all_of, joined}
 use Rattle.bl_tree.specs.Rules.{same_place}
 use Rattle.bl_tree.specs.Typing.{
-  Site,
+  TypingContext,
   arguments_fit,
   arm_fits,
   branch_fits,
@@ -102,7 +102,7 @@ record RunsActivity (units : List UnitDef) (run : Run) : Type 0 where
   there : slice_get units run.unit ≡ Some callee
   activity : is_activity callee.kind ≡ true
 
-module _ (site : Site) where
+module _ (site : TypingContext) where
   abbrev R : Run → Type 0
   R = RunsActivity site.earlier
 
@@ -246,7 +246,7 @@ taken (u ∷ units) zero k unit e = absurd cc
 taken (u ∷ units) (suc n) zero unit e = e
 taken (u ∷ units) (suc n) (suc k) unit e = taken units n k unit e
 
-module _ (units : List UnitDef) (typed : (k : ℕ) (unit : UnitDef) → slice_get units k ≡ Some unit → (site : Site) × (site.earlier ≡ take k units)
+module _ (units : List UnitDef) (typed : (k : ℕ) (unit : UnitDef) → slice_get units k ≡ Some unit → (site : TypingContext) × (site.earlier ≡ take k units)
     × (all_of (map (fits site) unit.body) ≡ true)) where
   named_activities : (k : ℕ) (runs : List Run) → AllOf (RunsActivity (take k units)) runs → AllOf (λ run. IsActivity units run.unit) runs
   named_activities k [] all = tt

@@ -39,8 +39,8 @@ use Rattle.bl_ctree.specs.declared.instance.Instance.{Instance}
 use Rattle.bl_ctree.specs.declared.instance.Origin.{Origin}
 use Rattle.bl_ctree.specs.Instances.{Setting, begins_at, callee_of, setting_of}
 use Rattle.bl_ctree.specs.Store.{Location, home, is_output_of, led, led_by, under}
-use Rattle.bl_ctree_laws_confluence.specs.Deeds.Nesting.{Inside, IsOutput, ProgramsNest, Runs, deeper, itself}
-use Rattle.bl_ctree_laws_confluence.specs.Deeds.Origins.{Called, CalledBy}
+use Rattle.bl_ctree_laws_confluence.specs.Deeds.Nesting.{BeginsInstance, Inside, IsOutput, ProgramsNest, deeper, itself}
+use Rattle.bl_ctree_laws_confluence.specs.Deeds.Origins.{CalledBy, HasCaller}
 use Rattle.bl_ctree_laws_confluence.proofs.OnDeeds.Accepted.{contains_at}
 use Rattle.bl_ctree_laws_confluence.proofs.OnDeeds.Activities.{and_left}
 use Rattle.bl_ctree_laws_confluence.proofs.OnDeeds.Origins.{homes_lead_out, instances_have_callers_so, led_from, led_to_caller}
@@ -112,11 +112,11 @@ module _ (structs : List StructDef) (units : List UnitDef) (entry : ℕ) where
   abbrev W : Setting
   W = setting_of structs units entry
 
-  callee_later : (i c : ℕ) (place : Place) → Runs structs units entry i place c → i < c
+  callee_later : (i c : ℕ) (place : Place) → BeginsInstance structs units entry i place c → i < c
   callee_later i c place runs =
       let b = begun W i c place runs in
       let called : CalledBy units W.instances c b.instance b.origin =
-      subst (Called units entry W.instances c b.instance) b.began (instances_have_callers_so units entry c b.instance b.there) in
+      subst (HasCaller units entry W.instances c b.instance) b.began (instances_have_callers_so units entry c b.instance b.there) in
       subst (λ i. i < c) b.by called.earlier
 
   inside_later : (i j : ℕ) → Inside W i j → i ≤ j
@@ -124,7 +124,7 @@ module _ (structs : List StructDef) (units : List UnitDef) (entry : ℕ) where
   inside_later i k (deeper j place inner runs) =
       let more = inside_later i j inner in let less = callee_later j k place runs in omega arith
 
-  caller_is_one : (i j c : ℕ) (place other : Place) → Runs structs units entry i place c → Runs structs units entry j other c → i ≡ j
+  caller_is_one : (i j c : ℕ) (place other : Place) → BeginsInstance structs units entry i place c → BeginsInstance structs units entry j other c → i ≡ j
   caller_is_one i j c place other one two =
       let b = begun W i c place one in
       let d = begun W j c other two in
@@ -133,7 +133,7 @@ module _ (structs : List StructDef) (units : List UnitDef) (entry : ℕ) where
       sym b.by ∙ ap (λ origin. origin.caller) origins ∙ d.by
 
   -- a callee of what is inside d, itself a callee of i, is no callee of i, but d
-  not_both : (i c d k : ℕ) (place other : Place) → Runs structs units entry i place c → Runs structs units entry i other d → Inside W c k →
+  not_both : (i c d k : ℕ) (place other : Place) → BeginsInstance structs units entry i place c → BeginsInstance structs units entry i other d → Inside W c k →
       Inside W d k → c ≡ d
   not_both i c d k place other one two itself itself = refl
   not_both i c d k place other one two itself (deeper j inner more runs) =
@@ -149,7 +149,7 @@ module _ (structs : List StructDef) (units : List UnitDef) (entry : ℕ) where
   not_both i c d k place other one two (deeper j inner more runs) (deeper j' inner' more' runs') =
       not_both i c d j place other one two more (subst (Inside W d) (caller_is_one j' j k inner' inner runs' runs) more')
 
-  home_is_hidden : (i c k : ℕ) (place : Place) (path : Static) → Runs structs units entry i place c → Inside W c k →
+  home_is_hidden : (i c k : ℕ) (place : Place) (path : Static) → BeginsInstance structs units entry i place c → Inside W c k →
       nat_eq k (home W (record { instance = i; path = path })).instance ≡ false
   home_is_hidden i c k place path runs inner =
       let less = callee_later i c place runs in
@@ -158,7 +158,7 @@ module _ (structs : List StructDef) (units : List UnitDef) (entry : ℕ) where
       unequal k (home W (record { instance = i; path = path })).instance (λ same. omega arith)
 
   -- where the home of a callee's path leads
-  led_to : (i c : ℕ) (place : Place) (path : Static) → Runs structs units entry i place c → (next : Location) →
+  led_to : (i c : ℕ) (place : Place) (path : Static) → BeginsInstance structs units entry i place c → (next : Location) →
       led W (record { instance = c; path = path }) ≡ Some next → next.instance ≡ i
   led_to i c place path runs next e =
       let b = begun W i c place runs in
@@ -167,7 +167,7 @@ module _ (structs : List StructDef) (units : List UnitDef) (entry : ℕ) where
       let origins : d.origin ≡ b.origin = one_some d.origin b.origin d.instance.origin d.began (ap (λ instance. instance.origin) same ∙ b.began) in
       led_to_caller path d.origin d.unit next d.leads ∙ ap (λ origin. origin.caller) origins ∙ b.by
 
-  output_home : (i c : ℕ) (place : Place) (path : Static) → Runs structs units entry i place c → (next : Location) →
+  output_home : (i c : ℕ) (place : Place) (path : Static) → BeginsInstance structs units entry i place c → (next : Location) →
       led W (record { instance = c; path = path }) ≡ Some next → IsOutput W i c (record { instance = c; path = path })
   output_home i c place path runs next e =
       let d = led_from W (record { instance = c; path = path }) next e in
@@ -209,7 +209,7 @@ module _ (structs : List StructDef) (units : List UnitDef) (entry : ℕ) where
     leads = same ∙ out.leads;
   })
 
-  homes_there : (i c k : ℕ) (place : Place) (path : Static) → Runs structs units entry i place c → Inside W c k → There i c k path
+  homes_there : (i c k : ℕ) (place : Place) (path : Static) → BeginsInstance structs units entry i place c → Inside W c k → There i c k path
   homes_there i c k place path runs itself = by_led (led W (record { instance = k; path = path })) refl
     where
       by_led : (next : Option Location) → led W (record { instance = k; path = path }) ≡ next → There i k k path

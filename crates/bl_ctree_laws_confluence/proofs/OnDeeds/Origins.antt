@@ -41,7 +41,7 @@ use Rattle.bl_ctree.specs.declared.instance.Origin.{Origin}
 use Rattle.bl_ctree.specs.declared.instance.Run.{Run}
 use Rattle.bl_ctree.specs.Instances.{Setting, called_from, expanded, instances_below, origin_under, runs_of, setting_of, unit_of}
 use Rattle.bl_ctree.specs.Store.{Location, depth_at, home, home_within, is_output_of, led, led_by, under}
-use Rattle.bl_ctree_laws_confluence.specs.Deeds.Origins.{Called, CalledBy, HomesLeadOut, InstancesHaveCallers}
+use Rattle.bl_ctree_laws_confluence.specs.Deeds.Origins.{CalledBy, HasCaller, HomesLeadOut, InstancesHaveCallers}
 use Rattle.bl_ctree_laws_confluence.proofs.OnDeeds.Activities.{AllOf}
 
 -- ---- elements of lists
@@ -88,7 +88,7 @@ all_members P (x ∷ xs) each =
 -- each instance of the list is called
 abbrev Stands : List UnitDef → ℕ → List Instance → Type 0
 Stands units entry instances = (i : ℕ) (instance : Instance) → slice_get instances i ≡ Some instance →
-    Called units entry instances i instance instance.origin
+    HasCaller units entry instances i instance instance.origin
 
 module _ (units : List UnitDef) (k : ℕ) (alone : ℕ → List Instance) (inner_stand : (j : ℕ) → Stands units j (alone j)) (root : Instance)
     (unit : UnitDef)
@@ -96,7 +96,7 @@ module _ (units : List UnitDef) (k : ℕ) (alone : ℕ → List Instance) (inner
   -- an instance that a `run` of the unit begins, or one below it
   called_in : (run : Run) → Contains (runs_of unit) run → (pre later : List Instance) (n m : ℕ) → length pre ≡ n →
       whole ≡ pre ++ (map (called_from n run) (alone run.unit) ++ later) → 0 < n → (y : Instance) (o : Option Origin) →
-      Called units run.unit (alone run.unit) m y o → Called units k whole (n + m) (called_from n run y) (origin_under n run o)
+      HasCaller units run.unit (alone run.unit) m y o → HasCaller units k whole (n + m) (called_from n run y) (origin_under n run o)
   called_in run is_there pre later n m long is some y None called =
       record {
         caller = root;
@@ -134,15 +134,15 @@ module _ (units : List UnitDef) (k : ℕ) (alone : ℕ → List Instance) (inner
 
   inner_called : (run : Run) → Contains (runs_of unit) run → (pre later : List Instance) (n m : ℕ) → length pre ≡ n →
       whole ≡ pre ++ (map (called_from n run) (alone run.unit) ++ later) → 0 < n → (x : Instance) →
-      slice_get (map (called_from n run) (alone run.unit)) m ≡ Some x → Called units k whole (n + m) x x.origin
+      slice_get (map (called_from n run) (alone run.unit)) m ≡ Some x → HasCaller units k whole (n + m) x x.origin
   inner_called run is_there pre later n m long is some x e =
       let got = map_got (called_from n run) (alone run.unit) m x e in
-      subst (λ x. Called units k whole (n + m) x x.origin) got.2
+      subst (λ x. HasCaller units k whole (n + m) x x.origin) got.2
       (called_in run is_there pre later n m long is some got.0 got.0.origin (inner_stand run.unit m got.0 got.1))
 
   below_called : (runs : List Run) → AllOf (Contains (runs_of unit)) runs → (pre : List Instance) (n m : ℕ) → length pre ≡ n →
       whole ≡ pre ++ instances_below alone n runs → 0 < n → (x : Instance) → slice_get (instances_below alone n runs) m ≡ Some x →
-      Called units k whole (n + m) x x.origin
+      HasCaller units k whole (n + m) x x.origin
   below_called [] all pre n m long is some x e = absurd cc
   below_called (run ∷ rest) all pre n m long is some x e =
       let inner : List Instance = map (called_from n run) (alone run.unit) in
@@ -150,11 +150,11 @@ module _ (units : List UnitDef) (k : ℕ) (alone : ℕ → List Instance) (inner
       by_split (λ pre' n' m' long' is' some' x e. below_called rest all.1 pre' n' m' long' is' some' x e) (get_split inner later m x e)
     where
       by_split : ((pre : List Instance) (n m : ℕ) → length pre ≡ n → whole ≡ pre ++ instances_below alone n rest → 0 < n → (x : Instance) →
-          slice_get (instances_below alone n rest) m ≡ Some x → Called units k whole (n + m) x x.origin) →
+          slice_get (instances_below alone n rest) m ≡ Some x → HasCaller units k whole (n + m) x x.origin) →
           (slice_get (map (called_from n run) (alone run.unit)) m ≡ Some x)
           ⊎ ((j : ℕ) × (m ≡ length (map (called_from n run) (alone run.unit)) + j)
           × (slice_get (instances_below alone (n + length (map (called_from n run) (alone run.unit))) rest) j ≡ Some x)) →
-          Called units k whole (n + m) x x.origin
+          HasCaller units k whole (n + m) x x.origin
       by_split more (inl here) =
           inner_called run all.0 pre (instances_below alone (n + length (map (called_from n run) (alone run.unit))) rest) n m long is some x here
       by_split more (inr there) =
@@ -163,7 +163,7 @@ module _ (units : List UnitDef) (k : ℕ) (alone : ℕ → List Instance) (inner
           let both = length-append pre inner in
           let split = there.1 in
           let index : n + length inner + there.0 ≡ n + m = omega arith in
-          subst (λ i. Called units k whole i x x.origin) index
+          subst (λ i. HasCaller units k whole i x x.origin) index
           (more (pre ++ inner) (n + length inner) there.0 (omega arith) (is ∙ sym (append_assoc pre inner later)) (omega arith) x there.2)
 
 -- the instance of the unit itself
@@ -179,14 +179,14 @@ expanded_stands units zero k i x e = absurd cc
 expanded_stands units (suc longest) k i x e = by_unit (λ j. expanded_stands units longest j) (slice_get units k) refl i e
   where
     by_unit : ((j : ℕ) → Stands units j (expanded units longest j)) → (found : Option UnitDef) → slice_get units k ≡ found → (i : ℕ) →
-        slice_get (opened units longest k found) i ≡ Some x → Called units k (opened units longest k found) i x x.origin
+        slice_get (opened units longest k found) i ≡ Some x → HasCaller units k (opened units longest k found) i x x.origin
     by_unit inner None is i e = absurd cc
     by_unit inner (Some unit) is zero e =
         let same : first_of k ≡ x = cc in
-        subst (λ x. Called units k (opened units longest k (Some unit)) 0 x x.origin) same (refl, refl, refl)
+        subst (λ x. HasCaller units k (opened units longest k (Some unit)) 0 x x.origin) same (refl, refl, refl)
     by_unit inner (Some unit) is (suc i) e =
         let one_more : 1 + i ≡ suc i = omega arith in
-        subst (λ i. Called units k (opened units longest k (Some unit)) i x x.origin) one_more
+        subst (λ i. HasCaller units k (opened units longest k (Some unit)) i x x.origin) one_more
         (below_called units k (expanded units longest) inner (first_of k) unit refl is (opened units longest k (Some unit)) refl (runs_of unit)
         (all_members (Contains (runs_of unit)) (runs_of unit) (λ run there. there)) (first_of k ∷ []) 1 i refl refl (omega arith) x e)
 
@@ -250,7 +250,7 @@ module _ (structs : List StructDef) (units : List UnitDef) (entry : ℕ) where
 
   called_at : (at next : Location) (d : LedBy W at next) → CalledBy units W.instances at.instance d.instance d.origin
   called_at at next d =
-      subst (Called units entry W.instances at.instance d.instance) d.began (instances_have_callers_so units entry at.instance d.instance d.there)
+      subst (HasCaller units entry W.instances at.instance d.instance) d.began (instances_have_callers_so units entry at.instance d.instance d.there)
 
   leads_earlier : (at next : Location) → led W at ≡ Some next → next.instance < at.instance
   leads_earlier at next e =

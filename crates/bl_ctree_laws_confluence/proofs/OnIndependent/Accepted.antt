@@ -4,14 +4,14 @@ use Rattle.std.specs.Prelude.{option_map, unwrap_or}
 use Rattle.bl_tree.specs.declared.place.Place.{Place}
 use Rattle.bl_tree.specs.declared.tree.Unit.{Unit as UnitDef}
 use Rattle.bl_effects.proofs.SetLemmas.{overlaps_symm}
-use Rattle.bl_nodes.specs.Plain.{Block, Bodies, Label, Plain, Body as BodyOf, Cobegin, Done, Then}
+use Rattle.bl_graph_nodes.specs.Plain.{Block, Bodies, Label, Plain, Body as BodyOf, Cobegin, Done, Then}
 use Rattle.bl_ctree.specs.Actions.{Effect, Silent}
 use Rattle.bl_ctree.specs.Instances.{Setting, setting_of, unit_at}
 use Rattle.bl_ctree.specs.Positions.{body_items}
 use Rattle.bl_ctree_laws.specs.Bridge.{plain_items}
 use Rattle.bl_ctree_laws.specs.Ends.{Independent}
 use Rattle.bl_ctree_laws.specs.Laws.{StatementsArePlain}
-use Rattle.bl_ctree_laws.specs.Left.{here, of_last, of_par}
+use Rattle.bl_ctree_laws.specs.Residual.{here, of_last, of_par}
 use Rattle.bl_ctree_laws.specs.Pending.{Deed}
 use Rattle.bl_ctree_laws.specs.Runs.{TracesAreOne, entry_block}
 use Rattle.bl_ctree_laws.specs.Steps.{fork, in_par}
@@ -20,11 +20,11 @@ use Rattle.bl_ctree_laws_confluence.specs.Deeds.Orderly.{Orderly}
 use Rattle.bl_ctree_laws_confluence.proofs.OnDeeds.Accepted.{accepted_is_orderly}
 use Rattle.bl_ctree_laws_confluence.proofs.OnDeeds.Plans.{deeds_are_independent_so}
 use Rattle.bl_ctree_laws_confluence.specs.Apart.Forks.{EachForkIn, Foreign}
-use Rattle.bl_ctree_laws_confluence.specs.Apart.Owned.{Does, RunsAt, SomeIn, SomeInEach}
-use Rattle.bl_ctree_laws_confluence.specs.Apart.Parted.{AllKeepApart, OneSteps, StandApart, Steps, TwoBranches}
+use Rattle.bl_ctree_laws_confluence.specs.Apart.Owned.{HasEffect, RunsAt, SomeIn, SomeInEach}
+use Rattle.bl_ctree_laws_confluence.specs.Apart.Parted.{AllKeepApart, BranchStep, OneSteps, StandApart, TwoBranches}
 use Rattle.bl_ctree_laws_confluence.specs.Apart.Outputs.{RunsWith}
 use Rattle.bl_ctree_laws_confluence.specs.Apart.Returns.{Returns}
-use Rattle.bl_ctree_laws_confluence.specs.Apart.Writing.{Writes}
+use Rattle.bl_ctree_laws_confluence.specs.Apart.Writing.{StatementWrites}
 use Rattle.bl_ctree_laws_confluence.proofs.OnApart.Named.{not_one}
 use Rattle.bl_ctree_laws_confluence.proofs.OnApart.Parted.{accepted_keeps_apart_so, apart_is_two_branches_so}
 use Rattle.bl_ctree_laws_confluence.specs.Independent.Accepted.{AcceptedIsIndependent, AcceptedTracesAreOne, TwoAreIndependent}
@@ -49,7 +49,7 @@ unforked P rest never (inl (inr some)) = some
 unforked P rest never (inr none) = absurd none
 
 forked_steps : {w : Setting} {stood : Bool} {i : ℕ} {rest : Bodies} {branches : Trees} {a : Deed} → OneSteps w stood i rest branches a →
-    Steps w stood i (forked rest) (Par (fork label place rest) stood branches) a
+    BranchStep w stood i (forked rest) (Par (fork label place rest) stood branches) a
 forked_steps {rest = rest} {branches = branches} one = record {
   left = of_last here (of_par (λ is. is) one.left);
   answer = one.answer;
@@ -76,7 +76,7 @@ module _ (w : Setting) (i : ℕ) (weak : Bool) (body : Block) (rest : Bodies) (a
     outputs = λ at outputs callee some. apart.outputs at outputs callee (inr (unforked (RunsWith at outputs) rest (λ none. none) some));
   }
 
-  names_apart : (effect effect' : Effect) → SomeIn (Does w i effect) body → SomeIn (Does w i effect') (forked rest) →
+  names_apart : (effect effect' : Effect) → SomeIn (HasEffect w i effect) body → SomeIn (HasEffect w i effect') (forked rest) →
       Foreign effect effect' × Foreign effect' effect
   names_apart effect effect' one (inl (inl is)) =
       subst (λ effect'. Foreign effect effect' × Foreign effect' effect) (sym is) (silent_foreign effect)
@@ -86,7 +86,7 @@ module _ (w : Setting) (i : ℕ) (weak : Bool) (body : Block) (rest : Bodies) (a
   kept_apart : KeptApart w i body (forked rest)
   kept_apart = record {
     runs = λ at one other. apart.runs.0 at one (unforked (RunsAt at) rest (λ none. none) other);
-    writes = λ path path' one other. apart.writes.0 path path' one (unforked (Writes path') rest (λ none. none) other);
+    writes = λ path path' one other. apart.writes.0 path path' one (unforked (StatementWrites path') rest (λ none. none) other);
     names = names_apart;
   }
 

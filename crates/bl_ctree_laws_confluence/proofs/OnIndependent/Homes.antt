@@ -33,7 +33,7 @@ use Rattle.bl_tree.specs.Rules.{same_place}
 use Rattle.bl_tree.specs.Static.{is_front, overlaps, whole}
 use Rattle.bl_effects.proofs.EntryLemmas.{same_place_is}
 use Rattle.bl_effects.proofs.SetLemmas.{overlaps_symm}
-use Rattle.bl_nodes.specs.Plain.{Block}
+use Rattle.bl_graph_nodes.specs.Plain.{Block}
 use Rattle.bl_ctree.specs.declared.instance.Instance.{Instance}
 use Rattle.bl_ctree.specs.declared.instance.Origin.{Origin}
 use Rattle.bl_ctree.specs.Instances.{Setting, begins_at, callee_of, setting_of}
@@ -43,7 +43,7 @@ use Rattle.bl_ctree_laws_confluence.specs.Deeds.Homes.{OutputsAreApart}
 use Rattle.bl_ctree_laws_confluence.proofs.OnDeeds.Homes.{homes_are_apart_so}
 use Rattle.bl_ctree_laws_confluence.proofs.OnDeeds.Nesting.{programs_nest}
 use Rattle.bl_ctree_laws_confluence.proofs.OnDeeds.Origins.{homes_lead_out}
-use Rattle.bl_ctree_laws_confluence.specs.Apart.Owned.{Called, RunsAt, SomeIn}
+use Rattle.bl_ctree_laws_confluence.specs.Apart.Owned.{IsInsideCall, RunsAt, SomeIn}
 use Rattle.bl_ctree_laws_confluence.specs.Apart.Seen.{InCall}
 
 -- ---- paths that lead on
@@ -130,14 +130,14 @@ module _ (structs : List StructDef) (units : List UnitDef) (entry : ℕ) where
           sym (same_place_is origin.place place (and_second (nat_eq origin.caller i) (same_place origin.place place) e))
           ∙ same_place_is origin.place other (and_second (nat_eq origin.caller i) (same_place origin.place other) f)
 
-  not_own : {A : Type 0} {i : ℕ} {body : Block} → Called W i body i → A
+  not_own : {A : Type 0} {i : ℕ} {body : Block} → IsInsideCall W i body i → A
   not_own {i = i} one =
       let less = (programs_nest structs units entry).later i one.callee one.place one.begins in
       let after = (programs_nest structs units entry).inside one.callee i one.inside in
       absurd (omega arith)
 
   -- no home of the instance is inside a call
-  not_home : {A : Type 0} {i k : ℕ} {body : Block} (path : Static) → Called W i body k →
+  not_home : {A : Type 0} {i k : ℕ} {body : Block} (path : Static) → IsInsideCall W i body k →
       k ≡ (home W (record { instance = i; path = path })).instance → A
   not_home {i = i} {k = k} path one same =
       both_ways (nat_eq k (home W (record { instance = i; path = path })).instance)
@@ -146,7 +146,7 @@ module _ (structs : List StructDef) (units : List UnitDef) (entry : ℕ) where
 
   -- where what a body touches may be: inside a call of it, at the home of a path of the instance or further on, or at a variable that it declares
   pub data At (i : ℕ) (body : Block) (P : Static → Type 0) (at : Location) : Type 0 where
-    inner : Called W i body at.instance → At i body P at
+    inner : IsInsideCall W i body at.instance → At i body P at
     outer : (path : Static) (fields : List ℕ) → at ≡ home W (record { instance = i; path = longer path fields }) → P path → At i body P at
     kept : (k : ℕ) → at ≡ whole_of i k → P (whole k) → At i body P at
 
@@ -171,7 +171,7 @@ module _ (structs : List StructDef) (units : List UnitDef) (entry : ℕ) where
 
   module _ (apart : OutputsAreApart W) (i : ℕ) (one other : Block)
       (runs : (place : Place) → SomeIn (RunsAt place) one → SomeIn (RunsAt place) other → ⊥) where
-    pub called_apart : {A : Type 0} (k : ℕ) → Called W i one k → Called W i other k → A
+    pub called_apart : {A : Type 0} (k : ℕ) → IsInsideCall W i one k → IsInsideCall W i other k → A
     called_apart k a b =
         let same : a.callee ≡ b.callee =
         (programs_nest structs units entry).apart i a.callee b.callee k a.place b.place a.begins b.begins a.inside b.inside in
@@ -180,10 +180,10 @@ module _ (structs : List StructDef) (units : List UnitDef) (entry : ℕ) where
         absurd (runs b.place (subst (λ place. SomeIn (RunsAt place) one) place a.stands) b.stands)
 
     -- what is inside a call of the one is nothing that the other touches
-    pub called_clash : {A : Type 0} {Q : Static → Type 0} (k : ℕ) (over : Location) → Called W i one k → At i other Q over → k ≡ over.instance → A
-    called_clash k over a (inner b) same = called_apart k a (subst (Called W i other) (sym same) b)
+    pub called_clash : {A : Type 0} {Q : Static → Type 0} (k : ℕ) (over : Location) → IsInsideCall W i one k → At i other Q over → k ≡ over.instance → A
+    called_clash k over a (inner b) same = called_apart k a (subst (IsInsideCall W i other) (sym same) b)
     called_clash k over a (outer path fields is holds) same = not_home (longer path fields) a (same ∙ ap (λ at. at.instance) is)
-    called_clash k over a (kept n is holds) same = not_own (subst (Called W i one) (same ∙ ap (λ at. at.instance) is) a)
+    called_clash k over a (kept n is holds) same = not_own (subst (IsInsideCall W i one) (same ∙ ap (λ at. at.instance) is) a)
 
     -- the home of a path and a declared variable
     home_and_kept : (path : Static) (fields : List ℕ) (k : ℕ) →
@@ -216,7 +216,7 @@ module _ (structs : List StructDef) (units : List UnitDef) (entry : ℕ) where
       over = home_and_kept path fields k (sym (λ j. overlap (is j) (is' j)) ∙ e);
     }
     meet at over (kept k is holds) (inner b) e =
-        not_own (subst (Called W i other) (same_instance over at (overlap_swapped at over e) ∙ ap (λ at. at.instance) is) b)
+        not_own (subst (IsInsideCall W i other) (same_instance over at (overlap_swapped at over e) ∙ ap (λ at. at.instance) is) b)
     meet at over (kept k is holds) (outer path fields is' holds') e = record {
       one = whole k;
       other = path;

@@ -1,7 +1,7 @@
 -- The frames and results that deeds touch are of instances inside the deed's own.
 use Rattle.std.proofs.Common.{◌⊎◌, inl, inr, ℕ, Bool, [], sym, subst}
 use Rattle.std.specs.Prelude.{Contains}
-use Rattle.bl_nodes.specs.Steps.{StepLabel}
+use Rattle.bl_graph_nodes.specs.Steps.{StepLabel}
 use Rattle.bl_ctree.specs.Actions.{Effect}
 use Rattle.bl_ctree.specs.Instances.{Setting}
 use Rattle.bl_ctree.specs.Positions.{stmt_kind}
@@ -42,7 +42,7 @@ use Rattle.bl_ctree_laws.specs.Steps.{
 use Rattle.bl_ctree_laws.specs.Trees.{Tree, Trees}
 use Rattle.bl_ctree_laws_confluence.specs.Deeds.Deeds.{effect_frames, effect_results}
 use Rattle.bl_ctree_laws_confluence.specs.Deeds.Nesting.{Inside, deeper, itself}
-use Rattle.bl_ctree_laws_confluence.specs.Apart.Seen.{AllCallsStand, CallsStand}
+use Rattle.bl_ctree_laws_confluence.specs.Apart.Seen.{AllCallsMatchCallees, CallsMatchCallees}
 use Rattle.bl_ctree_laws_confluence.proofs.OnApart.Frames.{none_of, returned, sole}
 use Rattle.bl_ctree_laws_confluence.specs.Independent.Inside.{FramesAreInside}
 
@@ -55,7 +55,7 @@ neither frame (inl none) = none_of frame none
 neither frame (inr none) = none_of frame none
 
 mutual
-  within : {w : Setting} {i : ℕ} {c : Tree} {d : Bool} {a : Deed} {n : StepLabel} {c' : Tree} (frame : ℕ) → CallsStand w i c →
+  within : {w : Setting} {i : ℕ} {c : Tree} {d : Bool} {a : Deed} {n : StepLabel} {c' : Tree} (frame : ℕ) → CallsMatchCallees w i c →
       Moves Anyway w i c d a n c' → Touched a.instance a.effect frame → Inside w a.instance frame
   within {w} {i} frame stand (acts {s = s}) (inl one) = subst (Inside w i) (sym (returned i frame (stmt_kind s) one).0) itself
   within frame stand acts (inr none) = none_of frame none
@@ -90,7 +90,7 @@ mutual
   within frame stand (in_run move) touched = within frame stand.1.1 move touched
 
   within_one : {w : Setting} {i : ℕ} {branches : Trees} {d : Bool} {a : Deed} {n : StepLabel} {branches' : Trees} (frame : ℕ) →
-      AllCallsStand w i branches → OneMoves Anyway w i branches d a n branches' → Touched a.instance a.effect frame → Inside w a.instance frame
+      AllCallsMatchCallees w i branches → OneMoves Anyway w i branches d a n branches' → Touched a.instance a.effect frame → Inside w a.instance frame
   within_one frame stand (first move free) touched = within frame stand.0 move touched
   within_one frame stand (later move free) touched = within_one frame stand.1 move touched
 

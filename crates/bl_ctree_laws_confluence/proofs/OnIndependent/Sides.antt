@@ -38,10 +38,10 @@ use Rattle.bl_tree.specs.declared.tree.StructDef.{StructDef}
 use Rattle.bl_tree.specs.declared.tree.Unit.{Unit as UnitDef}
 use Rattle.bl_tree.specs.Apart.{Naming, arm_naming, branch_naming, naming_of, roots_in, stmt_kind_naming, stmt_layer_naming}
 use Rattle.bl_tree.specs.Effects.{arm_writes, branch_paths, kind_writes, reads, stmt_set, target_static, writes}
-use Rattle.bl_tree.specs.Program.{Keeps}
+use Rattle.bl_tree.specs.Program.{IsWellTyped}
 use Rattle.bl_tree.specs.Reduce.{joined}
 use Rattle.bl_tree.specs.Static.{is_front, mentions, set_of, static_of, whole}
-use Rattle.bl_nodes.specs.Plain.{
+use Rattle.bl_graph_nodes.specs.Plain.{
   Block,
   Plain,
   Act,
@@ -78,11 +78,11 @@ use Rattle.bl_ctree_laws_confluence.specs.Deeds.Nesting.{Inside, IsOutput}
 use Rattle.bl_ctree_laws_confluence.proofs.OnDeeds.Nesting.{programs_nest}
 use Rattle.bl_ctree_laws_confluence.specs.Apart.Named.{OneOf, effect_declares, effect_roots}
 use Rattle.bl_ctree_laws_confluence.specs.Apart.Outputs.{RunsWith}
-use Rattle.bl_ctree_laws_confluence.specs.Apart.Owned.{Called, Does, Own, RunsAt, SomeIn}
-use Rattle.bl_ctree_laws_confluence.specs.Apart.Parted.{Steps}
+use Rattle.bl_ctree_laws_confluence.specs.Apart.Owned.{HasEffect, IsInsideCall, Own, RunsAt, SomeIn}
+use Rattle.bl_ctree_laws_confluence.specs.Apart.Parted.{BranchStep}
 use Rattle.bl_ctree_laws_confluence.specs.Apart.Returns.{Returns}
-use Rattle.bl_ctree_laws_confluence.specs.Apart.Seen.{CallsStand}
-use Rattle.bl_ctree_laws_confluence.specs.Apart.Writing.{Writes}
+use Rattle.bl_ctree_laws_confluence.specs.Apart.Seen.{CallsMatchCallees}
+use Rattle.bl_ctree_laws_confluence.specs.Apart.Writing.{StatementWrites}
 use Rattle.bl_ctree_laws_confluence.proofs.OnApart.Calls.{inside_both}
 use Rattle.bl_ctree_laws_confluence.proofs.OnApart.Frames.{frames_are_of_calls_so, picked, results_are_of_calls_so}
 use Rattle.bl_ctree_laws_confluence.proofs.OnApart.Members.{In, contains_in, in_contains, in_left, in_right}
@@ -282,7 +282,7 @@ module _ (w : Setting) (i : ℕ) (effect : Effect) (at : Location) where
     has_other : (other : Effect) → effect ≡ other → In at (effect_writes w i other)
     has_other other is = subst (λ effect. In at (effect_writes w i effect)) is has
 
-    writes_path : (s : Plain) → Does w i effect s → (k : PathHome w i at) × Writes k.0 s
+    writes_path : (s : Plain) → HasEffect w i effect s → (k : PathHome w i at) × StatementWrites k.0 s
     writes_path (Act l s) is =
         let one = from_map (λ path. home w (record { instance = i; path = path })) at (writes s) (has_other (Acts s) is) in
         ((one.0, one.1.1), in_contains one.0 (writes s) one.1.0)
@@ -311,7 +311,7 @@ module _ (w : Setting) (i : ℕ) (effect : Effect) (at : Location) where
     kept_other : (other : Effect) → effect ≡ other → In at (effect_remembers i other)
     kept_other other is = subst (λ effect. In at (effect_remembers i effect)) is has
 
-    declares_there : (s : Plain) → Does w i effect s → (k : (k : ℕ) × (at ≡ whole_of i k)) × Writes (whole k.0) s
+    declares_there : (s : Plain) → HasEffect w i effect s → (k : (k : ℕ) × (at ≡ whole_of i k)) × StatementWrites (whole k.0) s
     declares_there (Act l s) is =
         let one = declaring i (stmt_kind s) at (kept_other (Acts s) is) in
         ((one.variable, one.is), in_contains (whole one.variable) (writes s) (subst (In (whole one.variable)) (sym (writes_out s)) one.writes_it))
@@ -345,7 +345,7 @@ has_outs place (Again l at body e) none = absurd none
 
 -- and writes them
 writes_outs : (place : Place) (outputs : List Path) (path : Static) → In path (map static_of outputs) → (s : Plain) → RunsWith place outputs s →
-    ⊤ × Writes path s
+    ⊤ × StatementWrites path s
 writes_outs place outputs path there (RunOf l at target a inputs outs) is = (
   tt,
   in_contains path (target_static target ++ map static_of outs)
@@ -364,17 +364,17 @@ writes_outs place outputs path there (Again l at body e) none = absurd none
 -- the effect of a statement of the body declares the variable of the path, which is written as a whole
 pub record DeclaredIn (w : Setting) (i : ℕ) (body : Block) (path : Static) : Type 0 where
   pub effect : Effect
-  pub does : SomeIn (Does w i effect) body
+  pub does : SomeIn (HasEffect w i effect) body
   pub declares : OneOf path.root (effect_declares effect)
-  pub writes_it : SomeIn (Writes path) body
+  pub writes_it : SomeIn (StatementWrites path) body
 
 -- the effect of a statement of the body names the variable of the path
 pub record NamedIn (w : Setting) (i : ℕ) (body : Block) (path : Static) : Type 0 where
   pub effect : Effect
-  pub does : SomeIn (Does w i effect) body
+  pub does : SomeIn (HasEffect w i effect) body
   pub names : OneOf path.root (effect_roots effect)
 
-module _ (structs : List StructDef) (units : List UnitDef) (entry : ℕ) (keeps : Keeps structs units entry) (i : ℕ) (body : Block)
+module _ (structs : List StructDef) (units : List UnitDef) (entry : ℕ) (keeps : IsWellTyped structs units entry) (i : ℕ) (body : Block)
     (side : Side (setting_of structs units entry) i body) where
   abbrev W : Setting
   W = setting_of structs units entry
@@ -383,10 +383,10 @@ module _ (structs : List StructDef) (units : List UnitDef) (entry : ℕ) (keeps 
   A = At structs units entry i body
 
   abbrev WrittenIn : Static → Type 0
-  WrittenIn path = SomeIn (Writes path) body
+  WrittenIn path = SomeIn (StatementWrites path) body
 
   -- the home of an instance inside a call is inside it, or that of an output, which the `run` writes
-  called_home : (k : ℕ) → Called W i body k → (path : Static) → A WrittenIn (home W (record { instance = k; path = path }))
+  called_home : (k : ℕ) → IsInsideCall W i body k → (path : Static) → A WrittenIn (home W (record { instance = k; path = path }))
   called_home k called path = by_home ((programs_nest structs units entry).homes i called.callee k called.place path called.begins called.inside)
     where
       outputs : (outputs : List Path) × SomeIn (RunsWith called.place outputs) body
@@ -400,7 +400,7 @@ module _ (structs : List StructDef) (units : List UnitDef) (entry : ℕ) (keeps 
           let one = some_of (same_path out.output) (map static_of outputs.0) some in
           let there : In out.output (map static_of outputs.0) =
           subst (λ path. In path (map static_of outputs.0)) (sym (same_path_is out.output one.0 one.1.1)) one.1.0 in
-          (picked (RunsWith called.place outputs.0) (λ k. Writes out.output) (writes_outs called.place outputs.0 out.output there) body outputs.1).1
+          (picked (RunsWith called.place outputs.0) (λ k. StatementWrites out.output) (writes_outs called.place outputs.0 out.output there) body outputs.1).1
 
       by_home : Inside W called.callee (home W (record {
         instance =
@@ -418,28 +418,28 @@ module _ (structs : List StructDef) (units : List UnitDef) (entry : ℕ) (keeps 
       outer path []
       (ap (λ fields. home W (record { instance = i; path = record { root = path.root; fields = fields } })) (sym (append-nil path.fields))) holds
 
-  module _ {stood : Bool} {c : Tree} {a : Deed} (step : Steps W stood i body c a) where
+  module _ {stood : Bool} {c : Tree} {a : Deed} (step : BranchStep W stood i body c a) where
     pub moving : Moves Anyway W i c step.answer a step.label step.after
     moving = may_is_could W i c step.answer a step.label step.after step.moves
 
-    pub stand : CallsStand W i c
+    pub stand : CallsMatchCallees W i c
     stand = left_calls_stand_so structs units entry stood i body c keeps side.outputs step.left
 
-    owned : Own W i body a ⊎ Called W i body a.instance
+    owned : Own W i body a ⊎ IsInsideCall W i body a.instance
     owned = deeds_are_of_bodies_so W stood i body c step.answer a step.label step.after step.left moving
 
     -- what is so of the deed's own effect in the instance, or in a called one
-    by_owner : (Goal : ℕ → Type 0) → (SomeIn (Does W i a.effect) body → Goal i) → (Called W i body a.instance → Goal a.instance) → Goal a.instance
+    by_owner : (Goal : ℕ → Type 0) → (SomeIn (HasEffect W i a.effect) body → Goal i) → (IsInsideCall W i body a.instance → Goal a.instance) → Goal a.instance
     by_owner Goal own called = by owned
       where
-        by : Own W i body a ⊎ Called W i body a.instance → Goal a.instance
+        by : Own W i body a ⊎ IsInsideCall W i body a.instance → Goal a.instance
         by (inl one) = subst Goal (sym one.instance) (own one.does)
         by (inr one) = called one
 
     pub writes_at : (at : Location) → In at (effect_writes W a.instance a.effect) → A WrittenIn at
     writes_at at = by_owner (λ k. In at (effect_writes W k a.effect) → A WrittenIn at)
         (λ does there.
-        let one = picked (Does W i a.effect) (λ k. Writes k.0) (writes_path W i a.effect at there) body does in
+        let one = picked (HasEffect W i a.effect) (λ k. StatementWrites k.0) (writes_path W i a.effect at there) body does in
         subst (A WrittenIn) (sym one.0.1) (own_home one.0.0 one.1))
         (λ called there.
         let one = written W a.instance a.effect at there in
@@ -468,7 +468,7 @@ module _ (structs : List StructDef) (units : List UnitDef) (entry : ℕ) (keeps 
     pub remembers_at : (at : Location) → In at (effect_remembers a.instance a.effect) → A (DeclaredIn W i body) at
     remembers_at at = by_owner (λ k. In at (effect_remembers k a.effect) → A (DeclaredIn W i body) at)
         (λ does there.
-        let one = picked (Does W i a.effect) (λ k. Writes (whole k.0)) (declares_there W i a.effect at there) body does in
+        let one = picked (HasEffect W i a.effect) (λ k. StatementWrites (whole k.0)) (declares_there W i a.effect at there) body does in
         let declared = remembered i a.effect at there in
         kept one.0.0 one.0.1 (record {
           effect = a.effect;
@@ -476,24 +476,24 @@ module _ (structs : List StructDef) (units : List UnitDef) (entry : ℕ) (keeps 
           declares = subst (λ k. OneOf k (effect_declares a.effect)) (ap (λ at. at.path.root) (sym declared.is ∙ one.0.1)) declared.declares;
           writes_it = one.1;
         }))
-        (λ called there. inner (subst (Called W i body) (sym (ap (λ at. at.instance) (remembered a.instance a.effect at there).is)) called))
+        (λ called there. inner (subst (IsInsideCall W i body) (sym (ap (λ at. at.instance) (remembered a.instance a.effect at there).is)) called))
 
-    inside : (frame : ℕ) → Inside W a.instance frame → Called W i body a.instance → Called W i body frame
+    inside : (frame : ℕ) → Inside W a.instance frame → IsInsideCall W i body a.instance → IsInsideCall W i body frame
     inside frame below called =
         record { place = called.place; stands = called.stands; callee = called.callee; begins = called.begins; inside = inside_both called.inside below }
 
-    pub frames_at : (frame : ℕ) → In frame (effect_frames a.instance a.effect) → Called W i body frame
-    frames_at frame = by_owner (λ k. In frame (effect_frames k a.effect) → Called W i body frame)
+    pub frames_at : (frame : ℕ) → In frame (effect_frames a.instance a.effect) → IsInsideCall W i body frame
+    frames_at frame = by_owner (λ k. In frame (effect_frames k a.effect) → IsInsideCall W i body frame)
         (λ does there. by_frame (frames_are_of_calls_so W i body a.effect frame does (in_contains frame (effect_frames i a.effect) there)))
         (λ called there. inside frame (frames_are_inside_so W i c step.answer a step.label step.after frame stand moving
         (inl (in_contains frame (effect_frames a.instance a.effect) there))) called)
       where
-        by_frame : ((frame ≡ i) × SomeIn Returns body) ⊎ Called W i body frame → Called W i body frame
+        by_frame : ((frame ≡ i) × SomeIn Returns body) ⊎ IsInsideCall W i body frame → IsInsideCall W i body frame
         by_frame (inl one) = absurd (side.returns one.1)
         by_frame (inr one) = one
 
-    pub results_at : (frame : ℕ) → In frame (effect_results a.effect) → Called W i body frame
-    results_at frame there = by_owner (λ k. Called W i body frame)
+    pub results_at : (frame : ℕ) → In frame (effect_results a.effect) → IsInsideCall W i body frame
+    results_at frame there = by_owner (λ k. IsInsideCall W i body frame)
         (λ does. results_are_of_calls_so W i body a.effect frame does (in_contains frame (effect_results a.effect) there))
         (λ called. inside frame (frames_are_inside_so W i c step.answer a step.label step.after frame stand moving
         (inr (in_contains frame (effect_results a.effect) there))) called)

@@ -4,9 +4,9 @@ use Rattle.std.specs.Prelude.{nat_eq, slice_get}
 use Rattle.bl_tree.specs.declared.static_path.Static.{Static}
 use Rattle.bl_tree.specs.declared.tree.StructDef.{StructDef}
 use Rattle.bl_tree.specs.declared.tree.Unit.{Unit as UnitDef}
-use Rattle.bl_tree.specs.Program.{Keeps}
+use Rattle.bl_tree.specs.Program.{IsWellTyped}
 use Rattle.bl_tree.specs.Static.{overlaps}
-use Rattle.bl_nodes.specs.Plain.{Block}
+use Rattle.bl_graph_nodes.specs.Plain.{Block}
 use Rattle.bl_ctree.specs.Actions.{Effect, effect_reads}
 use Rattle.bl_ctree.specs.Instances.{Setting, setting_of}
 use Rattle.bl_ctree.specs.Store.{Location, overlap}
@@ -30,10 +30,10 @@ use Rattle.bl_ctree_laws_confluence.specs.Deeds.Deeds.{
 }
 use Rattle.bl_ctree_laws_confluence.specs.Deeds.Homes.{OutputsAreApart}
 use Rattle.bl_ctree_laws_confluence.specs.Apart.Named.{OneOf, effect_declares}
-use Rattle.bl_ctree_laws_confluence.specs.Apart.Owned.{Called, SomeIn}
-use Rattle.bl_ctree_laws_confluence.specs.Apart.Parted.{Steps}
+use Rattle.bl_ctree_laws_confluence.specs.Apart.Owned.{IsInsideCall, SomeIn}
+use Rattle.bl_ctree_laws_confluence.specs.Apart.Parted.{BranchStep}
 use Rattle.bl_ctree_laws_confluence.specs.Apart.Seen.{InCall}
-use Rattle.bl_ctree_laws_confluence.specs.Apart.Writing.{Writes}
+use Rattle.bl_ctree_laws_confluence.specs.Apart.Writing.{StatementWrites}
 use Rattle.bl_ctree_laws_confluence.proofs.OnApart.Members.{In}
 use Rattle.bl_ctree_laws_confluence.proofs.OnApart.Seen.{writes_are_seen_so}
 use Rattle.bl_ctree_laws_confluence.specs.Independent.Sides.{KeptApart, Side, SidesSpare}
@@ -96,11 +96,11 @@ root_same p q over = eqb-true p.root q.root (and_first (nat_eq p.root q.root) _ 
 
 -- ---- two deeds
 
-module _ (structs : List StructDef) (units : List UnitDef) (entry : ℕ) (keeps : Keeps structs units entry)
+module _ (structs : List StructDef) (units : List UnitDef) (entry : ℕ) (keeps : IsWellTyped structs units entry)
     (outputs : OutputsAreApart (setting_of structs units entry)) (i : ℕ) (one other : Block) (side : Side (setting_of structs units entry) i one)
     (other_side : Side (setting_of structs units entry) i other) (apart : KeptApart (setting_of structs units entry) i one other) {stood stood' : Bool}
-    {c c' : Tree} {a b : Deed} (first : Steps (setting_of structs units entry) stood i one c a)
-    (second : Steps (setting_of structs units entry) stood' i other c' b) (unmet : meets (setting_of structs units entry) i c b ≡ false) where
+    {c c' : Tree} {a b : Deed} (first : BranchStep (setting_of structs units entry) stood i one c a)
+    (second : BranchStep (setting_of structs units entry) stood' i other c' b) (unmet : meets (setting_of structs units entry) i c b ≡ false) where
   abbrev W : Setting
   W = setting_of structs units entry
 
@@ -109,7 +109,7 @@ module _ (structs : List StructDef) (units : List UnitDef) (entry : ℕ) (keeps 
   both at over x y e = meet structs units entry outputs i one other apart.runs at over x y e
 
   -- paths that both write don't overlap
-  not_written : {A : Type 0} (p q : Static) → SomeIn (Writes p) one → SomeIn (Writes q) other → overlaps p q ≡ true → A
+  not_written : {A : Type 0} (p q : Static) → SomeIn (StatementWrites p) one → SomeIn (StatementWrites q) other → overlaps p q ≡ true → A
   not_written p q x y e = both_ways (overlaps p q) (apart.writes p q x y) e
 
   seen : (at over : Location) → In at (effect_writes W a.instance a.effect) → In over (effect_reads W b.instance b.effect) → overlap at over ≡ true →
@@ -152,7 +152,7 @@ module _ (structs : List StructDef) (units : List UnitDef) (entry : ℕ) (keeps 
       (names_at structs units entry keeps i other other_side second over named) e in
       by_name met.one met.other met.holds met.other_holds met.over
     where
-      by_name : (p q : Static) → DeclaredIn W i one p → NamedIn W i other q ⊎ SomeIn (Writes q) other → overlaps p q ≡ true → ⊥
+      by_name : (p q : Static) → DeclaredIn W i one p → NamedIn W i other q ⊎ SomeIn (StatementWrites q) other → overlaps p q ≡ true → ⊥
       by_name p q declared (inl name) over =
           (apart.names declared.effect name.effect declared.does name.does).1 q.root
           (subst (λ k. OneOf k (effect_declares declared.effect)) (root_same p q over) declared.declares) name.names
@@ -165,7 +165,7 @@ module _ (structs : List StructDef) (units : List UnitDef) (entry : ℕ) (keeps 
       (remembers_at structs units entry keeps i other other_side second over kept) e in
       not_written met.one met.other met.holds.writes_it met.other_holds.writes_it met.over
 
-  untouched : (frame : ℕ) → Called W i one frame → Untouched W b.instance b.effect frame
+  untouched : (frame : ℕ) → IsInsideCall W i one frame → Untouched W b.instance b.effect frame
   untouched frame called = record {
     looks = no_home frame (effect_looks W b.instance b.effect)
         (λ over there. called_clash structs units entry outputs i one other apart.runs frame over called
@@ -178,10 +178,10 @@ module _ (structs : List StructDef) (units : List UnitDef) (entry : ℕ) (keeps 
         (remembers_at structs units entry keeps i other other_side second over there));
     results = none_among frame (effect_results b.effect)
         (λ next there same. called_apart structs units entry outputs i one other apart.runs frame called
-        (subst (Called W i other) (sym same) (results_at structs units entry keeps i other other_side second next there)));
+        (subst (IsInsideCall W i other) (sym same) (results_at structs units entry keeps i other other_side second next there)));
     frames = none_among frame (effect_frames b.instance b.effect)
         (λ next there same. called_apart structs units entry outputs i one other apart.runs frame called
-        (subst (Called W i other) (sym same) (frames_at structs units entry keeps i other other_side second next there)));
+        (subst (IsInsideCall W i other) (sym same) (frames_at structs units entry keeps i other other_side second next there)));
   }
 
   spares : Spares W a b

@@ -10,7 +10,7 @@ use Rattle.bl_tree.specs.declared.value.Value.TheVariants.{Parts}
 use Rattle.bl_tree.specs.Apart.{roots_in}
 use Rattle.bl_tree.specs.Effects.{reads, writes}
 use Rattle.bl_tree.specs.Static.{mentions}
-use Rattle.bl_tree.specs.Typing.{Site}
+use Rattle.bl_tree.specs.Typing.{TypingContext}
 use Rattle.bl_eval.specs.Standing.{outcome_of, scope_of, site_at, value_of}
 use Rattle.bl_eval.specs.Values.{value_at}
 use Rattle.bl_ctree.specs.declared.instance.Instance.{Instance}
@@ -132,7 +132,7 @@ module _ (w : Setting) (s t : Store) (i : ℕ) where
     before_same rest same.1,
   )
 
-  value_by_site : (e : Expr) (site : Option Site) → SameThere now_of (homes w i (mentions e)) s t → SameThere before_of (homes_of w i (roots_in e)) s t →
+  value_by_site : (e : Expr) (site : Option TypingContext) → SameThere now_of (homes w i (mentions e)) s t → SameThere before_of (homes_of w i (roots_in e)) s t →
       option_and_then (λ site. value_of site e (view_at w s i)) site ≡ option_and_then (λ site. value_of site e (view_at w t i)) site
   value_by_site e None same near = refl
   value_by_site e (Some site) same near =
@@ -146,7 +146,7 @@ module _ (w : Setting) (s t : Store) (i : ℕ) where
   value_by_instance e None same near = refl
   value_by_instance e (Some instance) same near = value_by_site e (site_at w.structs w.units instance.unit) same near
 
-  outcome_by_site : (act : Stmt) (site : Option Site) → SameThere now_of (homes w i (reads act ++ writes act)) s t →
+  outcome_by_site : (act : Stmt) (site : Option TypingContext) → SameThere now_of (homes w i (reads act ++ writes act)) s t →
       SameThere before_of (homes_of w i (named_by act)) s t →
       LeftAlike (writes act) (option_and_then (λ site. outcome_of site act (view_at w s i)) site)
       (option_and_then (λ site. outcome_of site act (view_at w t i)) site)

@@ -3,7 +3,7 @@ use Rattle.std.specs.Prelude.{◌≡◌, ℕ, true, List, ⊤}
 use Rattle.std.specs.List.{list_all}
 use Rattle.bl_tree.specs.declared.tree.Stmt.{Stmt}
 use Rattle.bl_tree.specs.Apart.{is_apart}
-use Rattle.bl_nodes.specs.Plain.{
+use Rattle.bl_graph_nodes.specs.Plain.{
   Block,
   Bodies,
   Plain,
@@ -27,7 +27,7 @@ use Rattle.bl_nodes.specs.Plain.{
 use Rattle.bl_ctree.specs.Actions.{Effect}
 use Rattle.bl_ctree.specs.Instances.{Setting}
 use Rattle.bl_ctree_laws_confluence.specs.Apart.Named.{OneOf, effect_declares, effect_roots}
-use Rattle.bl_ctree_laws_confluence.specs.Apart.Owned.{Does, SomeIn, SomeInEach}
+use Rattle.bl_ctree_laws_confluence.specs.Apart.Owned.{HasEffect, SomeIn, SomeInEach}
 
 abbrev mutual
   -- P of the branches of each `cobegin` in the statement
@@ -61,7 +61,7 @@ Foreign e other = (k : ℕ) → OneOf k (effect_declares other) → OneOf k (eff
 abbrev pub KeepApart : Bodies → Type 0
 KeepApart Last = ⊤
 KeepApart (BodyOf weak body rest) =
-    ((w : Setting) (i : ℕ) (e other : Effect) → SomeIn (Does w i e) body → SomeInEach (Does w i other) rest → Foreign e other × Foreign other e)
+    ((w : Setting) (i : ℕ) (e other : Effect) → SomeIn (HasEffect w i e) body → SomeInEach (HasEffect w i other) rest → Foreign e other × Foreign other e)
     × KeepApart rest
 
 -- where statements keep apart the branches of each `cobegin` in their plain block do

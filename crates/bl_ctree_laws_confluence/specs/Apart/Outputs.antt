@@ -4,18 +4,18 @@ use Rattle.bl_tree.specs.declared.place.Place.{Place}
 use Rattle.bl_tree.specs.declared.tree.Path.{Path}
 use Rattle.bl_tree.specs.declared.tree.StructDef.{StructDef}
 use Rattle.bl_tree.specs.declared.tree.Unit.{Unit as UnitDef}
-use Rattle.bl_tree.specs.Program.{Keeps}
+use Rattle.bl_tree.specs.Program.{IsWellTyped}
 use Rattle.bl_tree.specs.Static.{static_of}
-use Rattle.bl_nodes.specs.Plain.{Block, Bodies, Plain, plain_body}
+use Rattle.bl_graph_nodes.specs.Plain.{Block, Bodies, Plain, plain_body}
 use Rattle.bl_ctree.specs.Instances.{Setting, callee_of, setting_of, unit_at}
-use Rattle.bl_ctree_laws.specs.Left.{Left}
+use Rattle.bl_ctree_laws.specs.Residual.{PlainResidual}
 use Rattle.bl_ctree_laws.specs.Trees.{Tree}
-use Rattle.bl_ctree_laws_confluence.specs.Apart.Owned.{Runs, SomeIn, SomeInEach}
-use Rattle.bl_ctree_laws_confluence.specs.Apart.Seen.{CallsStand, HasOutputs}
+use Rattle.bl_ctree_laws_confluence.specs.Apart.Owned.{IsRunWith, SomeIn, SomeInEach}
+use Rattle.bl_ctree_laws_confluence.specs.Apart.Seen.{CallsMatchCallees, HasOutputs}
 
 -- the statement is a `run` at this place with these outputs
 abbrev pub RunsWith : Place → List Path → Plain → Type 0
-RunsWith place outputs = Runs (λ at paths. (at ≡ place) × (paths ≡ outputs))
+RunsWith place outputs = IsRunWith (λ at paths. (at ≡ place) × (paths ≡ outputs))
 
 -- each `run` of the body, which stands in the instance, has the outputs that the instance which it begins was begun with
 abbrev pub RunsHaveOutputs : Setting → ℕ → Block → Type 0
@@ -32,12 +32,12 @@ BranchesHaveOutputs w i bodies =
 -- so it is in a typed program, in each unit that has an instance
 abbrev pub TypedRunsHaveOutputs : Type 0
 TypedRunsHaveOutputs =
-    (structs : List StructDef) (units : List UnitDef) (entry i : ℕ) (unit : UnitDef) → Keeps structs units entry →
+    (structs : List StructDef) (units : List UnitDef) (entry i : ℕ) (unit : UnitDef) → IsWellTyped structs units entry →
     unit_at (setting_of structs units entry) i ≡ Some unit → RunsHaveOutputs (setting_of structs units entry) i (plain_body unit.body)
 
 -- then the calls stand in what is left of such a body
-abbrev pub LeftCallsStand : Type 0
-LeftCallsStand =
-    (structs : List StructDef) (units : List UnitDef) (entry : ℕ) (stood : Bool) (i : ℕ) (body : Block) (c : Tree) → Keeps structs units entry →
-    RunsHaveOutputs (setting_of structs units entry) i body → Left (setting_of structs units entry) stood i body c →
-    CallsStand (setting_of structs units entry) i c
+abbrev pub ResidualCallsMatch : Type 0
+ResidualCallsMatch =
+    (structs : List StructDef) (units : List UnitDef) (entry : ℕ) (stood : Bool) (i : ℕ) (body : Block) (c : Tree) → IsWellTyped structs units entry →
+    RunsHaveOutputs (setting_of structs units entry) i body → PlainResidual (setting_of structs units entry) stood i body c →
+    CallsMatchCallees (setting_of structs units entry) i c

@@ -2,7 +2,7 @@
 use Rattle.std.specs.Prelude.{◌≡◌, ◌⊎◌, ℕ, Bool, List, Some}
 use Rattle.bl_tree.specs.declared.place.Place.{Place}
 use Rattle.bl_tree.specs.declared.tree.Path.{Path}
-use Rattle.bl_nodes.specs.Plain.{
+use Rattle.bl_graph_nodes.specs.Plain.{
   Block,
   Bodies,
   Plain,
@@ -21,10 +21,10 @@ use Rattle.bl_nodes.specs.Plain.{
   When,
   While,
 }
-use Rattle.bl_nodes.specs.Steps.{StepLabel}
+use Rattle.bl_graph_nodes.specs.Steps.{StepLabel}
 use Rattle.bl_ctree.specs.Actions.{Effect, Silent, Acts, Asks, Copies, Gives}
 use Rattle.bl_ctree.specs.Instances.{Setting, callee_of}
-use Rattle.bl_ctree_laws.specs.Left.{Left}
+use Rattle.bl_ctree_laws.specs.Residual.{PlainResidual}
 use Rattle.bl_ctree_laws.specs.Pending.{Deed}
 use Rattle.bl_ctree_laws.specs.Steps.{Anyway, Moves}
 use Rattle.bl_ctree_laws.specs.Trees.{Tree}
@@ -55,35 +55,35 @@ abbrev mutual
   SomeInEach P (BodyOf weak body rest) = SomeIn P body ⊎ SomeInEach P rest
 
 -- the statement, which stands in the instance, has steps with this effect
-abbrev pub Does : Setting → ℕ → Effect → Plain → Type 0
-Does w i effect (Act l s) = effect ≡ Acts s
-Does w i effect (Await l at e) = (effect ≡ Silent) ⊎ (effect ≡ Asks e)
-Does w i effect (RunOf l at target a inputs outputs) =
+abbrev pub HasEffect : Setting → ℕ → Effect → Plain → Type 0
+HasEffect w i effect (Act l s) = effect ≡ Acts s
+HasEffect w i effect (Await l at e) = (effect ≡ Silent) ⊎ (effect ≡ Asks e)
+HasEffect w i effect (RunOf l at target a inputs outputs) =
     (callee : ℕ) × ((callee_of w i at ≡ Some callee) × ((effect ≡ Copies callee inputs) ⊎ (effect ≡ Gives callee target)))
-Does w i effect (If l at e body other) = effect ≡ Asks e
-Does w i effect (Cobegin l at bodies) = effect ≡ Silent
-Does w i effect (When l at guard e body) = (effect ≡ Silent) ⊎ (effect ≡ Asks e)
-Does w i effect (Repeat l at body) = effect ≡ Silent
-Does w i effect (Until l at body e) = (effect ≡ Silent) ⊎ (effect ≡ Asks e)
-Does w i effect (While l at e body) = effect ≡ Asks e
-Does w i effect (Again l at body e) = (effect ≡ Silent) ⊎ (effect ≡ Asks e)
+HasEffect w i effect (If l at e body other) = effect ≡ Asks e
+HasEffect w i effect (Cobegin l at bodies) = effect ≡ Silent
+HasEffect w i effect (When l at guard e body) = (effect ≡ Silent) ⊎ (effect ≡ Asks e)
+HasEffect w i effect (Repeat l at body) = effect ≡ Silent
+HasEffect w i effect (Until l at body e) = (effect ≡ Silent) ⊎ (effect ≡ Asks e)
+HasEffect w i effect (While l at e body) = effect ≡ Asks e
+HasEffect w i effect (Again l at body e) = (effect ≡ Silent) ⊎ (effect ≡ Asks e)
 
 -- the statement is a `run`, and this holds of its place and its outputs
-abbrev pub Runs : (Place → List Path → Type 0) → Plain → Type 0
-Runs R (RunOf l at target a inputs outputs) = R at outputs
-Runs R _ = ⊥
+abbrev pub IsRunWith : (Place → List Path → Type 0) → Plain → Type 0
+IsRunWith R (RunOf l at target a inputs outputs) = R at outputs
+IsRunWith R _ = ⊥
 
 -- the statement is a `run` at this place
 abbrev pub RunsAt : Place → Plain → Type 0
-RunsAt place = Runs (λ at outputs. at ≡ place)
+RunsAt place = IsRunWith (λ at outputs. at ≡ place)
 
 -- the deed is one of the instance itself, by a statement of the body
 pub record Own (w : Setting) (i : ℕ) (body : Block) (a : Deed) : Type 0 where
   pub instance : a.instance ≡ i
-  pub does : SomeIn (Does w i a.effect) body
+  pub does : SomeIn (HasEffect w i a.effect) body
 
 -- the instance k is inside a call of the instance i, by a `run` of the body
-pub record Called (w : Setting) (i : ℕ) (body : Block) (k : ℕ) : Type 0 where
+pub record IsInsideCall (w : Setting) (i : ℕ) (body : Block) (k : ℕ) : Type 0 where
   pub place : Place
   pub stands : SomeIn (RunsAt place) body
   pub callee : ℕ
@@ -94,4 +94,4 @@ pub record Called (w : Setting) (i : ℕ) (body : Block) (k : ℕ) : Type 0 wher
 abbrev pub DeedsAreOfBodies : Type 0
 DeedsAreOfBodies =
     (w : Setting) (stood : Bool) (i : ℕ) (body : Block) (c : Tree) (d : Bool) (a : Deed) (n : StepLabel) (c' : Tree) →
-    Left w stood i body c → Moves Anyway w i c d a n c' → Own w i body a ⊎ Called w i body a.instance
+    PlainResidual w stood i body c → Moves Anyway w i c d a n c' → Own w i body a ⊎ IsInsideCall w i body a.instance

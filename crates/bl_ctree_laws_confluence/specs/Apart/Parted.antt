@@ -2,13 +2,13 @@
 use Rattle.std.specs.Prelude.{◌≡◌, ◌⊎◌, ℕ, Bool, false, List, Some}
 use Rattle.bl_tree.specs.declared.tree.StructDef.{StructDef}
 use Rattle.bl_tree.specs.declared.tree.Unit.{Unit as UnitDef}
-use Rattle.bl_tree.specs.Program.{Keeps}
+use Rattle.bl_tree.specs.Program.{IsWellTyped}
 use Rattle.bl_effects.specs.Rules.{Passes}
-use Rattle.bl_nodes.specs.Plain.{Block, Bodies, Body as BodyOf, plain_body}
-use Rattle.bl_nodes.specs.Steps.{StepLabel}
+use Rattle.bl_graph_nodes.specs.Plain.{Block, Bodies, Body as BodyOf, plain_body}
+use Rattle.bl_graph_nodes.specs.Steps.{StepLabel}
 use Rattle.bl_ctree.specs.Instances.{Setting, setting_of, unit_at}
 use Rattle.bl_ctree_laws.specs.Commutes.{Apart}
-use Rattle.bl_ctree_laws.specs.Left.{Left, LeftEach}
+use Rattle.bl_ctree_laws.specs.Residual.{PlainResidual, PlainResidualEach}
 use Rattle.bl_ctree_laws.specs.Pending.{Deed, any_meets, meets}
 use Rattle.bl_ctree_laws.specs.Steps.{Moves, OneMoves, Unmet}
 use Rattle.bl_ctree_laws.specs.Trees.{Tree, Trees}
@@ -32,8 +32,8 @@ pub record StandApart (w : Setting) (i : ℕ) (bodies : Bodies) : Type 0 where
   pub outputs : BranchesHaveOutputs w i bodies
 
 -- a step of what is left of a branch, which stands in the instance
-pub record Steps (w : Setting) (stood : Bool) (i : ℕ) (body : Block) (c : Tree) (a : Deed) : Type 0 where
-  pub left : Left w stood i body c
+pub record BranchStep (w : Setting) (stood : Bool) (i : ℕ) (body : Block) (c : Tree) (a : Deed) : Type 0 where
+  pub left : PlainResidual w stood i body c
   pub answer : Bool
   pub label : StepLabel
   pub after : Tree
@@ -41,7 +41,7 @@ pub record Steps (w : Setting) (stood : Bool) (i : ℕ) (body : Block) (c : Tree
 
 -- a step of what is left of one of the branches
 pub record OneSteps (w : Setting) (stood : Bool) (i : ℕ) (bodies : Bodies) (branches : Trees) (a : Deed) : Type 0 where
-  pub left : LeftEach w stood i bodies branches
+  pub left : PlainResidualEach w stood i bodies branches
   pub answer : Bool
   pub label : StepLabel
   pub after : Trees
@@ -57,7 +57,7 @@ pub record TwoBranches (w : Setting) (a b : Deed) : Type 0 where
   pub apart : StandApart w instance (BodyOf weak body rest)
   pub tree : Tree
   pub others : Trees
-  pub first : Steps w stood instance body tree a
+  pub first : BranchStep w stood instance body tree a
   pub second : OneSteps w stood instance rest others b
   pub first_unmet : any_meets w instance others a ≡ false
   pub second_unmet : meets w instance tree b ≡ false
@@ -70,10 +70,10 @@ AllKeepApart w = (i : ℕ) (unit : UnitDef) → unit_at w i ≡ Some unit → Ea
 abbrev pub ApartIsTwoBranches : Type 0
 ApartIsTwoBranches =
     (w : Setting) (stood : Bool) (i : ℕ) (body : Block) (c : Tree) (a b : Deed) → AllKeepApart w → EachForkIn (StandApart w i) body →
-    Left w stood i body c → Apart w i c a b → TwoBranches w a b ⊎ TwoBranches w b a
+    PlainResidual w stood i body c → Apart w i c a b → TwoBranches w a b ⊎ TwoBranches w b a
 
 -- and in an accepted program all branches keep apart
 abbrev pub AcceptedKeepsApart : Type 0
 AcceptedKeepsApart =
-    (structs : List StructDef) (units : List UnitDef) (entry : ℕ) → Keeps structs units entry → Passes units →
+    (structs : List StructDef) (units : List UnitDef) (entry : ℕ) → IsWellTyped structs units entry → Passes units →
     AllKeepApart (setting_of structs units entry)

@@ -3,10 +3,10 @@ use Rattle.std.specs.Prelude.{◌≡◌, ℕ, true, List, Some}
 use Rattle.bl_tree.specs.declared.tree.Stmt.{Stmt}
 use Rattle.bl_tree.specs.declared.tree.StructDef.{StructDef}
 use Rattle.bl_tree.specs.declared.tree.Unit.{Unit as UnitDef}
-use Rattle.bl_tree.specs.Program.{Keeps}
+use Rattle.bl_tree.specs.Program.{IsWellTyped}
 use Rattle.bl_tree.specs.Returns.{is_return, returns_last_alone}
 use Rattle.bl_effects.specs.Rules.{Passes}
-use Rattle.bl_nodes.specs.Plain.{Bodies, Plain, Position, Act, plain_block, plain_body}
+use Rattle.bl_graph_nodes.specs.Plain.{Bodies, Plain, Position, Act, plain_block, plain_body}
 use Rattle.bl_ctree.specs.Instances.{setting_of, unit_at}
 use Rattle.bl_ctree_laws_confluence.specs.Apart.Forks.{EachForkIn}
 use Rattle.bl_ctree_laws_confluence.specs.Apart.Owned.{SomeInEach}
@@ -27,5 +27,5 @@ NoBranchReturns = (body : List Stmt) (at : Position) → returns_last_alone body
 -- and in an accepted program none does in a unit that has an instance
 abbrev pub AcceptedReturnsLast : Type 0
 AcceptedReturnsLast =
-    (structs : List StructDef) (units : List UnitDef) (entry i : ℕ) (unit : UnitDef) → Keeps structs units entry → Passes units →
+    (structs : List StructDef) (units : List UnitDef) (entry i : ℕ) (unit : UnitDef) → IsWellTyped structs units entry → Passes units →
     unit_at (setting_of structs units entry) i ≡ Some unit → EachForkIn NoneReturns (plain_body unit.body)

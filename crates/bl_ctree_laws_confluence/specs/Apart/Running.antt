@@ -4,10 +4,10 @@ use Rattle.bl_tree.specs.declared.place.Place.{Place}
 use Rattle.bl_tree.specs.declared.tree.Stmt.{Stmt}
 use Rattle.bl_tree.specs.declared.tree.StructDef.{StructDef}
 use Rattle.bl_tree.specs.declared.tree.Unit.{Unit as UnitDef}
-use Rattle.bl_tree.specs.Program.{Keeps}
+use Rattle.bl_tree.specs.Program.{IsWellTyped}
 use Rattle.bl_tree.specs.Within.{RunsIn, StandsIn, is_run, place_of}
 use Rattle.bl_effects.specs.Rules.{Passes}
-use Rattle.bl_nodes.specs.Plain.{Bodies, Position, Body as BodyOf, Last, plain_block, plain_body}
+use Rattle.bl_graph_nodes.specs.Plain.{Bodies, Position, Body as BodyOf, Last, plain_block, plain_body}
 use Rattle.bl_ctree.specs.Instances.{setting_of, unit_at}
 use Rattle.bl_ctree_laws_confluence.specs.Apart.Forks.{EachForkIn}
 use Rattle.bl_ctree_laws_confluence.specs.Apart.Owned.{RunsAt, SomeIn, SomeInEach}
@@ -38,5 +38,5 @@ BranchesRunApart =
 -- in an accepted program this holds in each unit that has an instance
 abbrev pub AcceptedRunsApart : Type 0
 AcceptedRunsApart =
-    (structs : List StructDef) (units : List UnitDef) (entry i : ℕ) (unit : UnitDef) → Keeps structs units entry → Passes units →
+    (structs : List StructDef) (units : List UnitDef) (entry i : ℕ) (unit : UnitDef) → IsWellTyped structs units entry → Passes units →
     unit_at (setting_of structs units entry) i ≡ Some unit → EachForkIn RunApart (plain_body unit.body)

@@ -6,7 +6,7 @@ use Rattle.bl_tree.specs.declared.static_path.Static.{Static}
 use Rattle.bl_tree.specs.declared.tree.StructDef.{StructDef}
 use Rattle.bl_tree.specs.declared.tree.Unit.{Unit as UnitDef}
 use Rattle.bl_tree.specs.Static.{static_of}
-use Rattle.bl_nodes.specs.Steps.{StepLabel}
+use Rattle.bl_graph_nodes.specs.Steps.{StepLabel}
 use Rattle.bl_ctree.specs.declared.instance.Instance.{Instance}
 use Rattle.bl_ctree.specs.declared.instance.Origin.{Origin}
 use Rattle.bl_ctree.specs.Instances.{Setting, callee_of, setting_of}
@@ -25,22 +25,22 @@ HasOutputs w callee outputs =
 
 abbrev mutual
   -- each `run` in the tree, which stands in the instance, has the callee that its place begins, with its own outputs
-  pub CallsStand : Setting → ℕ → Tree → Type 0
-  CallsStand w i Nil = ⊤
-  CallsStand w i (Wait s) = ⊤
-  CallsStand w i (Test s) = ⊤
-  CallsStand w i (Idle body) = ⊤
-  CallsStand w i (Do s) = ⊤
-  CallsStand w i (Seq c rest) = CallsStand w i c
-  CallsStand w i (Par s stood branches) = AllCallsStand w i branches
-  CallsStand w i (Guard s phase stood c) = CallsStand w i c
-  CallsStand w i (Run s callee phase stood c) =
-      (callee_of w i s.place ≡ Some callee) × (HasOutputs w callee (map static_of s.arguments.outputs) × CallsStand w callee c)
+  pub CallsMatchCallees : Setting → ℕ → Tree → Type 0
+  CallsMatchCallees w i Nil = ⊤
+  CallsMatchCallees w i (Wait s) = ⊤
+  CallsMatchCallees w i (Test s) = ⊤
+  CallsMatchCallees w i (Idle body) = ⊤
+  CallsMatchCallees w i (Do s) = ⊤
+  CallsMatchCallees w i (Seq c rest) = CallsMatchCallees w i c
+  CallsMatchCallees w i (Par s stood branches) = AllCallsMatchCallees w i branches
+  CallsMatchCallees w i (Guard s phase stood c) = CallsMatchCallees w i c
+  CallsMatchCallees w i (Run s callee phase stood c) =
+      (callee_of w i s.place ≡ Some callee) × (HasOutputs w callee (map static_of s.arguments.outputs) × CallsMatchCallees w callee c)
 
   -- so does each in the branches
-  pub AllCallsStand : Setting → ℕ → Trees → Type 0
-  AllCallsStand w i no_tree = ⊤
-  AllCallsStand w i (beside weak c rest) = CallsStand w i c × AllCallsStand w i rest
+  pub AllCallsMatchCallees : Setting → ℕ → Trees → Type 0
+  AllCallsMatchCallees w i no_tree = ⊤
+  AllCallsMatchCallees w i (beside weak c rest) = CallsMatchCallees w i c × AllCallsMatchCallees w i rest
 
 -- the instance k is inside a call of the instance i
 pub record InCall (w : Setting) (i k : ℕ) : Type 0 where
@@ -52,7 +52,7 @@ pub record InCall (w : Setting) (i k : ℕ) : Type 0 where
 -- a deed's instance is that of its tree, or inside a call of it
 abbrev pub DeedsStayInside : Type 0
 DeedsStayInside =
-    (w : Setting) (i : ℕ) (c : Tree) (d : Bool) (a : Deed) (n : StepLabel) (c' : Tree) → CallsStand w i c → Moves Anyway w i c d a n c' →
+    (w : Setting) (i : ℕ) (c : Tree) (d : Bool) (a : Deed) (n : StepLabel) (c' : Tree) → CallsMatchCallees w i c → Moves Anyway w i c d a n c' →
     Inside w i a.instance
 
 -- what overlaps a home that a deed writes is what its tree may still write, or the home lies in a call
@@ -61,5 +61,5 @@ WritesAreSeen =
     (structs : List StructDef) (units : List UnitDef) (entry i : ℕ) (c : Tree) (d : Bool) (a : Deed) (n : StepLabel) (c' : Tree) (k : ℕ)
     (at over : Location) →
     let w = setting_of structs units entry in
-    CallsStand w i c → Moves Anyway w i c d a n c' → slice_get (effect_writes w a.instance a.effect) k ≡ Some at → overlap over at ≡ true →
+    CallsMatchCallees w i c → Moves Anyway w i c d a n c' → slice_get (effect_writes w a.instance a.effect) k ≡ Some at → overlap over at ≡ true →
     (may_write w i c over ≡ true) ⊎ InCall w i at.instance

@@ -26,25 +26,25 @@ pub record IsOutput (w : Setting) (i c : ℕ) (at : Location) : Type 0 where
   pub leads : home w at ≡ home w (record { instance = i; path = record { root = output.root; fields = output.fields ++ fields } })
 
 -- the `run` at the place of instance i begins instance c
-abbrev pub Runs : List StructDef → List UnitDef → ℕ → ℕ → Place → ℕ → Type 0
-Runs structs units entry i place c = callee_of (setting_of structs units entry) i place ≡ Some c
+abbrev pub BeginsInstance : List StructDef → List UnitDef → ℕ → ℕ → Place → ℕ → Type 0
+BeginsInstance structs units entry i place c = callee_of (setting_of structs units entry) i place ≡ Some c
 
 -- in a program's instances
 pub record InstancesNest (structs : List StructDef) (units : List UnitDef) (entry : ℕ) : Type 0 where
   -- callees have greater numbers
-  pub later : (i c : ℕ) (place : Place) → Runs structs units entry i place c → i < c
+  pub later : (i c : ℕ) (place : Place) → BeginsInstance structs units entry i place c → i < c
   -- and so has what is inside
   pub inside : (i j : ℕ) → Inside (setting_of structs units entry) i j → i ≤ j
   -- one caller has each
-  pub one_caller : (i j c : ℕ) (place other : Place) → Runs structs units entry i place c → Runs structs units entry j other c → i ≡ j
+  pub one_caller : (i j c : ℕ) (place other : Place) → BeginsInstance structs units entry i place c → BeginsInstance structs units entry j other c → i ≡ j
   -- so nothing is inside two calls of one instance
-  pub apart : (i c d k : ℕ) (place other : Place) → Runs structs units entry i place c → Runs structs units entry i other d →
+  pub apart : (i c d k : ℕ) (place other : Place) → BeginsInstance structs units entry i place c → BeginsInstance structs units entry i other d →
       Inside (setting_of structs units entry) c k → Inside (setting_of structs units entry) d k → c ≡ d
   -- no home of an instance is inside a call of it
-  pub hidden : (i c k : ℕ) (place : Place) (path : Static) → Runs structs units entry i place c → Inside (setting_of structs units entry) c k →
+  pub hidden : (i c k : ℕ) (place : Place) (path : Static) → BeginsInstance structs units entry i place c → Inside (setting_of structs units entry) c k →
       nat_eq k (home (setting_of structs units entry) (record { instance = i; path = path })).instance ≡ false
   -- a home of what is inside a call is inside, or is that of an output of the call
-  pub homes : (i c k : ℕ) (place : Place) (path : Static) → Runs structs units entry i place c → Inside (setting_of structs units entry) c k →
+  pub homes : (i c k : ℕ) (place : Place) (path : Static) → BeginsInstance structs units entry i place c → Inside (setting_of structs units entry) c k →
       Inside (setting_of structs units entry) c (home (setting_of structs units entry) (record { instance = k; path = path })).instance
       ⊎ IsOutput (setting_of structs units entry) i c (record { instance = k; path = path })
 

@@ -7,7 +7,7 @@ use Rattle.bl_tree.specs.declared.tree.Unit.{Unit as UnitDef}
 use Rattle.bl_tree.specs.declared.tree.Var.{Var}
 use Rattle.bl_tree.specs.Apart.{is_apart}
 use Rattle.bl_tree.specs.Instant.{is_instant_block}
-use Rattle.bl_tree.specs.Program.{Keeps, roles_stand}
+use Rattle.bl_tree.specs.Program.{IsWellTyped, roles_stand}
 use Rattle.bl_tree.specs.Reduce.{all_of, joined}
 use Rattle.bl_tree.specs.Returns.{activity_returns}
 use Rattle.bl_tree.specs.Static.{overlaps}
@@ -58,5 +58,5 @@ pub record Orderly (structs : List StructDef) (units : List UnitDef) (w : Settin
 -- a typed program that passes the rules on pauses, writes and outputs is orderly
 abbrev pub AcceptedIsOrderly : Type 0
 AcceptedIsOrderly =
-    (structs : List StructDef) (units : List UnitDef) (entry : ℕ) → Keeps structs units entry → Passes units →
+    (structs : List StructDef) (units : List UnitDef) (entry : ℕ) → IsWellTyped structs units entry → Passes units →
     Orderly structs units (setting_of structs units entry)

@@ -23,15 +23,15 @@ pub record CalledBy (units : List UnitDef) (instances : List Instance) (i : ℕ)
   pub names : instance.unit ≡ run.unit
 
 -- only the first instance has no caller; it is of the entry's unit
-abbrev pub Called : List UnitDef → ℕ → List Instance → ℕ → Instance → Option Origin → Type 0
-Called units entry instances i instance None = (i ≡ 0) × (instance.depth ≡ 0) × (instance.unit ≡ entry)
-Called units entry instances i instance (Some origin) = CalledBy units instances i instance origin
+abbrev pub HasCaller : List UnitDef → ℕ → List Instance → ℕ → Instance → Option Origin → Type 0
+HasCaller units entry instances i instance None = (i ≡ 0) × (instance.depth ≡ 0) × (instance.unit ≡ entry)
+HasCaller units entry instances i instance (Some origin) = CalledBy units instances i instance origin
 
 -- so it is of each instance of a program
 abbrev pub InstancesHaveCallers : Type 0
 InstancesHaveCallers =
     (units : List UnitDef) (entry i : ℕ) (instance : Instance) → slice_get (instances_of units entry) i ≡ Some instance →
-    Called units entry (instances_of units entry) i instance instance.origin
+    HasCaller units entry (instances_of units entry) i instance instance.origin
 
 -- what stands for a path of the caller has the caller's home, and what doesn't is its own home. So homes lead out: no home of
 -- an instance is that of an instance with a greater number, as those that it calls have

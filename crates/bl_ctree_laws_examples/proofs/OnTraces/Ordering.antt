@@ -9,11 +9,11 @@ use Rattle.bl_tree.specs.declared.graph.Node.{Node as GraphNode}
 use Rattle.bl_tree.specs.declared.static_path.Static.{Static}
 use Rattle.bl_tree.specs.Effects.{reads, writes}
 use Rattle.bl_tree.specs.Static.{meets, mentions, set_of, whole}
-use Rattle.bl_nodes.specs.Nodes.{ActAt, ForkAt, HeadAt, Node, PauseAt, TestAt, node_reads, node_writes, nodes_in}
-use Rattle.bl_nodes.specs.Plain.{Block, Done, Position, Then, label_at, plain_body}
+use Rattle.bl_graph_nodes.specs.Nodes.{ActAt, ForkAt, HeadAt, Node, PauseAt, TestAt, node_reads, node_writes, nodes_in}
+use Rattle.bl_graph_nodes.specs.Plain.{Block, Done, Position, Then, label_at, plain_body}
 use Rattle.bl_graph.specs.DataEdges.{BesideAll, DataEdge, Touches}
 use Rattle.bl_graph.specs.Edges.{EdgeAll, EdgeEach, In, OutAll}
-use Rattle.bl_graph.specs.Graph.{Between, IsTickGraph, edge_between}
+use Rattle.bl_graph.specs.Graph.{EdgeBetween, IsTickGraph, edge_between}
 use Rattle.bl_graph.specs.Laws.{StaysWithin}
 use Rattle.bl_graph.specs.Walks.{Rises}
 use Rattle.bl_cause.specs.Ranks.{Ranks}
@@ -309,7 +309,7 @@ module _ (block : Block) (control : Rises number (EdgeAll block)) (by_data : Ris
   number_at k n is =
       get_or_from_slice_get (map number (nodes_in block)) k (number n) 0 (slice_get-map number (nodes_in block) k ∙ ap (option_map number) is)
 
-  between : (E : Node → Node → Type 0) (j k : ℕ) → Rises number E → Between (nodes_in block) E j k
+  between : (E : Node → Node → Type 0) (j k : ℕ) → Rises number E → EdgeBetween (nodes_in block) E j k
       → slice_index (map number (nodes_in block)) j < slice_index (map number (nodes_in block)) k
   between E j k rises joined =
       subst (λ r. r < slice_index (map number (nodes_in block)) k) (sym (number_at j joined.first joined.is_first))

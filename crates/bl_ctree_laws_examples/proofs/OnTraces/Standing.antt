@@ -19,7 +19,7 @@ use Rattle.bl_tree.specs.Program.{unit_stands}
 use Rattle.bl_tree.specs.Returns.{unit_returns}
 use Rattle.bl_tree.specs.Scalar.{in_range}
 use Rattle.bl_tree.specs.Types.{same_as_scalar, same_type, type_stands}
-use Rattle.bl_tree.specs.Typing.{Site, fits, kind_type, literal_type, site_of, type_of, type_of_path}
+use Rattle.bl_tree.specs.Typing.{TypingContext, fits, kind_type, literal_type, site_of, type_of, type_of_path}
 use Rattle.bl_ctree_laws_examples.specs.Trees.Made.{int32, number, two, value, variable}
 use Rattle.bl_ctree_laws_examples.specs.Trees.TwoWay.{activity, body, i, o, x, y}
 
@@ -28,7 +28,7 @@ number_scalar = simp fold-roll-Ty refl
 
 -- ---- types
 
-abbrev site : Site
+abbrev site : TypingContext
 site = site_of [] [] activity
 
 same_ints : same_type int32 int32 ≡ true

@@ -13,8 +13,8 @@ use Rattle.bl_ctree_laws.specs.Pending.{any_meets, any_writes, leads_over, may_w
 use Rattle.bl_ctree_laws.specs.Steps.{first, goes_on, in_par, in_seq, later, resets}
 use Rattle.bl_ctree_laws.specs.Trees.{Tree, beside, no_tree}
 use Rattle.bl_ctree_laws.specs.Shrinks.{Paces}
-use Rattle.bl_nodes.specs.Nodes.{are_instant}
-use Rattle.bl_nodes.specs.Plain.{Done, Then, plain_body}
+use Rattle.bl_graph_nodes.specs.Nodes.{are_instant}
+use Rattle.bl_graph_nodes.specs.Plain.{Done, Then, plain_body}
 use Rattle.bl_ctree_laws_examples.specs.Trees.Reset.{
   b,
   at_await,

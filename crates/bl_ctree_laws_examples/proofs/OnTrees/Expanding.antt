@@ -12,14 +12,14 @@ use Rattle.bl_ctree.specs.declared.instance.Instance.{Instance}
 use Rattle.bl_ctree.specs.declared.instance.Run.{Run}
 use Rattle.bl_ctree.specs.Instances.{called_from, expanded, instances_below, instances_of, one_a_place, runs_in, runs_in_branch, runs_of}
 use Rattle.bl_ctree.specs.Measure.{
-  arm_statements,
-  branch_statements,
+  arm_step_statements,
+  branch_step_statements,
   instance_steps,
-  kind_statements,
-  statements_in,
-  statements_of,
+  kind_step_statements,
+  layer_step_statements,
+  step_statements_in,
+  step_statements_of,
   steps,
-  stmt_layer_statements,
 }
 use Rattle.bl_ctree_laws_examples.specs.Trees.Made.{at, number, pause, set, stmt, strong, two, value, variable}
 use Rattle.bl_ctree_laws_examples.proofs.OnTrees.Sets.{path_is}
@@ -90,46 +90,46 @@ instances_is =
 
 -- ---- statements
 
-set_counts : (place k : ℕ) (e : Expr) → statements_in (set place k e) ≡ 1
+set_counts : (place k : ℕ) (e : Expr) → step_statements_in (set place k e) ≡ 1
 set_counts place k e = rw (fold-roll-Stmt, fold-roll-StmtKind) refl
 
-pause_counts : (place : ℕ) → statements_in (pause place) ≡ 1
+pause_counts : (place : ℕ) → step_statements_in (pause place) ≡ 1
 pause_counts place = rw (fold-roll-Stmt, fold-roll-StmtKind) refl
 
-declare_counts : (place k : ℕ) → statements_in (stmt place (StmtKind-F.Declare k None)) ≡ 1
+declare_counts : (place k : ℕ) → step_statements_in (stmt place (StmtKind-F.Declare k None)) ≡ 1
 declare_counts place k = rw (fold-roll-Stmt, fold-roll-StmtKind) refl
 
-run_counts : (place a input output : ℕ) → statements_in (runs place a input output) ≡ 1
+run_counts : (place a input output : ℕ) → step_statements_in (runs place a input output) ≡ 1
 run_counts place a input output = rw (fold-roll-Stmt, fold-roll-StmtKind) refl
 
-loop_counts : (place : ℕ) (body : List Stmt) → statements_in (stmt place (StmtKind-F.Repeat body)) ≡ 1 + total (map statements_in body)
+loop_counts : (place : ℕ) (body : List Stmt) → step_statements_in (stmt place (StmtKind-F.Repeat body)) ≡ 1 + total (map step_statements_in body)
 loop_counts place body = rw (fold-roll-Stmt, fold-roll-StmtKind) refl
 
 -- the statements of a branch
 abbrev branch_counted : Branch → ℕ
-branch_counted = fold-Branch ℕ ℕ ℕ ℕ kind_statements arm_statements branch_statements stmt_layer_statements
+branch_counted = fold-Branch ℕ ℕ ℕ ℕ kind_step_statements arm_step_statements branch_step_statements layer_step_statements
 
-fork_counts : (place : ℕ) (branches : List Branch) → statements_in (stmt place (StmtKind-F.Cobegin branches)) ≡ 1 + total (map branch_counted branches)
+fork_counts : (place : ℕ) (branches : List Branch) → step_statements_in (stmt place (StmtKind-F.Cobegin branches)) ≡ 1 + total (map branch_counted branches)
 fork_counts place branches = rw (fold-roll-Stmt, fold-roll-StmtKind) refl
 
-strong_counts : (body : List Stmt) → branch_counted (strong body) ≡ total (map statements_in body)
+strong_counts : (body : List Stmt) → branch_counted (strong body) ≡ total (map step_statements_in body)
 strong_counts body = rw fold-roll-Branch refl
 
-turn_counts : statements_in turn ≡ 3
+turn_counts : step_statements_in turn ≡ 3
 turn_counts =
     fork_counts 7 (strong (runs 8 0 0 2 ∷ []) ∷ strong (runs 9 1 2 1 ∷ []) ∷ [])
     ∙ (λ j. 1 + total (strong_counts (runs 8 0 0 2 ∷ []) j ∷ strong_counts (runs 9 1 2 1 ∷ []) j ∷ []))
     ∙ (λ j. 1 + total (total (run_counts 8 0 0 2 j ∷ []) ∷ total (run_counts 9 1 2 1 j ∷ []) ∷ []))
 
-first_counts : statements_of first_called ≡ 3
+first_counts : step_statements_of first_called ≡ 3
 first_counts j =
     total (set_counts 1 1 (value 0) j ∷ pause_counts 2 j ∷ set_counts 3 1 (two Add (value 1) (number 10)) j ∷ [])
 
-second_counts : statements_of second_called ≡ 3
+second_counts : step_statements_of second_called ≡ 3
 second_counts j =
     total (set_counts 4 1 (two Add (value 1) (value 0)) j ∷ pause_counts 5 j ∷ set_counts 6 1 (two Add (value 1) (number 100)) j ∷ [])
 
-caller_counts : statements_of caller ≡ 5
+caller_counts : step_statements_of caller ≡ 5
 caller_counts =
     (λ j. total (declare_counts 10 2 j ∷ loop_counts 11 (turn ∷ []) j ∷ []))
     ∙ (λ j. total (1 ∷ (1 + total (turn_counts j ∷ [])) ∷ []))

@@ -6,7 +6,7 @@ use Rattle.bl_tree.specs.declared.tree.Expr.{Expr}
 use Rattle.bl_tree.specs.declared.tree.Stmt.{Stmt, fold-roll-Stmt}
 use Rattle.bl_tree.specs.declared.tree.StmtKind.{fold-roll-StmtKind}
 use Rattle.bl_tree.specs.declared.tree.StmtKind.TheOpen.{StmtKind-F}
-use Rattle.bl_nodes.specs.Plain.{
+use Rattle.bl_graph_nodes.specs.Plain.{
   Act,
   Arm,
   Await,

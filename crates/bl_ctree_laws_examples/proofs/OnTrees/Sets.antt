@@ -11,7 +11,7 @@ use Rattle.bl_tree.specs.declared.tree.Path.{Path, fold-roll-Path}
 use Rattle.bl_tree.specs.declared.tree.Stmt.{fold-roll-Stmt}
 use Rattle.bl_tree.specs.declared.tree.StmtKind.{fold-roll-StmtKind}
 use Rattle.bl_tree.specs.Effects.{reads, writes}
-use Rattle.bl_tree.specs.Static.{Reach, Step, expr_mentions, kind_mentions, mentions, part_step, path_reach, reach_of, set_of, step_of, whole}
+use Rattle.bl_tree.specs.Static.{Reach, StaticStep, expr_mentions, kind_mentions, mentions, part_step, path_reach, reach_of, set_of, step_of, whole}
 use Rattle.bl_ctree_laws_examples.specs.Trees.Made.{always, expr, flag, flag_path, number, set, two, value, variable}
 use Rattle.bl_ctree_laws_examples.specs.Trees.TwoWay.{i, o, sets_o, sets_x, sets_y, x, y}
 
@@ -26,9 +26,9 @@ flag_path_is : (k : ℕ) → reach_of (flag_path k) ≡ reached k
 flag_path_is k = rw fold-roll-Path refl
 
 -- what an expression of a kind reads
-abbrev parts_mentioned : ExprKind-F ExprKind Part Expr Path → ExprKind-F (List Static) Step (List Static) Reach
-parts_mentioned = map-ExprKind ExprKind Part Expr Path (List Static) Step (List Static) Reach
-    (fold-ExprKind (List Static) Step (List Static) Reach kind_mentions part_step expr_mentions path_reach) step_of mentions reach_of
+abbrev parts_mentioned : ExprKind-F ExprKind Part Expr Path → ExprKind-F (List Static) StaticStep (List Static) Reach
+parts_mentioned = map-ExprKind ExprKind Part Expr Path (List Static) StaticStep (List Static) Reach
+    (fold-ExprKind (List Static) StaticStep (List Static) Reach kind_mentions part_step expr_mentions path_reach) step_of mentions reach_of
 
 mentions_at : (layer : ExprKind-F ExprKind Part Expr Path) → mentions (expr layer) ≡ kind_mentions (parts_mentioned layer)
 mentions_at layer = rw (fold-roll-Expr, fold-roll-ExprKind) refl

@@ -1,7 +1,7 @@
 -- The tick of the two branches that need each other: which step may be taken when.
 use Rattle.std.proofs.Common.{◌≡◌, ◌||◌, Bool, true, false, refl, sym, ap, ◌∙◌}
 use Rattle.std.specs.List.{list_any}
-use Rattle.bl_nodes.specs.Steps.{StepLabel}
+use Rattle.bl_graph_nodes.specs.Steps.{StepLabel}
 use Rattle.bl_ctree.specs.Store.{homes, whole_of}
 use Rattle.bl_ctree_laws.specs.Pending.{Deed, any_meets, any_writes, leads_over, may_write, meets, soon_in}
 use Rattle.bl_ctree_laws.specs.Steps.{Moves, OneMoves, Unmet, acts, first, in_par, in_seq, joins, later, pauses}

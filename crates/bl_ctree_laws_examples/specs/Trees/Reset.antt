@@ -4,9 +4,9 @@ use Rattle.std.specs.Prelude.{[], ◌∷◌, false, true, None, ℕ}
 use Rattle.bl_tree.specs.declared.scalar.Op.TheVariants.{Add}
 use Rattle.bl_tree.specs.declared.tree.Guard.TheVariants.{Reset}
 use Rattle.bl_tree.specs.declared.tree.Stmt.{Stmt}
-use Rattle.bl_nodes.specs.Nodes.{CheckAt, TestAt}
-use Rattle.bl_nodes.specs.Plain.{Act, Await, Block, Bodies, Body as BodyOf, Done, Label, Last, Plain, Repeat, Then, When, label_at}
-use Rattle.bl_nodes.specs.Steps.{Here, StepLabel}
+use Rattle.bl_graph_nodes.specs.Nodes.{CheckAt, TestAt}
+use Rattle.bl_graph_nodes.specs.Plain.{Act, Await, Block, Bodies, Body as BodyOf, Done, Label, Last, Plain, Repeat, Then, When, label_at}
+use Rattle.bl_graph_nodes.specs.Steps.{Here, StepLabel}
 use Rattle.bl_ctree.specs.Actions.{Asks}
 use Rattle.bl_ctree.specs.Control.{Check, Body}
 use Rattle.bl_ctree.specs.Instances.{Setting}

@@ -7,7 +7,7 @@ use Rattle.bl_tree.specs.declared.tree.Stmt.{Stmt}
 use Rattle.bl_tree.specs.declared.tree.StmtKind.TheOpen.{StmtKind-F}
 use Rattle.bl_tree.specs.declared.tree.Unit.{Unit as UnitDef}
 use Rattle.bl_tree.specs.declared.tree.UnitKind.TheVariants.{Activity}
-use Rattle.bl_nodes.specs.Plain.{Act, Await, Block, Bodies, Body, Cobegin, Done, Label, Last, Plain, Position, Repeat, Then, label_at}
+use Rattle.bl_graph_nodes.specs.Plain.{Act, Await, Block, Bodies, Body, Cobegin, Done, Label, Last, Plain, Position, Repeat, Then, label_at}
 use Rattle.bl_ctree_laws_examples.specs.Trees.Made.{always, at, named, number, pause, set, stmt, strong, two, value}
 
 -- the input

@@ -1,8 +1,8 @@
 -- What is left of the two branches that need each other, on the way through a tick.
 use Rattle.std.specs.Prelude.{ℕ, [], ◌∷◌, false, None}
-use Rattle.bl_nodes.specs.Nodes.{ActAt, PauseAt}
-use Rattle.bl_nodes.specs.Plain.{Act, Await, Block, Done, Label, Then, label_at}
-use Rattle.bl_nodes.specs.Steps.{Here, StepLabel}
+use Rattle.bl_graph_nodes.specs.Nodes.{ActAt, PauseAt}
+use Rattle.bl_graph_nodes.specs.Plain.{Act, Await, Block, Done, Label, Then, label_at}
+use Rattle.bl_graph_nodes.specs.Steps.{Here, StepLabel}
 use Rattle.bl_tree.specs.declared.tree.Stmt.{Stmt, out-Stmt}
 use Rattle.bl_ctree.specs.Actions.{Acts, Silent}
 use Rattle.bl_ctree.specs.Instances.{Setting}

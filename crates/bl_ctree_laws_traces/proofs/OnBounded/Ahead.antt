@@ -1,9 +1,9 @@
 -- What a tree can still do in its tick, by the labels of steps: all that is reached from what is to begin, or may follow.
 use Rattle.std.proofs.Common.{◌≡◌, ℕ, Bool, true, Some, ◌⊎◌, inl, inr, refl, sym, subst}
 use Rattle.bl_tree.specs.declared.tree.Unit.{Unit as UnitDef}
-use Rattle.bl_nodes.specs.Nodes.{Node, entry}
-use Rattle.bl_nodes.specs.Plain.{Block, Bodies, Plain, Body as BodyOf, Done, Last, Then, plain_body}
-use Rattle.bl_nodes.specs.Steps.{Gives, Here, Inside, StepLabel, head_of, end_node, join_node, run_node}
+use Rattle.bl_graph_nodes.specs.Nodes.{Node, entry}
+use Rattle.bl_graph_nodes.specs.Plain.{Block, Bodies, Plain, Body as BodyOf, Done, Last, Then, plain_body}
+use Rattle.bl_graph_nodes.specs.Steps.{Gives, Here, Inside, StepLabel, head_of, end_node, join_node, run_node}
 use Rattle.bl_graph.specs.Edges.{EdgeAll, Entry, InEach}
 use Rattle.bl_graph.specs.Laws.{InstantsPass}
 use Rattle.bl_graph.specs.Walks.{Reached, Walk}
@@ -29,8 +29,8 @@ use Rattle.bl_ctree_laws.specs.Trees.{
   no_tree,
   seq,
 }
-use Rattle.bl_ctree_laws_traces.specs.Progress.Live.{Live, Lives, check_of, test_of}
-use Rattle.bl_ctree_laws_traces.specs.Progress.Places.{FitsAll, Place, ahead_of, guarded, in_branch}
+use Rattle.bl_ctree_laws_traces.specs.Progress.FitsGraph.{AllFitGraph, FitsGraph, check_of, test_of}
+use Rattle.bl_ctree_laws_traces.specs.Progress.Places.{AreSubgraphs, Place, ahead_of, guarded, in_branch}
 use Rattle.bl_ctree_laws_traces.proofs.OnProgress.Acting.{region}
 use Rattle.bl_ctree_laws_traces.proofs.OnProgress.Beginning.{Closed, fits_first, walks_stay}
 use Rattle.bl_ctree_laws_traces.proofs.OnProgress.Keeping.{part_closed}
@@ -63,7 +63,7 @@ abbrev mutual
 
 module _ (pass : InstantsPass) where
   -- what a block that begins can do is reached from its entry
-  pub do_ahead : {w : Setting} {i : ℕ} (body : Block) (g : Place) (m : StepLabel) → FitsAll w i body g → Ahead w g.edges (do_block body) m →
+  pub do_ahead : {w : Setting} {i : ℕ} (body : Block) (g : Place) (m : StepLabel) → AreSubgraphs w i body g → Ahead w g.edges (do_block body) m →
       Reached (Entry body) g.edges (head_of m)
   do_ahead Done g m fits a = elim a [ ]
   do_ahead (Then s Done) g m fits a = record { from = entry s; begins = refl; walk = a }
@@ -78,7 +78,7 @@ module _ (pass : InstantsPass) where
       }
 
   -- what a tree and what follows it can do
-  pub seq_ahead : {w : Setting} {i : ℕ} (c : Tree) (s : Plain) (rest : Block) (g : Place) (m : StepLabel) → FitsAll w i (Then s rest) g →
+  pub seq_ahead : {w : Setting} {i : ℕ} (c : Tree) (s : Plain) (rest : Block) (g : Place) (m : StepLabel) → AreSubgraphs w i (Then s rest) g →
       Ahead w g.edges (seq c (Then s rest)) m → Ahead w g.edges c m ⊎ ((may_end c ≡ true) × Walk g.edges (entry s) (head_of m))
   seq_ahead Nil s rest g m fits a =
       let from = do_ahead (Then s rest) g m fits a in
@@ -88,7 +88,7 @@ module _ (pass : InstantsPass) where
   module _ (w : Setting) where
     mutual
       -- it is of the part of the graph that acts in this tick
-      pub ahead_now : (c : Tree) (i : ℕ) (g : Place) → Live w i c g → Closed g.edges g.now → (m : StepLabel) → Ahead w g.edges c m →
+      pub ahead_now : (c : Tree) (i : ℕ) (g : Place) → FitsGraph w i c g → Closed g.edges g.now → (m : StepLabel) → Ahead w g.edges c m →
           g.now (head_of m)
       ahead_now Nil i g live closed m a = elim a [ ]
       ahead_now (Wait s) i g live closed m a = elim a [ ]
@@ -110,7 +110,7 @@ module _ (pass : InstantsPass) where
       ahead_now (Run s callee Body stood c) i g live closed m (inr a) = subst (λ x. g.now (head_of x)) (sym a) live.2.now
       ahead_now (Run s callee Check stood c) i g live closed m a = subst g.now (sym a) live.2.now
 
-      pub each_now : (branches : Trees) (i : ℕ) (bodies : Bodies) (stood : Bool) (g : Place) → Lives w i branches bodies stood g → (m : StepLabel) →
+      pub each_now : (branches : Trees) (i : ℕ) (bodies : Bodies) (stood : Bool) (g : Place) → AllFitGraph w i branches bodies stood g → (m : StepLabel) →
           AheadEach w bodies branches m → InEach stood bodies (head_of m)
       each_now no_tree i Last stood g lives m a = elim a [ ]
       each_now no_tree i (BodyOf weak body rest) stood g lives m a = elim a [ ]

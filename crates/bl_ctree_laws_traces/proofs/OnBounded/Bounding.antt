@@ -31,38 +31,38 @@ use Rattle.bl_tree.specs.declared.tree.Unit.{Unit as UnitDef}
 use Rattle.bl_tree.specs.Program.{is_entry, units_stand_after}
 use Rattle.bl_tree.specs.Reduce.{joined, total}
 use Rattle.bl_tree.specs.Typing.{site_of}
-use Rattle.bl_nodes.specs.Plain.{Block, plain_body}
-use Rattle.bl_nodes.specs.Steps.{StepLabel, head_of}
+use Rattle.bl_graph_nodes.specs.Plain.{Block, plain_body}
+use Rattle.bl_graph_nodes.specs.Steps.{StepLabel, head_of}
 use Rattle.bl_graph.specs.Laws.{StaysWithin}
 use Rattle.bl_ctree.specs.Control as control
 use Rattle.bl_ctree.specs.Instances.{Setting, expanded, instances_below, runs_in, runs_of, setting_of, unit_at, unit_of}
-use Rattle.bl_ctree.specs.Laws.{ReachedIsLeft, WokenTreeIsLeft}
+use Rattle.bl_ctree.specs.Laws.{ReachedIsResidual, WokenTreeIsResidual}
 use Rattle.bl_ctree.specs.Means.{entry_items}
-use Rattle.bl_ctree.specs.Measure.{instance_steps, statements_of, steps}
+use Rattle.bl_ctree.specs.Measure.{instance_steps, step_statements_of, steps}
 use Rattle.bl_ctree.specs.Positions.{body_items}
 use Rattle.bl_ctree.specs.Reaches.{ReachesInside}
 use Rattle.bl_ctree.specs.Store.{Store, woken_store}
 use Rattle.bl_ctree.specs.Ticks as ticks
 use Rattle.bl_ctree_laws.specs.Bridge.{plain_items, plain_tree}
-use Rattle.bl_ctree_laws.specs.Ends.{End, Steps, none, step, traps}
+use Rattle.bl_ctree_laws.specs.Ends.{PlainTreeEnd, PlainTreeSteps, none, step, traps}
 use Rattle.bl_ctree_laws.specs.Laws.{StatementsArePlain}
-use Rattle.bl_ctree_laws.specs.Left.{Left}
-use Rattle.bl_ctree_laws.specs.LeftLaws.{StepsKeepLeft}
+use Rattle.bl_ctree_laws.specs.Residual.{PlainResidual}
+use Rattle.bl_ctree_laws.specs.ResidualLaws.{StepsKeepPlainResidual}
 use Rattle.bl_ctree_laws.specs.Pending.{Deed}
-use Rattle.bl_ctree_laws.specs.Runs.{ListsArePlain, PlainList, ReachedInsideIsLeft, entry_block, plain_end}
+use Rattle.bl_ctree_laws.specs.Runs.{ListsArePlain, PlainList, ReachedInsideIsPlainResidual, entry_block, plain_end}
 use Rattle.bl_ctree_laws.specs.Shrinks.{MayIsCould, Paces}
 use Rattle.bl_ctree_laws.specs.Steps.{Anyway, Moves}
 use Rattle.bl_ctree_laws.specs.Trees.{Call, Tree}
 use Rattle.bl_ctree_laws_confluence.specs.Deeds.Orderly.{AcceptedIsOrderly}
 use Rattle.bl_ctree_laws_confluence.specs.Deeds.Origins.{InstancesHaveCallers}
-use Rattle.bl_ctree_laws_traces.specs.Progress.Accepted.{AcceptedTreesAreLive, ProgramsAreCallable}
-use Rattle.bl_ctree_laws_traces.specs.Progress.Laws.{StepsKeepLive}
-use Rattle.bl_ctree_laws_traces.specs.Progress.Live.{Live}
+use Rattle.bl_ctree_laws_traces.specs.Progress.Accepted.{AcceptedTreesFitGraphs, ProgramsAreCallable}
+use Rattle.bl_ctree_laws_traces.specs.Progress.Laws.{StepsKeepFitsGraph}
+use Rattle.bl_ctree_laws_traces.specs.Progress.FitsGraph.{FitsGraph}
 use Rattle.bl_ctree_laws_traces.specs.Progress.Places.{AllCallable, whole}
-use Rattle.bl_ctree_laws_traces.specs.Progress.Reached.{LiveNow}
+use Rattle.bl_ctree_laws_traces.specs.Progress.Reached.{TreeFitsGraphNow}
 use Rattle.bl_ctree_laws_traces.proofs.OnProgress.Acting.{region}
 use Rattle.bl_ctree_laws_traces.specs.Bounded.Bounds.{AcceptedIsBounded, RunsStandApart}
-use Rattle.bl_ctree_laws_traces.specs.Bounded.Differ.{Differ, TicksDiffer}
+use Rattle.bl_ctree_laws_traces.specs.Bounded.Differ.{LabelsDiffer, TicksDiffer}
 use Rattle.bl_ctree_laws_traces.proofs.OnBounded.Callees.{CallsAreRuns, callees_are_named, calls_earlier, each_once, typed_at}
 use Rattle.bl_ctree_laws_traces.proofs.OnBounded.Calls.{CalleesAreNamed, calls_in, left_tied, run_of}
 use Rattle.bl_ctree_laws_traces.proofs.OnBounded.Counting.{Counted, few_whole, unit_of_run}
@@ -72,22 +72,22 @@ use Rattle.bl_ctree_laws_traces.proofs.OnBounded.Statements.{FewIn, body_few}
 
 -- ---- the steps of a tick are in the list of the entry's labels
 
-module _ (could : MayIsCould) (kept : StepsKeepLive) (left_kept : StepsKeepLeft) (within : (body : Block) → StaysWithin body) (w : Setting)
+module _ (could : MayIsCould) (kept : StepsKeepFitsGraph) (left_kept : StepsKeepPlainResidual) (within : (body : Block) → StaysWithin body) (w : Setting)
     (earlier : CallsEarlier w.units) (named : CalleesAreNamed w) (pace : Paces w) (call : AllCallable w) (unit : UnitDef)
     (is : unit_at w 0 ≡ Some unit) (stood : Bool) (longest : ℕ) (fuel : (s : Call) → Among s (calls_in (plain_body unit.body)) → s.unit < longest) where
   abbrev Listed : StepLabel → Type 0
   Listed n = Among n (body_labels (labels w.units longest) true (plain_body unit.body))
 
   one_listed : {c : Tree} {d : Bool} {a : Deed} {n : StepLabel} {c' : Tree} → Moves Anyway w 0 c d a n c' →
-      Live w 0 c (whole stood (plain_body unit.body)) →
-      Left w true 0 (plain_body unit.body) c → Listed n
+      FitsGraph w 0 c (whole stood (plain_body unit.body)) →
+      PlainResidual w true 0 (plain_body unit.body) c → Listed n
   one_listed {n = n} move live left =
       listed within w earlier move (whole stood (plain_body unit.body)) (plain_body unit.body) true longest live
       (left_tied w named unit true is left (λ t at. at) (λ e. e)) fuel
       (node_listed within stood (plain_body unit.body) (head_of n) (region move (whole stood (plain_body unit.body)) live))
 
-  all_listed : {c : Tree} {store : Store} {list : List StepLabel} {end : End} → Steps w c store list end →
-      Live w 0 c (whole stood (plain_body unit.body)) → Left w true 0 (plain_body unit.body) c → EachOf Listed list
+  all_listed : {c : Tree} {store : Store} {list : List StepLabel} {end : PlainTreeEnd} → PlainTreeSteps w c store list end →
+      FitsGraph w 0 c (whole stood (plain_body unit.body)) → PlainResidual w true 0 (plain_body unit.body) c → EachOf Listed list
   all_listed none live left = tt
   all_listed (traps {c = c} {n = n} t) live left = (one_listed (could w 0 c t.answer t.deed n t.after t.moves) live left, tt)
   all_listed (step {c = c} {n = n} {c' = c'} s more) live left =
@@ -117,7 +117,7 @@ root_there units (suc longest) k unit less is =
 
 module _ (structs : List StructDef) (units : List UnitDef) (entry : ℕ) (stand : units_stand_after structs [] units ≡ true)
     (apart : RunsStandApart units) where
-  few_at : (k : ℕ) (unit : UnitDef) → slice_get units k ≡ Some unit → FewIn (plain_body unit.body) (joined (map runs_in unit.body)) (statements_of unit)
+  few_at : (k : ℕ) (unit : UnitDef) → slice_get units k ≡ Some unit → FewIn (plain_body unit.body) (joined (map runs_in unit.body)) (step_statements_of unit)
   few_at k unit there = body_few (site_of structs (take k units) unit) unit.body (typed_at structs [] units k unit stand there)
 
   calls_are_runs : CallsAreRuns units
@@ -152,8 +152,8 @@ entry_is : StatementsArePlain → (w : Setting) (unit : UnitDef) → unit_at w 0
 entry_is plain w unit is =
     ap (λ found. plain_items (unwrap_or (option_map (λ unit. body_items unit.body) found) [])) is ∙ sym (plain.blocks unit.body [])
 
-module _ (between : ReachedIsLeft) (woken_left : WokenTreeIsLeft) (statements : StatementsArePlain) (lists : ListsArePlain)
-    (left_inside : ReachedInsideIsLeft) (left_kept : StepsKeepLeft) (could : MayIsCould) (kept : StepsKeepLive) (live_inside : AcceptedTreesAreLive)
+module _ (between : ReachedIsResidual) (woken_left : WokenTreeIsResidual) (statements : StatementsArePlain) (lists : ListsArePlain)
+    (left_inside : ReachedInsideIsPlainResidual) (left_kept : StepsKeepPlainResidual) (could : MayIsCould) (kept : StepsKeepFitsGraph) (live_inside : AcceptedTreesFitGraphs)
     (orderly : AcceptedIsOrderly) (callable : ProgramsAreCallable) (callers : InstancesHaveCallers) (within : (body : Block) → StaysWithin body)
     (differ : TicksDiffer) where
   pub accepted_is_bounded : AcceptedIsBounded
@@ -170,17 +170,17 @@ module _ (between : ReachedIsLeft) (woken_left : WokenTreeIsLeft) (statements : 
       let call : AllCallable w = callable structs units entry keeps in
       let begun : ReachesInside w rows row [] (ticks.Rests (control.woken r.tree) (woken_store row r.store)) =
       record { tree = r.tree; store = r.store; before = r.before; steps = ticks.none } in
-      let now : LiveNow w (entry_block w) (plain_tree (control.woken r.tree)) =
+      let now : TreeFitsGraphNow w (entry_block w) (plain_tree (control.woken r.tree)) =
       (live_inside structs units entry keeps passes).inside rows row [] (control.woken r.tree) (woken_store row r.store) begun in
-      let live : Live w 0 (plain_tree (control.woken r.tree)) (whole now.stood (plain_body unit.body)) =
-      subst (λ b. Live w 0 (plain_tree (control.woken r.tree)) (whole now.stood b)) body now.lives in
-      let left : Left w true 0 (plain_body unit.body) (plain_tree (control.woken r.tree)) =
-      subst (λ b. Left w true 0 b (plain_tree (control.woken r.tree))) body
+      let live : FitsGraph w 0 (plain_tree (control.woken r.tree)) (whole now.stood (plain_body unit.body)) =
+      subst (λ b. FitsGraph w 0 (plain_tree (control.woken r.tree)) (whole now.stood b)) body now.lives in
+      let left : PlainResidual w true 0 (plain_body unit.body) (plain_tree (control.woken r.tree)) =
+      subst (λ b. PlainResidual w true 0 b (plain_tree (control.woken r.tree))) body
       (left_inside w rows row [] (control.woken r.tree) (woken_store row r.store) begun) in
       let plain : PlainList w (control.woken r.tree) (woken_store row r.store) actions end =
       lists w true (entry_items w) (control.woken r.tree) (woken_store row r.store) actions end
       (woken_left w r.tree (between w rows r.tree r.store r.before)) r.steps in
-      let different : Differ plain.labels =
+      let different : LabelsDiffer plain.labels =
       differ w unit now.stood (plain_tree (control.woken r.tree)) (woken_store row r.store) plain.labels (plain_end end) pace call numbered at live
       plain.steps in
       let among = all_listed could kept left_kept within w earlier named pace call unit at now.stood entry (λ s inside. earlier entry unit s found.1 inside)

@@ -51,13 +51,13 @@ use Rattle.bl_tree.specs.Types.{type_stands}
 use Rattle.bl_tree.specs.Typing.{fits, site_of}
 use Rattle.bl_tree.specs.Words.{are_distinct, is_name}
 use Rattle.bl_effects.proofs.EntryLemmas.{same_place_is, same_place_refl}
-use Rattle.bl_nodes.specs.Plain.{plain_body}
+use Rattle.bl_graph_nodes.specs.Plain.{plain_body}
 use Rattle.bl_ctree.specs.declared.instance.Instance.{Instance}
 use Rattle.bl_ctree.specs.declared.instance.Origin.{Origin}
 use Rattle.bl_ctree.specs.declared.instance.Run.{Run}
 use Rattle.bl_ctree.specs.Instances.{Setting, begins_at, one_a_place, runs_in, runs_of, setting_of, unit_at, unit_of}
 use Rattle.bl_ctree_laws.specs.Trees.{Call}
-use Rattle.bl_ctree_laws_confluence.specs.Deeds.Origins.{Called, CalledBy, InstancesHaveCallers}
+use Rattle.bl_ctree_laws_confluence.specs.Deeds.Origins.{CalledBy, HasCaller, InstancesHaveCallers}
 use Rattle.bl_ctree_laws_confluence.proofs.OnDeeds.Activities.{AllOf, and_left, and_right}
 use Rattle.bl_ctree_laws_traces.proofs.OnProgress.Earlier.{RunsUnit, body_runs}
 use Rattle.bl_ctree_laws_traces.specs.Bounded.Bounds.{RunsStandApart}
@@ -231,4 +231,4 @@ module _ (callers : InstancesHaveCallers) (structs : List StructDef) (units : Li
           by_call i caller s callee instance origin found at there
           (eqb-true origin.caller i (and_left (nat_eq origin.caller i) (same_place origin.place s.place) e))
           (same_place_is origin.place s.place (and_right (nat_eq origin.caller i) (same_place origin.place s.place) e))
-          (subst (Called units entry W.instances callee instance) is (callers units entry callee instance there))
+          (subst (HasCaller units entry W.instances callee instance) is (callers units entry callee instance there))

@@ -3,7 +3,7 @@ use Rattle.std.proofs.Common.{◌≡◌, ℕ, Bool, true, List, [], ◌∷◌, �
 use Rattle.std.specs.Prelude.{slice_get, ⊤}
 use Rattle.bl_tree.specs.declared.tree.Unit.{Unit as UnitDef}
 use Rattle.bl_tree.specs.Static.{static_of}
-use Rattle.bl_nodes.specs.Plain.{
+use Rattle.bl_graph_nodes.specs.Plain.{
   Act,
   Again,
   Await,
@@ -25,11 +25,11 @@ use Rattle.bl_nodes.specs.Plain.{
 }
 use Rattle.bl_ctree.specs.declared.instance.Run.{Run as RunAt}
 use Rattle.bl_ctree.specs.Instances.{Setting, callee_of, unit_at}
-use Rattle.bl_ctree_laws.specs.Left.{
-  Left,
-  LeftEach,
-  LeftOf,
-  Stands,
+use Rattle.bl_ctree_laws.specs.Residual.{
+  BlockSplitsAt,
+  PlainResidual,
+  PlainResidualEach,
+  PlainResidualOf,
   ended,
   here,
   none_left,
@@ -106,7 +106,7 @@ abbrev mutual
   TiedEach w body around no_tree = ⊤
   TiedEach w body around (beside weak c rest) = Tied w body around c × TiedEach w body around rest
 
-stands_calls : {s : Plain} {rest body : Block} → Stands s rest body → (t : Call) → Among t (calls_of s) → Among t (calls_in body)
+stands_calls : {s : Plain} {rest body : Block} → BlockSplitsAt s rest body → (t : Call) → Among t (calls_of s) → Among t (calls_in body)
 stands_calls {s = s} {rest = rest} here t at = among_left t (calls_of s) (calls_in rest) at
 stands_calls (there {t = first} {body = body} more) t at = among_right t (calls_of first) (calls_in body) (stands_calls more t at)
 
@@ -131,7 +131,7 @@ either_same (inr a) = a
 module _ (w : Setting) (named : CalleesAreNamed w) where
   mutual
     pub left_tied : {i : ℕ} {stood : Bool} {body : Block} {c : Tree} (caller : UnitDef) (around : Bool) → unit_at w i ≡ Some caller →
-        Left w stood i body c → ((t : Call) → Among t (calls_in body) → Among t (calls_in (plain_body caller.body))) →
+        PlainResidual w stood i body c → ((t : Call) → Among t (calls_in body) → Among t (calls_in (plain_body caller.body))) →
         (stood ≡ true → around ≡ true) →
         Tied w (plain_body caller.body) around c
     left_tied caller around is nothing within so = tt
@@ -140,7 +140,7 @@ module _ (w : Setting) (named : CalleesAreNamed w) where
         left_tied_of caller around is left (λ t at. within t (stands_calls stands t at)) so
 
     left_tied_of : {i : ℕ} {stood : Bool} {s : Plain} {c : Tree} (caller : UnitDef) (around : Bool) → unit_at w i ≡ Some caller →
-        LeftOf w stood i s c → ((t : Call) → Among t (calls_of s) → Among t (calls_in (plain_body caller.body))) →
+        PlainResidualOf w stood i s c → ((t : Call) → Among t (calls_of s) → Among t (calls_in (plain_body caller.body))) →
         (stood ≡ true → around ≡ true) →
         Tied w (plain_body caller.body) around c
     left_tied_of caller around is to_begin within so = tt
@@ -172,7 +172,7 @@ module _ (w : Setting) (named : CalleesAreNamed w) where
         )
 
     each_tied : {i : ℕ} {stood : Bool} {bodies : Bodies} {branches : Trees} (caller : UnitDef) (around : Bool) → unit_at w i ≡ Some caller →
-        LeftEach w stood i bodies branches → ((t : Call) → Among t (calls_in_each bodies) → Among t (calls_in (plain_body caller.body))) →
+        PlainResidualEach w stood i bodies branches → ((t : Call) → Among t (calls_in_each bodies) → Among t (calls_in (plain_body caller.body))) →
         (stood ≡ true → around ≡ true) → TiedEach w (plain_body caller.body) around branches
     each_tied caller around is none_left within so = tt
     each_tied caller around is (one_left {body = body} {bodies = bodies} left more) within so = (

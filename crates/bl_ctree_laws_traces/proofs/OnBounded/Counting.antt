@@ -28,13 +28,13 @@ use Rattle.std.proofs.lemmas.List.{length-append, length-map}
 use Rattle.std.proofs.Math.Nat.{add-mul}
 use Rattle.bl_tree.specs.declared.tree.Unit.{Unit as UnitDef}
 use Rattle.bl_tree.specs.Reduce.{joined, total}
-use Rattle.bl_nodes.specs.Nodes.{nodes_in}
-use Rattle.bl_nodes.specs.Plain.{plain_body}
-use Rattle.bl_nodes.specs.Steps.{Here, Inside, StepLabel}
+use Rattle.bl_graph_nodes.specs.Nodes.{nodes_in}
+use Rattle.bl_graph_nodes.specs.Plain.{plain_body}
+use Rattle.bl_graph_nodes.specs.Steps.{Here, Inside, StepLabel}
 use Rattle.bl_ctree.specs.declared.instance.Instance.{Instance}
 use Rattle.bl_ctree.specs.declared.instance.Run.{Run}
 use Rattle.bl_ctree.specs.Instances.{Setting, called_from, expanded, instances_below, runs_of}
-use Rattle.bl_ctree.specs.Measure.{instance_steps, statements_of}
+use Rattle.bl_ctree.specs.Measure.{instance_steps, step_statements_of}
 use Rattle.bl_ctree_laws.specs.Trees.{Call}
 use Rattle.bl_ctree_laws_traces.proofs.OnBounded.Calls.{calls_in}
 use Rattle.bl_ctree_laws_traces.proofs.OnBounded.Listed.{body_labels, call_labels, labels, node_at}
@@ -43,7 +43,7 @@ use Rattle.bl_ctree_laws_traces.proofs.OnBounded.Lists.{joined_long, total_appen
 -- what a unit's plain body comes to: its calls are its `run` statements, and its nodes with two more steps a call are at most six a statement
 pub record Counted (unit : UnitDef) : Type 0 where
   pub units : map (λ (s : Call). s.unit) (calls_in (plain_body unit.body)) ≡ map (λ (run : Run). run.unit) (runs_of unit)
-  pub few : length (nodes_in (plain_body unit.body)) + 2 * length (calls_in (plain_body unit.body)) ≤ 6 * statements_of unit
+  pub few : length (nodes_in (plain_body unit.body)) + 2 * length (calls_in (plain_body unit.body)) ≤ 6 * step_statements_of unit
 
 abbrev pub unit_of_call : Call → ℕ
 unit_of_call s = s.unit
@@ -60,7 +60,7 @@ calls_long f g is (s ∷ calls) = let one = is s in let more = calls_long f g is
 
 body_long : (alone : Bool → ℕ → List StepLabel) (stood : Bool) (unit : UnitDef) (g : ℕ → ℕ) → Counted unit →
     ((s : Call) → length (call_labels alone stood s) ≡ 2 + g s.unit) →
-    length (body_labels alone stood (plain_body unit.body)) ≤ 6 * statements_of unit + total (map g (map unit_of_run (runs_of unit)))
+    length (body_labels alone stood (plain_body unit.body)) ≤ 6 * step_statements_of unit + total (map g (map unit_of_run (runs_of unit)))
 body_long alone stood unit g counted each =
     let own = length-map (nodes_in (plain_body unit.body)) Here in
     let both = length-append (map Here (nodes_in (plain_body unit.body))) (joined (map (call_labels alone stood) (calls_in (plain_body unit.body)))) in
@@ -101,7 +101,7 @@ below_total weight g alone each n (run ∷ rest) =
 module _ (w : Setting) (counted : (k : ℕ) (unit : UnitDef) → slice_get w.units k ≡ Some unit → Counted unit) where
   -- the statements of an instance, once
   abbrev fresh : Instance → ℕ
-  fresh x = 6 * unwrap_or (option_map statements_of (slice_get w.units x.unit)) 0
+  fresh x = 6 * unwrap_or (option_map step_statements_of (slice_get w.units x.unit)) 0
 
   -- and as often as it is passed
   abbrev whole : Instance → ℕ
@@ -110,8 +110,8 @@ module _ (w : Setting) (counted : (k : ℕ) (unit : UnitDef) → slice_get w.uni
   deeper : (n : ℕ) (run : Run) (x : Instance) → whole (called_from n run x) ≡ whole x + fresh x
   deeper n run x =
       let once : 6 * (suc x.depth + 1) ≡ 6 * (x.depth + 1) + 6 = omega arith in
-      ap (λ m. m * unwrap_or (option_map statements_of (slice_get w.units x.unit)) 0) once
-      ∙ add-mul (6 * (x.depth + 1)) 6 (unwrap_or (option_map statements_of (slice_get w.units x.unit)) 0)
+      ap (λ m. m * unwrap_or (option_map step_statements_of (slice_get w.units x.unit)) 0) once
+      ∙ add-mul (6 * (x.depth + 1)) 6 (unwrap_or (option_map step_statements_of (slice_get w.units x.unit)) 0)
 
   abbrev fresh_sum : ℕ → ℕ → ℕ
   fresh_sum longest k = total (map fresh (expanded w.units longest k))
@@ -150,7 +150,7 @@ module _ (w : Setting) (counted : (k : ℕ) (unit : UnitDef) → slice_get w.uni
       slice_get w.units k ≡ found → length (opened_labels longest false found) ≤ total (map fresh (opened longest k found))
   fresh_found longest k inner None is = omega arith
   fresh_found longest k inner (Some unit) is =
-      let own : unwrap_or (option_map statements_of (slice_get w.units k)) 0 ≡ statements_of unit = ap (λ o. unwrap_or (option_map statements_of o) 0) is in
+      let own : unwrap_or (option_map step_statements_of (slice_get w.units k)) 0 ≡ step_statements_of unit = ap (λ o. unwrap_or (option_map step_statements_of o) 0) is in
       let long = body_long (labels w.units longest) false unit (λ u. length (labels w.units longest false u)) (counted k unit is)
       (fresh_call (labels w.units longest)) in
       let below = below_total fresh (λ u. length (labels w.units longest false u)) (expanded w.units longest) (fresh_below longest inner) 1 (runs_of unit) in
@@ -161,7 +161,7 @@ module _ (w : Setting) (counted : (k : ℕ) (unit : UnitDef) → slice_get w.uni
       length (opened_labels longest true found) ≤ total (map whole (opened longest k found))
   whole_found longest k fresh_inner whole_inner None is = omega arith
   whole_found longest k fresh_inner whole_inner (Some unit) is =
-      let own : unwrap_or (option_map statements_of (slice_get w.units k)) 0 ≡ statements_of unit = ap (λ o. unwrap_or (option_map statements_of o) 0) is in
+      let own : unwrap_or (option_map step_statements_of (slice_get w.units k)) 0 ≡ step_statements_of unit = ap (λ o. unwrap_or (option_map step_statements_of o) 0) is in
       let long = body_long (labels w.units longest) true unit
       (λ u. length (labels w.units longest false u) + length (labels w.units longest true u)) (counted k unit is)
       (whole_call (labels w.units longest)) in

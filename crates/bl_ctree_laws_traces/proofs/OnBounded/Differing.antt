@@ -2,19 +2,19 @@
 use Rattle.std.proofs.Common.{◌≡◌, Bool, List, [], ◌∷◌, Some}
 use Rattle.std.specs.Prelude.{⊤}
 use Rattle.bl_tree.specs.declared.tree.Unit.{Unit as UnitDef}
-use Rattle.bl_nodes.specs.Plain.{plain_body}
-use Rattle.bl_nodes.specs.Steps.{StepLabel}
+use Rattle.bl_graph_nodes.specs.Plain.{plain_body}
+use Rattle.bl_graph_nodes.specs.Steps.{StepLabel}
 use Rattle.bl_graph.specs.Edges.{EdgeAll}
 use Rattle.bl_graph.specs.Laws.{BranchesPart, InstantsPass}
 use Rattle.bl_ctree.specs.Instances.{Setting, unit_at}
 use Rattle.bl_ctree.specs.Store.{Store}
-use Rattle.bl_ctree_laws.specs.Ends.{End, Steps, none, step, traps}
+use Rattle.bl_ctree_laws.specs.Ends.{PlainTreeEnd, PlainTreeSteps, none, step, traps}
 use Rattle.bl_ctree_laws.specs.Shrinks.{EndsShrink, MayIsCould, Paces}
 use Rattle.bl_ctree_laws.specs.Trees.{Tree}
-use Rattle.bl_ctree_laws_traces.specs.Progress.Laws.{StepsKeepLive}
-use Rattle.bl_ctree_laws_traces.specs.Progress.Live.{Live}
+use Rattle.bl_ctree_laws_traces.specs.Progress.Laws.{StepsKeepFitsGraph}
+use Rattle.bl_ctree_laws_traces.specs.Progress.FitsGraph.{FitsGraph}
 use Rattle.bl_ctree_laws_traces.specs.Progress.Places.{AllCallable, whole}
-use Rattle.bl_ctree_laws_traces.specs.Bounded.Differ.{AllNumbered, Differ, TicksDiffer, Unlisted}
+use Rattle.bl_ctree_laws_traces.specs.Bounded.Differ.{AllNumbered, LabelsDiffer, TicksDiffer, Unlisted}
 use Rattle.bl_ctree_laws_traces.proofs.OnBounded.Ahead.{Ahead}
 use Rattle.bl_ctree_laws_traces.proofs.OnBounded.Stepping.{starts_ahead, step_less}
 
@@ -23,7 +23,7 @@ abbrev Each : (StepLabel → Type 0) → List StepLabel → Type 0
 Each P [] = ⊤
 Each P (n ∷ rest) = P n × Each P rest
 
-module _ (pass : InstantsPass) (part : BranchesPart) (could : MayIsCould) (shrink : EndsShrink) (kept : StepsKeepLive) {w : Setting} (pace : Paces w)
+module _ (pass : InstantsPass) (part : BranchesPart) (could : MayIsCould) (shrink : EndsShrink) (kept : StepsKeepFitsGraph) {w : Setting} (pace : Paces w)
     (call : AllCallable w) (all : AllNumbered w) (unit : UnitDef) (is : unit_at w 0 ≡ Some unit) (stood : Bool) where
   abbrev Could : Tree → StepLabel → Type 0
   Could c = Ahead w (EdgeAll (plain_body unit.body)) c
@@ -36,8 +36,8 @@ module _ (pass : InstantsPass) (part : BranchesPart) (could : MayIsCould) (shrin
       let one = less m each.0 in
       let more = earlier c c' n less rest each.1 in ((one.0, more.0), (one.1, more.1))
 
-  labels_differ : {c : Tree} {store : Store} {labels : List StepLabel} {end : End} → Steps w c store labels end →
-      Live w 0 c (whole stood (plain_body unit.body)) → Each (Could c) labels × Differ labels
+  labels_differ : {c : Tree} {store : Store} {labels : List StepLabel} {end : PlainTreeEnd} → PlainTreeSteps w c store labels end →
+      FitsGraph w 0 c (whole stood (plain_body unit.body)) → Each (Could c) labels × LabelsDiffer labels
   labels_differ none live = (tt, tt)
   labels_differ (traps {c = c} {n = n} t) live =
       ((starts_ahead (could w 0 c t.answer t.deed n t.after t.moves) (whole stood (plain_body unit.body)) live, tt), (tt, tt))
@@ -51,6 +51,6 @@ module _ (pass : InstantsPass) (part : BranchesPart) (could : MayIsCould) (shrin
       (less.ahead, less.differ)) rest later.0 in
       ((starts_ahead move (whole stood (plain_body unit.body)) live, before.0), (before.1, later.1))
 
-pub ticks_differ : InstantsPass → BranchesPart → MayIsCould → EndsShrink → StepsKeepLive → TicksDiffer
+pub ticks_differ : InstantsPass → BranchesPart → MayIsCould → EndsShrink → StepsKeepFitsGraph → TicksDiffer
 ticks_differ pass part could shrink kept w unit stood c store labels end pace call all is live steps =
     (labels_differ pass part could shrink kept pace call all unit is stood steps live).1

@@ -27,9 +27,9 @@ use Rattle.std.proofs.Common.{
 use Rattle.std.specs.Prelude.{option_map, slice_get, unwrap_or}
 use Rattle.bl_tree.specs.declared.tree.Unit.{Unit as UnitDef}
 use Rattle.bl_tree.specs.Reduce.{joined}
-use Rattle.bl_nodes.specs.Nodes.{Node, entry, nodes_in}
-use Rattle.bl_nodes.specs.Plain.{Block, Bodies, Body as BodyOf, Done, Last, Then, plain_body}
-use Rattle.bl_nodes.specs.Steps.{Gives, Here, Inside, StepLabel, head_of, run_node}
+use Rattle.bl_graph_nodes.specs.Nodes.{Node, entry, nodes_in}
+use Rattle.bl_graph_nodes.specs.Plain.{Block, Bodies, Body as BodyOf, Done, Last, Then, plain_body}
+use Rattle.bl_graph_nodes.specs.Steps.{Gives, Here, Inside, StepLabel, head_of, run_node}
 use Rattle.bl_graph.specs.Edges.{In}
 use Rattle.bl_graph.specs.Laws.{StaysWithin}
 use Rattle.bl_ctree.specs.Instances.{Setting}
@@ -68,7 +68,7 @@ use Rattle.bl_ctree_laws.specs.Steps.{
   later,
 }
 use Rattle.bl_ctree_laws.specs.Trees.{Call, Tree, Trees}
-use Rattle.bl_ctree_laws_traces.specs.Progress.Live.{Live, Lives}
+use Rattle.bl_ctree_laws_traces.specs.Progress.FitsGraph.{AllFitGraph, FitsGraph}
 use Rattle.bl_ctree_laws_traces.specs.Progress.Places.{Place, ahead_of, guarded, in_branch, whole}
 use Rattle.bl_ctree_laws_traces.proofs.OnProgress.Acting.{region}
 use Rattle.bl_ctree_laws_traces.proofs.OnBounded.Calls.{Tied, TiedEach, calls_in}
@@ -155,7 +155,7 @@ module _ (within : (body : Block) → StaysWithin body) (w : Setting) (earlier :
 
   mutual
     pub listed : {i : ℕ} {c : Tree} {d : Bool} {a : Deed} {n : StepLabel} {c' : Tree} → Moves Anyway w i c d a n c' → (g : Place) (body : Block)
-        (around : Bool) (longest : ℕ) → Live w i c g → Tied w body around c → Listed n body around longest
+        (around : Bool) (longest : ℕ) → FitsGraph w i c g → Tied w body around c → Listed n body around longest
     listed acts g body around longest live tied fuel at = listed_here _ body around longest fuel at
     listed takes g body around longest live tied fuel at = listed_here _ body around longest fuel at
     listed passes g body around longest live tied fuel at = listed_here _ body around longest fuel at
@@ -199,7 +199,7 @@ module _ (within : (body : Block) → StaysWithin body) (w : Setting) (earlier :
         (node_listed within stood (plain_body unit.body) (head_of n) (region move (whole stood (plain_body unit.body)) live.1)))))
 
     pub one_listed : {i : ℕ} {branches : Trees} {d : Bool} {a : Deed} {n : StepLabel} {branches' : Trees} → OneMoves Anyway w i branches d a n branches' →
-        (bodies : Bodies) (stood : Bool) (g : Place) (body : Block) (around : Bool) (longest : ℕ) → Lives w i branches bodies stood g →
+        (bodies : Bodies) (stood : Bool) (g : Place) (body : Block) (around : Bool) (longest : ℕ) → AllFitGraph w i branches bodies stood g →
         TiedEach w body around branches → Listed n body around longest
     one_listed (first move free) Last stood g body around longest lives tied = elim lives [ ]
     one_listed (first move free) (BodyOf weak block rest) stood g body around longest lives tied =

@@ -26,8 +26,8 @@ use Rattle.std.specs.Prelude.{Contains, ⊤}
 use Rattle.std.proofs.lemmas.List.{length-append}
 use Rattle.std.proofs.lemmas.List.Elements.{Contains-append_cases, Contains-push_cases}
 use Rattle.bl_tree.specs.Reduce.{joined, total}
-use Rattle.bl_nodes.specs.Steps.{StepLabel}
-use Rattle.bl_ctree_laws_traces.specs.Bounded.Differ.{Differ, Unlisted}
+use Rattle.bl_graph_nodes.specs.Steps.{StepLabel}
+use Rattle.bl_ctree_laws_traces.specs.Bounded.Differ.{LabelsDiffer, Unlisted}
 
 -- ---- members
 
@@ -104,7 +104,7 @@ all_still : (n : StepLabel) (ys : List StepLabel) (at : Among n ys) (labels : Li
 all_still n ys at [] differ among = tt
 all_still n ys at (m ∷ rest) differ among = (still_among n m ys at among.0 differ.0, all_still n ys at rest differ.1 among.1)
 
-pub pigeons : (labels ys : List StepLabel) → Differ labels → EachOf (λ n. Among n ys) labels → length labels ≤ length ys
+pub pigeons : (labels ys : List StepLabel) → LabelsDiffer labels → EachOf (λ n. Among n ys) labels → length labels ≤ length ys
 pigeons [] ys differ among = omega arith
 pigeons (n ∷ rest) ys differ among =
     let long = without_long n ys among.0 in

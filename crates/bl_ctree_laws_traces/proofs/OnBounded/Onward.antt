@@ -1,9 +1,9 @@
 -- Where a tree may still end after a step, what acted leads out of it.
 use Rattle.std.proofs.Common.{◌≡◌, ℕ, Bool, true, false, ◌&&◌, ◌||◌, not, ◌⊎◌, inl, inr, refl, sym, ap, ◌∙◌, subst}
 use Rattle.bl_tree.specs.declared.place.Place.{Place as Source}
-use Rattle.bl_nodes.specs.Nodes.{Node, are_instant, entry, is_instant}
-use Rattle.bl_nodes.specs.Plain.{Block, Bodies, Label, Plain, Body as BodyOf, Cobegin, Done, Last, Then}
-use Rattle.bl_nodes.specs.Steps.{StepLabel, head_of, end_node, join_node, run_node}
+use Rattle.bl_graph_nodes.specs.Nodes.{Node, are_instant, entry, is_instant}
+use Rattle.bl_graph_nodes.specs.Plain.{Block, Bodies, Label, Plain, Body as BodyOf, Cobegin, Done, Last, Then}
+use Rattle.bl_graph_nodes.specs.Steps.{StepLabel, head_of, end_node, join_node, run_node}
 use Rattle.bl_graph.specs.Edges.{EdgeAll, EdgeEach, In, OutAll}
 use Rattle.bl_graph.specs.Laws.{InstantsPass}
 use Rattle.bl_graph.specs.Walks.{Walk, stay}
@@ -48,8 +48,8 @@ use Rattle.bl_ctree_laws.specs.Steps.{
 use Rattle.bl_ctree_laws.specs.Trees.{Tree, Trees, Watch, Do, Par, Guard, has_strong, seq}
 use Rattle.bl_ctree_laws.proofs.Less.{seq_ends}
 use Rattle.bl_ctree_laws.proofs.Tests.{and_first, and_second, or_right}
-use Rattle.bl_ctree_laws_traces.specs.Progress.Live.{Live, Lives, check_of, test_of}
-use Rattle.bl_ctree_laws_traces.specs.Progress.Places.{FitsAll, Place, ahead_of, guarded, in_branch}
+use Rattle.bl_ctree_laws_traces.specs.Progress.FitsGraph.{AllFitGraph, FitsGraph, check_of, test_of}
+use Rattle.bl_ctree_laws_traces.specs.Progress.Places.{AreSubgraphs, Place, ahead_of, guarded, in_branch}
 use Rattle.bl_ctree_laws_traces.proofs.OnProgress.Acting.{done_may_join, region}
 use Rattle.bl_ctree_laws_traces.proofs.OnProgress.Leading.{end_out, in_on, join_out, one_on, rest_edges, run_out, to_end, way_out}
 
@@ -113,7 +113,7 @@ branch_joins false body rest l at so stood n is inside ends =
 
 module _ {w : Setting} (pass : InstantsPass) (shrink : EndsShrink) (pace : Paces w) where
   -- what begins
-  by_do : {i : ℕ} {s : Plain} {d : Bool} {a : Deed} {n : StepLabel} {c' : Tree} → Moves Anyway w i (Do s) d a n c' → (g : Place) → Live w i (Do s) g →
+  by_do : {i : ℕ} {s : Plain} {d : Bool} {a : Deed} {n : StepLabel} {c' : Tree} → Moves Anyway w i (Do s) d a n c' → (g : Place) → FitsGraph w i (Do s) g →
       may_end c' ≡ true → Onward g.edges g.out (head_of n)
   by_do {i} {s} {d} {a} {n} {c'} move g live ends =
       let way = pass.statements s (shrink w i (Do s) d a n c' pace move ends) in
@@ -122,7 +122,7 @@ module _ {w : Setting} (pass : InstantsPass) (shrink : EndsShrink) (pace : Paces
 
   -- what is checked
   by_check : {i : ℕ} {s : Watch} {stood : Bool} {c : Tree} {d : Bool} {a : Deed} {n : StepLabel} {c' : Tree} →
-      Moves Anyway w i (Guard s Check stood c) d a n c' → (g : Place) → Live w i (Guard s Check stood c) g → may_end c' ≡ true →
+      Moves Anyway w i (Guard s Check stood c) d a n c' → (g : Place) → FitsGraph w i (Guard s Check stood c) g → may_end c' ≡ true →
       Onward g.edges g.out (head_of n)
   by_check {i} {s} {stood} {c} {d} {a} {n} {c'} move g live ends =
       elim (way_out pass (Guard s Check stood c) i g live (shrink w i (Guard s Check stood c) d a n c' pace move ends)) [
@@ -135,7 +135,7 @@ module _ {w : Setting} (pass : InstantsPass) (shrink : EndsShrink) (pace : Paces
       ]
 
   -- what stands before a block
-  seq_onward : (i : ℕ) (c : Tree) (s : Plain) (rest : Block) (g : Place) (n : Node) → FitsAll w i (Then s rest) g →
+  seq_onward : (i : ℕ) (c : Tree) (s : Plain) (rest : Block) (g : Place) (n : Node) → AreSubgraphs w i (Then s rest) g →
       (may_end c ≡ true → Onward g.edges (λ x. g.edges x (entry s)) n) → may_end (seq c (Then s rest)) ≡ true → Onward g.edges g.out n
   seq_onward i c s rest g n fits inner ends =
       let both : (may_end c && are_instant (Then s rest)) ≡ true = sym (seq_ends c (Then s rest)) ∙ ends in
@@ -151,7 +151,7 @@ module _ {w : Setting} (pass : InstantsPass) (shrink : EndsShrink) (pace : Paces
       ]
 
   mutual
-    pub onward : {i : ℕ} {c : Tree} {d : Bool} {a : Deed} {n : StepLabel} {c' : Tree} → Moves Anyway w i c d a n c' → (g : Place) → Live w i c g →
+    pub onward : {i : ℕ} {c : Tree} {d : Bool} {a : Deed} {n : StepLabel} {c' : Tree} → Moves Anyway w i c d a n c' → (g : Place) → FitsGraph w i c g →
         may_end c' ≡ true → Onward g.edges g.out (head_of n)
     onward acts g live ends = by_do acts g live ends
     onward takes g live ends = by_do takes g live ends
@@ -219,7 +219,7 @@ module _ {w : Setting} (pass : InstantsPass) (shrink : EndsShrink) (pace : Paces
 
     -- what acts in a branch leads to the join, where that may still be reached
     pub one_onward : {i : ℕ} {branches : Trees} {d : Bool} {a : Deed} {n : StepLabel} {branches' : Trees} → OneMoves Anyway w i branches d a n branches' →
-        (bodies : Bodies) (stood : Bool) (g : Place) (l : Label) (at : Source) (so : Bool) → Lives w i branches bodies stood g →
+        (bodies : Bodies) (stood : Bool) (g : Place) (l : Label) (at : Source) (so : Bool) → AllFitGraph w i branches bodies stood g →
         (stood ≡ false → so ≡ true) → (has_strong branches ≡ true → may_join true branches' ≡ true) →
         Onward (EdgeEach bodies l at so) (λ x. EdgeEach bodies l at so x (join_node stood l at)) (head_of n)
     one_onward (first move free) Last stood g l at so lives is ends = elim lives [ ]

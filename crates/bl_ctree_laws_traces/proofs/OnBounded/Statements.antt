@@ -35,10 +35,10 @@ use Rattle.bl_tree.specs.declared.tree.Stmt.{Stmt, fold-roll-Stmt}
 use Rattle.bl_tree.specs.declared.tree.StmtKind.{StmtKind, fold-StmtKind, fold-roll-StmtKind, map-StmtKind}
 use Rattle.bl_tree.specs.declared.tree.StmtKind.TheOpen.{StmtKind-F}
 use Rattle.bl_tree.specs.Reduce.{all_of, joined, total}
-use Rattle.bl_tree.specs.Typing.{Site, arm_fits, branch_fits, fits, is_activity, is_inhabited, is_truth, kind_fits, stmt_fits, type_of}
+use Rattle.bl_tree.specs.Typing.{TypingContext, arm_fits, branch_fits, fits, is_activity, is_inhabited, is_truth, kind_fits, stmt_fits, type_of}
 use Rattle.bl_tree.proofs.StmtInduction.{Cases, Each, EachArm, EachBranch, induct, stmt}
-use Rattle.bl_nodes.specs.Laws.{plain_arm, plain_branch}
-use Rattle.bl_nodes.specs.Nodes.{
+use Rattle.bl_graph_nodes.specs.Laws.{plain_arm, plain_branch}
+use Rattle.bl_graph_nodes.specs.Nodes.{
   CheckAt,
   DepthEndAt,
   DepthJoinAt,
@@ -52,7 +52,7 @@ use Rattle.bl_nodes.specs.Nodes.{
   nodes_of,
   where_so,
 }
-use Rattle.bl_nodes.specs.Plain.{
+use Rattle.bl_graph_nodes.specs.Plain.{
   Block,
   Bodies,
   Cobegin,
@@ -69,10 +69,10 @@ use Rattle.bl_nodes.specs.Plain.{
   plain_block,
   plain_body,
 }
-use Rattle.bl_nodes.proofs.Equations.{plain_statements}
+use Rattle.bl_graph_nodes.proofs.Equations.{plain_statements}
 use Rattle.bl_ctree.specs.declared.instance.Run.{Run}
 use Rattle.bl_ctree.specs.Instances.{arm_runs, branch_runs, kind_runs, runs_in, runs_in_arm, runs_in_branch, stmt_layer_runs}
-use Rattle.bl_ctree.specs.Measure.{arm_statements, branch_statements, kind_statements, statements_in, stmt_layer_statements}
+use Rattle.bl_ctree.specs.Measure.{arm_step_statements, branch_step_statements, kind_step_statements, layer_step_statements, step_statements_in}
 use Rattle.bl_ctree_laws.specs.Trees.{Call}
 use Rattle.bl_ctree_laws_confluence.proofs.OnDeeds.Activities.{and_left, and_right}
 use Rattle.bl_ctree_laws_traces.proofs.OnBounded.Calls.{calls_in, calls_in_each, calls_of, run_of}
@@ -101,23 +101,23 @@ so_long : (b : Bool) (n : Node) → length (where_so b n) ≤ 1
 so_long true n = omega arith
 so_long false n = omega arith
 
-module _ (site : Site) where
+module _ (site : TypingContext) where
   abbrev S : Stmt → Type 0
-  S s = fits site s ≡ true → (at : Position) → FewOf (plain s at) (runs_in s) (statements_in s)
+  S s = fits site s ≡ true → (at : Position) → FewOf (plain s at) (runs_in s) (step_statements_in s)
 
   block_few : (body : List Stmt) (k : ℕ) (block : Position) → Each S body → all_of (map (fits site) body) ≡ true →
-      FewIn (block_from (map plain body) k block) (joined (map runs_in body)) (total (map statements_in body))
+      FewIn (block_from (map plain body) k block) (joined (map runs_in body)) (total (map step_statements_in body))
   block_few [] k block each fitted = record { are = refl; few = omega arith }
   block_few (s ∷ rest) k block each fitted =
-      both_few (statements_in s) (total (map statements_in rest))
+      both_few (step_statements_in s) (total (map step_statements_in rest))
       (All-head S s rest each (and_left (fits site s) (all_of (map (fits site) rest)) fitted) (block ++ k ∷ []))
       (block_few rest (suc k) block (All-tail S s rest each) (and_right (fits site s) (all_of (map (fits site) rest)) fitted))
 
   abbrev statements_in_arm : Arm → ℕ
-  statements_in_arm = fold-Arm ℕ ℕ ℕ ℕ kind_statements arm_statements branch_statements stmt_layer_statements
+  statements_in_arm = fold-Arm ℕ ℕ ℕ ℕ kind_step_statements arm_step_statements branch_step_statements layer_step_statements
 
   abbrev statements_in_branch : Branch → ℕ
-  statements_in_branch = fold-Branch ℕ ℕ ℕ ℕ kind_statements arm_statements branch_statements stmt_layer_statements
+  statements_in_branch = fold-Branch ℕ ℕ ℕ ℕ kind_step_statements arm_step_statements branch_step_statements layer_step_statements
 
   abbrev arm_fitted : Arm → Bool
   arm_fitted = fold-Arm Bool Bool Bool Bool (kind_fits site) (arm_fits site) branch_fits stmt_fits
@@ -131,7 +131,7 @@ module _ (site : Site) where
       subst (λ runs. FewIn (block_from (map plain (out-Arm arm).body) k block) runs (statements_in_arm arm))
       (sym (fold_out-Arm (Place → List Run) (List Run) (List Run) (List Run) kind_runs arm_runs branch_runs stmt_layer_runs arm))
       (subst (λ n. FewIn (block_from (map plain (out-Arm arm).body) k block) (joined (map runs_in (out-Arm arm).body)) n)
-      (sym (fold_out-Arm ℕ ℕ ℕ ℕ kind_statements arm_statements branch_statements stmt_layer_statements arm))
+      (sym (fold_out-Arm ℕ ℕ ℕ ℕ kind_step_statements arm_step_statements branch_step_statements layer_step_statements arm))
       (block_few (out-Arm arm).body k block each (and_right (is_truth (type_of site (out-Arm arm).test)) (all_of (map (fits site) (out-Arm arm).body))
       (sym (fold_out-Arm Bool Bool Bool Bool (kind_fits site) (arm_fits site) branch_fits stmt_fits arm) ∙ fitted))))
 
@@ -141,7 +141,7 @@ module _ (site : Site) where
       subst (λ runs. FewIn (block_from (map plain (out-Branch branch).body) k block) runs (statements_in_branch branch))
       (sym (fold_out-Branch (Place → List Run) (List Run) (List Run) (List Run) kind_runs arm_runs branch_runs stmt_layer_runs branch))
       (subst (λ n. FewIn (block_from (map plain (out-Branch branch).body) k block) (joined (map runs_in (out-Branch branch).body)) n)
-      (sym (fold_out-Branch ℕ ℕ ℕ ℕ kind_statements arm_statements branch_statements stmt_layer_statements branch))
+      (sym (fold_out-Branch ℕ ℕ ℕ ℕ kind_step_statements arm_step_statements branch_step_statements layer_step_statements branch))
       (block_few (out-Branch branch).body k block each
       (sym (fold_out-Branch Bool Bool Bool Bool (kind_fits site) (arm_fits site) branch_fits stmt_fits branch) ∙ fitted)))
 
@@ -149,7 +149,7 @@ module _ (site : Site) where
   else_few : (at : Label) (arms : List Arm) (other : List Stmt) → EachArm S arms → Each S other → all_of (map arm_fitted arms) ≡ true →
       all_of (map (fits site) other) ≡ true →
       FewIn (else_at at (map plain_arm arms) (plain_block other)) (joined (map runs_in_arm arms) ++ joined (map runs_in other))
-      (length arms + total (map statements_in_arm arms) + total (map statements_in other))
+      (length arms + total (map statements_in_arm arms) + total (map step_statements_in other))
   else_few at [] other each others fitted last =
       let one = block_few other 0 (inside at at.passed) others last in
       let few = one.few in
@@ -159,7 +159,7 @@ module _ (site : Site) where
       (and_left (arm_fitted arm) (all_of (map arm_fitted rest)) fitted) in
       let more = else_few (passed_one at) rest other (All-tail (λ arm. Each S (out-Arm arm).body) arm rest each) others
       (and_right (arm_fitted arm) (all_of (map arm_fitted rest)) fitted) last in
-      let both = both_few (statements_in_arm arm) (length rest + total (map statements_in_arm rest) + total (map statements_in other)) one more in
+      let both = both_few (statements_in_arm arm) (length rest + total (map statements_in_arm rest) + total (map step_statements_in other)) one more in
       let calls : List Call = calls_in (plain_block (out-Arm arm).body (inside at at.passed))
       ++ calls_in (else_at (passed_one at) (map plain_arm rest) (plain_block other)) in
       let nodes : List Node = nodes_in (plain_block (out-Arm arm).body (inside at at.passed))
@@ -202,20 +202,20 @@ module _ (site : Site) where
 
   abbrev count_parts : StmtKind-F StmtKind Arm Branch Stmt → StmtKind-F ℕ ℕ ℕ ℕ
   count_parts = map-StmtKind StmtKind Arm Branch Stmt ℕ ℕ ℕ ℕ
-      (fold-StmtKind ℕ ℕ ℕ ℕ kind_statements arm_statements branch_statements stmt_layer_statements) statements_in_arm statements_in_branch
-      statements_in
+      (fold-StmtKind ℕ ℕ ℕ ℕ kind_step_statements arm_step_statements branch_step_statements layer_step_statements) statements_in_arm statements_in_branch
+      step_statements_in
 
-  count_at : (place : Place) (layer : StmtKind-F StmtKind Arm Branch Stmt) → statements_in (stmt place layer) ≡ kind_statements (count_parts layer)
+  count_at : (place : Place) (layer : StmtKind-F StmtKind Arm Branch Stmt) → step_statements_in (stmt place layer) ≡ kind_step_statements (count_parts layer)
   count_at place layer = rw (fold-roll-Stmt, fold-roll-StmtKind) refl
 
   by_parts : (place : Place) (layer : StmtKind-F StmtKind Arm Branch Stmt) (made : Position → Plain) →
       ((at : Position) → plain (stmt place layer) at ≡ made at) →
       (kind_fits site (fit_parts layer) ≡ true → (at : Position) →
-      FewOf (made at) (kind_runs (run_parts layer) place) (kind_statements (count_parts layer))) →
+      FewOf (made at) (kind_runs (run_parts layer) place) (kind_step_statements (count_parts layer))) →
       S (stmt place layer)
   by_parts place layer made is few fitted at =
-      subst (λ p. FewOf p (runs_in (stmt place layer)) (statements_in (stmt place layer))) (sym (is at))
-      (subst (λ runs. FewOf (made at) runs (statements_in (stmt place layer))) (sym (runs_at place layer))
+      subst (λ p. FewOf p (runs_in (stmt place layer)) (step_statements_in (stmt place layer))) (sym (is at))
+      (subst (λ runs. FewOf (made at) runs (step_statements_in (stmt place layer))) (sym (runs_at place layer))
       (subst (λ n. FewOf (made at) (kind_runs (run_parts layer) place) n) (sym (count_at place layer))
       (few (sym (fit_at place layer) ∙ fitted) at)))
 
@@ -231,7 +231,7 @@ module _ (site : Site) where
       (and_left (arm_fitted arm) (all_of (map arm_fitted rest)) choosing) in
       let more = else_few (passed_one (label_at at)) rest other (All-tail (λ arm. Each S (out-Arm arm).body) arm rest each) others
       (and_right (arm_fitted arm) (all_of (map arm_fitted rest)) choosing) (and_right choices last fitting) in
-      let both = both_few (statements_in_arm arm) (length rest + total (map statements_in_arm rest) + total (map statements_in other)) one more in
+      let both = both_few (statements_in_arm arm) (length rest + total (map statements_in_arm rest) + total (map step_statements_in other)) one more in
       let few = both.few in
       let long : length (map statements_in_arm rest) ≡ length rest = length-map rest statements_in_arm in
       record {
@@ -290,5 +290,5 @@ module _ (site : Site) where
   }
 
   pub body_few : (body : List Stmt) → all_of (map (fits site) body) ≡ true →
-      FewIn (plain_body body) (joined (map runs_in body)) (total (map statements_in body))
+      FewIn (plain_body body) (joined (map runs_in body)) (total (map step_statements_in body))
   body_few body fitted = block_few body 0 [] (λ k d within. induct S stmt_cases (get_or body k d)) fitted

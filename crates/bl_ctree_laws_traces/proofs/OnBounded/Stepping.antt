@@ -3,7 +3,7 @@ use Rattle.std.proofs.Common.{◌≡◌, ℕ, ◌<◌, ◌≤◌, Bool, true, fa
 use Rattle.bl_tree.specs.declared.place.Place.{Place as Source}
 use Rattle.bl_tree.specs.declared.tree.Expr.{Expr}
 use Rattle.bl_tree.specs.declared.tree.Unit.{Unit as UnitDef}
-use Rattle.bl_nodes.specs.Nodes.{
+use Rattle.bl_graph_nodes.specs.Nodes.{
   CheckAt,
   DepthEndAt,
   ForkAt,
@@ -17,7 +17,7 @@ use Rattle.bl_nodes.specs.Nodes.{
   is_instant,
   label_of,
 }
-use Rattle.bl_nodes.specs.Plain.{
+use Rattle.bl_graph_nodes.specs.Plain.{
   Again,
   Block,
   Bodies,
@@ -33,7 +33,7 @@ use Rattle.bl_nodes.specs.Plain.{
   is_empty,
   plain_body,
 }
-use Rattle.bl_nodes.specs.Steps.{Here, Inside, StepLabel, head_of, end_node, join_node, run_node}
+use Rattle.bl_graph_nodes.specs.Steps.{Here, Inside, StepLabel, head_of, end_node, join_node, run_node}
 use Rattle.bl_graph.specs.DataEdges.{BesideEach}
 use Rattle.bl_graph.specs.Edges.{BodyEnd, EdgeAll, EdgeEach, Guarded, In, InEach, Into, OutAll}
 use Rattle.bl_graph.specs.Laws.{BranchesPart, InstantsPass, WayThroughAll}
@@ -80,10 +80,10 @@ use Rattle.bl_ctree_laws.specs.Steps.{
   later,
   turn,
 }
-use Rattle.bl_ctree_laws.specs.Trees.{Call, Tree, Trees, Watch, Do, Par, Guard, Run, begun, do_block, is_nil}
+use Rattle.bl_ctree_laws.specs.Trees.{Call, Tree, Trees, Watch, Do, Par, Guard, Run, trees_begun, do_block, is_nil}
 use Rattle.bl_ctree_laws.proofs.Less.{do_ends}
-use Rattle.bl_ctree_laws_traces.specs.Progress.Live.{CheckLive, Live, Lives, check_of, watch_stmt}
-use Rattle.bl_ctree_laws_traces.specs.Progress.Places.{Fits, FitsAll, Place, ahead_of, guarded, in_branch, later_on, whole}
+use Rattle.bl_ctree_laws_traces.specs.Progress.FitsGraph.{AllFitGraph, CheckFitsGraph, FitsGraph, check_of, watch_stmt}
+use Rattle.bl_ctree_laws_traces.specs.Progress.Places.{AreSubgraphs, IsSubgraph, Place, ahead_of, guarded, in_branch, later_on, whole}
 use Rattle.bl_ctree_laws_traces.proofs.OnProgress.Acting.{done_may_join, one_region, region}
 use Rattle.bl_ctree_laws_traces.proofs.OnProgress.Beginning.{
   again_fits,
@@ -108,7 +108,7 @@ use Rattle.bl_ctree_laws_traces.proofs.OnBounded.Onward.{Onward, one_onward, one
 module _ {w : Setting} where
   mutual
     pub starts_ahead : {i : ℕ} {c : Tree} {d : Bool} {a : Deed} {n : StepLabel} {c' : Tree} → Moves Anyway w i c d a n c' → (g : Place) →
-        Live w i c g →
+        FitsGraph w i c g →
         Ahead w g.edges c n
     starts_ahead acts g live = stay _
     starts_ahead takes g live = stay _
@@ -140,7 +140,7 @@ module _ {w : Setting} where
         inl (live.0, n, live.2.is, refl, starts_ahead move (whole stood (plain_body live.0.body)) live.1)
 
     pub one_ahead : {i : ℕ} {branches : Trees} {d : Bool} {a : Deed} {n : StepLabel} {branches' : Trees} → OneMoves Anyway w i branches d a n branches' →
-        (bodies : Bodies) (stood : Bool) (g : Place) → Lives w i branches bodies stood g → AheadEach w bodies branches n
+        (bodies : Bodies) (stood : Bool) (g : Place) → AllFitGraph w i branches bodies stood g → AheadEach w bodies branches n
     one_ahead (first move free) Last stood g lives = elim lives [ ]
     one_ahead (first move free) (BodyOf weak body rest) stood g lives = inl (starts_ahead move (in_branch stood body g) lives.0)
     one_ahead (later move free) Last stood g lives = elim lives [ ]
@@ -277,14 +277,14 @@ pub record Less (w : Setting) (E : Node → Node → Type 0) (c : Tree) (n m : S
 
 module _ (pass : InstantsPass) (part : BranchesPart) (shrink : EndsShrink) (w : Setting) (pace : Paces w) (all : AllNumbered w) where
   -- a turn of a loop
-  turn_later : {number : Node → ℕ} {i : ℕ} (body : Block) (next : Plain) (g : Place) (n m : StepLabel) → FitsAll w i body (ahead_of (entry next) g) →
-      Fits w i next g → Rises number g.edges → ((k : Node) → Into body (λ k. k ≡ entry next) k → g.edges (head_of n) k) →
+  turn_later : {number : Node → ℕ} {i : ℕ} (body : Block) (next : Plain) (g : Place) (n m : StepLabel) → AreSubgraphs w i body (ahead_of (entry next) g) →
+      IsSubgraph w i next g → Rises number g.edges → ((k : Node) → Into body (λ k. k ≡ entry next) k → g.edges (head_of n) k) →
       Ahead w g.edges (do_block (turn body next)) m → Later g.edges n m
   turn_later body next g n m fits last up begins a =
       by_reached n m up (λ k h. begins k (turn_begins body next k h)) (do_ahead pass (turn body next) g m (fits_join body next g fits last) a)
 
   -- the body of a `when` that begins now, from the node
-  body_later : {number : Node → ℕ} {i : ℕ} (s : Watch) (g : Place) (stood : Bool) (n : Node) (m : StepLabel) → Fits w i (watch_stmt s) g →
+  body_later : {number : Node → ℕ} {i : ℕ} (s : Watch) (g : Place) (stood : Bool) (n : Node) (m : StepLabel) → IsSubgraph w i (watch_stmt s) g →
       Rises number g.edges → ((k : Node) → Into s.body (λ x. x ≡ end_node stood s.label s.place) k → g.edges n k) →
       ((k : Node) → OutAll s.body k → may_end (do_block s.body) ≡ true → g.edges k (end_node stood s.label s.place)) →
       (n ≡ SurfaceEndAt s.label s.place → ⊥) → (n ≡ DepthEndAt s.label s.place → ⊥) →
@@ -300,7 +300,7 @@ module _ (pass : InstantsPass) (part : BranchesPart) (shrink : EndsShrink) (w : 
 
   -- the body of a `when` that is checked, and its end
   let_later : {number : Node → ℕ} {i : ℕ} (s : Watch) (stood : Bool) (c : Tree) (g : Place) (n m : StepLabel) → head_of n ≡ check_of s →
-      Here (check_of s) ≡ n → Live w i c (later_on (guarded s g)) → CheckLive w i s stood (is_nil c) g → Rises number g.edges →
+      Here (check_of s) ≡ n → FitsGraph w i c (later_on (guarded s g)) → CheckFitsGraph w i s stood (is_nil c) g → Rises number g.edges →
       Ahead w g.edges (Guard s Body stood c) m → Later g.edges n m
   let_later {i = i} s stood c g n m at is live has up (inl a) =
       subst (λ x. Later g.edges x m) is (by_after (Here (check_of s)) m up (ahead_now pass w c i (later_on (guarded s g)) live after_closed m a))
@@ -313,7 +313,7 @@ module _ (pass : InstantsPass) (part : BranchesPart) (shrink : EndsShrink) (w : 
       })
 
   mutual
-    pub step_less : {i : ℕ} {c : Tree} {d : Bool} {a : Deed} {n : StepLabel} {c' : Tree} → Moves Anyway w i c d a n c' → (g : Place) → Live w i c g →
+    pub step_less : {i : ℕ} {c : Tree} {d : Bool} {a : Deed} {n : StepLabel} {c' : Tree} → Moves Anyway w i c d a n c' → (g : Place) → FitsGraph w i c g →
         (number : Node → ℕ) → Rises number g.edges → Parted g.links → (m : StepLabel) → Ahead w g.edges c' m → Less w g.edges c n m
     step_less acts g live number up parted m a = elim a [ ]
     step_less (takes {l = l} {at = at} {e = e} {body = body} {other = other}) g live number up parted m a =
@@ -348,12 +348,12 @@ module _ (pass : InstantsPass) (part : BranchesPart) (shrink : EndsShrink) (w : 
     step_less skips g live number up parted m a = elim a [ ]
     step_less {i = i} (forks {l = l} {at = at} {bodies = bodies}) g live number up parted m (inl a) =
         let after = surface_after bodies l at (is_instant (Cobegin l at bodies)) (head_of m)
-        (each_now pass w (begun bodies) i bodies false g (begun_live w i bodies g live.0.beside live.0.calls) m a) in
+        (each_now pass w (trees_begun bodies) i bodies false g (begun_live w i bodies g live.0.beside live.0.calls) m a) in
         let next = by_edge (Here (ForkAt l at)) m up (live.0.edges _ _ after.edge) (walk_more live.0.edges after.rest) in
         record { ahead = next.walk; differ = next.differ }
     step_less {i = i} (forks {l = l} {at = at} {bodies = bodies}) g live number up parted m (inr a) = record {
       ahead = subst (λ x. Walk g.edges (ForkAt l at) (head_of x)) (sym a.1) (walk_more live.0.edges (joins_at_once l at bodies
-          (shrink w i (Do (Cobegin l at bodies)) true _ _ (Par (fork l at bodies) false (begun bodies)) pace forks a.0)));
+          (shrink w i (Do (Cobegin l at bodies)) true _ _ (Par (fork l at bodies) false (trees_begun bodies)) pace forks a.0)));
       differ = λ is. let clash = sym a.1 ∙ is in cc;
     }
     step_less (guards {l = l} {at = at} {guard = guard} {e = e} {body = body}) g live number up parted m a =
@@ -440,7 +440,7 @@ module _ (pass : InstantsPass) (part : BranchesPart) (shrink : EndsShrink) (w : 
 
     -- a step in a branch
     pub one_less : {i : ℕ} {branches : Trees} {d : Bool} {a : Deed} {n : StepLabel} {branches' : Trees} → OneMoves Anyway w i branches d a n branches' →
-        (bodies : Bodies) (stood : Bool) (g : Place) → Lives w i branches bodies stood g → (l : Label) (at : Source) (so : Bool) (number : Node → ℕ) →
+        (bodies : Bodies) (stood : Bool) (g : Place) → AllFitGraph w i branches bodies stood g → (l : Label) (at : Source) (so : Bool) (number : Node → ℕ) →
         Rises number (EdgeEach bodies l at so) → Parted g.links → ((n m : Node) → BesideEach bodies n m → g.links n m) → (m : StepLabel) →
         AheadEach w bodies branches' m → AheadEach w bodies branches m × (m ≡ n → ⊥)
     one_less (first move free) Last stood g lives l at so number up parted links m a = elim lives [ ]

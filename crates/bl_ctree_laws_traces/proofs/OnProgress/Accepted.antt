@@ -35,11 +35,11 @@ use Rattle.bl_tree.specs.declared.tree.StructDef.{StructDef}
 use Rattle.bl_tree.specs.declared.tree.Unit.{Unit as UnitDef}
 use Rattle.bl_tree.specs.Apart.{is_apart}
 use Rattle.bl_tree.specs.Depths.{is_shallow}
-use Rattle.bl_tree.specs.Program.{Keeps, is_entry, names_of, parameters_of, roles_stand, unit_stands, units_stand_after}
+use Rattle.bl_tree.specs.Program.{IsWellTyped, is_entry, names_of, parameters_of, roles_stand, unit_stands, units_stand_after}
 use Rattle.bl_tree.specs.Reduce.{all_of, joined}
 use Rattle.bl_tree.specs.Returns.{unit_returns}
 use Rattle.bl_tree.specs.Types.{scalar_in, type_stands}
-use Rattle.bl_tree.specs.Typing.{Site, fits, is_activity, site_of}
+use Rattle.bl_tree.specs.Typing.{TypingContext, fits, is_activity, site_of}
 use Rattle.bl_tree.specs.Words.{are_distinct, is_name}
 use Rattle.bl_ctree.specs.declared.instance.Instance.{Instance}
 use Rattle.bl_ctree.specs.Instances.{Setting, begins_at, expanded, runs_in, runs_of, setting_of, unit_of}
@@ -117,11 +117,11 @@ taken (u ∷ units) zero k unit e = absurd cc
 taken (u ∷ units) (suc n) zero unit e = (e, omega arith)
 taken (u ∷ units) (suc n) (suc k) unit e = let more = taken units n k unit e in let less = more.1 in (more.0, omega arith)
 
-module _ (structs : List StructDef) (units : List UnitDef) (entry : ℕ) (keeps : Keeps structs units entry) where
+module _ (structs : List StructDef) (units : List UnitDef) (entry : ℕ) (keeps : IsWellTyped structs units entry) where
   abbrev W : Setting
   W = setting_of structs units entry
 
-  typed_at : (k : ℕ) (unit : UnitDef) → slice_get units k ≡ Some unit → (site : Site) × (site.earlier ≡ take k units)
+  typed_at : (k : ℕ) (unit : UnitDef) → slice_get units k ≡ Some unit → (site : TypingContext) × (site.earlier ≡ take k units)
       × (all_of (map (fits site) unit.body) ≡ true)
   typed_at k unit there = (
     site_of structs (take k units) unit,

@@ -1,7 +1,7 @@
 -- What could act in a tree that stands at a place: a node that may act there now, and where something is left to do some node.
 use Rattle.std.proofs.Common.{◌≡◌, ℕ, Bool, true, false, not, ◌&&◌, ◌||◌, ◌⊎◌, inl, inr, refl, sym, subst}
-use Rattle.bl_nodes.specs.Nodes.{entry}
-use Rattle.bl_nodes.specs.Plain.{
+use Rattle.bl_graph_nodes.specs.Nodes.{entry}
+use Rattle.bl_graph_nodes.specs.Plain.{
   Bodies,
   Plain,
   Act,
@@ -20,7 +20,7 @@ use Rattle.bl_nodes.specs.Plain.{
   While,
   plain_body,
 }
-use Rattle.bl_nodes.specs.Steps.{StepLabel, head_of}
+use Rattle.bl_graph_nodes.specs.Steps.{StepLabel, head_of}
 use Rattle.bl_graph.specs.Edges.{InEach}
 use Rattle.bl_ctree.specs.Control.{Check, Body}
 use Rattle.bl_ctree.specs.Instances.{Setting}
@@ -84,7 +84,7 @@ use Rattle.bl_ctree_laws.specs.Trees.{
   strong_ended,
 }
 use Rattle.bl_ctree_laws_traces.specs.Progress.Laws.{Could, NodesAreInPart, UnsettledCould}
-use Rattle.bl_ctree_laws_traces.specs.Progress.Live.{Live, Lives}
+use Rattle.bl_ctree_laws_traces.specs.Progress.FitsGraph.{AllFitGraph, FitsGraph}
 use Rattle.bl_ctree_laws_traces.specs.Progress.Places.{Callable, Place, ahead_of, guarded, in_branch, whole}
 
 -- ---- so many have ended that the `cobegin` may end
@@ -129,7 +129,7 @@ done_may_join branches e = by_kind (has_strong branches) refl e
 
 module _ {T : Bool → Type 0} {w : Setting} where
   mutual
-    pub region : {i : ℕ} {c : Tree} {d : Bool} {a : Deed} {n : StepLabel} {c' : Tree} → Moves T w i c d a n c' → (g : Place) → Live w i c g →
+    pub region : {i : ℕ} {c : Tree} {d : Bool} {a : Deed} {n : StepLabel} {c' : Tree} → Moves T w i c d a n c' → (g : Place) → FitsGraph w i c g →
         g.now (head_of n)
     region acts g live = live.1
     region takes g live = live.1
@@ -160,7 +160,7 @@ module _ {T : Bool → Type 0} {w : Setting} where
     region (in_run move) g live = live.2.now
 
     pub one_region : {i : ℕ} {branches : Trees} {d : Bool} {a : Deed} {n : StepLabel} {branches' : Trees} → OneMoves T w i branches d a n branches' →
-        (bodies : Bodies) (stood : Bool) (g : Place) → Lives w i branches bodies stood g → InEach stood bodies (head_of n)
+        (bodies : Bodies) (stood : Bool) (g : Place) → AllFitGraph w i branches bodies stood g → InEach stood bodies (head_of n)
     one_region (first move free) Last stood g lives = elim lives [ ]
     one_region (first move free) (BodyOf weak body rest) stood g lives = inl (region move (in_branch stood body g) lives.0)
     one_region (later move free) Last stood g lives = elim lives [ ]
@@ -259,7 +259,7 @@ one_of w i weak c rest one others e = by_test (is_settled c) refl e
 
 module _ {w : Setting} where
   mutual
-    pub point : (c : Tree) (i : ℕ) (g : Place) → Live w i c g → is_settled c ≡ false → Could w i c
+    pub point : (c : Tree) (i : ℕ) (g : Place) → FitsGraph w i c g → is_settled c ≡ false → Could w i c
     point Nil i g live e = absurd cc
     point (Wait s) i g live e = absurd cc
     point (Test s) i g live e = this_could goes_on
@@ -274,7 +274,7 @@ module _ {w : Setting} where
     point (Run s callee Body stood c) i g live e =
         in_call w i s callee stood c (point c callee (whole stood (plain_body live.0.body)) live.1) e
 
-    pub points : (branches : Trees) (i : ℕ) (bodies : Bodies) (stood : Bool) (g : Place) → Lives w i branches bodies stood g →
+    pub points : (branches : Trees) (i : ℕ) (bodies : Bodies) (stood : Bool) (g : Place) → AllFitGraph w i branches bodies stood g →
         are_settled branches ≡ false → OneCould w i branches
     points no_tree i bodies stood g lives e = absurd cc
     points (beside weak c rest) i Last stood g lives e = elim lives [ ]

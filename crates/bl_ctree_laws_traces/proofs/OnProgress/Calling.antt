@@ -9,8 +9,8 @@ use Rattle.bl_tree.specs.declared.tree.StmtKind.{StmtKind, fold-StmtKind, fold-r
 use Rattle.bl_tree.specs.declared.tree.StmtKind.TheOpen.{StmtKind-F}
 use Rattle.bl_tree.specs.Reduce.{joined}
 use Rattle.bl_tree.proofs.StmtInduction.{Cases, Each, EachArm, EachBranch, induct, stmt}
-use Rattle.bl_nodes.specs.Laws.{plain_arm, plain_branch}
-use Rattle.bl_nodes.specs.Plain.{
+use Rattle.bl_graph_nodes.specs.Laws.{plain_arm, plain_branch}
+use Rattle.bl_graph_nodes.specs.Plain.{
   Label,
   Position,
   block_from,
@@ -23,7 +23,7 @@ use Rattle.bl_nodes.specs.Plain.{
   plain_block,
   plain_body,
 }
-use Rattle.bl_nodes.proofs.Equations.{plain_statements}
+use Rattle.bl_graph_nodes.proofs.Equations.{plain_statements}
 use Rattle.bl_ctree.specs.declared.instance.Run.{Run}
 use Rattle.bl_ctree.specs.Instances.{
   Setting,

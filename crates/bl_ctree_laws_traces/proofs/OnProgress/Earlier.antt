@@ -12,7 +12,7 @@ use Rattle.bl_tree.specs.declared.tree.StmtKind.{StmtKind, fold-StmtKind, fold-r
 use Rattle.bl_tree.specs.declared.tree.StmtKind.TheOpen.{StmtKind-F}
 use Rattle.bl_tree.specs.declared.tree.Unit.{Unit as UnitDef}
 use Rattle.bl_tree.specs.Reduce.{all_of, joined}
-use Rattle.bl_tree.specs.Typing.{Site, arm_fits, branch_fits, fits, is_activity, is_inhabited, is_truth, kind_fits, run_fits, stmt_fits, type_of}
+use Rattle.bl_tree.specs.Typing.{TypingContext, arm_fits, branch_fits, fits, is_activity, is_inhabited, is_truth, kind_fits, run_fits, stmt_fits, type_of}
 use Rattle.bl_tree.proofs.StmtInduction.{Cases, Each, EachArm, EachBranch, induct, stmt}
 use Rattle.bl_ctree.specs.declared.instance.Run.{Run}
 use Rattle.bl_ctree.specs.Instances.{arm_runs, branch_runs, kind_runs, runs_in, runs_in_arm, runs_in_branch, stmt_layer_runs}
@@ -24,7 +24,7 @@ pub record RunsUnit (units : List UnitDef) (run : Run) : Type 0 where
   pub callee : UnitDef
   pub there : slice_get units run.unit ≡ Some callee
 
-module _ (site : Site) where
+module _ (site : TypingContext) where
   abbrev pub R : Run → Type 0
   R = RunsUnit site.earlier
 

@@ -4,8 +4,8 @@ use Rattle.bl_tree.specs.declared.place.Place.{Place as Source}
 use Rattle.bl_tree.specs.declared.tree.Expr.{Expr}
 use Rattle.bl_tree.specs.declared.tree.Guard.{Guard as GuardKind}
 use Rattle.bl_tree.specs.declared.tree.Guard.TheVariants.{Abort, Reset}
-use Rattle.bl_nodes.specs.Nodes.{DepthEndAt, ForkAt, HeadAt, Node, StartAt, SurfaceEndAt, TestAt, are_instant, entry, is_instant}
-use Rattle.bl_nodes.specs.Plain.{
+use Rattle.bl_graph_nodes.specs.Nodes.{DepthEndAt, ForkAt, HeadAt, Node, StartAt, SurfaceEndAt, TestAt, are_instant, entry, is_instant}
+use Rattle.bl_graph_nodes.specs.Plain.{
   Act,
   Again,
   Block,
@@ -24,7 +24,7 @@ use Rattle.bl_nodes.specs.Plain.{
   is_empty,
   plain_body,
 }
-use Rattle.bl_nodes.specs.Steps.{StepLabel, end_node, join_node, run_node}
+use Rattle.bl_graph_nodes.specs.Steps.{StepLabel, end_node, join_node, run_node}
 use Rattle.bl_graph.specs.Edges.{BodyEnd, EdgeAll, Entry, Guarded, In, Into, OutAll}
 use Rattle.bl_graph.specs.Laws.{InstantsPass, WayThroughAll}
 use Rattle.bl_graph.specs.Walks.{After, Walk, on, stay}
@@ -70,10 +70,10 @@ use Rattle.bl_ctree_laws.specs.Steps.{
   turn,
   watch,
 }
-use Rattle.bl_ctree_laws.specs.Trees.{Tree, Trees, Watch, Nil, Wait, Test, Idle, Do, Seq, Par, Guard, Run, begun, beside, do_block, is_nil, no_tree, seq}
-use Rattle.bl_ctree_laws_traces.specs.Progress.Laws.{StepsKeepLive}
-use Rattle.bl_ctree_laws_traces.specs.Progress.Live.{CheckLive, Live, Lives, check_of, test_of}
-use Rattle.bl_ctree_laws_traces.specs.Progress.Places.{AllCallable, Fits, FitsAll, Place, ahead_of, guarded, in_branch, later_on, whole}
+use Rattle.bl_ctree_laws.specs.Trees.{Tree, Trees, Watch, Nil, Wait, Test, Idle, Do, Seq, Par, Guard, Run, trees_begun, beside, do_block, is_nil, no_tree, seq}
+use Rattle.bl_ctree_laws_traces.specs.Progress.Laws.{StepsKeepFitsGraph}
+use Rattle.bl_ctree_laws_traces.specs.Progress.FitsGraph.{AllFitGraph, CheckFitsGraph, FitsGraph, check_of, test_of}
+use Rattle.bl_ctree_laws_traces.specs.Progress.Places.{AllCallable, AreSubgraphs, IsSubgraph, Place, ahead_of, guarded, in_branch, later_on, whole}
 use Rattle.bl_ctree_laws_traces.proofs.OnProgress.Acting.{done_may_join, region}
 use Rattle.bl_ctree_laws_traces.proofs.OnProgress.Beginning.{
   Closed,
@@ -107,8 +107,8 @@ with_now g now' = record { links = g.links; edges = g.edges; out = g.out; now = 
 
 module _ (w : Setting) where
   mutual
-    pub more_now : (c : Tree) (i : ℕ) (g : Place) (now' : Node → Type 0) → ((n : Node) → g.now n → now' n) → Live w i c g →
-        Live w i c (with_now g now')
+    pub more_now : (c : Tree) (i : ℕ) (g : Place) (now' : Node → Type 0) → ((n : Node) → g.now n → now' n) → FitsGraph w i c g →
+        FitsGraph w i c (with_now g now')
     more_now Nil i g now' more live = tt
     more_now (Wait s) i g now' more live = live
     more_now (Test s) i g now' more live = (live.0, live.1, more (test_of s) live.2)
@@ -207,8 +207,8 @@ module _ (w : Setting) where
       },
     )
 
-    same_lives : (branches : Trees) (i : ℕ) (bodies : Bodies) (stood : Bool) (g : Place) (now' : Node → Type 0) → Lives w i branches bodies stood g →
-        Lives w i branches bodies stood (with_now g now')
+    same_lives : (branches : Trees) (i : ℕ) (bodies : Bodies) (stood : Bool) (g : Place) (now' : Node → Type 0) → AllFitGraph w i branches bodies stood g →
+        AllFitGraph w i branches bodies stood (with_now g now')
     same_lives no_tree i Last stood g now' lives = tt
     same_lives no_tree i (BodyOf weak body rest) stood g now' lives = elim lives [ ]
     same_lives (beside weak c rest) i Last stood g now' lives = elim lives [ ]
@@ -225,7 +225,7 @@ pub record Exit (g : Place) : Type 0 where
 
 -- a tree at its place; one that has ended was left by a node that leads out
 pub record Kept (w : Setting) (i : ℕ) (c : Tree) (g : Place) : Type 0 where
-  pub lives : Live w i c g
+  pub lives : FitsGraph w i c g
   pub exits : is_nil c ≡ true → Exit g
 
 -- ended
@@ -233,7 +233,7 @@ left_by : {w : Setting} {i : ℕ} (g : Place) (n : Node) → g.now n → g.out n
 left_by g n now out = record { lives = tt; exits = λ e. record { node = n; now = now; out = out } }
 
 -- an arm
-arm_kept : {w : Setting} {i : ℕ} (body : Block) (g : Place) (n : Node) → FitsAll w i body g → g.now n → Closed g.edges g.now →
+arm_kept : {w : Setting} {i : ℕ} (body : Block) (g : Place) (n : Node) → AreSubgraphs w i body g → g.now n → Closed g.edges g.now →
     ((m : Node) → Entry body m → g.edges n m) → (is_empty body ≡ true → g.out n) → Kept w i (do_block body) g
 arm_kept body g n fits now closed edges out = record {
   lives = do_lives body g fits (λ m h. closed n m now (edges m h));
@@ -241,7 +241,7 @@ arm_kept body g n fits now closed edges out = record {
 }
 
 -- a turn
-turn_kept : {w : Setting} {i : ℕ} (body : Block) (next : Plain) (g : Place) (n : Node) → FitsAll w i body (ahead_of (entry next) g) → Fits w i next g →
+turn_kept : {w : Setting} {i : ℕ} (body : Block) (next : Plain) (g : Place) (n : Node) → AreSubgraphs w i body (ahead_of (entry next) g) → IsSubgraph w i next g →
     g.now n → Closed g.edges g.now → ((m : Node) → Into body (λ k. k ≡ entry next) m → g.edges n m) → Kept w i (do_block (turn body next)) g
 turn_kept body next g n fits last now closed edges = record {
   lives = do_lives (turn body next) g (fits_join body next g fits last) (λ m h. closed n m now (edges m (turn_begins body next m h)));
@@ -268,7 +268,7 @@ start_ends s E inside begins ends instant (inr way) =
     (one_on (walk_more inside way.is_reached.walk) (ends _ _ way.leads_on (inl (instant, refl))))
 
 -- what may end of a body leads to the end of its `when`
-body_ends : (w : Setting) (i : ℕ) (pass : InstantsPass) (s : Watch) (c : Tree) (g : Place) → Live w i c (guarded s g) → Closed g.edges g.now →
+body_ends : (w : Setting) (i : ℕ) (pass : InstantsPass) (s : Watch) (c : Tree) (g : Place) → FitsGraph w i c (guarded s g) → Closed g.edges g.now →
     may_end c ≡ true → (is_nil c ≡ true → g.now (DepthEndAt s.label s.place)) → g.now (DepthEndAt s.label s.place)
 body_ends w i pass s c g live closed ends ended = elim (way_out pass c i (guarded s g) live ends) [
   | inl nil ↦ ended nil
@@ -276,13 +276,13 @@ body_ends w i pass s c g live closed ends ended = elim (way_out pass c i (guarde
 ]
 
 -- a reset begins the body anew
-anew_kept : {w : Setting} {i : ℕ} (pass : InstantsPass) (s : Watch) (stood : Bool) (c : Tree) (g : Place) → CheckLive w i s stood (is_nil c) g →
+anew_kept : {w : Setting} {i : ℕ} (pass : InstantsPass) (s : Watch) (stood : Bool) (c : Tree) (g : Place) → CheckFitsGraph w i s stood (is_nil c) g →
     Closed g.edges g.now → s.guard ≡ Reset → Kept w i (Guard s Body stood (do_block s.body)) g
 anew_kept {w = w} {i = i} pass s stood c g has closed is =
     let into : (m : Node) → Into s.body (BodyEnd s.label s.place s.body) m → g.now m =
     λ m h. closed (check_of s) m has.checks (has.fits.edges _ _
     (inr (inr (inr (inl (refl, subst (λ k. Guarded k s.label s.place s.body m) (sym is) h)))))) in
-    let live : Live w i (do_block s.body) (guarded s g) = do_lives s.body (guarded s g) (watch_fits s g has.fits) (λ m h. into m (inl h)) in
+    let live : FitsGraph w i (do_block s.body) (guarded s g) = do_lives s.body (guarded s g) (watch_fits s g has.fits) (λ m h. into m (inl h)) in
     record {
       lives = (
         live,
@@ -299,8 +299,8 @@ anew_kept {w = w} {i = i} pass s stood c g has closed is =
     }
 
 -- a check that is false lets the body go on
-lets_kept : {w : Setting} {i : ℕ} (pass : InstantsPass) (s : Watch) (stood : Bool) (c : Tree) (g : Place) → Live w i c (later_on (guarded s g)) →
-    CheckLive w i s stood (is_nil c) g → Closed g.edges g.now → Kept w i (Guard s Body stood c) g
+lets_kept : {w : Setting} {i : ℕ} (pass : InstantsPass) (s : Watch) (stood : Bool) (c : Tree) (g : Place) → FitsGraph w i c (later_on (guarded s g)) →
+    CheckFitsGraph w i s stood (is_nil c) g → Closed g.edges g.now → Kept w i (Guard s Body stood c) g
 lets_kept {w = w} {i = i} pass s stood c g live has closed = record {
   lives = (
     more_now w c i (later_on (guarded s g)) g.now (λ n after. walks_stay closed has.checks (on (check_of s) after.by n after.edge after.rest)) live,
@@ -316,7 +316,7 @@ lets_kept {w = w} {i = i} pass s stood c g live has closed = record {
   exits = λ e. absurd (cc (e));
 }
 
-aborts_kept : {w : Setting} {i : ℕ} (s : Watch) (stood nil : Bool) (g : Place) → CheckLive w i s stood nil g → Closed g.edges g.now →
+aborts_kept : {w : Setting} {i : ℕ} (s : Watch) (stood nil : Bool) (g : Place) → CheckFitsGraph w i s stood nil g → Closed g.edges g.now →
     s.guard ≡ Abort →
     Kept w i Nil g
 aborts_kept s stood nil g has closed is = left_by g (DepthEndAt s.label s.place)
@@ -326,7 +326,7 @@ aborts_kept s stood nil g has closed is = left_by g (DepthEndAt s.label s.place)
 
 module _ {w : Setting} (pass : InstantsPass) (shrink : EndsShrink) (pace : Paces w) (all : AllCallable w) where
   -- a `when` begins
-  guards_kept : {i : ℕ} (l : Label) (at : Source) (guard : GuardKind) (e : Expr) (body : Block) (g : Place) → Fits w i (When l at guard e body) g →
+  guards_kept : {i : ℕ} (l : Label) (at : Source) (guard : GuardKind) (e : Expr) (body : Block) (g : Place) → IsSubgraph w i (When l at guard e body) g →
       g.now (StartAt l at) → Closed g.edges g.now → Kept w i (Guard (watch l at guard e body) Body false (do_block body)) g
   guards_kept {i = i} l at guard e body g fits now closed = record {
     lives = (
@@ -348,8 +348,8 @@ module _ {w : Setting} (pass : InstantsPass) (shrink : EndsShrink) (pace : Paces
   }
 
   -- the branches of a `cobegin` begin
-  forks_kept : {i : ℕ} (l : Label) (at : Source) (bodies : Bodies) (g : Place) → Fits w i (Cobegin l at bodies) g → g.now (ForkAt l at) →
-      Closed g.edges g.now → Closed g.edges g.deep → Kept w i (Par (fork l at bodies) false (begun bodies)) g
+  forks_kept : {i : ℕ} (l : Label) (at : Source) (bodies : Bodies) (g : Place) → IsSubgraph w i (Cobegin l at bodies) g → g.now (ForkAt l at) →
+      Closed g.edges g.now → Closed g.edges g.deep → Kept w i (Par (fork l at bodies) false (trees_begun bodies)) g
   forks_kept {i = i} l at bodies g fits now closed deep = record {
     lives = (
       begun_live w i bodies g fits.beside fits.calls,
@@ -363,7 +363,7 @@ module _ {w : Setting} (pass : InstantsPass) (shrink : EndsShrink) (pace : Paces
         };
         joins = λ ends.
             let instant : is_instant (Cobegin l at bodies) ≡ true =
-            shrink w i (Do (Cobegin l at bodies)) true _ _ (Par (fork l at bodies) false (begun bodies)) pace forks ends in
+            shrink w i (Do (Cobegin l at bodies)) true _ _ (Par (fork l at bodies) false (trees_begun bodies)) pace forks ends in
             ((λ h. instant), walks_stay closed now (walk_more fits.edges (joins_at_once l at bodies instant)));
       },
     );
@@ -371,7 +371,7 @@ module _ {w : Setting} (pass : InstantsPass) (shrink : EndsShrink) (pace : Paces
   }
 
   -- what stands before a block has ended, so the block begins
-  seq_kept : {i : ℕ} (c' : Tree) (s : Plain) (rest : Block) (g : Place) → FitsAll w i (Then s rest) g → Closed g.edges g.now →
+  seq_kept : {i : ℕ} (c' : Tree) (s : Plain) (rest : Block) (g : Place) → AreSubgraphs w i (Then s rest) g → Closed g.edges g.now →
       Kept w i c' (ahead_of (entry s) g) → Kept w i (seq c' (Then s rest)) g
   seq_kept c' s rest g fits closed kept = record {
     lives = seq_lives c' s rest g kept.lives fits (λ nil. let exit = kept.exits nil in closed exit.node (entry s) exit.now exit.out);
@@ -379,7 +379,7 @@ module _ {w : Setting} (pass : InstantsPass) (shrink : EndsShrink) (pace : Paces
   }
 
   mutual
-    pub kept : {i : ℕ} {c : Tree} {d : Bool} {a : Deed} {n : StepLabel} {c' : Tree} → Moves Anyway w i c d a n c' → (g : Place) → Live w i c g →
+    pub kept : {i : ℕ} {c : Tree} {d : Bool} {a : Deed} {n : StepLabel} {c' : Tree} → Moves Anyway w i c d a n c' → (g : Place) → FitsGraph w i c g →
         Closed g.edges g.now → Closed g.edges g.deep → Kept w i c' g
     kept (acts {l = l} {s = s}) g live closed deep = left_by g (entry (Act l s)) live.1 (live.0.outs _ refl)
     kept (takes {l = l} {at = at} {e = e} {body = body} {other = other}) g live closed deep =
@@ -475,7 +475,7 @@ module _ {w : Setting} (pass : InstantsPass) (shrink : EndsShrink) (pace : Paces
     }
 
     ones_kept : {i : ℕ} {branches : Trees} {d : Bool} {a : Deed} {n : StepLabel} {branches' : Trees} → OneMoves Anyway w i branches d a n branches' →
-        (bodies : Bodies) (stood : Bool) (g : Place) → Lives w i branches bodies stood g → Lives w i branches' bodies stood g
+        (bodies : Bodies) (stood : Bool) (g : Place) → AllFitGraph w i branches bodies stood g → AllFitGraph w i branches' bodies stood g
     ones_kept (first move free) Last stood g lives = elim lives [ ]
     ones_kept (first move free) (BodyOf weak body rest) stood g lives = (
       (kept move (in_branch stood body g) lives.0 (part_closed stood body) (part_closed true body)).lives,
@@ -485,6 +485,6 @@ module _ {w : Setting} (pass : InstantsPass) (shrink : EndsShrink) (pace : Paces
     ones_kept (later move free) Last stood g lives = elim lives [ ]
     ones_kept (later move free) (BodyOf weak body rest) stood g lives = (lives.0, lives.1, ones_kept move rest stood g lives.2)
 
-pub steps_keep_live : InstantsPass → EndsShrink → StepsKeepLive
-steps_keep_live pass shrink w i stood body c d a n c' pace all live move =
+pub steps_keep_fits_graph : InstantsPass → EndsShrink → StepsKeepFitsGraph
+steps_keep_fits_graph pass shrink w i stood body c d a n c' pace all live move =
     (kept pass shrink pace all move (whole stood body) live (part_closed stood body) (part_closed true body)).lives

@@ -3,9 +3,9 @@ use Rattle.std.proofs.Common.{◌≡◌, ℕ, Bool, true, false, ◌&&◌, ◌||
 use Rattle.bl_tree.specs.declared.place.Place.{Place as Source}
 use Rattle.bl_tree.specs.declared.tree.Guard.{Guard as GuardKind}
 use Rattle.bl_tree.specs.declared.tree.Guard.TheVariants.{Abort, Reset}
-use Rattle.bl_nodes.specs.Nodes.{DepthEndAt, Node, are_instant, entry, is_instant}
-use Rattle.bl_nodes.specs.Plain.{Block, Bodies, Label, Plain, Body as BodyOf, Cobegin, Done, Last, Then, is_empty, plain_body}
-use Rattle.bl_nodes.specs.Steps.{head_of, end_node, join_node, run_node}
+use Rattle.bl_graph_nodes.specs.Nodes.{DepthEndAt, Node, are_instant, entry, is_instant}
+use Rattle.bl_graph_nodes.specs.Plain.{Block, Bodies, Label, Plain, Body as BodyOf, Cobegin, Done, Last, Then, is_empty, plain_body}
+use Rattle.bl_graph_nodes.specs.Steps.{head_of, end_node, join_node, run_node}
 use Rattle.bl_graph.specs.Edges.{BodyEnd, EdgeAll, EdgeEach, Guarded, In, Out, OutAll}
 use Rattle.bl_graph.specs.Laws.{InstantsPass, WayThroughAll}
 use Rattle.bl_graph.specs.Walks.{After, Reached, Walk, on, stay}
@@ -40,9 +40,9 @@ use Rattle.bl_ctree_laws.specs.Trees.{
   some_ended,
   strong_ended,
 }
-use Rattle.bl_ctree_laws_traces.specs.Progress.Laws.{Could, EndsAreReached, Leads}
-use Rattle.bl_ctree_laws_traces.specs.Progress.Live.{Ends, Live, Lives, WatchLive, CheckLive, call_stmt, check_of, test_of}
-use Rattle.bl_ctree_laws_traces.specs.Progress.Places.{BothEnds, Fits, FitsAll, Place, ahead_of, guarded, in_branch, later_on, whole}
+use Rattle.bl_ctree_laws_traces.specs.Progress.Laws.{Could, EndsAreReached, StepLeadsTo}
+use Rattle.bl_ctree_laws_traces.specs.Progress.FitsGraph.{MayReachEnd, FitsGraph, AllFitGraph, WatchFitsGraph, CheckFitsGraph, call_stmt, check_of, test_of}
+use Rattle.bl_ctree_laws_traces.specs.Progress.Places.{AreSubgraphs, BothEnds, IsSubgraph, Place, ahead_of, guarded, in_branch, later_on, whole}
 use Rattle.bl_ctree_laws_traces.proofs.OnProgress.Acting.{OneCould, begins, point, region, this_could, this_one_could}
 
 -- ---- truth
@@ -130,7 +130,7 @@ later_leads weak c more so leads = record {
 
 -- a branch leads to the join from what leads out of it
 first_joins : (w : Setting) (i : ℕ) (weak : Bool) (c : Tree) (branches : Trees) (body : Block) (rest : Bodies) (l : Label) (at : Source)
-    (so stood : Bool) (g : Place) → Live w i c (in_branch stood body g) → (stood ≡ false → so ≡ true) → Leads w i c (EdgeAll body) (OutAll body) →
+    (so stood : Bool) (g : Place) → FitsGraph w i c (in_branch stood body g) → (stood ≡ false → so ≡ true) → StepLeadsTo w i c (EdgeAll body) (OutAll body) →
     OneLeads w i (beside weak c branches) (EdgeEach (BodyOf weak body rest) l at so) (λ n. n ≡ join_node stood l at)
 first_joins w i weak c branches body rest l at so stood g live is leads = record {
   could = this_one_could (first leads.could.moves tt);
@@ -143,7 +143,7 @@ first_joins w i weak c branches body rest l at so stood g live is leads = record
 
 -- what could act in a weak one does
 weak_joins : (w : Setting) (i : ℕ) (c : Tree) (branches : Trees) (body : Block) (rest : Bodies) (l : Label) (at : Source)
-    (so stood : Bool) (g : Place) → Live w i c (in_branch stood body g) → (stood ≡ false → so ≡ true) → Could w i c →
+    (so stood : Bool) (g : Place) → FitsGraph w i c (in_branch stood body g) → (stood ≡ false → so ≡ true) → Could w i c →
     OneLeads w i (beside true c branches) (EdgeEach (BodyOf true body rest) l at so) (λ n. n ≡ join_node stood l at)
 weak_joins w i c branches body rest l at so stood g live is could = record {
   could = this_one_could (first could.moves tt);
@@ -163,7 +163,7 @@ rest_open false rest is e = absurd cc
 
 -- where all strong branches have ended, one that is not settled is weak
 unsettled_joins : (w : Setting) (i : ℕ) (branches : Trees) (bodies : Bodies) (l : Label) (at : Source) (so stood : Bool) (g : Place) →
-    Lives w i branches bodies stood g → (stood ≡ false → so ≡ true) → strong_ended branches ≡ true → are_settled branches ≡ false →
+    AllFitGraph w i branches bodies stood g → (stood ≡ false → so ≡ true) → strong_ended branches ≡ true → are_settled branches ≡ false →
     OneLeads w i branches (EdgeEach bodies l at so) (λ n. n ≡ join_node stood l at)
 unsettled_joins w i no_tree bodies l at so stood g lives is ended e = absurd cc
 unsettled_joins w i (beside weak c rest) Last l at so stood g lives is ended e = elim lives [ ]
@@ -199,12 +199,12 @@ abbrev pub Ended : Bool → Trees → Type 0
 Ended strong branches = cond strong (strong_ended branches) (some_ended branches) ≡ true
 
 -- a `cobegin` that is done is due, or something weak in it could act
-done_leads : (w : Setting) (i : ℕ) (s : Fork) (stood : Bool) (branches : Trees) (g : Place) → Lives w i branches s.bodies stood g →
-    Ends stood (is_instant (Cobegin s.label s.place s.bodies)) (join_node stood s.label s.place) g → Fits w i (Cobegin s.label s.place s.bodies) g →
-    are_done branches ≡ true → Leads w i (Par s stood branches) g.edges g.out
+done_leads : (w : Setting) (i : ℕ) (s : Fork) (stood : Bool) (branches : Trees) (g : Place) → AllFitGraph w i branches s.bodies stood g →
+    MayReachEnd stood (is_instant (Cobegin s.label s.place s.bodies)) (join_node stood s.label s.place) g → IsSubgraph w i (Cobegin s.label s.place s.bodies) g →
+    are_done branches ≡ true → StepLeadsTo w i (Par s stood branches) g.edges g.out
 done_leads w i s stood branches g lives ends fits done = by_test (are_settled branches) refl
   where
-    by_test : (b : Bool) → are_settled branches ≡ b → Leads w i (Par s stood branches) g.edges g.out
+    by_test : (b : Bool) → are_settled branches ≡ b → StepLeadsTo w i (Par s stood branches) g.edges g.out
     by_test true still = record {
       could = this_could (joins still done);
       end = join_node stood s.label s.place;
@@ -221,12 +221,12 @@ done_leads w i s stood branches g lives ends fits done = by_test (are_settled br
           leads = subst g.out (sym one.leads) (fits.outs _ (join_out s.label s.place s.bodies stood ends.0));
         }
 
-fork_leads : (w : Setting) (i : ℕ) (s : Fork) (stood : Bool) (branches : Trees) (g : Place) → Lives w i branches s.bodies stood g →
-    Ends stood (is_instant (Cobegin s.label s.place s.bodies)) (join_node stood s.label s.place) g → Fits w i (Cobegin s.label s.place s.bodies) g →
+fork_leads : (w : Setting) (i : ℕ) (s : Fork) (stood : Bool) (branches : Trees) (g : Place) → AllFitGraph w i branches s.bodies stood g →
+    MayReachEnd stood (is_instant (Cobegin s.label s.place s.bodies)) (join_node stood s.label s.place) g → IsSubgraph w i (Cobegin s.label s.place s.bodies) g →
     Ended (has_strong branches) branches
     ⊎ OneLeads w i branches (EdgeEach s.bodies s.label s.place (is_instant (Cobegin s.label s.place s.bodies)))
     (λ n. n ≡ join_node stood s.label s.place) →
-    Leads w i (Par s stood branches) g.edges g.out
+    StepLeadsTo w i (Par s stood branches) g.edges g.out
 fork_leads w i s stood branches g lives ends fits (inl done) = done_leads w i s stood branches g lives ends fits done
 fork_leads w i s stood branches g lives ends fits (inr one) = record {
   could = this_could (in_par one.could.moves);
@@ -236,9 +236,9 @@ fork_leads w i s stood branches g lives ends fits (inr one) = record {
 }
 
 -- from what leads out of the first statement through the block after it
-seq_leads : (w : Setting) (i : ℕ) (c : Tree) (s : Plain) (rest : Block) (g : Place) → is_nil c ≡ false → FitsAll w i (Then s rest) g →
-    (is_nil c ≡ true) ⊎ Leads w i c g.edges (λ n. g.edges n (entry s)) → (is_empty (Then s rest) ≡ true) ⊎ WayThroughAll (Then s rest) →
-    Leads w i (Seq c (Then s rest)) g.edges g.out
+seq_leads : (w : Setting) (i : ℕ) (c : Tree) (s : Plain) (rest : Block) (g : Place) → is_nil c ≡ false → AreSubgraphs w i (Then s rest) g →
+    (is_nil c ≡ true) ⊎ StepLeadsTo w i c g.edges (λ n. g.edges n (entry s)) → (is_empty (Then s rest) ≡ true) ⊎ WayThroughAll (Then s rest) →
+    StepLeadsTo w i (Seq c (Then s rest)) g.edges g.out
 seq_leads w i c s rest g unended fits (inl nil) way = absurd cc
 seq_leads w i c s rest g unended fits (inr leads) (inl empty) = absurd cc
 seq_leads w i c s rest g unended fits (inr leads) (inr way) = record {
@@ -250,10 +250,10 @@ seq_leads w i c s rest g unended fits (inr leads) (inr way) = record {
 }
 
 -- from what leads out of the body to the end of the `when`
-watch_leads : (w : Setting) (i : ℕ) (s : Watch) (stood : Bool) (c : Tree) (g : Place) → WatchLive w i s stood (may_end c) g → may_end c ≡ true →
-    (is_nil c ≡ true) ⊎ Leads w i c g.edges (BothEnds s g.edges) → Leads w i (Guard s Body stood c) g.edges g.out
+watch_leads : (w : Setting) (i : ℕ) (s : Watch) (stood : Bool) (c : Tree) (g : Place) → WatchFitsGraph w i s stood (may_end c) g → may_end c ≡ true →
+    (is_nil c ≡ true) ⊎ StepLeadsTo w i c g.edges (BothEnds s g.edges) → StepLeadsTo w i (Guard s Body stood c) g.edges g.out
 watch_leads w i s stood c g has ends (inl nil) =
-    subst (λ x. Leads w i (Guard s Body stood x) g.edges g.out) (sym (is_the_nil c nil)) (record {
+    subst (λ x. StepLeadsTo w i (Guard s Body stood x) g.edges g.out) (sym (is_the_nil c nil)) (record {
       could = this_could guard_ends;
       end = end_node stood s.label s.place;
       walk = stay (end_node stood s.label s.place);
@@ -267,8 +267,8 @@ watch_leads w i s stood c g has ends (inr leads) = record {
 }
 
 -- the check of an abort leads to its end, that of a reset to the body and through it
-check_leads : (w : Setting) (i : ℕ) (s : Watch) (stood : Bool) (c : Tree) (g : Place) → CheckLive w i s stood (is_nil c) g →
-    Walk g.edges (check_of s) (DepthEndAt s.label s.place) → Leads w i (Guard s Check stood c) g.edges g.out
+check_leads : (w : Setting) (i : ℕ) (s : Watch) (stood : Bool) (c : Tree) (g : Place) → CheckFitsGraph w i s stood (is_nil c) g →
+    Walk g.edges (check_of s) (DepthEndAt s.label s.place) → StepLeadsTo w i (Guard s Check stood c) g.edges g.out
 check_leads w i s stood c g has walk = record {
   could = this_could lets;
   end = DepthEndAt s.label s.place;
@@ -276,14 +276,14 @@ check_leads w i s stood c g has walk = record {
   leads = has.fits.outs _ (inr refl);
 }
 
-abort_walk : (w : Setting) (i : ℕ) (s : Watch) (stood nil : Bool) (g : Place) → CheckLive w i s stood nil g → s.guard ≡ Abort →
+abort_walk : (w : Setting) (i : ℕ) (s : Watch) (stood nil : Bool) (g : Place) → CheckFitsGraph w i s stood nil g → s.guard ≡ Abort →
     Walk g.edges (check_of s) (DepthEndAt s.label s.place)
 abort_walk w i s stood nil g has is =
     one_on (stay (check_of s)) (has.fits.edges _ _
     (inr (inr (inr (inl (refl, subst (λ k. Guarded k s.label s.place s.body (DepthEndAt s.label s.place)) (sym is) refl))))))
 
 -- from the check of a reset to its end, where its body may end at once
-reset_walk : (w : Setting) (i : ℕ) (s : Watch) (stood nil : Bool) (g : Place) → CheckLive w i s stood nil g → s.guard ≡ Reset →
+reset_walk : (w : Setting) (i : ℕ) (s : Watch) (stood nil : Bool) (g : Place) → CheckFitsGraph w i s stood nil g → s.guard ≡ Reset →
     (is_empty s.body ≡ true) ⊎ WayThroughAll s.body → Walk g.edges (check_of s) (DepthEndAt s.label s.place)
 reset_walk w i s stood nil g has is (inl empty) =
     one_on (stay (check_of s)) (has.fits.edges _ _
@@ -295,16 +295,16 @@ reset_walk w i s stood nil g has is (inr way) =
     (has.fits.edges _ _ (inr (inr (inr (inr (way.leads_on, inr refl)))))))
 
 -- from the check to what of the body could act, and on to the end
-pub body_walk : (w : Setting) (i : ℕ) (s : Watch) (c : Tree) (g : Place) → Live w i c (later_on (guarded s g)) → is_nil c ≡ false →
-    (is_nil c ≡ true) ⊎ Leads w i c g.edges (BothEnds s g.edges) → Walk g.edges (check_of s) (DepthEndAt s.label s.place)
+pub body_walk : (w : Setting) (i : ℕ) (s : Watch) (c : Tree) (g : Place) → FitsGraph w i c (later_on (guarded s g)) → is_nil c ≡ false →
+    (is_nil c ≡ true) ⊎ StepLeadsTo w i c g.edges (BothEnds s g.edges) → Walk g.edges (check_of s) (DepthEndAt s.label s.place)
 body_walk w i s c g live unended (inl nil) = absurd cc
 body_walk w i s c g live unended (inr leads) =
     one_on (walk_on (after_walk (region leads.could.moves (later_on (guarded s g)) live)) leads.walk) leads.leads.1
 
 -- a `when` that is still to be checked may end: by its kind
-guard_walk : (w : Setting) (i : ℕ) (s : Watch) (stood : Bool) (c : Tree) (g : Place) → CheckLive w i s stood (is_nil c) g →
-    Live w i c (later_on (guarded s g)) → guard_may_end Check s (may_end c) ≡ true →
-    (may_end c ≡ true → (is_nil c ≡ true) ⊎ Leads w i c g.edges (BothEnds s g.edges)) →
+guard_walk : (w : Setting) (i : ℕ) (s : Watch) (stood : Bool) (c : Tree) (g : Place) → CheckFitsGraph w i s stood (is_nil c) g →
+    FitsGraph w i c (later_on (guarded s g)) → guard_may_end Check s (may_end c) ≡ true →
+    (may_end c ≡ true → (is_nil c ≡ true) ⊎ StepLeadsTo w i c g.edges (BothEnds s g.edges)) →
     (are_instant s.body ≡ true → (is_empty s.body ≡ true) ⊎ WayThroughAll s.body) → Walk g.edges (check_of s) (DepthEndAt s.label s.place)
 guard_walk w i s stood c g has live e more through = by_kind s.guard refl e
   where
@@ -317,16 +317,16 @@ guard_walk w i s stood c g has live e more through = by_kind s.guard refl e
     ]
 
 -- a `run` that may end has stood, and its node leads out
-pub run_out : (w : Setting) (i : ℕ) (s : Call) (stood : Bool) (g : Place) → Fits w i (call_stmt s) g → stood ≡ true →
+pub run_out : (w : Setting) (i : ℕ) (s : Call) (stood : Bool) (g : Place) → IsSubgraph w i (call_stmt s) g → stood ≡ true →
     g.out (run_node stood s.label s.place s.arguments)
 run_out w i s true g fits is = fits.outs _ refl
 run_out w i s false g fits is = absurd cc
 
-call_leads : (w : Setting) (i : ℕ) (s : Call) (callee : ℕ) (stood : Bool) (c : Tree) (g : Place) → Fits w i (call_stmt s) g → stood ≡ true →
-    {E : Node → Node → Type 0} {F : Node → Type 0} → (is_nil c ≡ true) ⊎ Leads w callee c E F →
-    Leads w i (Run s callee Body stood c) g.edges g.out
+call_leads : (w : Setting) (i : ℕ) (s : Call) (callee : ℕ) (stood : Bool) (c : Tree) (g : Place) → IsSubgraph w i (call_stmt s) g → stood ≡ true →
+    {E : Node → Node → Type 0} {F : Node → Type 0} → (is_nil c ≡ true) ⊎ StepLeadsTo w callee c E F →
+    StepLeadsTo w i (Run s callee Body stood c) g.edges g.out
 call_leads w i s callee stood c g fits is (inl nil) =
-    subst (λ x. Leads w i (Run s callee Body stood x) g.edges g.out) (sym (is_the_nil c nil)) (record {
+    subst (λ x. StepLeadsTo w i (Run s callee Body stood x) g.edges g.out) (sym (is_the_nil c nil)) (record {
       could = this_could run_ends;
       end = run_node stood s.label s.place s.arguments;
       walk = stay (run_node stood s.label s.place s.arguments);
@@ -341,8 +341,8 @@ call_leads w i s callee stood c g fits is (inr leads) = record {
 
 -- all strong branches may end: they have ended, or one leads to the join
 strong_leads : (w : Setting) (i : ℕ) (weak : Bool) (c : Tree) (branches : Trees) (body : Block) (rest : Bodies) (l : Label) (at : Source)
-    (so stood : Bool) (g : Place) → Live w i c (in_branch stood body g) → (stood ≡ false → so ≡ true) →
-    (may_end c ≡ true → (is_nil c ≡ true) ⊎ Leads w i c (EdgeAll body) (OutAll body)) →
+    (so stood : Bool) (g : Place) → FitsGraph w i c (in_branch stood body g) → (stood ≡ false → so ≡ true) →
+    (may_end c ≡ true → (is_nil c ≡ true) ⊎ StepLeadsTo w i c (EdgeAll body) (OutAll body)) →
     (may_join true branches ≡ true → Ended true branches ⊎ OneLeads w i branches (EdgeEach rest l at so) (λ n. n ≡ join_node stood l at)) →
     ((weak || may_end c) && may_join true branches) ≡ true →
     Ended true (beside weak c branches)
@@ -363,8 +363,8 @@ strong_leads w i false c branches body rest l at so stood g live is one more e =
 
 -- some branch may end: it has ended, or leads to the join
 some_leads : (w : Setting) (i : ℕ) (weak : Bool) (c : Tree) (branches : Trees) (body : Block) (rest : Bodies) (l : Label) (at : Source)
-    (so stood : Bool) (g : Place) → Live w i c (in_branch stood body g) → (stood ≡ false → so ≡ true) →
-    (may_end c ≡ true → (is_nil c ≡ true) ⊎ Leads w i c (EdgeAll body) (OutAll body)) →
+    (so stood : Bool) (g : Place) → FitsGraph w i c (in_branch stood body g) → (stood ≡ false → so ≡ true) →
+    (may_end c ≡ true → (is_nil c ≡ true) ⊎ StepLeadsTo w i c (EdgeAll body) (OutAll body)) →
     (may_join false branches ≡ true → Ended false branches ⊎ OneLeads w i branches (EdgeEach rest l at so) (λ n. n ≡ join_node stood l at)) →
     (may_end c || may_join false branches) ≡ true →
     Ended false (beside weak c branches)
@@ -382,7 +382,7 @@ some_leads w i weak c branches body rest l at so stood g live is one more e = el
 
 module _ {w : Setting} (pass : InstantsPass) where
   mutual
-    pub way_out : (c : Tree) (i : ℕ) (g : Place) → Live w i c g → may_end c ≡ true → (is_nil c ≡ true) ⊎ Leads w i c g.edges g.out
+    pub way_out : (c : Tree) (i : ℕ) (g : Place) → FitsGraph w i c g → may_end c ≡ true → (is_nil c ≡ true) ⊎ StepLeadsTo w i c g.edges g.out
     way_out Nil i g live e = inl refl
     way_out (Wait s) i g live e = absurd cc
     way_out (Test s) i g live e = inr (record { could = this_could goes_on; end = test_of s; walk = stay (test_of s); leads = live.0 })
@@ -419,7 +419,7 @@ module _ {w : Setting} (pass : InstantsPass) where
     })
 
     pub ways_out : (branches : Trees) (i : ℕ) (bodies : Bodies) (strong : Bool) (l : Label) (at : Source) (so stood : Bool) (g : Place) →
-        Lives w i branches bodies stood g → (stood ≡ false → so ≡ true) → may_join strong branches ≡ true →
+        AllFitGraph w i branches bodies stood g → (stood ≡ false → so ≡ true) → may_join strong branches ≡ true →
         Ended strong branches ⊎ OneLeads w i branches (EdgeEach bodies l at so) (λ n. n ≡ join_node stood l at)
     ways_out no_tree i bodies true l at so stood g lives is e = inl refl
     ways_out no_tree i bodies false l at so stood g lives is e = absurd cc

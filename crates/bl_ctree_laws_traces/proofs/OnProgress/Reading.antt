@@ -29,9 +29,9 @@ use Rattle.bl_tree.specs.declared.tree.Expr.{Expr}
 use Rattle.bl_tree.specs.Effects.{argument_mentions, reads, target_mentions}
 use Rattle.bl_tree.specs.Reduce.{joined}
 use Rattle.bl_tree.specs.Static.{mentions, overlaps, path_mentions, set_of}
-use Rattle.bl_nodes.specs.Nodes.{Arguments, Node, node_reads, node_writes}
-use Rattle.bl_nodes.specs.Plain.{Label}
-use Rattle.bl_nodes.specs.Steps.{StepLabel, leaf_of, run_node}
+use Rattle.bl_graph_nodes.specs.Nodes.{Arguments, Node, node_reads, node_writes}
+use Rattle.bl_graph_nodes.specs.Plain.{Label}
+use Rattle.bl_graph_nodes.specs.Steps.{StepLabel, leaf_of, run_node}
 use Rattle.bl_effects.proofs.SetLemmas.{overlaps_symm, set_members}
 use Rattle.bl_ctree.specs.Instances.{Setting, setting_of}
 use Rattle.bl_ctree.specs.Store.{Location, home, homes}
@@ -71,7 +71,7 @@ use Rattle.bl_ctree_laws.specs.Steps.{
 }
 use Rattle.bl_ctree_laws.specs.Trees.{Tree, Trees}
 use Rattle.bl_ctree_laws_confluence.specs.Deeds.Homes.{HomesAreApart}
-use Rattle.bl_ctree_laws_traces.specs.Progress.Reading.{DeedsReadAtNodes, DeedsStandAtNodes, IsRead, StandsIn, WritersTouch}
+use Rattle.bl_ctree_laws_traces.specs.Progress.Reading.{DeedIsInInstance, DeedsReadAtNodes, DeedsStandAtNodes, IsRead, WritersTouch}
 
 -- ---- members
 
@@ -153,7 +153,7 @@ module _ {w : Setting} where
     one_reads_at (later move free) at h = one_reads_at move at h
 
   mutual
-    stands_in : {i : ℕ} {c : Tree} {d : Bool} {a : Deed} {n : StepLabel} {c' : Tree} → Moves Anyway w i c d a n c' → StandsIn i a n
+    stands_in : {i : ℕ} {c : Tree} {d : Bool} {a : Deed} {n : StepLabel} {c' : Tree} → Moves Anyway w i c d a n c' → DeedIsInInstance i a n
     stands_in acts = refl
     stands_in takes = refl
     stands_in passes = refl
@@ -182,7 +182,7 @@ module _ {w : Setting} where
     stands_in (in_run move) = tt
 
     one_stands_in : {i : ℕ} {branches : Trees} {d : Bool} {a : Deed} {n : StepLabel} {branches' : Trees} → OneMoves Anyway w i branches d a n branches' →
-        StandsIn i a n
+        DeedIsInInstance i a n
     one_stands_in (first move free) = stands_in move
     one_stands_in (later move free) = one_stands_in move
 

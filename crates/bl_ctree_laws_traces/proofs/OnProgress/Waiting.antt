@@ -2,9 +2,9 @@
 use Rattle.std.proofs.Common.{◌≡◌, ℕ, Bool, true, false, ◌||◌, List, [], ◌∷◌, ◌⊎◌, inl, inr, refl, ap, ◌∙◌}
 use Rattle.std.specs.List.{list_any}
 use Rattle.bl_tree.specs.declared.place.Place.{Place as Source}
-use Rattle.bl_nodes.specs.Nodes.{Node, entry, is_instant, node_writes, place_of_node}
-use Rattle.bl_nodes.specs.Plain.{Block, Bodies, Cobegin, Label, Body as BodyOf, Done, Last, Then, plain_body}
-use Rattle.bl_nodes.specs.Steps.{Gives, Here, Inside, StepLabel, head_of, run_node}
+use Rattle.bl_graph_nodes.specs.Nodes.{Node, entry, is_instant, node_writes, place_of_node}
+use Rattle.bl_graph_nodes.specs.Plain.{Block, Bodies, Cobegin, Label, Body as BodyOf, Done, Last, Then, plain_body}
+use Rattle.bl_graph_nodes.specs.Steps.{Gives, Here, Inside, StepLabel, head_of, run_node}
 use Rattle.bl_graph.specs.DataEdges.{BesideEach}
 use Rattle.bl_graph.specs.Edges.{EdgeAll, EdgeEach, In, InEach}
 use Rattle.bl_graph.specs.Laws.{InstantsPass, WritersAreReached}
@@ -49,7 +49,7 @@ use Rattle.bl_ctree_laws.specs.Steps.{
 }
 use Rattle.bl_ctree_laws.specs.Trees.{Call, Tree, Trees, beside}
 use Rattle.bl_ctree_laws_traces.specs.Progress.Blocked.{ActsOrWaits, Blocked, WaitsFor, Writer}
-use Rattle.bl_ctree_laws_traces.specs.Progress.Live.{Live, Lives}
+use Rattle.bl_ctree_laws_traces.specs.Progress.FitsGraph.{AllFitGraph, FitsGraph}
 use Rattle.bl_ctree_laws_traces.specs.Progress.Places.{Place, ahead_of, guarded, in_branch, whole}
 use Rattle.bl_ctree_laws_traces.proofs.OnProgress.Acting.{OneCould, one_region, region, this_could, this_one_could}
 use Rattle.bl_ctree_laws_traces.proofs.OnProgress.Leading.{in_on, rest_edges}
@@ -117,8 +117,8 @@ later_beside true weak body rest n m h k = inr (inr (inl (inr (h, k))))
 module _ {w : Setting} (pass : InstantsPass) (reach : WritersAreReached) (surfaces : SoonIsSurface) where
   -- the first branch waits for a writer in the others
   first_waits : {i : ℕ} {weak : Bool} {c : Tree} {others : Trees} {d : Bool} {a : Deed} {n : StepLabel} {c' : Tree} (weak' : Bool) (body : Block)
-      (rest : Bodies) (l : Label) (at : Source) (so stood : Bool) (g : Place) → Moves Anyway w i c d a n c' → Live w i c (in_branch stood body g) →
-      Lives w i others rest stood g → ((n m : Node) → BesideEach (BodyOf weak' body rest) n m → g.links n m) → any_meets w i others a ≡ true →
+      (rest : Bodies) (l : Label) (at : Source) (so stood : Bool) (g : Place) → Moves Anyway w i c d a n c' → FitsGraph w i c (in_branch stood body g) →
+      AllFitGraph w i others rest stood g → ((n m : Node) → BesideEach (BodyOf weak' body rest) n m → g.links n m) → any_meets w i others a ≡ true →
       OneBlocked w i (beside weak c others) a n (EdgeEach (BodyOf weak' body rest) l at so) g.links
   first_waits {i = i} {weak = weak} {c = c} {others = others} {a = a} {n = n} weak' body rest l at so stood g move live lives links met =
       let over = found (any_writes w i others) (deed_reads w a) met in
@@ -136,7 +136,7 @@ module _ {w : Setting} (pass : InstantsPass) (reach : WritersAreReached) (surfac
   -- the others wait for a writer in the first
   later_waits : {i : ℕ} {weak : Bool} {c : Tree} {others : Trees} {d : Bool} {a : Deed} {n : StepLabel} {others' : Trees} (weak' : Bool) (body : Block)
       (rest : Bodies) (l : Label) (at : Source) (so stood : Bool) (g : Place) → OneMoves Anyway w i others d a n others' →
-      Live w i c (in_branch stood body g) → Lives w i others rest stood g → ((n m : Node) → BesideEach (BodyOf weak' body rest) n m → g.links n m) →
+      FitsGraph w i c (in_branch stood body g) → AllFitGraph w i others rest stood g → ((n m : Node) → BesideEach (BodyOf weak' body rest) n m → g.links n m) →
       meets w i c a ≡ true → OneBlocked w i (beside weak c others) a n (EdgeEach (BodyOf weak' body rest) l at so) g.links
   later_waits {i = i} {weak = weak} {c = c} {others = others} {a = a} {n = n} weak' body rest l at so stood g move live lives links met =
       let over = found (may_write w i c) (deed_reads w a) met in
@@ -154,8 +154,8 @@ module _ {w : Setting} (pass : InstantsPass) (reach : WritersAreReached) (surfac
 
   -- by whether the others may still write what is read
   first_free : {i : ℕ} {weak : Bool} {c : Tree} {others : Trees} {d : Bool} {a : Deed} {n : StepLabel} {c' : Tree} (weak' : Bool) (body : Block)
-      (rest : Bodies) (l : Label) (at : Source) (so stood : Bool) (g : Place) → Moves Anyway w i c d a n c' → Live w i c (in_branch stood body g) →
-      Lives w i others rest stood g → ((n m : Node) → BesideEach (BodyOf weak' body rest) n m → g.links n m) →
+      (rest : Bodies) (l : Label) (at : Source) (so stood : Bool) (g : Place) → Moves Anyway w i c d a n c' → FitsGraph w i c (in_branch stood body g) →
+      AllFitGraph w i others rest stood g → ((n m : Node) → BesideEach (BodyOf weak' body rest) n m → g.links n m) →
       Moves Unmet w i c d a n c' ⊎ Blocked w i c a n (EdgeAll body) g.links → (b : Bool) → any_meets w i others a ≡ b →
       OneMoves Unmet w i (beside weak c others) d a n (beside weak c' others)
       ⊎ OneBlocked w i (beside weak c others) a n (EdgeEach (BodyOf weak' body rest) l at so) g.links
@@ -169,7 +169,7 @@ module _ {w : Setting} (pass : InstantsPass) (reach : WritersAreReached) (surfac
 
   later_free : {i : ℕ} {weak : Bool} {c : Tree} {others : Trees} {d : Bool} {a : Deed} {n : StepLabel} {others' : Trees} (weak' : Bool) (body : Block)
       (rest : Bodies) (l : Label) (at : Source) (so stood : Bool) (g : Place) → OneMoves Anyway w i others d a n others' →
-      Live w i c (in_branch stood body g) → Lives w i others rest stood g → ((n m : Node) → BesideEach (BodyOf weak' body rest) n m → g.links n m) →
+      FitsGraph w i c (in_branch stood body g) → AllFitGraph w i others rest stood g → ((n m : Node) → BesideEach (BodyOf weak' body rest) n m → g.links n m) →
       OneMoves Unmet w i others d a n others' ⊎ OneBlocked w i others a n (EdgeEach rest l at so) g.links → (b : Bool) → meets w i c a ≡ b →
       OneMoves Unmet w i (beside weak c others) d a n (beside weak c others')
       ⊎ OneBlocked w i (beside weak c others) a n (EdgeEach (BodyOf weak' body rest) l at so) g.links
@@ -183,7 +183,7 @@ module _ {w : Setting} (pass : InstantsPass) (reach : WritersAreReached) (surfac
   })
 
   mutual
-    pub free : {i : ℕ} {c : Tree} {d : Bool} {a : Deed} {n : StepLabel} {c' : Tree} → Moves Anyway w i c d a n c' → (g : Place) → Live w i c g →
+    pub free : {i : ℕ} {c : Tree} {d : Bool} {a : Deed} {n : StepLabel} {c' : Tree} → Moves Anyway w i c d a n c' → (g : Place) → FitsGraph w i c g →
         Moves Unmet w i c d a n c' ⊎ Blocked w i c a n g.edges g.links
     free acts g live = inl acts
     free takes g live = inl takes
@@ -233,7 +233,7 @@ module _ {w : Setting} (pass : InstantsPass) (reach : WritersAreReached) (surfac
     ]
 
     one_free : {i : ℕ} {branches : Trees} {d : Bool} {a : Deed} {n : StepLabel} {branches' : Trees} → OneMoves Anyway w i branches d a n branches' →
-        (bodies : Bodies) (l : Label) (at : Source) (so stood : Bool) (g : Place) → Lives w i branches bodies stood g →
+        (bodies : Bodies) (l : Label) (at : Source) (so stood : Bool) (g : Place) → AllFitGraph w i branches bodies stood g →
         ((n m : Node) → BesideEach bodies n m → g.links n m) →
         OneMoves Unmet w i branches d a n branches' ⊎ OneBlocked w i branches a n (EdgeEach bodies l at so) g.links
     one_free (first move met) Last l at so stood g lives links = elim lives [ ]

@@ -1,7 +1,7 @@
 -- Waking keeps a settled tree at its place, in the next tick.
 use Rattle.std.proofs.Common.{◌≡◌, ℕ, Bool, true, false, not, ◌&&◌, ◌||◌, cond, ◌⊎◌, inl, inr, refl, ap, ◌∙◌, subst}
-use Rattle.bl_nodes.specs.Nodes.{DepthJoinAt, entry, is_instant}
-use Rattle.bl_nodes.specs.Plain.{Bodies, Body as BodyOf, Cobegin, Done, Last, Then, plain_body}
+use Rattle.bl_graph_nodes.specs.Nodes.{DepthJoinAt, entry, is_instant}
+use Rattle.bl_graph_nodes.specs.Plain.{Bodies, Body as BodyOf, Cobegin, Done, Last, Then, plain_body}
 use Rattle.bl_graph.specs.Edges.{EdgeEach}
 use Rattle.bl_graph.specs.Laws.{InstantsPass}
 use Rattle.bl_graph.proofs.Walking.{walk_more}
@@ -32,8 +32,8 @@ use Rattle.bl_ctree_laws.specs.Trees.{
   strong_ended,
   woken,
 }
-use Rattle.bl_ctree_laws_traces.specs.Progress.Laws.{WakingKeepsLive}
-use Rattle.bl_ctree_laws_traces.specs.Progress.Live.{ForkLive, Live, Lives}
+use Rattle.bl_ctree_laws_traces.specs.Progress.Laws.{WakingKeepsFitsGraph}
+use Rattle.bl_ctree_laws_traces.specs.Progress.FitsGraph.{AllFitGraph, FitsGraph, ForkFitsGraph}
 use Rattle.bl_ctree_laws_traces.specs.Progress.Places.{Place, ahead_of, guarded, in_branch, later_on, whole}
 use Rattle.bl_ctree_laws_traces.proofs.OnProgress.Acting.{one_region}
 use Rattle.bl_ctree_laws_traces.proofs.OnProgress.Beginning.{Closed, walks_stay}
@@ -47,7 +47,7 @@ not_true true e = absurd cc
 not_true false e = refl
 
 module _ (w : Setting) where
-  woken_nil : (c : Tree) (i : ℕ) (g : Place) → Live w i c g → is_nil (woken c) ≡ is_nil c
+  woken_nil : (c : Tree) (i : ℕ) (g : Place) → FitsGraph w i c g → is_nil (woken c) ≡ is_nil c
   woken_nil Nil i g live = refl
   woken_nil (Wait s) i g live = refl
   woken_nil (Test s) i g live = refl
@@ -62,7 +62,7 @@ module _ (w : Setting) where
   woken_strong no_tree = refl
   woken_strong (beside weak c rest) = ap (λ b. not weak || b) (woken_strong rest)
 
-  woken_strong_ended : (branches : Trees) (i : ℕ) (bodies : Bodies) (stood : Bool) (g : Place) → Lives w i branches bodies stood g →
+  woken_strong_ended : (branches : Trees) (i : ℕ) (bodies : Bodies) (stood : Bool) (g : Place) → AllFitGraph w i branches bodies stood g →
       strong_ended (all_woken branches) ≡ strong_ended branches
   woken_strong_ended no_tree i bodies stood g lives = refl
   woken_strong_ended (beside weak c rest) i Last stood g lives = elim lives [ ]
@@ -70,7 +70,7 @@ module _ (w : Setting) where
       ap (λ b. (weak || b) && strong_ended (all_woken rest)) (woken_nil c i (in_branch stood body g) lives.0)
       ∙ ap (λ b. (weak || is_nil c) && b) (woken_strong_ended rest i bodies stood g lives.2)
 
-  woken_some_ended : (branches : Trees) (i : ℕ) (bodies : Bodies) (stood : Bool) (g : Place) → Lives w i branches bodies stood g →
+  woken_some_ended : (branches : Trees) (i : ℕ) (bodies : Bodies) (stood : Bool) (g : Place) → AllFitGraph w i branches bodies stood g →
       some_ended (all_woken branches) ≡ some_ended branches
   woken_some_ended no_tree i bodies stood g lives = refl
   woken_some_ended (beside weak c rest) i Last stood g lives = elim lives [ ]
@@ -78,7 +78,7 @@ module _ (w : Setting) where
       ap (λ b. b || some_ended (all_woken rest)) (woken_nil c i (in_branch stood body g) lives.0)
       ∙ ap (λ b. is_nil c || b) (woken_some_ended rest i bodies stood g lives.2)
 
-  woken_done : (branches : Trees) (i : ℕ) (bodies : Bodies) (stood : Bool) (g : Place) → Lives w i branches bodies stood g →
+  woken_done : (branches : Trees) (i : ℕ) (bodies : Bodies) (stood : Bool) (g : Place) → AllFitGraph w i branches bodies stood g →
       are_done (all_woken branches) ≡ are_done branches
   woken_done branches i bodies stood g lives =
       ap (λ b. cond b (strong_ended (all_woken branches)) (some_ended (all_woken branches))) (woken_strong branches)
@@ -86,8 +86,8 @@ module _ (w : Setting) where
       ∙ ap (λ b. cond (has_strong branches) (strong_ended branches) b) (woken_some_ended branches i bodies stood g lives)
 
   -- the depth join of a `cobegin` that may end in the next tick is one of its depth
-  depth_join : (i : ℕ) (s : Fork) (stood ends : Bool) (branches : Trees) (g : Place) → ForkLive w i s stood ends g → Closed g.edges g.deep →
-      Lives w i branches s.bodies true (later_on g) → are_done branches ≡ false →
+  depth_join : (i : ℕ) (s : Fork) (stood ends : Bool) (branches : Trees) (g : Place) → ForkFitsGraph w i s stood ends g → Closed g.edges g.deep →
+      AllFitGraph w i branches s.bodies true (later_on g) → are_done branches ≡ false →
       Ended (has_strong branches) branches ⊎ OneLeads w i branches (EdgeEach s.bodies s.label s.place (is_instant (Cobegin s.label s.place s.bodies)))
       (λ n. n ≡ DepthJoinAt s.label s.place) → g.deep (DepthJoinAt s.label s.place)
   depth_join i s stood ends branches g has closed lives unended (inl done) = absurd (cc (done, unended))
@@ -97,7 +97,7 @@ module _ (w : Setting) where
 
   module _ (pass : InstantsPass) where
     mutual
-      pub wakes : (c : Tree) (i : ℕ) (g : Place) → is_settled c ≡ true → Live w i c g → Closed g.edges g.deep → Live w i (woken c) (later_on g)
+      pub wakes : (c : Tree) (i : ℕ) (g : Place) → is_settled c ≡ true → FitsGraph w i c g → Closed g.edges g.deep → FitsGraph w i (woken c) (later_on g)
       wakes Nil i g settled live closed = tt
       wakes (Wait s) i g settled live closed = (live.0, live.1, live.1)
       wakes (Test s) i g settled live closed = absurd cc
@@ -119,7 +119,7 @@ module _ (w : Setting) where
       )
       wakes (Par s stood branches) i g settled live closed =
           let both = both_are (are_settled branches) (not (are_done branches)) settled in
-          let lives : Lives w i (all_woken branches) s.bodies true (later_on g) = wake_all branches i s.bodies stood g both.0 live.0 in (
+          let lives : AllFitGraph w i (all_woken branches) s.bodies true (later_on g) = wake_all branches i s.bodies stood g both.0 live.0 in (
             lives,
             record {
               fits = record {
@@ -178,7 +178,7 @@ module _ (w : Setting) where
           )
 
       wake_all : (branches : Trees) (i : ℕ) (bodies : Bodies) (stood : Bool) (g : Place) → are_settled branches ≡ true →
-          Lives w i branches bodies stood g → Lives w i (all_woken branches) bodies true (later_on g)
+          AllFitGraph w i branches bodies stood g → AllFitGraph w i (all_woken branches) bodies true (later_on g)
       wake_all no_tree i Last stood g settled lives = tt
       wake_all no_tree i (BodyOf weak body rest) stood g settled lives = elim lives [ ]
       wake_all (beside weak c rest) i Last stood g settled lives = elim lives [ ]
@@ -189,5 +189,5 @@ module _ (w : Setting) where
             wake_all rest i bodies stood g both.1 lives.2,
           )
 
-pub waking_keeps_live : InstantsPass → WakingKeepsLive
-waking_keeps_live pass w i stood body c settled live = wakes w pass c i (whole stood body) settled live (part_closed true body)
+pub waking_keeps_fits_graph : InstantsPass → WakingKeepsFitsGraph
+waking_keeps_fits_graph pass w i stood body c settled live = wakes w pass c i (whole stood body) settled live (part_closed true body)

@@ -7,10 +7,10 @@ use Rattle.bl_tree.specs.declared.tree.Guard.{Guard as GuardKind}
 use Rattle.bl_tree.specs.declared.tree.Guard.TheVariants.{Abort, Reset}
 use Rattle.bl_tree.specs.Effects.{target_static}
 use Rattle.bl_tree.specs.Static.{static_of}
-use Rattle.bl_nodes.specs.Nodes.{Node, entry, is_instant, node_writes}
-use Rattle.bl_nodes.specs.Plain.{Block, Bodies, Label, Plain, Body as BodyOf, Cobegin, Done, Last, Then}
-use Rattle.bl_nodes.specs.Steps.{StepLabel, head_of, run_node}
-use Rattle.bl_nodes.specs.Writes.{surface_writes, surface_writes_in}
+use Rattle.bl_graph_nodes.specs.Nodes.{Node, entry, is_instant, node_writes}
+use Rattle.bl_graph_nodes.specs.Plain.{Block, Bodies, Label, Plain, Body as BodyOf, Cobegin, Done, Last, Then}
+use Rattle.bl_graph_nodes.specs.Steps.{StepLabel, head_of, run_node}
+use Rattle.bl_graph_nodes.specs.Writes.{surface_writes, surface_writes_in}
 use Rattle.bl_graph.specs.Edges.{EdgeAll, EdgeEach, Guarded, In, InEach}
 use Rattle.bl_graph.specs.Laws.{InstantsPass, WritersAreReached}
 use Rattle.bl_graph.specs.Walks.{Walk, on, stay}
@@ -40,9 +40,9 @@ use Rattle.bl_ctree_laws.specs.Trees.{
   is_settled,
   no_tree,
 }
-use Rattle.bl_ctree_laws_traces.specs.Progress.Laws.{Could, Leads, Writes, WritersAreAhead}
-use Rattle.bl_ctree_laws_traces.specs.Progress.Live.{CheckLive, Live, Lives, check_of}
-use Rattle.bl_ctree_laws_traces.specs.Progress.Places.{Fits, FitsAll, Place, ahead_of, guarded, in_branch, later_on, whole}
+use Rattle.bl_ctree_laws_traces.specs.Progress.Laws.{Could, StepLeadsTo, NodeWrites, WritersAreAhead}
+use Rattle.bl_ctree_laws_traces.specs.Progress.FitsGraph.{AllFitGraph, CheckFitsGraph, FitsGraph, check_of}
+use Rattle.bl_ctree_laws_traces.specs.Progress.Places.{AreSubgraphs, IsSubgraph, Place, ahead_of, guarded, in_branch, later_on, whole}
 use Rattle.bl_ctree_laws_traces.proofs.OnProgress.Acting.{begins, point, region, this_could, this_one_could}
 use Rattle.bl_ctree_laws_traces.proofs.OnProgress.Leading.{
   OneLeads,
@@ -63,14 +63,14 @@ use Rattle.bl_ctree_laws_traces.proofs.OnProgress.Paths.{any_left, any_right, co
 record Writer (E : Node → Node → Type 0) (n : Node) (test : Static → Bool) : Type 0 where
   end : Node
   walk : Walk E n end
-  writes : Writes test end
+  writes : NodeWrites test end
 
 record WriterAt (body : Block) (test : Static → Bool) : Type 0 where
   end : Node
   reached : In false body end
-  writes : Writes test end
+  writes : NodeWrites test end
 
-writer_of : SoonIsSurface → WritersAreReached → (w : Setting) (i : ℕ) (test : Static → Bool) (s : Plain) (g : Place) → Fits w i s g →
+writer_of : SoonIsSurface → WritersAreReached → (w : Setting) (i : ℕ) (test : Static → Bool) (s : Plain) (g : Place) → IsSubgraph w i s g →
     soon test s ≡ true → Writer g.edges (entry s) test
 writer_of surfaces writers w i test s g fits e =
     let p = passing test (surface_writes s) (sym (surfaces.statements test s) ∙ e) in
@@ -95,8 +95,8 @@ writer_in surfaces writers test body e =
 
 -- what is ahead in the block after what leads out of the first
 seq_writes : {w : Setting} {i : ℕ} {c : Tree} {s : Plain} {rest : Block} (g : Place) (test : Static → Bool) → is_nil c ≡ false →
-    FitsAll w i (Then s rest) g → (is_nil c ≡ true) ⊎ Leads w i c g.edges (λ n. g.edges n (entry s)) → WriterAt (Then s rest) test →
-    Leads w i (Seq c (Then s rest)) g.edges (Writes test)
+    AreSubgraphs w i (Then s rest) g → (is_nil c ≡ true) ⊎ StepLeadsTo w i c g.edges (λ n. g.edges n (entry s)) → WriterAt (Then s rest) test →
+    StepLeadsTo w i (Seq c (Then s rest)) g.edges (NodeWrites test)
 seq_writes g test unended fits (inl nil) way = absurd cc
 seq_writes g test unended fits (inr leads) way = record {
   could = this_could (in_seq leads.could.moves);
@@ -107,8 +107,8 @@ seq_writes g test unended fits (inr leads) way = record {
 }
 
 -- a check that is true of a reset leads to what its body writes
-anew_writes : (w : Setting) (i : ℕ) (s : Watch) (stood : Bool) (c : Tree) (g : Place) (test : Static → Bool) → CheckLive w i s stood (is_nil c) g →
-    s.guard ≡ Reset → WriterAt s.body test → Leads w i (Guard s Check stood c) g.edges (Writes test)
+anew_writes : (w : Setting) (i : ℕ) (s : Watch) (stood : Bool) (c : Tree) (g : Place) (test : Static → Bool) → CheckFitsGraph w i s stood (is_nil c) g →
+    s.guard ≡ Reset → WriterAt s.body test → StepLeadsTo w i (Guard s Check stood c) g.edges (NodeWrites test)
 anew_writes w i s stood c g test has is way = record {
   could = this_could lets;
   end = way.end;
@@ -118,10 +118,10 @@ anew_writes w i s stood c g test has is way = record {
   leads = way.writes;
 }
 
-check_writes : (w : Setting) (i : ℕ) (s : Watch) (stood : Bool) (c : Tree) (g : Place) (test : Static → Bool) → CheckLive w i s stood (is_nil c) g →
-    Live w i c (later_on (guarded s g)) → (may_write_path test c ≡ true → Leads w i c g.edges (Writes test)) →
+check_writes : (w : Setting) (i : ℕ) (s : Watch) (stood : Bool) (c : Tree) (g : Place) (test : Static → Bool) → CheckFitsGraph w i s stood (is_nil c) g →
+    FitsGraph w i c (later_on (guarded s g)) → (may_write_path test c ≡ true → StepLeadsTo w i c g.edges (NodeWrites test)) →
     (soon_in test s.body ≡ true → WriterAt s.body test) → (may_write_path test c || anew test s Check) ≡ true →
-    Leads w i (Guard s Check stood c) g.edges (Writes test)
+    StepLeadsTo w i (Guard s Check stood c) g.edges (NodeWrites test)
 check_writes w i s stood c g test has live more begun e = elim (either_is (may_write_path test c) (anew test s Check) e) [
   | inl inner ↦ let leads = more inner in record {
     could = this_could lets;
@@ -133,12 +133,12 @@ check_writes w i s stood c g test has live more begun e = elim (either_is (may_w
 ]
   where
     by_kind : (k : GuardKind) → s.guard ≡ k → (is_reset_kind k ≡ true) × (soon_in test s.body ≡ true) →
-        Leads w i (Guard s Check stood c) g.edges (Writes test)
+        StepLeadsTo w i (Guard s Check stood c) g.edges (NodeWrites test)
     by_kind Abort is both = absurd (cc (both.0))
     by_kind Reset is both = anew_writes w i s stood c g test has is (begun both.1)
 
-body_writes : {w : Setting} {i : ℕ} {s : Watch} {stood : Bool} {c : Tree} (g : Place) (test : Static → Bool) → Leads w i c g.edges (Writes test) →
-    Leads w i (Guard s Body stood c) g.edges (Writes test)
+body_writes : {w : Setting} {i : ℕ} {s : Watch} {stood : Bool} {c : Tree} (g : Place) (test : Static → Bool) → StepLeadsTo w i c g.edges (NodeWrites test) →
+    StepLeadsTo w i (Guard s Body stood c) g.edges (NodeWrites test)
 body_writes g test leads = record { could = this_could (in_guard leads.could.moves); end = leads.end; walk = leads.walk; leads = leads.leads }
 
 -- ---- a `run`
@@ -146,7 +146,7 @@ body_writes g test leads = record { could = this_could (in_guard leads.could.mov
 -- the node of a `run` writes its outputs, and where it has stood its target
 run_node_writes : (test : Static → Bool) (s : Call) (stood ends : Bool) → (ends ≡ true → stood ≡ true) →
     (list_any test (map static_of s.arguments.outputs) || (ends && list_any test (target_static s.arguments.target))) ≡ true →
-    Writes test (run_node stood s.label s.place s.arguments)
+    NodeWrites test (run_node stood s.label s.place s.arguments)
 run_node_writes test s true ends has e =
     set_passes test (target_static s.arguments.target ++ map static_of s.arguments.outputs)
     (elim (either_is (list_any test (map static_of s.arguments.outputs)) (ends && list_any test (target_static s.arguments.target)) e) [
@@ -180,9 +180,9 @@ at_run_node could = by_move could.moves
     by_move (in_run move) = refl
 
 run_writer : (w : Setting) (i : ℕ) (s : Call) (callee : ℕ) (stood : Bool) (c : Tree) (g : Place) (test : Static → Bool) →
-    Live w i (Run s callee Body stood c) g → (not (is_settled (Run s callee Body stood c)) ≡ true)
+    FitsGraph w i (Run s callee Body stood c) g → (not (is_settled (Run s callee Body stood c)) ≡ true)
     × ((list_any test (map static_of s.arguments.outputs) || (may_end c && list_any test (target_static s.arguments.target))) ≡ true) →
-    Leads w i (Run s callee Body stood c) g.edges (Writes test)
+    StepLeadsTo w i (Run s callee Body stood c) g.edges (NodeWrites test)
 run_writer w i s callee stood c g test live both =
     let could = point (Run s callee Body stood c) i g live (not_true (is_settled (Run s callee Body stood c)) both.0) in
     record {
@@ -197,8 +197,8 @@ run_writer w i s callee stood c g test live both =
 
 -- a branch leads to a node that writes, which is of the part that acts
 first_writes : (w : Setting) (i : ℕ) (weak : Bool) (c : Tree) (branches : Trees) (weak' : Bool) (body : Block) (rest : Bodies) (l : Label) (at : Source)
-    (so stood : Bool) (g : Place) (test : Static → Bool) → Live w i c (in_branch stood body g) → Leads w i c (EdgeAll body) (Writes test) →
-    OneLeads w i (beside weak c branches) (EdgeEach (BodyOf weak' body rest) l at so) (λ n. Writes test n × InEach stood (BodyOf weak' body rest) n)
+    (so stood : Bool) (g : Place) (test : Static → Bool) → FitsGraph w i c (in_branch stood body g) → StepLeadsTo w i c (EdgeAll body) (NodeWrites test) →
+    OneLeads w i (beside weak c branches) (EdgeEach (BodyOf weak' body rest) l at so) (λ n. NodeWrites test n × InEach stood (BodyOf weak' body rest) n)
 first_writes w i weak c branches weak' body rest l at so stood g test live leads = record {
   could = this_one_could (first leads.could.moves tt);
   end = leads.end;
@@ -208,7 +208,7 @@ first_writes w i weak c branches weak' body rest l at so stood g test live leads
 
 module _ {w : Setting} (pass : InstantsPass) (writers : WritersAreReached) (surfaces : SoonIsSurface) (test : Static → Bool) where
   mutual
-    pub writer : (c : Tree) (i : ℕ) (g : Place) → Live w i c g → may_write_path test c ≡ true → Leads w i c g.edges (Writes test)
+    pub writer : (c : Tree) (i : ℕ) (g : Place) → FitsGraph w i c g → may_write_path test c ≡ true → StepLeadsTo w i c g.edges (NodeWrites test)
     writer Nil i g live e = absurd cc
     writer (Wait s) i g live e = absurd cc
     writer (Test s) i g live e = absurd cc
@@ -259,8 +259,8 @@ module _ {w : Setting} (pass : InstantsPass) (writers : WritersAreReached) (surf
         run_writer w i s callee stood c g test live both
 
     pub one_writer : (branches : Trees) (i : ℕ) (bodies : Bodies) (l : Label) (at : Source) (so stood : Bool) (g : Place) →
-        Lives w i branches bodies stood g → any_writes_path test branches ≡ true →
-        OneLeads w i branches (EdgeEach bodies l at so) (λ n. Writes test n × InEach stood bodies n)
+        AllFitGraph w i branches bodies stood g → any_writes_path test branches ≡ true →
+        OneLeads w i branches (EdgeEach bodies l at so) (λ n. NodeWrites test n × InEach stood bodies n)
     one_writer no_tree i bodies l at so stood g lives e = absurd cc
     one_writer (beside weak c rest) i Last l at so stood g lives e = elim lives [ ]
     one_writer (beside weak c rest) i (BodyOf weak' body bodies) l at so stood g lives e =

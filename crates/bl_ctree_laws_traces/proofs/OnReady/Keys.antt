@@ -36,7 +36,7 @@ use Rattle.bl_tree.specs.declared.tree.Stmt.{Stmt, fold-roll-Stmt}
 use Rattle.bl_tree.specs.declared.tree.StmtKind.{fold-roll-StmtKind}
 use Rattle.bl_tree.specs.declared.tree.StmtKind.TheOpen.{StmtKind-F}
 use Rattle.bl_tree.proofs.StmtInduction.{Cases, Each, EachArm, EachBranch, induct, stmt}
-use Rattle.bl_nodes.specs.Nodes.{
+use Rattle.bl_graph_nodes.specs.Nodes.{
   ActAt,
   CheckAt,
   DepthEndAt,
@@ -59,7 +59,7 @@ use Rattle.bl_nodes.specs.Nodes.{
   nodes_of,
   where_so,
 }
-use Rattle.bl_nodes.specs.Plain.{
+use Rattle.bl_graph_nodes.specs.Plain.{
   Block,
   Bodies,
   Cobegin,
@@ -77,9 +77,9 @@ use Rattle.bl_nodes.specs.Plain.{
   plain,
   plain_block,
 }
-use Rattle.bl_nodes.specs.Laws.{Begins, Below, plain_arm, plain_branch}
-use Rattle.bl_nodes.proofs.Equations.{plain_statements}
-use Rattle.bl_nodes.proofs.Labels.{low, one_on, positions_part, tail_same, through}
+use Rattle.bl_graph_nodes.specs.Laws.{Begins, Below, plain_arm, plain_branch}
+use Rattle.bl_graph_nodes.proofs.Equations.{plain_statements}
+use Rattle.bl_graph_nodes.proofs.Labels.{low, one_on, positions_part, tail_same, through}
 
 -- ---- what tells nodes apart
 

@@ -1,9 +1,9 @@
 -- In each tree in which something is left to do there is a first step among those that could be taken.
 use Rattle.std.proofs.Common.{◌≡◌, ◌⊎◌, inl, inr, ℕ, Bool, true, false, not, ◌&&◌, ◌∷◌, Some, refl, sym, ap, ◌∙◌, subst}
 use Rattle.std.specs.Prelude.{unwrap_or}
-use Rattle.bl_nodes.specs.Nodes.{Node, entry, place_of_node}
-use Rattle.bl_nodes.specs.Plain.{Block, Bodies, Plain, Body as BodyOf, Done, Last, Then, plain_body}
-use Rattle.bl_nodes.specs.Steps.{Gives, Here, Inside, StepLabel, end_node, join_node, run_node}
+use Rattle.bl_graph_nodes.specs.Nodes.{Node, entry, place_of_node}
+use Rattle.bl_graph_nodes.specs.Plain.{Block, Bodies, Plain, Body as BodyOf, Done, Last, Then, plain_body}
+use Rattle.bl_graph_nodes.specs.Steps.{Gives, Here, Inside, StepLabel, end_node, join_node, run_node}
 use Rattle.bl_ctree.specs.Control.{Check, Body}
 use Rattle.bl_ctree.specs.Instances.{Setting, callee_of}
 use Rattle.bl_ctree_laws.specs.Pending.{Deed}
@@ -65,7 +65,7 @@ use Rattle.bl_ctree_laws.specs.Trees.{
 use Rattle.bl_ctree_laws.proofs.Less.{one_unsettled, unsettled}
 use Rattle.bl_ctree_laws.proofs.Tests.{both_ways}
 use Rattle.bl_ctree_laws_traces.specs.Progress.Laws.{Could}
-use Rattle.bl_ctree_laws_traces.specs.Progress.Live.{Live, Lives, check_of, test_of}
+use Rattle.bl_ctree_laws_traces.specs.Progress.FitsGraph.{AllFitGraph, FitsGraph, check_of, test_of}
 use Rattle.bl_ctree_laws_traces.specs.Progress.Places.{Place, ahead_of, guarded, in_branch, whole}
 use Rattle.bl_ctree_laws_traces.proofs.OnProgress.Acting.{OneCould, begins, ended_or, this_could, this_one_could}
 use Rattle.bl_ctree_laws_traces.specs.Ready.Least.{Before, Least, LeastMayAct, UnsettledHasLeast}
@@ -282,7 +282,7 @@ module _ (w : Setting) (rank : ℕ → Node → ℕ) where
       subst (λ x. Least w rank i (Run s callee Body stood x)) (sym is) (alone (this_could run_ends) (λ d a n c' move. end_label move))
 
   mutual
-    pub least_of : (c : Tree) (i : ℕ) (g : Place) → Live w i c g → is_settled c ≡ false → Least w rank i c
+    pub least_of : (c : Tree) (i : ℕ) (g : Place) → FitsGraph w i c g → is_settled c ≡ false → Least w rank i c
     least_of Nil i g live e = absurd cc
     least_of (Wait s) i g live e = absurd cc
     least_of (Test s) i g live e = alone (this_could goes_on) (λ d a n c' move. test_label move)
@@ -299,7 +299,7 @@ module _ (w : Setting) (rank : ℕ → Node → ℕ) where
     least_of (Run s callee Body stood c) i g live e =
         of_run s callee stood c live.2.called (least_of c callee (whole stood (plain_body live.0.body)) live.1) (ended_or c e)
 
-    pub least_among : (branches : Trees) (i : ℕ) (bodies : Bodies) (stood : Bool) (g : Place) → Lives w i branches bodies stood g →
+    pub least_among : (branches : Trees) (i : ℕ) (bodies : Bodies) (stood : Bool) (g : Place) → AllFitGraph w i branches bodies stood g →
         are_settled branches ≡ false → OneLeast i branches
     least_among no_tree i bodies stood g lives e = absurd cc
     least_among (beside weak c rest) i Last stood g lives e = elim lives [ ]

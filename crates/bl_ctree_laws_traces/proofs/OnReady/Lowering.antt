@@ -2,9 +2,9 @@
 use Rattle.std.proofs.Common.{◌≡◌, inl, inr, ℕ, ◌<◌, ◌≤◌, List, [], ◌∷◌, Some, refl, sym, ap, subst, arith}
 use Rattle.std.specs.Prelude.{unwrap_or}
 use Rattle.bl_tree.specs.declared.tree.Unit.{Unit as UnitDef}
-use Rattle.bl_nodes.specs.Nodes.{Node}
-use Rattle.bl_nodes.specs.Plain.{plain_body}
-use Rattle.bl_nodes.specs.Steps.{Gives, Here, Inside, StepLabel, head_of}
+use Rattle.bl_graph_nodes.specs.Nodes.{Node}
+use Rattle.bl_graph_nodes.specs.Plain.{plain_body}
+use Rattle.bl_graph_nodes.specs.Steps.{Gives, Here, Inside, StepLabel, head_of}
 use Rattle.bl_graph.specs.DataEdges.{BesideAll}
 use Rattle.bl_graph.specs.Edges.{EdgeAll}
 use Rattle.bl_graph.specs.Walks.{Rises, Walk, on, stay}

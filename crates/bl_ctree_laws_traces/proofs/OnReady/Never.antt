@@ -24,9 +24,9 @@ use Rattle.std.proofs.Common.{
 use Rattle.std.specs.Prelude.{option_map, unwrap_or}
 use Rattle.bl_tree.specs.declared.tree.StructDef.{StructDef}
 use Rattle.bl_tree.specs.declared.tree.Unit.{Unit as UnitDef}
-use Rattle.bl_nodes.specs.Nodes.{Node}
-use Rattle.bl_nodes.specs.Plain.{Block, Done, plain_body}
-use Rattle.bl_nodes.specs.Steps.{StepLabel, head_of}
+use Rattle.bl_graph_nodes.specs.Nodes.{Node}
+use Rattle.bl_graph_nodes.specs.Plain.{Block, Done, plain_body}
+use Rattle.bl_graph_nodes.specs.Steps.{StepLabel, head_of}
 use Rattle.bl_graph.specs.Edges.{In}
 use Rattle.bl_ctree.specs.Control as control
 use Rattle.bl_ctree.specs.Instances.{Setting, setting_of, unit_at}
@@ -37,18 +37,18 @@ use Rattle.bl_ctree_laws.specs.Bridge.{plain_items, plain_tree}
 use Rattle.bl_ctree_laws.specs.Fitted.{ReachedIsArmed}
 use Rattle.bl_ctree_laws.specs.Laws.{AnswersArePlain, StatementsArePlain}
 use Rattle.bl_ctree_laws.specs.Pending.{Deed}
-use Rattle.bl_ctree_laws.specs.Runs.{ReachedInsideIsLeft, StillIsPlain, entry_block}
+use Rattle.bl_ctree_laws.specs.Runs.{ReachedInsideIsPlainResidual, StillIsPlain, entry_block}
 use Rattle.bl_ctree_laws.specs.Steps.{Anyway, Moves}
 use Rattle.bl_ctree_laws.specs.Trees.{Tree, is_settled}
 use Rattle.bl_ctree_laws_confluence.specs.Deeds.Homes.{OutputsAreApart}
 use Rattle.bl_ctree_laws_confluence.specs.Deeds.Orderly.{AcceptedIsOrderly}
-use Rattle.bl_ctree_laws_confluence.specs.Apart.Outputs.{LeftCallsStand, RunsHaveOutputs, TypedRunsHaveOutputs}
-use Rattle.bl_ctree_laws_confluence.specs.Apart.Seen.{CallsStand}
-use Rattle.bl_ctree_laws_traces.specs.Progress.Accepted.{AcceptedTreesAreLive}
+use Rattle.bl_ctree_laws_confluence.specs.Apart.Outputs.{ResidualCallsMatch, RunsHaveOutputs, TypedRunsHaveOutputs}
+use Rattle.bl_ctree_laws_confluence.specs.Apart.Seen.{CallsMatchCallees}
+use Rattle.bl_ctree_laws_traces.specs.Progress.Accepted.{AcceptedTreesFitGraphs}
 use Rattle.bl_ctree_laws_traces.specs.Progress.Laws.{Could, NodesAreInPart, UnsettledCould}
-use Rattle.bl_ctree_laws_traces.specs.Progress.Live.{Live}
+use Rattle.bl_ctree_laws_traces.specs.Progress.FitsGraph.{FitsGraph}
 use Rattle.bl_ctree_laws_traces.specs.Progress.Places.{whole}
-use Rattle.bl_ctree_laws_traces.specs.Ready.Never.{AcceptedNeverStuck, May, ReachedLowestMayAct, TypedCallsStand, UnsettledMay}
+use Rattle.bl_ctree_laws_traces.specs.Ready.Never.{AcceptedNeverStuck, May, ReachedLowestMayAct, TypedCallsMatch, UnsettledMay}
 use Rattle.bl_ctree_laws_traces.specs.Ready.Ranks.{LowestMayAct, Lower, Rising, ranks_in}
 use Rattle.bl_ctree_laws_traces.proofs.OnReady.Deepening.{calls_around, calls_in, no_deeper, ranks_long}
 use Rattle.bl_ctree_laws_traces.proofs.OnReady.Descending.{descend}
@@ -58,7 +58,7 @@ use Rattle.bl_ctree_laws_traces.proofs.OnReady.Descending.{descend}
 module _ (structs : List StructDef) (units : List UnitDef) (entry : ℕ) (rank : ℕ → Node → ℕ) (i : ℕ) (unit : UnitDef) (stood : Bool) (c : Tree)
     (lowest : LowestMayAct) (rising : Rising (setting_of structs units entry) rank) (outputs : OutputsAreApart (setting_of structs units entry))
     (is : unit_at (setting_of structs units entry) i ≡ Some unit)
-    (live : Live (setting_of structs units entry) i c (whole stood (plain_body unit.body))) (stand : CallsStand (setting_of structs units entry) i c) where
+    (live : FitsGraph (setting_of structs units entry) i c (whole stood (plain_body unit.body))) (stand : CallsMatchCallees (setting_of structs units entry) i c) where
   abbrev W : Setting
   W = setting_of structs units entry
 
@@ -103,22 +103,22 @@ record Standing (w : Setting) (c : Tree) : Type 0 where
   unit : UnitDef
   is : unit_at w 0 ≡ Some unit
   stood : Bool
-  lives : Live w 0 c (whole stood (plain_body unit.body))
+  lives : FitsGraph w 0 c (whole stood (plain_body unit.body))
 
 -- where something could act in the whole tree there is a unit
 in_unit : NodesAreInPart → StatementsArePlain → (w : Setting) (stood : Bool) (c : Tree) (found : Option UnitDef) → unit_at w 0 ≡ found →
-    Live w 0 c (whole stood (body_of found)) → Could w 0 c → Standing w c
+    FitsGraph w 0 c (whole stood (body_of found)) → Could w 0 c → Standing w c
 in_unit part plain w stood c None is lives one =
     absurd (no_node stood (head_of one.label) (part w 0 stood Done c one.answer one.deed one.label one.after lives one.moves))
 in_unit part plain w stood c (Some unit) is lives one = record {
   unit = unit;
   is = is;
   stood = stood;
-  lives = subst (λ body. Live w 0 c (whole stood body)) (sym (plain.blocks unit.body [])) lives;
+  lives = subst (λ body. FitsGraph w 0 c (whole stood body)) (sym (plain.blocks unit.body [])) lives;
 }
 
 -- calls in what is left of the entry's body
-pub typed_calls_stand : ReachedInsideIsLeft → StatementsArePlain → TypedRunsHaveOutputs → LeftCallsStand → TypedCallsStand
+pub typed_calls_stand : ReachedInsideIsPlainResidual → StatementsArePlain → TypedRunsHaveOutputs → ResidualCallsMatch → TypedCallsMatch
 typed_calls_stand left plain typed stand structs units entry keeps rows row actions c store reaches =
     let w : Setting = setting_of structs units entry in
     stand structs units entry true 0 (entry_block w) (plain_tree c) keeps (by_unit (unit_at w 0) refl) (left w rows row actions c store reaches)
@@ -129,7 +129,7 @@ typed_calls_stand left plain typed stand structs units entry keeps rows row acti
     by_unit (Some unit) is =
         subst (RunsHaveOutputs (setting_of structs units entry) 0) (plain.blocks unit.body []) (typed structs units entry 0 unit keeps is)
 
-module _ (part : NodesAreInPart) (live : AcceptedTreesAreLive) (orderly : AcceptedIsOrderly) (plain : StatementsArePlain) (calls : TypedCallsStand) where
+module _ (part : NodesAreInPart) (live : AcceptedTreesFitGraphs) (orderly : AcceptedIsOrderly) (plain : StatementsArePlain) (calls : TypedCallsMatch) where
   pub reached_lowest : LowestMayAct → ReachedLowestMayAct
   reached_lowest lowest structs units entry rank keeps passes rising rows row actions c store reaches d a n c' move =
       let w : Setting = setting_of structs units entry in
@@ -139,7 +139,7 @@ module _ (part : NodesAreInPart) (live : AcceptedTreesAreLive) (orderly : Accept
       lowest structs units entry rank 0 at.unit at.stood (plain_tree c) d a n c' rising (orderly structs units entry keeps passes).outputs at.is at.lives
       (calls structs units entry keeps rows row actions c store reaches) move
 
-  pub accepted_never_stuck : UnsettledMay → UnsettledCould → laws.ReachedInsideIsLeft → ReachedIsArmed → AnswersArePlain → StillIsPlain →
+  pub accepted_never_stuck : UnsettledMay → UnsettledCould → laws.ReachedInsideIsResidual → ReachedIsArmed → AnswersArePlain → StillIsPlain →
       AcceptedNeverStuck
   accepted_never_stuck may could left armed answers still structs units entry rank keeps passes rising rows row actions c store reaches is_still =
       by_settled (control.is_settled c) refl

@@ -27,11 +27,11 @@ use Rattle.std.proofs.Common.{
 use Rattle.std.specs.Prelude.{Contains, nat_eq, slice_get, slice_index, if◌then◌else◌}
 use Rattle.bl_tree.specs.declared.tree.Stmt.{Stmt}
 use Rattle.bl_tree.specs.declared.tree.Unit.{Unit as UnitDef}
-use Rattle.bl_nodes.specs.Nodes.{Node, label_of, nodes_in}
-use Rattle.bl_nodes.specs.Plain.{Block, Label, Position, plain_block, plain_body}
+use Rattle.bl_graph_nodes.specs.Nodes.{Node, label_of, nodes_in}
+use Rattle.bl_graph_nodes.specs.Plain.{Block, Label, Position, plain_block, plain_body}
 use Rattle.bl_graph.specs.DataEdges.{DataEdge}
 use Rattle.bl_graph.specs.Edges.{EdgeAll}
-use Rattle.bl_graph.specs.Graph.{Between, edge_between}
+use Rattle.bl_graph.specs.Graph.{EdgeBetween, edge_between}
 use Rattle.bl_graph.specs.Laws.{StaysWithin}
 use Rattle.bl_ctree.specs.Instances.{Setting, setting_of, unit_at}
 use Rattle.bl_ctree_laws.proofs.Tests.{and_both, and_first, and_second}
@@ -154,7 +154,7 @@ module _ (within : (body : Block) → StaysWithin body) (body : List Stmt) (orde
   B = plain_body body
 
   between : (E : Node → Node → Type 0) (n m : Node) → Contains (nodes_in B) n → Contains (nodes_in B) m → E n m →
-      Between (nodes_in B) E (place_in (nodes_in B) n) (place_in (nodes_in B) m)
+      EdgeBetween (nodes_in B) E (place_in (nodes_in B) n) (place_in (nodes_in B) m)
   between E n m one other edge = record {
     first = n;
     second = m;

@@ -38,8 +38,8 @@ use Rattle.bl_tree.specs.Effects.{argument_mentions, target_mentions}
 use Rattle.bl_tree.specs.Reduce.{joined}
 use Rattle.bl_tree.specs.Static.{index_mentions, is_front, mentions, overlaps, path_mentions, static_of}
 use Rattle.bl_effects.proofs.SetLemmas.{overlaps_symm}
-use Rattle.bl_nodes.specs.Nodes.{Node, node_reads, node_writes, place_of_node}
-use Rattle.bl_nodes.specs.Steps.{Gives, Here, Inside, StepLabel, leaf_of, run_node}
+use Rattle.bl_graph_nodes.specs.Nodes.{Node, node_reads, node_writes, place_of_node}
+use Rattle.bl_graph_nodes.specs.Steps.{Gives, Here, Inside, StepLabel, leaf_of, run_node}
 use Rattle.bl_graph.specs.DataEdges.{Touches}
 use Rattle.bl_ctree.specs.Instances.{Setting, callee_of, setting_of}
 use Rattle.bl_ctree.specs.Store.{Location, home, overlap}
@@ -81,7 +81,7 @@ use Rattle.bl_ctree_laws.specs.Trees.{Call, Tree, Trees}
 use Rattle.bl_ctree_laws.proofs.Tests.{and_both, and_first, and_second, both_ways, or_le, or_left, or_of, or_right}
 use Rattle.bl_ctree_laws_confluence.specs.Deeds.Homes.{HomesAreApart, OutputsAreApart}
 use Rattle.bl_ctree_laws_confluence.specs.Deeds.Nesting.{Inside as InCallee, InstancesNest, IsOutput, ProgramsNest}
-use Rattle.bl_ctree_laws_confluence.specs.Apart.Seen.{AllCallsStand, CallsStand, DeedsStayInside, HasOutputs}
+use Rattle.bl_ctree_laws_confluence.specs.Apart.Seen.{AllCallsMatchCallees, CallsMatchCallees, DeedsStayInside, HasOutputs}
 use Rattle.bl_ctree_laws_traces.specs.Progress.Reading.{DeedsReadAtNodes, IsRead}
 use Rattle.bl_ctree_laws_traces.proofs.OnProgress.Paths.{any_right, member, passed, passing, set_passes}
 use Rattle.bl_ctree_laws_traces.specs.Ready.Touching.{Touched, TouchesAt, WritersTouchOnTheWay}
@@ -153,7 +153,7 @@ Placed w i a (Inside n u step) = (s : Call) × (stood : Bool) × (callee : ℕ) 
 
 module _ {w : Setting} (stay : DeedsStayInside) where
   mutual
-    placed : {i : ℕ} {c : Tree} {d : Bool} {a : Deed} {n : StepLabel} {c' : Tree} → CallsStand w i c → Moves Anyway w i c d a n c' → Placed w i a n
+    placed : {i : ℕ} {c : Tree} {d : Bool} {a : Deed} {n : StepLabel} {c' : Tree} → CallsMatchCallees w i c → Moves Anyway w i c d a n c' → Placed w i a n
     placed stand acts = refl
     placed stand takes = refl
     placed stand passes = refl
@@ -182,7 +182,7 @@ module _ {w : Setting} (stay : DeedsStayInside) where
     placed stand (in_run {s = s} {callee = callee} {stood = stood} {c = c} {d = d} {a = a} {n = n} {c' = c'} move) =
         (s, stood, callee, refl, stand.0, stand.1.0, stay w callee c d a n c' stand.1.1 move, placed stand.1.1 move)
 
-    one_placed : {i : ℕ} {branches : Trees} {d : Bool} {a : Deed} {n : StepLabel} {branches' : Trees} → AllCallsStand w i branches →
+    one_placed : {i : ℕ} {branches : Trees} {d : Bool} {a : Deed} {n : StepLabel} {branches' : Trees} → AllCallsMatchCallees w i branches →
         OneMoves Anyway w i branches d a n branches' → Placed w i a n
     one_placed stand (first move free) = placed stand.0 move
     one_placed stand (later move free) = one_placed stand.1 move

@@ -8,7 +8,7 @@ use Rattle.bl_tree.specs.declared.tree.StructDef.{StructDef}
 use Rattle.bl_tree.specs.declared.tree.Unit.{Unit as UnitDef}
 use Rattle.bl_ctree.specs.Control.{Control, Idle, is_nil, is_settled}
 use Rattle.bl_ctree.specs.Instances.{Setting, setting_of}
-use Rattle.bl_ctree.specs.Means.{Allows, Shown, ends, entry_items, goes_on, is_stuck, row_then, stays_open, traps}
+use Rattle.bl_ctree.specs.Means.{Allows, ShownTrace, ends, entry_items, goes_on, is_stuck, row_then, stays_open, traps}
 use Rattle.bl_ctree.specs.Reaches.{NeverStuck, Reaches, after_tick, at_first}
 use Rattle.bl_ctree.specs.Store.{Store, first_store, outputs_row}
 use Rattle.bl_ctree.specs.Ticks.{End, Rests, Stuck, Tick, Trapped, outcome_at, resting_outcome}
@@ -17,7 +17,7 @@ use Rattle.bl_ctree_laws_traces.specs.Traces.Maximal.{BoundedHaveMeanings, Bound
 -- ---- something is allowed
 
 record Allowed (w : Setting) (rows : List (List ℤ)) (c : Control) (store : Store) : Type 0 where
-  shows : Shown
+  shows : ShownTrace
   allows : Allows w rows c store shows
 
 module _ (w : Setting) (tick_from : (before : List (List ℤ)) (row : List ℤ) (c : Control) (store : Store) → Reaches w before c store →
@@ -70,7 +70,7 @@ module _ (structs : List StructDef) (units : List UnitDef) (entry : ℕ) (never 
   abbrev W : Setting
   W = setting_of structs units entry
 
-  traced : {rows : List (List ℤ)} {c : Control} {store : Store} {shows : Shown} → Allows W rows c store shows → (before : List (List ℤ)) →
+  traced : {rows : List (List ℤ)} {c : Control} {store : Store} {shows : ShownTrace} → Allows W rows c store shows → (before : List (List ℤ)) →
       Reaches W before c store → IsTrace shows
   traced stays_open before reached = record { trace = trace_with [] Open; is = refl }
   traced (traps tick) before reached = record { trace = trace_with [] HasTrapped; is = refl }

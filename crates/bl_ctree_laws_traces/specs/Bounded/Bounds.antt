@@ -2,12 +2,12 @@
 use Rattle.std.specs.Prelude.{◌≡◌, ℕ, false, List, map, Some, AllPairs, slice_get}
 use Rattle.bl_tree.specs.declared.tree.StructDef.{StructDef}
 use Rattle.bl_tree.specs.declared.tree.Unit.{Unit as UnitDef}
-use Rattle.bl_tree.specs.Program.{Keeps}
+use Rattle.bl_tree.specs.Program.{IsWellTyped}
 use Rattle.bl_tree.specs.Reduce.{joined}
 use Rattle.bl_tree.specs.Rules.{same_place}
-use Rattle.bl_raw.specs.declared.item.RawItem.{RawItem}
-use Rattle.bl_raw.specs.Keeps.{RawKeeps}
-use Rattle.bl_scopes.specs.Rules.{Passes as NamesPass}
+use Rattle.bl_parse_tree.specs.declared.item.RawItem.{RawItem}
+use Rattle.bl_parse_tree.specs.WellFormed.{RawIsWellFormed}
+use Rattle.bl_names_scopes.specs.Rules.{Passes as NamesPass}
 use Rattle.bl_names.specs.Named.{named_program}
 use Rattle.bl_types.specs.Programs.{typed_program}
 use Rattle.bl_types.specs.Rules.{Passes as TypesPass}
@@ -28,13 +28,13 @@ RunsStandApart units =
 -- rise along control edges, every list of steps in one tick is bounded
 abbrev pub AcceptedIsBounded : Type 0
 AcceptedIsBounded =
-    (structs : List StructDef) (units : List UnitDef) (entry : ℕ) → Keeps structs units entry → Passes units → RunsStandApart units →
+    (structs : List StructDef) (units : List UnitDef) (entry : ℕ) → IsWellTyped structs units entry → Passes units → RunsStandApart units →
     AllNumbered (setting_of structs units entry) → Bounded (steps structs units entry) structs units entry
 
 -- and in each program that a raw tree has in which no rule fails, where `run` statements do stand at places of their own
 abbrev pub TypedIsBounded : Type 0
 TypedIsBounded =
-    (items : List RawItem) (bytes : ℕ) → RawKeeps items → NamesPass items → TypesPass (named_program items bytes) →
+    (items : List RawItem) (bytes : ℕ) → RawIsWellFormed items → NamesPass items → TypesPass (named_program items bytes) →
     let typed = typed_program (named_program items bytes) in
     Passes typed.units → AllNumbered (setting_of typed.structs typed.units typed.entry) →
     Bounded (steps typed.structs typed.units typed.entry) typed.structs typed.units typed.entry

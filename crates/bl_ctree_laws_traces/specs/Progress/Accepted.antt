@@ -2,7 +2,7 @@
 use Rattle.std.specs.Prelude.{◌≡◌, ℕ, ℤ, false, List}
 use Rattle.bl_tree.specs.declared.tree.StructDef.{StructDef}
 use Rattle.bl_tree.specs.declared.tree.Unit.{Unit as UnitDef}
-use Rattle.bl_tree.specs.Program.{Keeps}
+use Rattle.bl_tree.specs.Program.{IsWellTyped}
 use Rattle.bl_effects.specs.Rules.{Passes}
 use Rattle.bl_ctree.specs.Actions.{Action}
 use Rattle.bl_ctree.specs.Control.{Control}
@@ -15,26 +15,26 @@ use Rattle.bl_ctree_laws.specs.Runs.{entry_block}
 use Rattle.bl_ctree_laws.specs.Trees.{is_settled}
 use Rattle.bl_ctree_laws_traces.specs.Progress.Laws.{Could}
 use Rattle.bl_ctree_laws_traces.specs.Progress.Places.{AllCallable}
-use Rattle.bl_ctree_laws_traces.specs.Progress.Reached.{LiveNow, LiveTree}
+use Rattle.bl_ctree_laws_traces.specs.Progress.Reached.{TreeFitsGraph, TreeFitsGraphNow}
 
 -- so it is in each typed program
 abbrev pub ProgramsAreCallable : Type 0
-ProgramsAreCallable = (structs : List StructDef) (units : List UnitDef) (entry : ℕ) → Keeps structs units entry →
+ProgramsAreCallable = (structs : List StructDef) (units : List UnitDef) (entry : ℕ) → IsWellTyped structs units entry →
     AllCallable (setting_of structs units entry)
 
 -- what holds of the trees that runs reach
-pub record TreesAreLive (w : Setting) : Type 0 where
+pub record TreesFitGraphs (w : Setting) : Type 0 where
   -- between ticks they stand at their places
-  pub trees : (rows : List (List ℤ)) (c : Control) (store : Store) → Reaches w rows c store → LiveTree w (entry_block w) (plain_tree c)
+  pub trees : (rows : List (List ℤ)) (c : Control) (store : Store) → Reaches w rows c store → TreeFitsGraph w (entry_block w) (plain_tree c)
   -- and inside ticks, after any steps
   pub inside : (rows : List (List ℤ)) (row : List ℤ) (actions : List Action) (c : Control) (store : Store) →
-      ReachesInside w rows row actions (Rests c store) → LiveNow w (entry_block w) (plain_tree c)
+      ReachesInside w rows row actions (Rests c store) → TreeFitsGraphNow w (entry_block w) (plain_tree c)
   -- where something is left to do something could act
   pub could : (rows : List (List ℤ)) (row : List ℤ) (actions : List Action) (c : Control) (store : Store) →
       ReachesInside w rows row actions (Rests c store) → is_settled (plain_tree c) ≡ false → Could w 0 (plain_tree c)
 
 -- so it is in each typed program that passes the rules
-abbrev pub AcceptedTreesAreLive : Type 0
-AcceptedTreesAreLive =
-    (structs : List StructDef) (units : List UnitDef) (entry : ℕ) → Keeps structs units entry → Passes units →
-    TreesAreLive (setting_of structs units entry)
+abbrev pub AcceptedTreesFitGraphs : Type 0
+AcceptedTreesFitGraphs =
+    (structs : List StructDef) (units : List UnitDef) (entry : ℕ) → IsWellTyped structs units entry → Passes units →
+    TreesFitGraphs (setting_of structs units entry)

@@ -2,9 +2,9 @@
 use Rattle.std.specs.Prelude.{◌≡◌, ℕ, Bool, true, Some, ◌⊎◌}
 use Rattle.std.specs.List.{list_any}
 use Rattle.bl_tree.specs.declared.tree.Unit.{Unit as UnitDef}
-use Rattle.bl_nodes.specs.Nodes.{Node, node_writes, place_of_node}
-use Rattle.bl_nodes.specs.Plain.{Block, plain_body}
-use Rattle.bl_nodes.specs.Steps.{Gives, Here, Inside, StepLabel, head_of}
+use Rattle.bl_graph_nodes.specs.Nodes.{Node, node_writes, place_of_node}
+use Rattle.bl_graph_nodes.specs.Plain.{Block, plain_body}
+use Rattle.bl_graph_nodes.specs.Steps.{Gives, Here, Inside, StepLabel, head_of}
 use Rattle.bl_graph.specs.DataEdges.{BesideAll}
 use Rattle.bl_graph.specs.Edges.{EdgeAll}
 use Rattle.bl_graph.specs.Walks.{Walk}
@@ -13,7 +13,7 @@ use Rattle.bl_ctree_laws.specs.Pending.{Deed, deed_reads, leads_over}
 use Rattle.bl_ctree_laws.specs.Steps.{Anyway, Moves, Unmet}
 use Rattle.bl_ctree_laws.specs.Trees.{Tree}
 use Rattle.bl_ctree_laws_traces.specs.Progress.Laws.{Could}
-use Rattle.bl_ctree_laws_traces.specs.Progress.Live.{Live}
+use Rattle.bl_ctree_laws_traces.specs.Progress.FitsGraph.{FitsGraph}
 use Rattle.bl_ctree_laws_traces.specs.Progress.Places.{whole}
 
 -- the node writes a static path of the instance whose home overlaps one that the deed reads
@@ -45,4 +45,4 @@ pub record Blocked (w : Setting) (i : ℕ) (c : Tree) (a : Deed) (n : StepLabel)
 abbrev pub ActsOrWaits : Type 0
 ActsOrWaits =
     (w : Setting) (i : ℕ) (stood : Bool) (body : Block) (c : Tree) (d : Bool) (a : Deed) (n : StepLabel) (c' : Tree) →
-    Live w i c (whole stood body) → Moves Anyway w i c d a n c' → Moves Unmet w i c d a n c' ⊎ Blocked w i c a n (EdgeAll body) (BesideAll body)
+    FitsGraph w i c (whole stood body) → Moves Anyway w i c d a n c' → Moves Unmet w i c d a n c' ⊎ Blocked w i c a n (EdgeAll body) (BesideAll body)

@@ -3,9 +3,9 @@ use Rattle.std.specs.Prelude.{◌≡◌, ℕ, Bool, true, false, Some, ◌⊎◌
 use Rattle.std.specs.List.{list_any}
 use Rattle.bl_tree.specs.declared.static_path.Static.{Static}
 use Rattle.bl_tree.specs.declared.tree.Unit.{Unit as UnitDef}
-use Rattle.bl_nodes.specs.Nodes.{Node, node_writes}
-use Rattle.bl_nodes.specs.Plain.{Block, plain_body}
-use Rattle.bl_nodes.specs.Steps.{StepLabel, head_of}
+use Rattle.bl_graph_nodes.specs.Nodes.{Node, node_writes}
+use Rattle.bl_graph_nodes.specs.Plain.{Block, plain_body}
+use Rattle.bl_graph_nodes.specs.Steps.{StepLabel, head_of}
 use Rattle.bl_graph.specs.Edges.{EdgeAll, In, OutAll}
 use Rattle.bl_graph.specs.Walks.{Walk}
 use Rattle.bl_ctree.specs.Instances.{Setting, unit_at}
@@ -13,14 +13,14 @@ use Rattle.bl_ctree_laws.specs.Pending.{Deed, may_end, may_write_path}
 use Rattle.bl_ctree_laws.specs.Shrinks.{Paces}
 use Rattle.bl_ctree_laws.specs.Steps.{Anyway, Moves}
 use Rattle.bl_ctree_laws.specs.Trees.{Tree, do_block, is_nil, is_settled, woken}
-use Rattle.bl_ctree_laws_traces.specs.Progress.Live.{Live}
+use Rattle.bl_ctree_laws_traces.specs.Progress.FitsGraph.{FitsGraph}
 use Rattle.bl_ctree_laws_traces.specs.Progress.Places.{AllCallable, whole}
 
 -- what could act in a tree that stands in a body's graph is a node of its depth where it stood when the tick began, else of its surface
 abbrev pub NodesAreInPart : Type 0
 NodesAreInPart =
     (w : Setting) (i : ℕ) (stood : Bool) (body : Block) (c : Tree) (d : Bool) (a : Deed) (n : StepLabel) (c' : Tree) →
-    Live w i c (whole stood body) → Moves Anyway w i c d a n c' → In stood body (head_of n)
+    FitsGraph w i c (whole stood body) → Moves Anyway w i c d a n c' → In stood body (head_of n)
 
 -- a step that could be taken
 pub record Could (w : Setting) (i : ℕ) (c : Tree) : Type 0 where
@@ -32,10 +32,10 @@ pub record Could (w : Setting) (i : ℕ) (c : Tree) : Type 0 where
 
 -- where something is left to do something could act
 abbrev pub UnsettledCould : Type 0
-UnsettledCould = (w : Setting) (i : ℕ) (stood : Bool) (body : Block) (c : Tree) → Live w i c (whole stood body) → is_settled c ≡ false → Could w i c
+UnsettledCould = (w : Setting) (i : ℕ) (stood : Bool) (body : Block) (c : Tree) → FitsGraph w i c (whole stood body) → is_settled c ≡ false → Could w i c
 
 -- a step that could be taken, from whose node edges lead to a node with the property
-pub record Leads (w : Setting) (i : ℕ) (c : Tree) (E : Node → Node → Type 0) (F : Node → Type 0) : Type 0 where
+pub record StepLeadsTo (w : Setting) (i : ℕ) (c : Tree) (E : Node → Node → Type 0) (F : Node → Type 0) : Type 0 where
   pub could : Could w i c
   pub end : Node
   pub walk : Walk E (head_of could.label) end
@@ -44,33 +44,33 @@ pub record Leads (w : Setting) (i : ℕ) (c : Tree) (E : Node → Node → Type 
 -- where a tree may end in this tick it has ended, or what could act in it leads to its end
 abbrev pub EndsAreReached : Type 0
 EndsAreReached =
-    (w : Setting) (i : ℕ) (stood : Bool) (body : Block) (c : Tree) → Live w i c (whole stood body) → may_end c ≡ true →
-    (is_nil c ≡ true) ⊎ Leads w i c (EdgeAll body) (OutAll body)
+    (w : Setting) (i : ℕ) (stood : Bool) (body : Block) (c : Tree) → FitsGraph w i c (whole stood body) → may_end c ≡ true →
+    (is_nil c ≡ true) ⊎ StepLeadsTo w i c (EdgeAll body) (OutAll body)
 
 -- a node writes a static path that passes the test
-abbrev pub Writes : (Static → Bool) → Node → Type 0
-Writes test n = list_any test (node_writes n) ≡ true
+abbrev pub NodeWrites : (Static → Bool) → Node → Type 0
+NodeWrites test n = list_any test (node_writes n) ≡ true
 
 -- where a tree may write such a path in this tick what could act in it leads to a node that writes one
 abbrev pub WritersAreAhead : Type 0
 WritersAreAhead =
-    (w : Setting) (i : ℕ) (stood : Bool) (body : Block) (test : Static → Bool) (c : Tree) → Live w i c (whole stood body) →
-    may_write_path test c ≡ true → Leads w i c (EdgeAll body) (Writes test)
+    (w : Setting) (i : ℕ) (stood : Bool) (body : Block) (test : Static → Bool) (c : Tree) → FitsGraph w i c (whole stood body) →
+    may_write_path test c ≡ true → StepLeadsTo w i c (EdgeAll body) (NodeWrites test)
 
 -- a body begins at its place: in the surface of its graph
-abbrev pub BodiesBeginLive : Type 0
-BodiesBeginLive =
+abbrev pub BodiesFitGraph : Type 0
+BodiesFitGraph =
     (w : Setting) (i : ℕ) (unit : UnitDef) → AllCallable w → unit_at w i ≡ Some unit →
-    Live w i (do_block (plain_body unit.body)) (whole false (plain_body unit.body))
+    FitsGraph w i (do_block (plain_body unit.body)) (whole false (plain_body unit.body))
 
 -- what could act leaves a tree that stands at its place; no premise says what may act
-abbrev pub StepsKeepLive : Type 0
-StepsKeepLive =
+abbrev pub StepsKeepFitsGraph : Type 0
+StepsKeepFitsGraph =
     (w : Setting) (i : ℕ) (stood : Bool) (body : Block) (c : Tree) (d : Bool) (a : Deed) (n : StepLabel) (c' : Tree) → Paces w → AllCallable w →
-    Live w i c (whole stood body) → Moves Anyway w i c d a n c' → Live w i c' (whole stood body)
+    FitsGraph w i c (whole stood body) → Moves Anyway w i c d a n c' → FitsGraph w i c' (whole stood body)
 
 -- and waking leaves a settled tree at its place in the next tick, where all of it has stood
-abbrev pub WakingKeepsLive : Type 0
-WakingKeepsLive =
-    (w : Setting) (i : ℕ) (stood : Bool) (body : Block) (c : Tree) → is_settled c ≡ true → Live w i c (whole stood body) →
-    Live w i (woken c) (whole true body)
+abbrev pub WakingKeepsFitsGraph : Type 0
+WakingKeepsFitsGraph =
+    (w : Setting) (i : ℕ) (stood : Bool) (body : Block) (c : Tree) → is_settled c ≡ true → FitsGraph w i c (whole stood body) →
+    FitsGraph w i (woken c) (whole true body)

@@ -2,8 +2,8 @@
 use Rattle.std.specs.Prelude.{◌≡◌, ℕ, Bool, true, Some, ⊤}
 use Rattle.bl_tree.specs.declared.place.Place.{Place as Source}
 use Rattle.bl_tree.specs.declared.tree.Unit.{Unit as UnitDef}
-use Rattle.bl_nodes.specs.Nodes.{CheckAt, DepthEndAt, Node, SurfaceEndAt, are_instant}
-use Rattle.bl_nodes.specs.Plain.{
+use Rattle.bl_graph_nodes.specs.Nodes.{CheckAt, DepthEndAt, Node, SurfaceEndAt, are_instant}
+use Rattle.bl_graph_nodes.specs.Plain.{
   Block,
   Bodies,
   Plain,
@@ -114,7 +114,7 @@ AllCallable w = (i : ℕ) (unit : UnitDef) → unit_at w i ≡ Some unit → Cal
 -- ---- what fits
 
 -- the graph of the statement is part of the graph at the place
-pub record Fits (w : Setting) (i : ℕ) (s : Plain) (g : Place) : Type 0 where
+pub record IsSubgraph (w : Setting) (i : ℕ) (s : Plain) (g : Place) : Type 0 where
   pub edges : (n m : Node) → Edge s n m → g.edges n m
   pub outs : (n : Node) → Out s n → g.out n
   pub resumes : (n : Node) → Resume s n → g.deep n
@@ -122,7 +122,7 @@ pub record Fits (w : Setting) (i : ℕ) (s : Plain) (g : Place) : Type 0 where
   pub calls : Callable w i s
 
 -- the graph of the block is
-pub record FitsAll (w : Setting) (i : ℕ) (body : Block) (g : Place) : Type 0 where
+pub record AreSubgraphs (w : Setting) (i : ℕ) (body : Block) (g : Place) : Type 0 where
   pub edges : (n m : Node) → EdgeAll body n m → g.edges n m
   pub outs : (n : Node) → OutAll body n → g.out n
   pub resumes : (n : Node) → ResumeAll body n → g.deep n

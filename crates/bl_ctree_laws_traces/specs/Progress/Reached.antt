@@ -1,6 +1,6 @@
 -- The trees that runs reach stand in the tick graph of the entry's body.
 use Rattle.std.specs.Prelude.{ℤ, Bool, true, false, List, ◌≡◌}
-use Rattle.bl_nodes.specs.Plain.{Block}
+use Rattle.bl_graph_nodes.specs.Plain.{Block}
 use Rattle.bl_ctree.specs.Actions.{Action}
 use Rattle.bl_ctree.specs.Control.{Control}
 use Rattle.bl_ctree.specs.Instances.{Setting}
@@ -12,30 +12,30 @@ use Rattle.bl_ctree_laws.specs.Runs.{entry_block}
 use Rattle.bl_ctree_laws.specs.Shrinks.{Paces}
 use Rattle.bl_ctree_laws.specs.Trees.{Tree, Idle, is_settled}
 use Rattle.bl_ctree_laws_traces.specs.Progress.Laws.{Could}
-use Rattle.bl_ctree_laws_traces.specs.Progress.Live.{Live}
+use Rattle.bl_ctree_laws_traces.specs.Progress.FitsGraph.{FitsGraph}
 use Rattle.bl_ctree_laws_traces.specs.Progress.Places.{AllCallable, whole}
 
 -- a tree of a body between ticks: it has not begun, or it rests at its place
-pub data LiveTree (w : Setting) (body : Block) : Tree → Type 0 where
-  not_begun : LiveTree w body (Idle body)
-  rests : (stood : Bool) (c : Tree) → is_settled c ≡ true → Live w 0 c (whole stood body) → LiveTree w body c
+pub data TreeFitsGraph (w : Setting) (body : Block) : Tree → Type 0 where
+  not_begun : TreeFitsGraph w body (Idle body)
+  rests : (stood : Bool) (c : Tree) → is_settled c ≡ true → FitsGraph w 0 c (whole stood body) → TreeFitsGraph w body c
 
 -- a tree of a body in a tick: of a body that begins its nodes are of the surface, of one that goes on of the depth
-pub record LiveNow (w : Setting) (body : Block) (c : Tree) : Type 0 where
+pub record TreeFitsGraphNow (w : Setting) (body : Block) (c : Tree) : Type 0 where
   pub stood : Bool
-  pub lives : Live w 0 c (whole stood body)
+  pub lives : FitsGraph w 0 c (whole stood body)
 
 -- where activities pause, and each `run` begins an instance of a unit, the trees that runs reach between ticks stand at their places
-abbrev pub ReachedIsLive : Type 0
-ReachedIsLive =
+abbrev pub ReachedFitsGraph : Type 0
+ReachedFitsGraph =
     (w : Setting) (rows : List (List ℤ)) (c : Control) (store : Store) → Paces w → AllCallable w → Reaches w rows c store →
-    LiveTree w (entry_block w) (plain_tree c)
+    TreeFitsGraph w (entry_block w) (plain_tree c)
 
 -- and inside ticks, after any steps
-abbrev pub ReachedInsideIsLive : Type 0
-ReachedInsideIsLive =
+abbrev pub ReachedInsideFitsGraph : Type 0
+ReachedInsideFitsGraph =
     (w : Setting) (rows : List (List ℤ)) (row : List ℤ) (actions : List Action) (c : Control) (store : Store) → Paces w → AllCallable w →
-    ReachesInside w rows row actions (Rests c store) → LiveNow w (entry_block w) (plain_tree c)
+    ReachesInside w rows row actions (Rests c store) → TreeFitsGraphNow w (entry_block w) (plain_tree c)
 
 -- so in each of these trees in which something is left to do something could act, were it not for what other branches may write
 abbrev pub ReachedCould : Type 0

@@ -3,8 +3,8 @@ use Rattle.std.specs.Prelude.{◌≡◌, ℕ, Bool, Contains, ⊤, List}
 use Rattle.bl_tree.specs.declared.static_path.Static.{Static}
 use Rattle.bl_tree.specs.declared.tree.StructDef.{StructDef}
 use Rattle.bl_tree.specs.declared.tree.Unit.{Unit as UnitDef}
-use Rattle.bl_nodes.specs.Nodes.{Node, node_reads}
-use Rattle.bl_nodes.specs.Steps.{Gives, Here, Inside, StepLabel, leaf_of}
+use Rattle.bl_graph_nodes.specs.Nodes.{Node, node_reads}
+use Rattle.bl_graph_nodes.specs.Steps.{Gives, Here, Inside, StepLabel, leaf_of}
 use Rattle.bl_graph.specs.DataEdges.{Touches}
 use Rattle.bl_ctree.specs.Instances.{Setting, setting_of}
 use Rattle.bl_ctree.specs.Store.{Location, home}
@@ -27,15 +27,15 @@ DeedsReadAtNodes =
     Contains (deed_reads w a) at → IsRead w a.instance (leaf_of n) at
 
 -- a deed is done in the instance of the tree, but where its step is inside a call
-abbrev pub StandsIn : ℕ → Deed → StepLabel → Type 0
-StandsIn i a (Here n) = a.instance ≡ i
-StandsIn i a (Gives n) = a.instance ≡ i
-StandsIn i a (Inside n unit step) = ⊤
+abbrev pub DeedIsInInstance : ℕ → Deed → StepLabel → Type 0
+DeedIsInInstance i a (Here n) = a.instance ≡ i
+DeedIsInInstance i a (Gives n) = a.instance ≡ i
+DeedIsInInstance i a (Inside n unit step) = ⊤
 
 -- a step that isn't inside a call is a deed of the tree's own instance
 abbrev pub DeedsStandAtNodes : Type 0
 DeedsStandAtNodes =
-    (w : Setting) (i : ℕ) (c : Tree) (d : Bool) (a : Deed) (n : StepLabel) (c' : Tree) → Moves Anyway w i c d a n c' → StandsIn i a n
+    (w : Setting) (i : ℕ) (c : Tree) (d : Bool) (a : Deed) (n : StepLabel) (c' : Tree) → Moves Anyway w i c d a n c' → DeedIsInInstance i a n
 
 -- so what writes, in the tree's instance, something over a home that the deed reads has a data edge's overlap with the deed's node
 abbrev pub WritersTouch : Type 0

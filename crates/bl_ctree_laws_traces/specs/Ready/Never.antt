@@ -2,11 +2,11 @@
 use Rattle.std.specs.Prelude.{◌≡◌, ◌⊎◌, ℕ, ℤ, Bool, false, List, Some}
 use Rattle.bl_tree.specs.declared.tree.StructDef.{StructDef}
 use Rattle.bl_tree.specs.declared.tree.Unit.{Unit as UnitDef}
-use Rattle.bl_tree.specs.Program.{Keeps}
+use Rattle.bl_tree.specs.Program.{IsWellTyped}
 use Rattle.bl_effects.specs.Rules.{Passes}
-use Rattle.bl_nodes.specs.Nodes.{Node}
-use Rattle.bl_nodes.specs.Plain.{plain_body}
-use Rattle.bl_nodes.specs.Steps.{StepLabel}
+use Rattle.bl_graph_nodes.specs.Nodes.{Node}
+use Rattle.bl_graph_nodes.specs.Plain.{plain_body}
+use Rattle.bl_graph_nodes.specs.Steps.{StepLabel}
 use Rattle.bl_ctree.specs.Actions.{Action}
 use Rattle.bl_ctree.specs.Control.{Control}
 use Rattle.bl_ctree.specs.Instances.{Setting, setting_of, unit_at}
@@ -18,8 +18,8 @@ use Rattle.bl_ctree_laws.specs.Pending.{Deed}
 use Rattle.bl_ctree_laws.specs.Steps.{Anyway, Moves, Unmet}
 use Rattle.bl_ctree_laws.specs.Trees.{Tree, is_settled}
 use Rattle.bl_ctree_laws_confluence.specs.Deeds.Homes.{OutputsAreApart}
-use Rattle.bl_ctree_laws_confluence.specs.Apart.Seen.{CallsStand}
-use Rattle.bl_ctree_laws_traces.specs.Progress.Live.{Live}
+use Rattle.bl_ctree_laws_confluence.specs.Apart.Seen.{CallsMatchCallees}
+use Rattle.bl_ctree_laws_traces.specs.Progress.FitsGraph.{FitsGraph}
 use Rattle.bl_ctree_laws_traces.specs.Progress.Places.{whole}
 use Rattle.bl_ctree_laws_traces.specs.Ready.Ranks.{LowerCould, Rising}
 
@@ -36,25 +36,25 @@ abbrev pub UnsettledMay : Type 0
 UnsettledMay =
     (structs : List StructDef) (units : List UnitDef) (entry : ℕ) (rank : ℕ → Node → ℕ) (i : ℕ) (unit : UnitDef) (stood : Bool) (c : Tree) →
     let w = setting_of structs units entry in
-    Rising w rank → OutputsAreApart w → unit_at w i ≡ Some unit → Live w i c (whole stood (plain_body unit.body)) → CallsStand w i c →
+    Rising w rank → OutputsAreApart w → unit_at w i ≡ Some unit → FitsGraph w i c (whole stood (plain_body unit.body)) → CallsMatchCallees w i c →
     is_settled c ≡ false → May w i c
 
 -- in the trees that runs reach inside ticks each `run` has the callee that its place begins, with its own outputs
-abbrev pub ReachedCallsStand : Setting → Type 0
-ReachedCallsStand w =
+abbrev pub ReachedCallsMatch : Setting → Type 0
+ReachedCallsMatch w =
     (rows : List (List ℤ)) (row : List ℤ) (actions : List Action) (c : Control) (store : Store) → ReachesInside w rows row actions (Rests c store) →
-    CallsStand w 0 (plain_tree c)
+    CallsMatchCallees w 0 (plain_tree c)
 
 -- so it is in each typed program
-abbrev pub TypedCallsStand : Type 0
-TypedCallsStand =
-    (structs : List StructDef) (units : List UnitDef) (entry : ℕ) → Keeps structs units entry → ReachedCallsStand (setting_of structs units entry)
+abbrev pub TypedCallsMatch : Type 0
+TypedCallsMatch =
+    (structs : List StructDef) (units : List UnitDef) (entry : ℕ) → IsWellTyped structs units entry → ReachedCallsMatch (setting_of structs units entry)
 
 -- in the trees that runs of an accepted program reach, the lowest step that could be taken may be taken, where numbers rise along all
 -- edges of the tick graphs of its activities
 abbrev pub ReachedLowestMayAct : Type 0
 ReachedLowestMayAct =
-    (structs : List StructDef) (units : List UnitDef) (entry : ℕ) (rank : ℕ → Node → ℕ) → Keeps structs units entry → Passes units →
+    (structs : List StructDef) (units : List UnitDef) (entry : ℕ) (rank : ℕ → Node → ℕ) → IsWellTyped structs units entry → Passes units →
     let w = setting_of structs units entry in
     Rising w rank → (rows : List (List ℤ)) (row : List ℤ) (actions : List Action) (c : Control) (store : Store) →
     ReachesInside w rows row actions (Rests c store) → (d : Bool) (a : Deed) (n : StepLabel) (c' : Tree) →
@@ -63,5 +63,5 @@ ReachedLowestMayAct =
 -- so no tick of it is stuck
 abbrev pub AcceptedNeverStuck : Type 0
 AcceptedNeverStuck =
-    (structs : List StructDef) (units : List UnitDef) (entry : ℕ) (rank : ℕ → Node → ℕ) → Keeps structs units entry → Passes units →
+    (structs : List StructDef) (units : List UnitDef) (entry : ℕ) (rank : ℕ → Node → ℕ) → IsWellTyped structs units entry → Passes units →
     Rising (setting_of structs units entry) rank → NeverStuck structs units entry

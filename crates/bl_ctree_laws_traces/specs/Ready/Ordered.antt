@@ -4,11 +4,11 @@ use Rattle.bl_tree.specs.declared.graph.Edge.{Edge as GraphEdge}
 use Rattle.bl_tree.specs.declared.graph.Node.{Node as GraphNode}
 use Rattle.bl_tree.specs.declared.tree.StructDef.{StructDef}
 use Rattle.bl_tree.specs.declared.tree.Unit.{Unit as UnitDef}
-use Rattle.bl_tree.specs.Program.{Keeps}
+use Rattle.bl_tree.specs.Program.{IsWellTyped}
 use Rattle.bl_tree.specs.Typing.{is_activity}
 use Rattle.bl_effects.specs.Rules.{Passes}
-use Rattle.bl_nodes.specs.Nodes.{Node}
-use Rattle.bl_nodes.specs.Plain.{Block, plain_body}
+use Rattle.bl_graph_nodes.specs.Nodes.{Node}
+use Rattle.bl_graph_nodes.specs.Plain.{Block, plain_body}
 use Rattle.bl_graph.specs.Graph.{IsTickGraph}
 use Rattle.bl_cause.specs.Ranks.{Ranks}
 use Rattle.bl_ctree.specs.Instances.{Setting, unit_at}
@@ -43,5 +43,5 @@ OrdersGiveRanks = (w : Setting) → AllOrdered w → HasRanks w
 -- so a program that passes the rules and whose activities' tick graphs have orders is never stuck
 abbrev pub OrderedNeverStuck : Type 0
 OrderedNeverStuck =
-    (structs : List StructDef) (units : List UnitDef) (entry : ℕ) → Keeps structs units entry → Passes units → ActivitiesAreOrdered units →
+    (structs : List StructDef) (units : List UnitDef) (entry : ℕ) → IsWellTyped structs units entry → Passes units → ActivitiesAreOrdered units →
     NeverStuck structs units entry

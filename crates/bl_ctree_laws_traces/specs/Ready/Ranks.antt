@@ -2,9 +2,9 @@
 use Rattle.std.specs.Prelude.{◌≡◌, ◌⊎◌, ◌<◌, ℕ, Bool, List, [], ◌∷◌, Some, unwrap_or}
 use Rattle.bl_tree.specs.declared.tree.StructDef.{StructDef}
 use Rattle.bl_tree.specs.declared.tree.Unit.{Unit as UnitDef}
-use Rattle.bl_nodes.specs.Nodes.{Node, place_of_node}
-use Rattle.bl_nodes.specs.Plain.{plain_body}
-use Rattle.bl_nodes.specs.Steps.{Gives, Here, Inside, StepLabel}
+use Rattle.bl_graph_nodes.specs.Nodes.{Node, place_of_node}
+use Rattle.bl_graph_nodes.specs.Plain.{plain_body}
+use Rattle.bl_graph_nodes.specs.Steps.{Gives, Here, Inside, StepLabel}
 use Rattle.bl_graph.specs.DataEdges.{DataEdge}
 use Rattle.bl_graph.specs.Edges.{EdgeAll}
 use Rattle.bl_graph.specs.Walks.{Rises}
@@ -13,9 +13,9 @@ use Rattle.bl_ctree_laws.specs.Pending.{Deed}
 use Rattle.bl_ctree_laws.specs.Steps.{Anyway, Moves, Unmet}
 use Rattle.bl_ctree_laws.specs.Trees.{Tree}
 use Rattle.bl_ctree_laws_confluence.specs.Deeds.Homes.{OutputsAreApart}
-use Rattle.bl_ctree_laws_confluence.specs.Apart.Seen.{CallsStand}
+use Rattle.bl_ctree_laws_confluence.specs.Apart.Seen.{CallsMatchCallees}
 use Rattle.bl_ctree_laws_traces.specs.Progress.Laws.{Could}
-use Rattle.bl_ctree_laws_traces.specs.Progress.Live.{Live}
+use Rattle.bl_ctree_laws_traces.specs.Progress.FitsGraph.{FitsGraph}
 use Rattle.bl_ctree_laws_traces.specs.Progress.Places.{whole}
 
 -- numbers for nodes, instance by instance, that rise along each control edge and each data edge of the body of the instance's unit
@@ -51,5 +51,5 @@ LowestMayAct =
     (c : Tree) (d : Bool)
     (a : Deed) (n : StepLabel) (c' : Tree) →
     let w = setting_of structs units entry in
-    Rising w rank → OutputsAreApart w → unit_at w i ≡ Some unit → Live w i c (whole stood (plain_body unit.body)) → CallsStand w i c →
+    Rising w rank → OutputsAreApart w → unit_at w i ≡ Some unit → FitsGraph w i c (whole stood (plain_body unit.body)) → CallsMatchCallees w i c →
     Moves Anyway w i c d a n c' → Moves Unmet w i c d a n c' ⊎ LowerCould w rank i c n

@@ -2,15 +2,15 @@
 use Rattle.std.specs.Prelude.{◌≡◌, ℕ, Bool, Some, List}
 use Rattle.bl_tree.specs.declared.tree.StructDef.{StructDef}
 use Rattle.bl_tree.specs.declared.tree.Unit.{Unit as UnitDef}
-use Rattle.bl_nodes.specs.Nodes.{Node, place_of_node}
-use Rattle.bl_nodes.specs.Steps.{Gives, Here, Inside, StepLabel}
+use Rattle.bl_graph_nodes.specs.Nodes.{Node, place_of_node}
+use Rattle.bl_graph_nodes.specs.Steps.{Gives, Here, Inside, StepLabel}
 use Rattle.bl_graph.specs.DataEdges.{Touches}
 use Rattle.bl_ctree.specs.Instances.{Setting, callee_of, setting_of}
 use Rattle.bl_ctree_laws.specs.Pending.{Deed}
 use Rattle.bl_ctree_laws.specs.Steps.{Anyway, Moves}
 use Rattle.bl_ctree_laws.specs.Trees.{Tree}
 use Rattle.bl_ctree_laws_confluence.specs.Deeds.Homes.{OutputsAreApart}
-use Rattle.bl_ctree_laws_confluence.specs.Apart.Seen.{CallsStand}
+use Rattle.bl_ctree_laws_confluence.specs.Apart.Seen.{CallsMatchCallees}
 use Rattle.bl_ctree_laws_traces.specs.Progress.Blocked.{WritesOver}
 
 -- what writes, in the instance, over something that the deed reads writes a static path that overlaps one that the node reads
@@ -30,4 +30,4 @@ TouchesAt w i a (Inside n u step) =
 abbrev pub WritersTouchOnTheWay : Type 0
 WritersTouchOnTheWay =
     (structs : List StructDef) (units : List UnitDef) (entry i : ℕ) (c : Tree) (d : Bool) (a : Deed) (n : StepLabel) (c' : Tree) →
-    let w = setting_of structs units entry in OutputsAreApart w → CallsStand w i c → Moves Anyway w i c d a n c' → TouchesAt w i a n
+    let w = setting_of structs units entry in OutputsAreApart w → CallsMatchCallees w i c → Moves Anyway w i c d a n c' → TouchesAt w i a n

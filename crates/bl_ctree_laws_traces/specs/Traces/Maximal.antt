@@ -6,24 +6,24 @@ use Rattle.bl_tree.specs.declared.tree.Unit.{Unit as UnitDef}
 use Rattle.bl_ctree.specs.Actions.{Action}
 use Rattle.bl_ctree.specs.Control.{Control}
 use Rattle.bl_ctree.specs.Instances.{Setting, setting_of}
-use Rattle.bl_ctree.specs.Means.{Means, Shown, shown}
+use Rattle.bl_ctree.specs.Means.{Means, ShownTrace, shown_trace}
 use Rattle.bl_ctree.specs.Reaches.{Bounded, NeverStuck, Reaches, ReachesInside}
 use Rattle.bl_ctree.specs.Store.{Store}
 use Rattle.bl_ctree.specs.Ticks.{End, Maximal, Rests, Tick}
 
 -- a maximal list of steps from a tree and a store, and where it leads
-pub record GoesOn (w : Setting) (c : Control) (store : Store) : Type 0 where
+pub record ExtendsToMaximal (w : Setting) (c : Control) (store : Store) : Type 0 where
   pub rest : List Action
   pub end : End
   pub maximal : Maximal w c store rest end
 
 -- where ticks are bounded every list of steps that a run can take in a tick goes on to a maximal one
-abbrev pub BoundedGoOn : Type 0
-BoundedGoOn =
+abbrev pub BoundedExtend : Type 0
+BoundedExtend =
     (most : ℕ) (structs : List StructDef) (units : List UnitDef) (entry : ℕ) → Bounded most structs units entry →
     let w = setting_of structs units entry in
     (rows : List (List ℤ)) (row : List ℤ) (actions : List Action) (c : Control) (store : Store) →
-    ReachesInside w rows row actions (Rests c store) → GoesOn w c store
+    ReachesInside w rows row actions (Rests c store) → ExtendsToMaximal w c store
 
 -- a tick over the row, and how it ends
 pub record HasTick (w : Setting) (row : List ℤ) (c : Control) (store : Store) : Type 0 where
@@ -39,7 +39,7 @@ BoundedHaveTicks =
 
 -- what the meaning of a program allows over the rows
 pub record HasMeaning (structs : List StructDef) (units : List UnitDef) (entry : ℕ) (rows : List (List ℤ)) : Type 0 where
-  pub shows : Shown
+  pub shows : ShownTrace
   pub means : Means structs units entry rows shows
 
 -- and the meaning allows something over all rows
@@ -49,12 +49,12 @@ BoundedHaveMeanings =
     (rows : List (List ℤ)) → HasMeaning structs units entry rows
 
 -- what is shown is a trace: none of its ticks is stuck
-pub record IsTrace (shows : Shown) : Type 0 where
+pub record IsTrace (shows : ShownTrace) : Type 0 where
   pub trace : Trace
-  pub is : shows ≡ shown trace
+  pub is : shows ≡ shown_trace trace
 
 -- where no tick is stuck the meaning allows traces alone
 abbrev pub UnstuckShowTraces : Type 0
 UnstuckShowTraces =
     (structs : List StructDef) (units : List UnitDef) (entry : ℕ) → NeverStuck structs units entry →
-    (rows : List (List ℤ)) (shows : Shown) → Means structs units entry rows shows → IsTrace shows
+    (rows : List (List ℤ)) (shows : ShownTrace) → Means structs units entry rows shows → IsTrace shows

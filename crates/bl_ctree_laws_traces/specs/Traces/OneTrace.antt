@@ -3,16 +3,16 @@ use Rattle.std.specs.Prelude.{◌≡◌, ℕ, ℤ, List}
 use Rattle.bl_tree.specs.declared.row.Trace.{Trace}
 use Rattle.bl_tree.specs.declared.tree.StructDef.{StructDef}
 use Rattle.bl_tree.specs.declared.tree.Unit.{Unit as UnitDef}
-use Rattle.bl_tree.specs.Program.{Keeps}
-use Rattle.bl_raw.specs.declared.item.RawItem.{RawItem}
-use Rattle.bl_raw.specs.Keeps.{RawKeeps}
-use Rattle.bl_scopes.specs.Rules.{Passes as NamesPass}
+use Rattle.bl_tree.specs.Program.{IsWellTyped}
+use Rattle.bl_parse_tree.specs.declared.item.RawItem.{RawItem}
+use Rattle.bl_parse_tree.specs.WellFormed.{RawIsWellFormed}
+use Rattle.bl_names_scopes.specs.Rules.{Passes as NamesPass}
 use Rattle.bl_names.specs.Named.{named_program}
 use Rattle.bl_types.specs.Programs.{typed_program}
 use Rattle.bl_types.specs.Rules.{Passes as TypesPass}
 use Rattle.bl_effects.specs.Rules.{Passes}
 use Rattle.bl_ctree.specs.Instances.{setting_of}
-use Rattle.bl_ctree.specs.Means.{Means, Shown, shown}
+use Rattle.bl_ctree.specs.Means.{Means, ShownTrace, shown_trace}
 use Rattle.bl_ctree.specs.Measure.{steps}
 use Rattle.bl_ctree.specs.Reaches.{Bounded, NeverStuck}
 use Rattle.bl_ctree_laws_traces.specs.Bounded.Bounds.{RunsStandApart}
@@ -22,8 +22,8 @@ use Rattle.bl_ctree_laws_traces.specs.Ready.Ordered.{ActivitiesAreOrdered}
 -- over these rows the meaning of the program allows this trace, and nothing else
 pub record OneTrace (structs : List StructDef) (units : List UnitDef) (entry : ℕ) (rows : List (List ℤ)) : Type 0 where
   pub trace : Trace
-  pub means : Means structs units entry rows (shown trace)
-  pub only : (shows : Shown) → Means structs units entry rows shows → shows ≡ shown trace
+  pub means : Means structs units entry rows (shown_trace trace)
+  pub only : (shows : ShownTrace) → Means structs units entry rows shows → shows ≡ shown_trace trace
 
 -- over all rows there is exactly one trace; every tick ends or traps: it has no more steps than the program's number of them, in
 -- whatever order they are taken, and none is stuck
@@ -35,19 +35,19 @@ pub record HasOneTrace (structs : List StructDef) (units : List UnitDef) (entry 
 -- where the tick graph of each activity has an order, numbers rise along the control edges of each instance
 abbrev pub OrderedAreNumbered : Type 0
 OrderedAreNumbered =
-    (structs : List StructDef) (units : List UnitDef) (entry : ℕ) → Keeps structs units entry → Passes units → ActivitiesAreOrdered units →
+    (structs : List StructDef) (units : List UnitDef) (entry : ℕ) → IsWellTyped structs units entry → Passes units → ActivitiesAreOrdered units →
     AllNumbered (setting_of structs units entry)
 
 -- a typed program that passes the rules, whose activities' tick graphs have orders, and whose `run` statements stand at places of their own,
 -- has exactly one trace
 abbrev pub OrderedHaveOneTrace : Type 0
 OrderedHaveOneTrace =
-    (structs : List StructDef) (units : List UnitDef) (entry : ℕ) → Keeps structs units entry → Passes units → RunsStandApart units →
+    (structs : List StructDef) (units : List UnitDef) (entry : ℕ) → IsWellTyped structs units entry → Passes units → RunsStandApart units →
     ActivitiesAreOrdered units → HasOneTrace structs units entry
 
 -- and each program that a raw tree has in which no rule fails has, where `run` statements do stand at places of their own
 abbrev pub TypedHaveOneTrace : Type 0
 TypedHaveOneTrace =
-    (items : List RawItem) (bytes : ℕ) → RawKeeps items → NamesPass items → TypesPass (named_program items bytes) →
+    (items : List RawItem) (bytes : ℕ) → RawIsWellFormed items → NamesPass items → TypesPass (named_program items bytes) →
     let typed = typed_program (named_program items bytes) in
     Passes typed.units → ActivitiesAreOrdered typed.units → HasOneTrace typed.structs typed.units typed.entry

@@ -8,7 +8,7 @@ use Rattle.bl_tree.specs.declared.tree.StmtKind.{StmtKind, fold-StmtKind, out-St
 use Rattle.bl_effects.specs.declared.gather.Paths.{Paths}
 use Rattle.bl_tree.specs.declared.static_path.Static.{Static}
 use Rattle.bl_tree.specs.Effects.{arm_reads, arm_writes, branch_paths, kind_reads, kind_writes, stmt_set}
-use Rattle.bl_tree.specs.Instant.{Ends, arm_instant, branch_ends, kind_instant, stmt_instant}
+use Rattle.bl_tree.specs.Instant.{BranchInstant, arm_instant, branch_ends, kind_instant, stmt_instant}
 use Rattle.bl_tree.specs.Within.{Effect, StandsIn, effect_of, kind_children, place_of}
 use Rattle.bl_effects.specs.Table.{found}
 
@@ -24,7 +24,7 @@ writes_of_kind = fold-StmtKind (List Static) (List Static) (List Static) (List S
 
 -- whether a kind of statement may end at once
 abbrev pub instant_of_kind : StmtKind → Bool
-instant_of_kind = fold-StmtKind Bool Bool Ends Bool kind_instant arm_instant branch_ends stmt_instant
+instant_of_kind = fold-StmtKind Bool Bool BranchInstant Bool kind_instant arm_instant branch_ends stmt_instant
 
 -- the statements directly in its blocks
 abbrev pub children_of_kind : StmtKind → List Stmt
@@ -40,7 +40,7 @@ writes_of_arm = fold-Arm (List Static) (List Static) (List Static) (List Static)
 
 -- whether an arm may end at once
 abbrev pub instant_of_arm : Arm → Bool
-instant_of_arm = fold-Arm Bool Bool Ends Bool kind_instant arm_instant branch_ends stmt_instant
+instant_of_arm = fold-Arm Bool Bool BranchInstant Bool kind_instant arm_instant branch_ends stmt_instant
 
 -- what a branch reads
 abbrev pub reads_of_branch : Branch → List Static
@@ -51,8 +51,8 @@ abbrev pub writes_of_branch : Branch → List Static
 writes_of_branch = fold-Branch (List Static) (List Static) (List Static) (List Static) kind_writes arm_writes branch_paths stmt_set
 
 -- whether a branch is weak, and whether it may end at once
-abbrev pub ends_of_branch : Branch → Ends
-ends_of_branch = fold-Branch Bool Bool Ends Bool kind_instant arm_instant branch_ends stmt_instant
+abbrev pub ends_of_branch : Branch → BranchInstant
+ends_of_branch = fold-Branch Bool Bool BranchInstant Bool kind_instant arm_instant branch_ends stmt_instant
 
 -- ---- the table
 

@@ -3,7 +3,7 @@ use Rattle.std.proofs.Common.{subst}
 use Rattle.bl_tree.specs.declared.program.Program.{Program}
 use Rattle.bl_emit.specs.Kept.{written_in}
 use Rattle.bl_emit_laws.specs.Spelled.{ProgramsSpelled}
-use Rattle.bl_emit_pass_laws_runs.specs.Compiled.{AreCountable}
+use Rattle.bl_emit_spec_laws_simulation.specs.Compiled.{AreCountable}
 use Rattle.bl_emit_file.specs.Laws.{ProgramsShow}
 use Rattle.bl_emit_file.proofs.Merged.{made_known, made_of_merged, made_spelled}
 use Rattle.bl_emit_file.proofs.Whole.{file_shows}

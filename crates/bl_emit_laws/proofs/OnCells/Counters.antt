@@ -7,9 +7,9 @@ use Rattle.bl_machine.specs.declared.slots.Slot.{Slot}
 use Rattle.bl_machine.specs.Blocks.{up_to}
 use Rattle.bl_machine.specs.Layout.{counters_in, counters_in_each, counters_of, width_in, width_in_each, width_of}
 use Rattle.bl_machine.specs.Slots.{counters_at, numbered, numbered_after, times}
-use Rattle.bl_nodes.specs.Plain.{Act, Again, Await, Block, Bodies, Body as BodyOf, Cobegin, Done, If, Last, Plain}
-use Rattle.bl_nodes.specs.Plain.{Repeat, Run as RunOf, Then, Until, When, While}
-use Rattle.bl_pass.specs.Numbered.{sizes_for, sizes_of}
+use Rattle.bl_graph_nodes.specs.Plain.{Act, Again, Await, Block, Bodies, Body as BodyOf, Cobegin, Done, If, Last, Plain}
+use Rattle.bl_graph_nodes.specs.Plain.{Repeat, Run as RunOf, Then, Until, When, While}
+use Rattle.bl_machine_pass.specs.Numbered.{sizes_for, sizes_of}
 
 -- ---- all are below a number
 

@@ -39,18 +39,18 @@ use Rattle.bl_tree.specs.Reduce.{joined, total}
 use Rattle.bl_tree.specs.Types.{type_stands}
 use Rattle.bl_tree.specs.Typing.{inputs_of, outputs_of}
 use Rattle.bl_eval.proofs.PassLemmas.{and_left, and_right, both}
-use Rattle.bl_measures.specs.Types.{size}
-use Rattle.bl_cmeaning.specs.Calls.{calls_in_arg, calls_in_block, calls_in_place, calls_in_stmt, most}
-use Rattle.bl_cmeaning.specs.Loops.{turns_in, turns_in_block}
-use Rattle.bl_cmeaning.specs.Sizes.{Sizes, chain_cells, size_of_member, size_of_struct}
-use Rattle.bl_cmeaning.specs.Tables.{Table, entry_or}
+use Rattle.bl_limits_measures.specs.Types.{size}
+use Rattle.bl_ctext_semantics.specs.Calls.{calls_in_arg, calls_in_block, calls_in_place, calls_in_stmt, most}
+use Rattle.bl_ctext_semantics.specs.Loops.{turns_in, turns_in_block}
+use Rattle.bl_ctext_semantics.specs.Sizes.{Sizes, chain_cells, size_of_member, size_of_struct}
+use Rattle.bl_ctext_semantics.specs.Tables.{Table, entry_or}
 use Rattle.bl_emit_acts.specs.Acts.{c_calling, c_clear}
 use Rattle.bl_emit_acts.specs.Trees.{c_call, c_literal, c_place, c_read, c_step}
 use Rattle.bl_emit_acts.specs.Types.{unit_name}
 use Rattle.bl_emit_functions.specs.Functions.{memory_name}
 use Rattle.bl_emit_functions.specs.Trees.{c_if}
-use Rattle.bl_emit_functions_laws_formed.specs.Cells.{SizesKnown}
-use Rattle.bl_emit_functions_laws_formed.proofs.OnFiles.Shapes.{
+use Rattle.bl_emit_functions_laws_wellformed.specs.Cells.{SizesKnown}
+use Rattle.bl_emit_functions_laws_wellformed.proofs.OnFiles.Shapes.{
   address-calls,
   call-calls,
   calling-calls,
@@ -63,11 +63,11 @@ use Rattle.bl_emit_functions_laws_formed.proofs.OnFiles.Shapes.{
   step-calls,
   value-calls,
 }
-use Rattle.bl_emit_functions_laws_formed.proofs.OnFormed.Turns.{one-turns, return-turns}
-use Rattle.bl_emit_pass.specs.Names.{frame_name}
-use Rattle.bl_emit_pass.specs.Programs.{c_returned, init_function, input_arg, output_arg, port_member, port_struct, state_struct, tick_args, tick_function}
-use Rattle.bl_emit_pass_laws_bodies.specs.Cells.{ports_of}
-use Rattle.bl_emit_pass_laws_bodies.proofs.OnSigned.Turns.{call-turns, clear-turns, if-turns}
+use Rattle.bl_emit_functions_laws_wellformed.proofs.OnFormed.Turns.{one-turns, return-turns}
+use Rattle.bl_emit_spec.specs.Names.{frame_name}
+use Rattle.bl_emit_spec.specs.Programs.{c_returned, init_function, input_arg, output_arg, port_member, port_struct, state_struct, tick_args, tick_function}
+use Rattle.bl_emit_spec_laws_wellformed_bodies.specs.Cells.{ports_of}
+use Rattle.bl_emit_spec_laws_wellformed_bodies.proofs.OnSigned.Turns.{call-turns, clear-turns, if-turns}
 
 -- ---- what is called
 

@@ -14,11 +14,11 @@ use Rattle.bl_tree.specs.declared.tree.Unit.{Unit as UnitDef}
 use Rattle.bl_tree.specs.Typing.{is_activity}
 use Rattle.bl_tree.specs.Words.{are_distinct}
 use Rattle.bl_emit_acts.specs.Types.{type_name, type_word}
-use Rattle.bl_emit_acts_laws_formed.proofs.OnFormed.Parts.{name_at}
+use Rattle.bl_emit_acts_laws_wellformed.proofs.OnFormed.Parts.{name_at}
 use Rattle.bl_emit_functions.specs.Functions.{memory_name}
-use Rattle.bl_emit_functions_laws_formed.proofs.OnFiles.Growing.{names, one_place}
-use Rattle.bl_emit_functions_laws_formed.specs.Cells.{NamesNone}
-use Rattle.bl_emit_pass.specs.Names.{frame_name}
+use Rattle.bl_emit_functions_laws_wellformed.proofs.OnFiles.Growing.{names, one_place}
+use Rattle.bl_emit_functions_laws_wellformed.specs.Cells.{NamesNone}
+use Rattle.bl_emit_spec.specs.Names.{frame_name}
 
 -- ---- texts
 

@@ -30,20 +30,20 @@ use Rattle.std.specs.Prelude.{slice_get, unwrap_or, if◌then◌else◌}
 use Rattle.std.specs.List.{list_any}
 use Rattle.bl_tree.specs.declared.tree.Unit.{Unit as UnitDef}
 use Rattle.bl_machine.specs.Blocks.{up_to}
-use Rattle.bl_emit_pass.specs.Programs.{needed_below, needed_units, needs_at, needs_of, set_from}
+use Rattle.bl_emit_spec.specs.Programs.{needed_below, needed_units, needs_at, needs_of, set_from}
 use Rattle.bl_tree.specs.declared.tree.StructDef.{StructDef}
 use Rattle.bl_tree.specs.declared.tree.UnitKind.{UnitKind}
 use Rattle.bl_tree.specs.declared.tree.UnitKind.TheVariants.{Activity, Function}
-use Rattle.bl_tree.specs.Program.{Keeps}
+use Rattle.bl_tree.specs.Program.{IsWellTyped}
 use Rattle.bl_tree.specs.Reduce.{greatest, total}
 use Rattle.bl_tree.specs.Typing.{is_activity}
-use Rattle.bl_measures.specs.Calls.{calls_of}
-use Rattle.bl_measures.specs.Laws.{CellsAdd}
-use Rattle.bl_measures.specs.Runs.{runs_of}
-use Rattle.bl_measures.specs.Statements.{statements_of}
-use Rattle.bl_measures.specs.Units.{cells_at, cells_with, variables_of}
-use Rattle.bl_measures_laws.specs.Laws.{UnitsUseEarlierOnes}
-use Rattle.bl_emit_pass_laws_formed.proofs.OnNeeded.Runs.{runs_nothing}
+use Rattle.bl_limits_measures.specs.Calls.{calls_of}
+use Rattle.bl_limits_measures.specs.Laws.{CellsAdd}
+use Rattle.bl_limits_measures.specs.Runs.{runs_of}
+use Rattle.bl_limits_measures.specs.Statements.{cell_statements_of}
+use Rattle.bl_limits_measures.specs.Units.{cells_at, cells_with, variables_of}
+use Rattle.bl_limits_measures_laws.specs.Laws.{UnitsUseEarlierOnes}
+use Rattle.bl_emit_spec_laws_wellformed.proofs.OnNeeded.Runs.{runs_nothing}
 use Rattle.bl_emit_laws.proofs.OnCells.Numbers.{among_greatest}
 use Rattle.std.proofs.lemmas.List.Folds.{list_any-append}
 
@@ -72,10 +72,10 @@ calling_less Activity variables statements running calling n le = omega (arith, 
 -- the count of a unit's cells, by those of the units that it runs and calls
 abbrev counted : List StructDef → List UnitDef → UnitDef → ℕ
 counted structs units unit =
-    cells_with unit.kind (variables_of structs unit) (statements_of unit) (total (map (cells_at structs units) (runs_of unit)))
+    cells_with unit.kind (variables_of structs unit) (cell_statements_of unit) (total (map (cells_at structs units) (runs_of unit)))
     (greatest (map (cells_at structs units) (calls_of unit)))
 
-pub less_calls : (structs : List StructDef) (units : List UnitDef) (entry k j : ℕ) (unit : UnitDef) → Keeps structs units entry →
+pub less_calls : (structs : List StructDef) (units : List UnitDef) (entry k j : ℕ) (unit : UnitDef) → IsWellTyped structs units entry →
     UnitsUseEarlierOnes →
     CellsAdd → slice_get units k ≡ Some unit → list_any (nat_eq j) (needs_of unit) ≡ true →
     cells_at structs units j ≤ cells_at structs units k
@@ -88,7 +88,7 @@ less_calls structs units entry k j unit keeps earlier add there needed =
     runs : (kind : UnitKind) → unit.kind ≡ kind → list_any (nat_eq j) (runs_of unit) ≡ true →
         cells_at structs units j ≤ counted structs units unit
     runs Activity act among =
-        running_less unit.kind (variables_of structs unit) (statements_of unit) (total (map (cells_at structs units) (runs_of unit)))
+        running_less unit.kind (variables_of structs unit) (cell_statements_of unit) (total (map (cells_at structs units) (runs_of unit)))
         (greatest (map (cells_at structs units) (calls_of unit))) (cells_at structs units j) act
         (among_total (cells_at structs units) (runs_of unit) j among)
     runs Function act among =
@@ -97,7 +97,7 @@ less_calls structs units entry k j unit keeps earlier add there needed =
 
     by : (b : Bool) → list_any (nat_eq j) (calls_of unit) ≡ b → cells_at structs units j ≤ counted structs units unit
     by true among =
-        calling_less unit.kind (variables_of structs unit) (statements_of unit) (total (map (cells_at structs units) (runs_of unit)))
+        calling_less unit.kind (variables_of structs unit) (cell_statements_of unit) (total (map (cells_at structs units) (runs_of unit)))
         (greatest (map (cells_at structs units) (calls_of unit))) (cells_at structs units j)
         (among_greatest (cells_at structs units) (calls_of unit) j among)
     by false other =

@@ -29,29 +29,29 @@ use Rattle.std.specs.List.{list_any}
 use Rattle.std.specs.Prelude.{bytes_eq, is_some, slice_get, slice_index, unwrap_or}
 use Rattle.bl_tree.specs.declared.tree.StructDef.{StructDef}
 use Rattle.bl_tree.specs.declared.tree.Unit.{Unit as UnitDef}
-use Rattle.bl_tree.specs.Program.{Keeps}
+use Rattle.bl_tree.specs.Program.{IsWellTyped}
 use Rattle.bl_tree.specs.Reduce.{greatest, total}
 use Rattle.bl_tree.specs.Typing.{is_activity}
 use Rattle.bl_tree.specs.Words.{are_distinct}
-use Rattle.bl_measures.specs.Runs.{runs_of}
-use Rattle.bl_measures.specs.Units.{cells_at}
+use Rattle.bl_limits_measures.specs.Runs.{runs_of}
+use Rattle.bl_limits_measures.specs.Units.{cells_at}
 use Rattle.bl_machine.specs.declared.machine.Activity.{Activity as InMachine}
 use Rattle.bl_machine.specs.Layout.{width_in}
-use Rattle.bl_nodes.specs.Plain.{plain_body}
-use Rattle.bl_cmeaning.specs.Calls.{calls_in_block, most}
-use Rattle.bl_cmeaning.specs.Sizes.{Sizes, chain_cells, size_of_member}
-use Rattle.bl_cmeaning.specs.Tables.{Table, entry_or, with_entry}
+use Rattle.bl_graph_nodes.specs.Plain.{plain_body}
+use Rattle.bl_ctext_semantics.specs.Calls.{calls_in_block, most}
+use Rattle.bl_ctext_semantics.specs.Sizes.{Sizes, chain_cells, size_of_member}
+use Rattle.bl_ctext_semantics.specs.Tables.{Table, entry_or, with_entry}
 use Rattle.bl_emit_acts.specs.Acts.{name_of_callee}
 use Rattle.bl_emit_acts.specs.Types.{unit_name}
 use Rattle.bl_emit_functions.specs.Functions.{function_code, memory_name}
-use Rattle.bl_emit_functions_laws_formed.specs.Cells.{CellsFollow, CellsGrow, CellsKnown, SizesKnown}
-use Rattle.bl_emit_functions_laws_formed.proofs.OnFiles.Growing.{names, one_place}
-use Rattle.bl_emit_pass.specs.Activities.{Activity, activity_function, frame_struct, remembered}
-use Rattle.bl_emit_pass.specs.Names.{frame_name}
-use Rattle.bl_emit_pass.specs.Programs.{activity_of, needed_units, needs_of}
-use Rattle.bl_emit_pass_laws_formed.specs.Chains.{ActivitiesCallFew}
-use Rattle.bl_emit_pass_laws_bodies.specs.Cells.{ActivityCells, Sized, ports_of, reach_of}
-use Rattle.bl_emit_pass_laws_bodies.proofs.OnStructs.Lists.{below_or_last, get_taken}
+use Rattle.bl_emit_functions_laws_wellformed.specs.Cells.{CellsFollow, CellsGrow, CellsKnown, SizesKnown}
+use Rattle.bl_emit_functions_laws_wellformed.proofs.OnFiles.Growing.{names, one_place}
+use Rattle.bl_emit_spec.specs.Activities.{Activity, activity_function, frame_struct, remembered}
+use Rattle.bl_emit_spec.specs.Names.{frame_name}
+use Rattle.bl_emit_spec.specs.Programs.{activity_of, needed_units, needs_of}
+use Rattle.bl_emit_spec_laws_wellformed.specs.Chains.{ActivitiesCallFew}
+use Rattle.bl_emit_spec_laws_wellformed_bodies.specs.Cells.{ActivityCells, Sized, ports_of, reach_of}
+use Rattle.bl_emit_spec_laws_wellformed_bodies.proofs.OnStructs.Lists.{below_or_last, get_taken}
 use Rattle.bl_emit_laws.proofs.OnCells.Numbers.{among_greatest, index_front, index_last, index_more, index_under}
 use Rattle.bl_emit_laws.proofs.OnCells.Tables.{entry_less}
 
@@ -68,7 +68,7 @@ outer_by f m r ports rest frame memory most one two all = omega (arith, one, two
 reach_less : (f m r n most : ℕ) → f + m + r + n ≤ most → r ≤ most
 reach_less f m r n most all = omega (arith, all)
 
-module _ (structs : List StructDef) (units : List UnitDef) (entry : ℕ) (keeps : Keeps structs units entry) (differ : are_distinct (names units) ≡ true)
+module _ (structs : List StructDef) (units : List UnitDef) (entry : ℕ) (keeps : IsWellTyped structs units entry) (differ : are_distinct (names units) ≡ true)
     (K : Sizes) (sizes : SizesKnown structs units K) (cells : ActivityCells structs units entry) (follow : CellsFollow structs units entry)
     (grow : CellsGrow structs units entry) (few : ActivitiesCallFew)
     (before : (k j : ℕ) (unit : UnitDef) → slice_get units k ≡ Some unit → list_any (nat_eq j) (needs_of unit) ≡ true → j < k)

@@ -10,15 +10,15 @@ use Rattle.bl_tree.specs.declared.tree.Unit.{Unit as UnitDef}
 use Rattle.bl_tree.specs.Typing.{is_activity}
 use Rattle.bl_tree.specs.Words.{are_distinct}
 use Rattle.bl_machine.specs.declared.machine.Activity.{Activity as InMachine}
-use Rattle.bl_cmeaning.specs.Sizes.{Sizes, size_of_struct, sizes_after}
-use Rattle.bl_cmeaning.specs.Tables.{with_entry}
+use Rattle.bl_ctext_semantics.specs.Sizes.{Sizes, size_of_struct, sizes_after}
+use Rattle.bl_ctext_semantics.specs.Tables.{with_entry}
 use Rattle.bl_emit_structs.specs.Structs.{structs_for}
 use Rattle.bl_emit_functions.specs.Functions.{memory_name, memory_struct, struct_of}
-use Rattle.bl_emit_functions_laws_formed.specs.Cells.{NamesNone, SizesGrow, SizesKnown}
-use Rattle.bl_emit_functions_laws_formed.proofs.OnFiles.Growing.{names}
-use Rattle.bl_emit_pass.specs.Activities.{Activity, frame_struct, remembered, remembered_struct}
-use Rattle.bl_emit_pass.specs.Programs.{Parts, activity_of, parts_from, parts_of_function, parts_of_next, where_needed}
-use Rattle.bl_emit_pass_laws_bodies.proofs.OnStructs.Lists.{first_or, get_behind, none_has, take_front}
+use Rattle.bl_emit_functions_laws_wellformed.specs.Cells.{NamesNone, SizesGrow, SizesKnown}
+use Rattle.bl_emit_functions_laws_wellformed.proofs.OnFiles.Growing.{names}
+use Rattle.bl_emit_spec.specs.Activities.{Activity, frame_struct, remembered, remembered_struct}
+use Rattle.bl_emit_spec.specs.Programs.{ProgramParts, activity_of, parts_from, parts_of_function, parts_of_next, where_needed}
+use Rattle.bl_emit_spec_laws_wellformed_bodies.proofs.OnStructs.Lists.{first_or, get_behind, none_has, take_front}
 use Rattle.bl_emit_laws.proofs.OnCells.Names.{frame_none, memory_none}
 use Rattle.bl_emit_laws.proofs.OnCells.Tables.{sizes_append}
 
@@ -56,7 +56,7 @@ module _ (structs : List StructDef) (units : List UnitDef) (grow : SizesGrow str
       memory_joins k unit there rest (with_entry known s.name (size_of_struct known s))
       (grow.memory known k unit s so there (each s (0, omega arith, refl))) (λ t at. each t (further s rest t at))
 
-  abbrev here : Bool → List UnitDef → List Bool → UnitDef → List InMachine → Parts
+  abbrev here : Bool → List UnitDef → List Bool → UnitDef → List InMachine → ProgramParts
   here active earlier remember unit machine =
       if active then parts_of_next structs earlier remember unit machine else parts_of_function structs earlier unit
 
@@ -85,7 +85,7 @@ module _ (structs : List StructDef) (units : List UnitDef) (grow : SizesGrow str
       let before : take (length earlier) units ≡ earlier = ap (take (length earlier)) (sym whole) ∙ take_front earlier (unit ∷ rest) in
       let active : Bool = is_activity unit.kind in
       let own : List CStruct = (where_needed test (here active earlier remember unit machine)).structs in
-      let behind : Parts = parts_from structs (earlier ++ unit ∷ []) (remember ++ (here active earlier remember unit machine).remember) rest needed
+      let behind : ProgramParts = parts_from structs (earlier ++ unit ∷ []) (remember ++ (here active earlier remember unit machine).remember) rest needed
       (if active then drop 1 machine else machine) in
       let joined : Known (sizes_after known own) =
       subst (λ before. Known (sizes_after known (where_needed test (here active before remember unit machine)).structs)) before

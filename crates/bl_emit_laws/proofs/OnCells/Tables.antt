@@ -11,8 +11,8 @@ use Rattle.bl_tree.specs.declared.c.CType.{CType}
 use Rattle.bl_tree.specs.declared.c.CType.TheVariants.{Scalar as OfScalar, Struct as OfStruct}
 use Rattle.bl_tree.specs.declared.text.Text.{Text}
 use Rattle.bl_tree.specs.Reduce.{total}
-use Rattle.bl_cmeaning.specs.Sizes.{Sizes, size_of_length, size_of_member, size_of_struct, size_of_type, sizes_after}
-use Rattle.bl_cmeaning.specs.Tables.{entry_or, with_entry}
+use Rattle.bl_ctext_semantics.specs.Sizes.{Sizes, size_of_length, size_of_member, size_of_struct, size_of_type, sizes_after}
+use Rattle.bl_ctext_semantics.specs.Tables.{entry_or, with_entry}
 
 -- ---- one more entry
 

@@ -13,33 +13,33 @@ use Rattle.bl_tree.specs.declared.c.CStruct.{CStruct}
 use Rattle.bl_tree.specs.declared.text.Text.{Text}
 use Rattle.bl_tree.specs.declared.tree.StructDef.{StructDef}
 use Rattle.bl_tree.specs.declared.tree.Unit.{Unit as UnitDef}
-use Rattle.bl_tree.specs.Program.{Keeps}
+use Rattle.bl_tree.specs.Program.{IsWellTyped}
 use Rattle.bl_tree.specs.Reduce.{greatest, joined, total}
 use Rattle.bl_tree.specs.Typing.{is_activity}
 use Rattle.bl_tree.specs.Words.{are_distinct, is_among}
 use Rattle.bl_eval.proofs.PassLemmas.{and_left}
 use Rattle.bl_cause.specs.Activities.{EachTwo, activities}
-use Rattle.bl_measures.specs.Runs.{runs_of}
-use Rattle.bl_measures.specs.Units.{cells_at}
+use Rattle.bl_limits_measures.specs.Runs.{runs_of}
+use Rattle.bl_limits_measures.specs.Units.{cells_at}
 use Rattle.bl_machine.specs.declared.machine.Activity.{Activity as InMachine}
 use Rattle.bl_machine.specs.Layout.{width_in}
 use Rattle.bl_machine.specs.Machines.{IsActivityOf}
-use Rattle.bl_nodes.specs.Plain.{plain_body}
-use Rattle.bl_pass_listed.specs.Shared.{shared_sizes}
-use Rattle.bl_cmeaning.specs.Sizes.{Sizes, chain_cells, chains_after, size_of_member, size_of_struct, sizes_after}
-use Rattle.bl_cmeaning.specs.Tables.{Table, entry_or, with_entry}
-use Rattle.bl_emit_structs_laws.specs.Names.{names_of}
+use Rattle.bl_graph_nodes.specs.Plain.{plain_body}
+use Rattle.bl_machine_transitions.specs.Shared.{shared_sizes}
+use Rattle.bl_ctext_semantics.specs.Sizes.{Sizes, chain_cells, chains_after, size_of_member, size_of_struct, sizes_after}
+use Rattle.bl_ctext_semantics.specs.Tables.{Table, entry_or, with_entry}
+use Rattle.bl_emit_structs_laws_wellformed.specs.Names.{names_of}
 use Rattle.bl_emit_functions.specs.Functions.{memory_name, memory_struct, members_of, struct_of}
-use Rattle.bl_emit_functions_laws_formed.specs.Cells.{CellsFollow, CellsGrow, SizesKnown}
-use Rattle.bl_emit_functions_laws_formed.proofs.OnFiles.Growing.{distinct_behind, names, one_place}
-use Rattle.bl_emit_pass.specs.Activities.{Activity, frame_struct, remembered, remembered_struct, remembers_any}
-use Rattle.bl_emit_pass.specs.Names.{frame_name}
-use Rattle.bl_emit_pass.specs.Programs.{Parts, activity_of, needed_units, needs_of, parts_from, parts_of_function, parts_of_next, parts_then, where_needed}
-use Rattle.bl_emit_pass.specs.Shared.{IsSharedActivityOf}
-use Rattle.bl_emit_pass_laws_formed.specs.Chains.{ActivitiesCallFew}
-use Rattle.bl_emit_pass_laws_bodies.specs.Cells.{ActivityCells}
-use Rattle.bl_emit_pass_laws_bodies.proofs.OnStructs.Lists.{first_or, get_behind, none_has, take_front}
-use Rattle.bl_emit_pass_laws_bodies.proofs.OnStructs.Names.{Other, none_among}
+use Rattle.bl_emit_functions_laws_wellformed.specs.Cells.{CellsFollow, CellsGrow, SizesKnown}
+use Rattle.bl_emit_functions_laws_wellformed.proofs.OnFiles.Growing.{distinct_behind, names, one_place}
+use Rattle.bl_emit_spec.specs.Activities.{Activity, frame_struct, remembered, remembered_struct, remembers_any}
+use Rattle.bl_emit_spec.specs.Names.{frame_name}
+use Rattle.bl_emit_spec.specs.Programs.{ProgramParts, activity_of, needed_units, needs_of, parts_from, parts_of_function, parts_of_next, parts_then, where_needed}
+use Rattle.bl_emit_spec.specs.Shared.{IsSharedActivityOf}
+use Rattle.bl_emit_spec_laws_wellformed.specs.Chains.{ActivitiesCallFew}
+use Rattle.bl_emit_spec_laws_wellformed_bodies.specs.Cells.{ActivityCells}
+use Rattle.bl_emit_spec_laws_wellformed_bodies.proofs.OnStructs.Lists.{first_or, get_behind, none_has, take_front}
+use Rattle.bl_emit_spec_laws_wellformed_bodies.proofs.OnStructs.Names.{Other, none_among}
 use Rattle.bl_emit_laws.proofs.OnCells.Numbers.{greatest_both, index_last, index_more}
 use Rattle.bl_emit_laws.proofs.OnCells.Reaching.{Reached, activity_step, chain_less, function_less, function_step, none_step, reached}
 use Rattle.bl_emit_laws.proofs.OnCells.Sizing.{struct_named}
@@ -98,7 +98,7 @@ chains_append known [] ys chains = refl
 chains_append known (f ∷ xs) ys chains =
     ap (λ rest. chain_cells known chains f ∷ rest) (chains_append known xs ys (with_entry chains f.name (chain_cells known chains f)))
 
-module _ (structs : List StructDef) (units : List UnitDef) (entry : ℕ) (keeps : Keeps structs units entry) (differ : are_distinct (names units) ≡ true)
+module _ (structs : List StructDef) (units : List UnitDef) (entry : ℕ) (keeps : IsWellTyped structs units entry) (differ : are_distinct (names units) ≡ true)
     (K : Sizes) (sizes : SizesKnown structs units K) (cells : ActivityCells structs units entry) (follow : CellsFollow structs units entry)
     (grow : CellsGrow structs units entry) (few : ActivitiesCallFew)
     (before : (k j : ℕ) (unit : UnitDef) → slice_get units k ≡ Some unit → list_any (nat_eq j) (needs_of unit) ≡ true → j < k)
@@ -130,7 +130,7 @@ module _ (structs : List StructDef) (units : List UnitDef) (entry : ℕ) (keeps 
       pub more : (j : ℕ) → slice_index list j ≤ slice_index final j
       pub under : (m : ℕ) → ((j : ℕ) → Needs j → slice_index final j ≤ m) → greatest (chains_after K chains funcs) ≤ m
 
-    abbrev Goal : List ℕ → Table ℕ → Sizes → Parts → Type 0
+    abbrev Goal : List ℕ → Table ℕ → Sizes → ProgramParts → Type 0
     Goal list chains T parts = sizes_after T (parts.structs ++ last) ≡ K → Walked list chains parts.funcs
 
     -- one more function
@@ -233,11 +233,11 @@ module _ (structs : List StructDef) (units : List UnitDef) (entry : ℕ) (keeps 
     module _ (k : ℕ) (earlier : List UnitDef) (unit : UnitDef) (rest : List UnitDef) (needed : List Bool) (list : List ℕ) (chains : Table ℕ) (T : Sizes)
         (remember : List Bool) (there : slice_get units k ≡ Some unit) (front : take k units ≡ earlier)
         (alone : not (is_among unit.name (names rest)) ≡ true) where
-      abbrev here : Bool → List UnitDef → List InMachine → Parts
+      abbrev here : Bool → List UnitDef → List InMachine → ProgramParts
       here active earlier' machine = if active then parts_of_next structs earlier' remember unit machine else parts_of_function structs earlier' unit
 
       -- what is written of the unit and of those behind it
-      abbrev All : Bool → Bool → List UnitDef → List InMachine → Parts
+      abbrev All : Bool → Bool → List UnitDef → List InMachine → ProgramParts
       All active test earlier' machine =
           parts_then (where_needed test (here active earlier' machine))
           (parts_from structs (earlier ++ unit ∷ []) (remember ++ (here active earlier' machine).remember) rest needed
@@ -257,7 +257,7 @@ module _ (structs : List StructDef) (units : List UnitDef) (entry : ℕ) (keeps 
       step_by true true (one ∷ machine) act need own plain st fresh behind is =
           let a : Activity = activity_of structs (take k units) remember unit one in
           let remember' : List Bool = remember ++ remembers_any a ∷ [] in
-          let later : Parts = parts_from structs (earlier ++ unit ∷ []) remember' rest needed machine in
+          let later : ProgramParts = parts_from structs (earlier ++ unit ∷ []) remember' rest needed machine in
           let other = none_among structs unit.name (earlier ++ unit ∷ []) remember' rest needed machine alone in
           let at = fresh k unit (omega arith) there in
           let frame = own_frame T a later.structs at.0 other is in

@@ -34,7 +34,7 @@ use Rattle.bl_tree.specs.declared.text.Text.{Text}
 use Rattle.bl_tree.specs.declared.tree.StructDef.{StructDef}
 use Rattle.bl_tree.specs.declared.tree.Unit.{Unit as UnitDef}
 use Rattle.bl_tree.specs.declared.tree.Var.{Var}
-use Rattle.bl_tree.specs.Program.{Keeps, is_entry, parameters_of}
+use Rattle.bl_tree.specs.Program.{IsWellTyped, is_entry, parameters_of}
 use Rattle.bl_tree.specs.Reduce.{greatest, joined}
 use Rattle.bl_tree.specs.Types.{scalar_in}
 use Rattle.bl_tree.specs.Typing.{inputs_of, is_activity, outputs_of}
@@ -42,46 +42,46 @@ use Rattle.bl_tree.specs.Words.{are_distinct}
 use Rattle.bl_eval.proofs.PassLemmas.{and_left, and_right}
 use Rattle.bl_cause.specs.Activities.{EachTwo, activities}
 use Rattle.bl_limits.specs.Rules.{Passes as KeepsLimits}
-use Rattle.bl_nodes.specs.Nodes.{nodes_in}
-use Rattle.bl_nodes.specs.Plain.{Block, plain_body}
+use Rattle.bl_graph_nodes.specs.Nodes.{nodes_in}
+use Rattle.bl_graph_nodes.specs.Plain.{Block, plain_body}
 use Rattle.bl_machine.specs.declared.machine.Activity.{Activity as InMachine}
 use Rattle.bl_machine.specs.Layout.{width_in}
 use Rattle.bl_machine.specs.Machines.{AreActivitiesOf, IsActivityOf}
 use Rattle.bl_machine.specs.Uses.{Slots}
-use Rattle.bl_measures.specs.Calls.{calls_of}
-use Rattle.bl_measures.specs.Laws.{CellsAdd}
-use Rattle.bl_measures.specs.Runs.{runs_of}
-use Rattle.bl_measures.specs.Units.{cells_at}
-use Rattle.bl_measures_laws.specs.Laws.{UnitsUseEarlierOnes}
-use Rattle.bl_pass_listed.specs.Shared.{shared_sizes}
-use Rattle.bl_pass_listed_laws.proofs.Shared.{shared_many}
-use Rattle.bl_pass.specs.Rules.{Rule, rules}
-use Rattle.bl_cmeaning.specs.Parts.{parts_from as file_from}
-use Rattle.bl_cmeaning.specs.Sizes.{Sizes, cells_needed, chain_cells, chains_after, deepest_chain, size_of_struct, sizes_after}
-use Rattle.bl_cmeaning.specs.Tables.{Table, entry_or, no_entries, with_entry}
+use Rattle.bl_limits_measures.specs.Calls.{calls_of}
+use Rattle.bl_limits_measures.specs.Laws.{CellsAdd}
+use Rattle.bl_limits_measures.specs.Runs.{runs_of}
+use Rattle.bl_limits_measures.specs.Units.{cells_at}
+use Rattle.bl_limits_measures_laws.specs.Laws.{UnitsUseEarlierOnes}
+use Rattle.bl_machine_transitions.specs.Shared.{shared_sizes}
+use Rattle.bl_machine_transitions_laws.proofs.Shared.{shared_many}
+use Rattle.bl_machine_pass.specs.Transitions.{Transition, rules}
+use Rattle.bl_ctext_semantics.specs.Parts.{parts_from as file_from}
+use Rattle.bl_ctext_semantics.specs.Sizes.{Sizes, cells_needed, chain_cells, chains_after, deepest_chain, size_of_struct, sizes_after}
+use Rattle.bl_ctext_semantics.specs.Tables.{Table, entry_or, no_entries, with_entry}
 use Rattle.bl_emit_acts.specs.Types.{type_name, unit_name}
-use Rattle.bl_emit_acts_laws_formed.proofs.OnFormed.Units.{vars_stand}
+use Rattle.bl_emit_acts_laws_wellformed.proofs.OnFormed.Units.{vars_stand}
 use Rattle.bl_emit_structs.specs.Structs.{each_once, structs_for}
-use Rattle.bl_emit_structs_laws.specs.Formed.{NestsAtMost}
-use Rattle.bl_emit_structs_laws.proofs.OnFormed.Types.{StructOf, all_are}
+use Rattle.bl_emit_structs_laws_wellformed.specs.Formed.{NestsAtMost}
+use Rattle.bl_emit_structs_laws_wellformed.proofs.OnFormed.Types.{StructOf, all_are}
 use Rattle.bl_emit_functions.specs.Functions.{memory_name}
-use Rattle.bl_emit_functions_laws_formed.specs.Cells.{CellsFollow, CellsGrow, NamesNone, SizesKnown, SizesStand}
-use Rattle.bl_emit_functions_laws_formed.proofs.OnFiles.Growing.{distinct_behind, names}
-use Rattle.bl_emit_pass.specs.Activities.{Activity, RunAt, runs_in_body}
-use Rattle.bl_emit_pass.specs.Names.{frame_name}
-use Rattle.bl_emit_pass.specs.Programs.{Parts, activity_of, file_at, init_function, interface_structs}
-use Rattle.bl_emit_pass.specs.Programs.{needed_units, needs_of, port_struct, state_struct, tick_function}
-use Rattle.bl_emit_pass.specs.Shared.{IsSharedActivityOf}
-use Rattle.bl_emit_pass_laws_bodies.specs.Cells.{ActivityCells, BodiesRun, ports_of}
-use Rattle.bl_emit_pass_laws_formed.specs.Chains.{ActivitiesCallFew}
-use Rattle.bl_emit_pass_laws_formed.specs.Closed.{NeededClosed}
-use Rattle.bl_emit_pass_laws_formed.specs.Machines.{IsModest, MachinesSpell}
-use Rattle.bl_emit_pass_laws_formed.specs.Needed.{NeededSmall}
-use Rattle.bl_emit_pass_laws_bodies.specs.Structs.Laws.{PartsAreSound, PartsStand, parts_of}
-use Rattle.bl_emit_pass_laws_bodies.specs.Structs.Parts.{IsPart}
-use Rattle.bl_emit_pass_laws_bodies.proofs.OnStructs.Lists.{below_length, first_or, from_map, none_has}
-use Rattle.bl_emit_pass_laws_bodies.proofs.OnStructs.Runs.{runs_fit}
-use Rattle.bl_emit_pass_laws_bodies.proofs.OnStructs.Whole.{nests}
+use Rattle.bl_emit_functions_laws_wellformed.specs.Cells.{CellsFollow, CellsGrow, NamesNone, SizesKnown, SizesStand}
+use Rattle.bl_emit_functions_laws_wellformed.proofs.OnFiles.Growing.{distinct_behind, names}
+use Rattle.bl_emit_spec.specs.Activities.{Activity, RunAt, runs_in_body}
+use Rattle.bl_emit_spec.specs.Names.{frame_name}
+use Rattle.bl_emit_spec.specs.Programs.{ProgramParts, activity_of, file_at, init_function, interface_structs}
+use Rattle.bl_emit_spec.specs.Programs.{needed_units, needs_of, port_struct, state_struct, tick_function}
+use Rattle.bl_emit_spec.specs.Shared.{IsSharedActivityOf}
+use Rattle.bl_emit_spec_laws_wellformed_bodies.specs.Cells.{ActivityCells, BodiesRun, ports_of}
+use Rattle.bl_emit_spec_laws_wellformed.specs.Chains.{ActivitiesCallFew}
+use Rattle.bl_emit_spec_laws_wellformed.specs.Closed.{NeededClosed}
+use Rattle.bl_emit_spec_laws_wellformed.specs.Machines.{IsModest, MachinesSpell}
+use Rattle.bl_emit_spec_laws_wellformed.specs.Needed.{NeededSmall}
+use Rattle.bl_emit_spec_laws_wellformed_bodies.specs.Structs.Laws.{PartsAreSound, PartsStand, parts_of}
+use Rattle.bl_emit_spec_laws_wellformed_bodies.specs.Structs.Parts.{IsPart}
+use Rattle.bl_emit_spec_laws_wellformed_bodies.proofs.OnStructs.Lists.{below_length, first_or, from_map, none_has}
+use Rattle.bl_emit_spec_laws_wellformed_bodies.proofs.OnStructs.Runs.{runs_fit}
+use Rattle.bl_emit_spec_laws_wellformed_bodies.proofs.OnStructs.Whole.{nests}
 use Rattle.bl_emit_laws.specs.Cells.{FilesCount, FilesSmall, file_of}
 use Rattle.bl_emit_laws.proofs.OnCells.Counters.{sizes_few}
 use Rattle.bl_emit_laws.proofs.OnCells.Interface.{init_cells, ports_cells, state_cells, tick_cells}
@@ -148,14 +148,14 @@ entry_parts (Some first) entry unit is =
     nothing (Some x) is = absurd (cc)
 
 module _ (program : Program)
-    (nodes : (slots : Slots) (body : Block) → map (λ (rule : Rule). rule.node) (rules slots body) ≡ nodes_in body)
+    (nodes : (slots : Slots) (body : Block) → map (λ (rule : Transition). rule.node) (rules slots body) ≡ nodes_in body)
     (earlier : UnitsUseEarlierOnes) (add : CellsAdd) (stand : SizesStand program.structs program.units program.entry)
     (follow : CellsFollow program.structs program.units program.entry) (grow : CellsGrow program.structs program.units program.entry)
     (few : ActivitiesCallFew) (bodies : BodiesRun program.structs program.units program.entry)
     (small : NeededSmall program.structs program.units program.entry) (closed : NeededClosed program.structs program.units program.entry)
     (spell : MachinesSpell program.structs program.units program.entry) (sound : PartsAreSound program.structs program.units program.entry)
     (cells : ActivityCells program.structs program.units program.entry) (machine : List InMachine) (unit : UnitDef)
-    (keeps : Keeps program.structs program.units program.entry) (limits : KeepsLimits program.structs program.units program.entry)
+    (keeps : IsWellTyped program.structs program.units program.entry) (limits : KeepsLimits program.structs program.units program.entry)
     (agrees : AreActivitiesOf program.units machine) (plain : EachTwo IsSharedActivityOf (activities program.units) machine)
     (there : slice_get program.units program.entry ≡ Some unit) where
   abbrev structs : List StructDef
@@ -167,7 +167,7 @@ module _ (program : Program)
   abbrev entry : ℕ
   entry = program.entry
 
-  abbrev parts : Parts
+  abbrev parts : ProgramParts
   parts = parts_of structs units entry machine
 
   abbrev remembers : Bool
@@ -394,14 +394,14 @@ module _ (program : Program)
       (ports_of structs unit) (size_of_struct K in_ports) (size_of_struct K out_ports) (cells_at structs units entry) state_less in_entry out_entry
       (ports_cells structs units K sizes unit (vars_stand structs units entry keeps entry unit there)) deepest (fits.1 is.1)
 
-pub counted : (program : Program) → ((slots : Slots) (body : Block) → map (λ (rule : Rule). rule.node) (rules slots body) ≡ nodes_in body) →
+pub counted : (program : Program) → ((slots : Slots) (body : Block) → map (λ (rule : Transition). rule.node) (rules slots body) ≡ nodes_in body) →
     UnitsUseEarlierOnes → CellsAdd → SizesStand program.structs program.units program.entry →
     CellsFollow program.structs program.units program.entry → CellsGrow program.structs program.units program.entry → ActivitiesCallFew →
     BodiesRun program.structs program.units program.entry → NeededSmall program.structs program.units program.entry →
     NeededClosed program.structs program.units program.entry → MachinesSpell program.structs program.units program.entry →
     PartsAreSound program.structs program.units program.entry → ActivityCells program.structs program.units program.entry → FilesCount program
 counted program nodes earlier add stand follow grow few bodies small closed spell sound cells machine unit keeps limits agrees plain there =
-    let parts : Parts = parts_of program.structs program.units program.entry machine in
+    let parts : ProgramParts = parts_of program.structs program.units program.entry machine in
     subst
     (λ o. cells_needed (file_from (file_at program parts o).structs (file_at program parts o).funcs)
     ≤ cells_at program.structs program.units program.entry) (sym there)

@@ -13,7 +13,7 @@ use Rattle.bl_tree.specs.declared.tree.Path.{Path}
 use Rattle.bl_tree.specs.declared.tree.Stmt.{Stmt, out-Stmt}
 use Rattle.bl_tree.specs.declared.tree.StmtKind.{StmtKind, out-StmtKind}
 use Rattle.bl_tree.specs.declared.tree.StmtKind.TheOpen.{StmtKind-F}
-use Rattle.bl_nodes.specs.Nodes.{
+use Rattle.bl_graph_nodes.specs.Nodes.{
   ActAt,
   Arguments,
   CheckAt,
@@ -31,14 +31,14 @@ use Rattle.bl_nodes.specs.Nodes.{
   TestAt,
   entry,
 }
-use Rattle.bl_nodes.specs.Plain.{Block, Done, Then}
+use Rattle.bl_graph_nodes.specs.Plain.{Block, Done, Then}
 use Rattle.bl_emit_acts.specs.Acts.{c_calling, c_clear, c_copied, c_set, call_args, code_made, layer_code, name_of_callee}
 use Rattle.bl_emit_acts.specs.Expressions.{stands}
 use Rattle.bl_emit_acts.specs.Trees.{c_call, c_read, c_two}
 use Rattle.bl_emit_functions.specs.Statements.{else_code}
 use Rattle.bl_emit_functions.specs.Trees.{c_if, c_truth}
-use Rattle.bl_pass.specs.Rules.{Rule}
-use Rattle.bl_emit_pass.specs.Activities.{
+use Rattle.bl_machine_pass.specs.Transitions.{Transition}
+use Rattle.bl_emit_spec.specs.Activities.{
   Activity,
   activity_function,
   blocks_code,
@@ -54,9 +54,9 @@ use Rattle.bl_emit_pass.specs.Activities.{
   turns_in_source,
   view_of,
 }
-use Rattle.bl_emit_pass.specs.Blocks.{
-  Turn,
-  View,
+use Rattle.bl_emit_spec.specs.Blocks.{
+  ActivityView,
+  NodeCode,
   acted,
   arg_where,
   begun_code,
@@ -75,7 +75,7 @@ use Rattle.bl_emit_pass.specs.Blocks.{
   turn_code,
   turns_of,
 }
-use Rattle.bl_emit_pass.specs.Names.{
+use Rattle.bl_emit_spec.specs.Names.{
   callee_frame,
   callee_memory,
   callee_name,
@@ -118,7 +118,7 @@ use Rattle.bl_emit_laws.proofs.OnCounters.Statements.{
 }
 
 module _ (P : CPath → Type 0) (plain : (place : CPath) → names_counter place ≡ false → P place) (own : (k : ℕ) → P (own_counter (counter_name k)))
-    (view : View) where
+    (view : ActivityView) where
   code_fine : (e : Expr) → ExprFine P plain (code_made view.site e)
   code_fine e = expr_fine P plain view.site e
 
@@ -148,7 +148,7 @@ module _ (P : CPath → Type 0) (plain : (place : CPath) → names_counter place
   acted_fine : (s : Stmt) → CodeFine P plain (acted view s)
   acted_fine s = acted_by s (out-StmtKind (out-Stmt s).what) refl
 
-  tested_fine : (e : Expr) (rule : Rule) → CodeFine P plain (tested view (code_made view.site e) rule)
+  tested_fine : (e : Expr) (rule : Transition) → CodeFine P plain (tested view (code_made view.site e) rule)
   tested_fine e rule =
       one_stmt P plain (c_if (code_made view.site e) (changes_code view rule.so) (else_code (changes_code view rule.otherwise)))
       (if-fine P plain (code_made view.site e) (changes_code view rule.so) (else_code (changes_code view rule.otherwise)) (code_fine e)
@@ -192,14 +192,14 @@ module _ (P : CPath → Type 0) (plain : (place : CPath) → names_counter place
       (local_read P plain own (given_name k)))
   target_fine k None = tt
 
-  begun_fine : (k a : ℕ) (arguments : Arguments) (rule : Rule) → CodeFine P plain (begun_code view k a arguments rule)
+  begun_fine : (k a : ℕ) (arguments : Arguments) (rule : Transition) → CodeFine P plain (begun_code view k a arguments rule)
   begun_fine k a arguments rule =
       let name = frame_name (name_in (slice_get view.site.earlier a)) in
       first_stmt P plain (c_clear (callee_frame k) name) (run_code view k a arguments ++ changes_code view rule.so)
       (clear-fine P plain (callee_frame k) name (frame_fine k))
       (then_code P plain (run_code view k a arguments) (changes_code view rule.so) (run_fine k a arguments) (changes_fine P plain own view rule.so))
 
-  resumed_fine : (k a : ℕ) (arguments : Arguments) (rule : Rule) → CodeFine P plain (resumed_code view k a arguments rule)
+  resumed_fine : (k a : ℕ) (arguments : Arguments) (rule : Transition) → CodeFine P plain (resumed_code view k a arguments rule)
   resumed_fine k a arguments rule =
       let block : List CStmt = target_code view k arguments.target ++ changes_code view rule.so in
       then_code P plain (run_code view k a arguments) (c_if (c_read (ended_place k)) block None ∷ []) (run_fine k a arguments)
@@ -210,7 +210,7 @@ module _ (P : CPath → Type 0) (plain : (place : CPath) → names_counter place
 
   -- ---- blocks
 
-  node_fine : (a : ℕ) (rule : Rule) (m : Node) → CodeFine P plain (node_code view a rule m)
+  node_fine : (a : ℕ) (rule : Transition) (m : Node) → CodeFine P plain (node_code view a rule m)
   node_fine a rule (ActAt l s) = then_code P plain (acted view s) (changes_code view rule.so) (acted_fine s) (changes_fine P plain own view rule.so)
   node_fine a rule (TestAt l at e) = tested_fine e rule
   node_fine a rule (CheckAt l at e) = tested_fine e rule
@@ -226,30 +226,30 @@ module _ (P : CPath → Type 0) (plain : (place : CPath) → names_counter place
   node_fine a rule (DepthJoinAt l at) = changes_fine P plain own view rule.so
 
   -- what a turn asks and does
-  abbrev TurnFine : Turn → Type 0
+  abbrev TurnFine : NodeCode → Type 0
   TurnFine turn = ExprFine P plain turn.test × CodeFine P plain turn.code
 
   -- each of some turns
-  abbrev EachFine : List Turn → Type 0
+  abbrev EachFine : List NodeCode → Type 0
   EachFine [] = Unit {0}
   EachFine (turn ∷ rest) = TurnFine turn × EachFine rest
 
-  each_fine : (callees : List ℕ) (listed : List Rule) → EachFine (turns_of view callees listed)
+  each_fine : (callees : List ℕ) (listed : List Transition) → EachFine (turns_of view callees listed)
   each_fine [] listed = tt
   each_fine (a ∷ callees) [] = tt
   each_fine (a ∷ callees) (rule ∷ listed) =
       ((guard_fine P plain own view rule.node rule.asked, node_fine a rule rule.node), each_fine callees listed)
 
-  append_fine : (turns more : List Turn) → EachFine turns → EachFine more → EachFine (turns ++ more)
+  append_fine : (turns more : List NodeCode) → EachFine turns → EachFine more → EachFine (turns ++ more)
   append_fine [] more all rest = rest
   append_fine (turn ∷ turns) more all rest = (all.0, append_fine turns more all.1 rest)
 
-  one_of : (turns : List Turn) (k : ℕ) → EachFine turns → EachFine (option_to_list (slice_get turns k))
+  one_of : (turns : List NodeCode) (k : ℕ) → EachFine turns → EachFine (option_to_list (slice_get turns k))
   one_of [] k all = tt
   one_of (turn ∷ rest) zero all = (all.0, tt)
   one_of (turn ∷ rest) (suc k) all = one_of rest k all.1
 
-  picked_fine : (turns : List Turn) (block : List ℕ) → EachFine turns → EachFine (picked turns block)
+  picked_fine : (turns : List NodeCode) (block : List ℕ) → EachFine turns → EachFine (picked turns block)
   picked_fine turns [] all = tt
   picked_fine turns (k ∷ block) all =
       append_fine (option_to_list (slice_get turns k)) (picked turns block) (one_of turns k all) (picked_fine turns block all)
@@ -257,19 +257,19 @@ module _ (P : CPath → Type 0) (plain : (place : CPath) → names_counter place
   alone_fine : (test : CExpr) (code : List CStmt) → ExprFine P plain test → CodeFine P plain code → StmtFine P plain (c_if test code None)
   alone_fine test code is block = if-fine P plain test code None is block tt
 
-  turns_fine : (turns : List Turn) → EachFine turns → CodeFine P plain (map turn_code turns)
+  turns_fine : (turns : List NodeCode) → EachFine turns → CodeFine P plain (map turn_code turns)
   turns_fine [] all = tt
   turns_fine (turn ∷ rest) all =
       first_stmt P plain (turn_code turn) (map turn_code rest) (alone_fine turn.test turn.code all.0.0 all.0.1) (turns_fine rest all.1)
 
-  merged_fine : (turns : List Turn) → EachFine turns → CodeFine P plain (merged_code turns)
+  merged_fine : (turns : List NodeCode) → EachFine turns → CodeFine P plain (merged_code turns)
   merged_fine [] all = tt
   merged_fine (first ∷ rest) all =
       one_stmt P plain (c_if first.test (first.code ++ map turn_code rest) None)
       (alone_fine first.test (first.code ++ map turn_code rest) all.0.0
       (then_code P plain first.code (map turn_code rest) all.0.1 (turns_fine rest all.1)))
 
-  blocks_fine : (turns : List Turn) (blocks : List (List ℕ)) → EachFine turns → CodeFine P plain (blocks_code turns blocks)
+  blocks_fine : (turns : List NodeCode) (blocks : List (List ℕ)) → EachFine turns → CodeFine P plain (blocks_code turns blocks)
   blocks_fine turns [] all = tt
   blocks_fine turns (block ∷ rest) all =
       then_code P plain (merged_code (picked turns block)) (blocks_code turns rest) (merged_fine (picked turns block) (picked_fine turns block all))
@@ -301,7 +301,7 @@ module _ (P : CPath → Type 0) (plain : (place : CPath) → names_counter place
 pub activity-fine : (P : CPath → Type 0) (plain : (place : CPath) → names_counter place ≡ false → P place) →
     ((k : ℕ) → P (own_counter (counter_name k))) → (a : Activity) → Fine P (places_named (activity_function a))
 activity-fine P plain own a =
-    let view : View = view_of a in
+    let view : ActivityView = view_of a in
     let blocks : List CStmt = blocks_in_order a in
     let copies : List CStmt = map (c_copied view.site) (copied_in a) in
     then_code P plain (map rested_code (counters_read a)) (entry_code view (body_of a) ++ (copies ++ blocks))

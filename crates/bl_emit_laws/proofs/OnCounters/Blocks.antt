@@ -6,34 +6,34 @@ use Rattle.bl_tree.specs.declared.c.CFunc.{CFunc}
 use Rattle.bl_tree.specs.declared.program.Program.{Program}
 use Rattle.bl_tree.specs.declared.text.Text.{Text}
 use Rattle.bl_tree.specs.declared.tree.Unit.{Unit as UnitDef}
-use Rattle.bl_tree.specs.Program.{Keeps}
+use Rattle.bl_tree.specs.Program.{IsWellTyped}
 use Rattle.bl_tree.specs.Reduce.{joined}
 use Rattle.bl_tree.specs.Typing.{is_activity}
 use Rattle.bl_cause.proofs.ListLemmas.{filter_keeps}
 use Rattle.bl_cause.proofs.PairLemmas.{each_at, filtered_at}
 use Rattle.bl_cause.specs.Activities.{activities as activities_among, graph_position}
-use Rattle.bl_nodes.specs.Nodes.{Node, nodes_in}
-use Rattle.bl_nodes.specs.Plain.{Block, plain_body}
+use Rattle.bl_graph_nodes.specs.Nodes.{Node, nodes_in}
+use Rattle.bl_graph_nodes.specs.Plain.{Block, plain_body}
 use Rattle.bl_ctree.specs.declared.instance.Instance.{Instance}
 use Rattle.bl_ctree.specs.Instances.{Setting, setting_of, unit_of}
 use Rattle.bl_ctree_laws_confluence.specs.Deeds.Orderly.{AcceptedIsOrderly, Orderly}
-use Rattle.bl_cmeaning.specs.Faults.{WellFormed}
-use Rattle.bl_cmeaning.specs.Parts.{Parts}
+use Rattle.bl_ctext_semantics.specs.Faults.{WellFormed}
+use Rattle.bl_ctext_semantics.specs.Parts.{Parts}
 use Rattle.bl_machine.specs.declared.machine.Activity.{Activity as InMachine}
 use Rattle.bl_machine.specs.Blocks.{Ordered}
 use Rattle.bl_machine.specs.Machines.{AreActivitiesOf, IsActivityOf}
-use Rattle.bl_pass.specs.Numbered.{slots_of}
-use Rattle.bl_pass.specs.Rules.{Rule, rules}
-use Rattle.bl_pass_laws.specs.Turns.Laws.{StaysPlaced}
-use Rattle.bl_pass_listed.specs.Callees.{callees_in}
-use Rattle.bl_pass_listed_laws.specs.Laws.{RulesAreListed}
+use Rattle.bl_machine_pass.specs.Numbered.{slots_of}
+use Rattle.bl_machine_pass.specs.Transitions.{Transition, rules}
+use Rattle.bl_machine_pass_laws.specs.Turns.Laws.{StaysPlaced}
+use Rattle.bl_machine_transitions.specs.Callees.{callees_in}
+use Rattle.bl_machine_transitions_laws.specs.Laws.{RulesAreListed}
 use Rattle.bl_emit_acts.specs.Types.{unit_name}
-use Rattle.bl_emit_pass.specs.Activities.{Activity, activity_function, blocks_code, blocks_in_order, turns_in_source, view_of}
-use Rattle.bl_emit_pass.specs.Blocks.{Turn, View, turns_of}
-use Rattle.bl_emit_pass_laws.specs.Calls.Built.{Activities, AreBuilt, MadeOf}
-use Rattle.bl_emit_pass_laws_formed.specs.Closed.{InstancesNeeded}
-use Rattle.bl_emit_pass_laws.proofs.OnPlaced.Lists.{mapped_many, number_below, some_is, stands_at}
-use Rattle.bl_emit_pass_laws.specs.Tables.Laws.{ActivitiesBuilt}
+use Rattle.bl_emit_spec.specs.Activities.{Activity, activity_function, blocks_code, blocks_in_order, turns_in_source, view_of}
+use Rattle.bl_emit_spec.specs.Blocks.{ActivityView, NodeCode, turns_of}
+use Rattle.bl_emit_spec_laws.specs.Calls.Built.{Activities, AreBuilt, MadeOf}
+use Rattle.bl_emit_spec_laws_wellformed.specs.Closed.{InstancesNeeded}
+use Rattle.bl_emit_spec_laws.proofs.OnPlaced.Lists.{mapped_many, number_below, some_is, stands_at}
+use Rattle.bl_emit_spec_laws.specs.Tables.Laws.{ActivitiesBuilt}
 use Rattle.bl_emit_laws.specs.Kept.{FileEnds, FilesEnd, activities_in, written_file}
 use Rattle.bl_emit_laws.proofs.OnKept.Lists.{first_or, none_has}
 use Rattle.bl_emit_laws.specs.Counters.Ifs.{FunctionHasIfs}
@@ -42,12 +42,12 @@ use Rattle.bl_emit_laws.specs.Counters.Own.{functions_named}
 use Rattle.bl_emit_laws.proofs.OnCounters.Ifs.{blocks_many, body_has}
 use Rattle.bl_emit_laws.proofs.OnCounters.Once.{function_alone}
 use Rattle.bl_machine.specs.declared.slots.Slot.{Slot}
-use Rattle.bl_pass_listed.specs.Shared.{shared}
+use Rattle.bl_machine_transitions.specs.Shared.{shared}
 use Rattle.bl_emit_laws.proofs.OnCounters.Whole.{function_there}
 
 -- ---- turns
 
-turns_many : (view : View) (callees : List ℕ) (rs : List Rule) → length callees ≡ length rs → length (turns_of view callees rs) ≡ length rs
+turns_many : (view : ActivityView) (callees : List ℕ) (rs : List Transition) → length callees ≡ length rs → length (turns_of view callees rs) ≡ length rs
 turns_many view [] [] is = refl
 turns_many view [] (r ∷ rs) is = absurd (omega (arith, is))
 turns_many view (c ∷ callees) [] is = refl
@@ -60,11 +60,11 @@ module _ (placed : StaysPlaced) (listed : RulesAreListed) (a : Activity) (unit :
     abbrev body : Block
     body = plain_body unit.body
 
-    abbrev rs : List Rule
+    abbrev rs : List Transition
     rs = rules a.slots body
 
     many_rules : length rs ≡ length (nodes_in body)
-    many_rules = sym (mapped_many (λ (rule : Rule). rule.node) rs) ∙ ap (λ (xs : List Node). length xs) (placed.nodes a.slots body)
+    many_rules = sym (mapped_many (λ (rule : Transition). rule.node) rs) ∙ ap (λ (xs : List Node). length xs) (placed.nodes a.slots body)
 
     many_callees : length (callees_in body) ≡ length rs
     many_callees = listed.each unit.body list ∙ ap (λ slots. length (rules slots body)) (sym slots_are)
@@ -73,7 +73,7 @@ module _ (placed : StaysPlaced) (listed : RulesAreListed) (a : Activity) (unit :
     turns_are = ap (λ (u : UnitDef). turns_of (view_of a) (callees_in (plain_body u.body)) (rules a.slots (plain_body u.body))) unit_is
 
     many_turns : length (turns_in_source a) ≡ length (nodes_in body)
-    many_turns = ap (λ (xs : List Turn). length xs) turns_are ∙ turns_many (view_of a) (callees_in body) rs many_callees ∙ many_rules
+    many_turns = ap (λ (xs : List NodeCode). length xs) turns_are ∙ turns_many (view_of a) (callees_in body) rs many_callees ∙ many_rules
 
     many_ifs : a.blocks ≡ one.blocks → Ordered (plain_body unit.body) one.blocks → length (blocks_in_order a) ≡ length one.blocks
     many_ifs blocks_are ordered =
@@ -98,7 +98,7 @@ the_only name file function one at is alone =
 
 module _ (program : Program) (machine : List InMachine) (unit : UnitDef) (ends : FileEnds program machine unit)
     (built : AreBuilt program.structs program.units machine (activities_in program machine)) (placed : StaysPlaced) (listed : RulesAreListed)
-    (needs : InstancesNeeded program.structs program.units program.entry) (keeps : Keeps program.structs program.units program.entry)
+    (needs : InstancesNeeded program.structs program.units program.entry) (keeps : IsWellTyped program.structs program.units program.entry)
     (orderly : Orderly program.structs program.units (setting_of program.structs program.units program.entry))
     (agrees : AreActivitiesOf program.units machine) (formed : WellFormed (written_file program machine)) (i : ℕ) (instance : Instance) (activity : UnitDef)
     (at : slice_get (setting_of program.structs program.units program.entry).instances i ≡ Some instance)

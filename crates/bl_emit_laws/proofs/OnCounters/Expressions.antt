@@ -27,7 +27,7 @@ use Rattle.bl_tree.specs.declared.tree.Unit.{Unit as UnitDef}
 use Rattle.bl_tree.specs.Reduce.{joined}
 use Rattle.bl_tree.specs.Scalar.{is_int}
 use Rattle.bl_tree.specs.Types.{scalar_in}
-use Rattle.bl_tree.specs.Typing.{Site, is_activity, var_at}
+use Rattle.bl_tree.specs.Typing.{TypingContext, is_activity, var_at}
 use Rattle.bl_tree.proofs.ExprInduction.{Cases, EachIndex, OfIndex, expr, induct, induct_path}
 use Rattle.bl_emit_acts.specs.declared.home.Home.{Home}
 use Rattle.bl_emit_acts.specs.declared.home.Home.TheVariants.{Held, Given, Lent}
@@ -219,7 +219,7 @@ module _ (P : CPath → Type 0) (plain : (place : CPath) → names_counter place
 
   -- ---- expressions and paths
 
-  module _ (site : Site) where
+  module _ (site : TypingContext) where
     abbrev OfExpr : Expr → Type 0
     OfExpr e = ExprFine (code_of (made_of site e))
 

@@ -11,7 +11,7 @@ use Rattle.bl_tree.specs.declared.text.Text.{Text}
 use Rattle.bl_tree.specs.declared.tree.StructDef.{StructDef}
 use Rattle.bl_tree.specs.declared.tree.Unit.{Unit as UnitDef}
 use Rattle.bl_tree.specs.declared.tree.Var.{Var}
-use Rattle.bl_tree.specs.Typing.{Site, inputs_of, outputs_of, site_of}
+use Rattle.bl_tree.specs.Typing.{TypingContext, inputs_of, outputs_of, site_of}
 use Rattle.bl_emit_acts.specs.declared.home.Home.{Home}
 use Rattle.bl_emit_acts.specs.declared.home.Home.TheVariants.{Held, Given, Lent}
 use Rattle.bl_emit_acts.specs.Acts.{c_calling, c_clear}
@@ -23,8 +23,8 @@ use Rattle.bl_emit_functions.specs.Functions.{returns_last}
 use Rattle.bl_emit_functions.specs.Functions.{c_set_again, first_held, read_code}
 use Rattle.bl_emit_functions.specs.Trees.{c_if, c_return_zero}
 use Rattle.bl_emit_functions.specs.Reads.{reads_in_block}
-use Rattle.bl_emit_pass.specs.Names.{frame_name}
-use Rattle.bl_emit_pass.specs.Programs.{c_returned, init_function, input_arg, output_arg, tick_args, tick_function}
+use Rattle.bl_emit_spec.specs.Names.{frame_name}
+use Rattle.bl_emit_spec.specs.Programs.{c_returned, init_function, input_arg, output_arg, tick_args, tick_function}
 use Rattle.bl_emit_laws.specs.Counters.Own.{is_counter_name, names_counter}
 use Rattle.bl_emit_laws.specs.Counters.Places.{CPath, places_in_arg, places_named}
 use Rattle.bl_emit_laws.proofs.OnCounters.Expressions.{ArgsFine, PlaceFine, address-fine, first-arg, literal-fine, member-fine, own_fine, place-fine}
@@ -36,7 +36,7 @@ use Rattle.bl_emit_laws.proofs.OnCounters.Statements.{then_code}
 module _ (P : CPath → Type 0) (plain : (place : CPath) → names_counter place ≡ false → P place) where
   -- ---- functions of functions
 
-  input_fine : (site : Site) (home : Home) (k : ℕ) → CodeFine P plain (input_copied site home k)
+  input_fine : (site : TypingContext) (home : Home) (k : ℕ) → CodeFine P plain (input_copied site home k)
   input_fine site Held k =
       one_stmt P plain (c_input_copied site k)
       (set-fine P plain (place_in site k []) (c_read (c_place true (variable_name k) [])) (own_fine P plain site k)
@@ -44,7 +44,7 @@ module _ (P : CPath → Type 0) (plain : (place : CPath) → names_counter place
   input_fine site Given k = tt
   input_fine site Lent k = tt
 
-  inputs_fine : (site : Site) (k : ℕ) (vars : List Var) → CodeFine P plain (copies_from site k vars)
+  inputs_fine : (site : TypingContext) (k : ℕ) (vars : List Var) → CodeFine P plain (copies_from site k vars)
   inputs_fine site k [] = tt
   inputs_fine site k (var ∷ rest) =
       then_code P plain (input_copied site (home_of site (Some var)) k) (copies_from site (k + 1) rest) (input_fine site (home_of site (Some var)) k)
@@ -57,7 +57,7 @@ module _ (P : CPath → Type 0) (plain : (place : CPath) → names_counter place
   end_fine (Some s) true = tt
   end_fine None last = tt
 
-  read_fine : (site : Site) (held : Option ℕ) (reads : Bool) → CodeFine P plain (read_code site held reads)
+  read_fine : (site : TypingContext) (held : Option ℕ) (reads : Bool) → CodeFine P plain (read_code site held reads)
   read_fine site None reads = tt
   read_fine site (Some k) true = tt
   read_fine site (Some k) false =
@@ -65,7 +65,7 @@ module _ (P : CPath → Type 0) (plain : (place : CPath) → names_counter place
       (set-fine P plain (place_in site k []) (c_read (place_in site k [])) (own_fine P plain site k)
       (read-fine P plain (place_in site k []) (own_fine P plain site k)))
 
-  body_named : (site : Site) (unit : UnitDef) → CodeFine P plain (body_code site unit)
+  body_named : (site : TypingContext) (unit : UnitDef) → CodeFine P plain (body_code site unit)
   body_named site unit =
       then_code P plain (copies_from site 0 (inputs_of unit)) ((body_coded site unit).code ++ end_code unit.result (returns_last false unit.body))
       (inputs_fine site 0 (inputs_of unit))

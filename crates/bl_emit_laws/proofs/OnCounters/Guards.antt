@@ -6,17 +6,17 @@ use Rattle.bl_tree.specs.declared.c.CExpr.{CExpr}
 use Rattle.bl_tree.specs.declared.scalar.Op.{Op}
 use Rattle.bl_tree.specs.declared.scalar.Op.TheVariants.{And, Eq, Ge, Le, Ne, Or}
 use Rattle.bl_tree.specs.declared.text.Text.{Text}
-use Rattle.bl_nodes.specs.Nodes.{Node}
+use Rattle.bl_graph_nodes.specs.Nodes.{Node}
 use Rattle.bl_machine.specs.declared.slots.Slot.{Slot}
 use Rattle.bl_emit_acts.specs.Acts.{c_set}
 use Rattle.bl_emit_acts.specs.Expressions.{c_compare}
 use Rattle.bl_emit_acts.specs.Trees.{c_not, c_place, c_read, c_step}
 use Rattle.bl_emit_functions.specs.Trees.{c_if, c_truth}
-use Rattle.bl_pass.specs.Rules.{Age, Asked, Change, Needed}
-use Rattle.bl_pass.specs.Rules.{Ended, Ends, Finishes, Flagged, Flags, Forgets, Frees, Holds, IsNew, IsOld, Marks, Rested, RestedIn, Whatever}
-use Rattle.bl_emit_pass.specs.Blocks.{
+use Rattle.bl_machine_pass.specs.Transitions.{Age, Asked, Change, Needed}
+use Rattle.bl_machine_pass.specs.Transitions.{ClearsBoth, ClearsCounter, Ended, EndsWhen, Finishes, Flagged, IsAny, IsNew, IsOld, Rested, RestedIn, SetsCounter, SetsFlag, SetsMark}
+use Rattle.bl_emit_spec.specs.Blocks.{
   is_only,
-  View,
+  ActivityView,
   aged_test,
   all_tests,
   at_slot,
@@ -38,7 +38,7 @@ use Rattle.bl_emit_pass.specs.Blocks.{
   rested_in,
   some_test,
 }
-use Rattle.bl_emit_pass.specs.Names.{counter_name, counter_place, flag_name, flag_place, mark_name, mark_place, over_place, rested_name, rested_place}
+use Rattle.bl_emit_spec.specs.Names.{counter_name, counter_place, flag_name, flag_place, mark_name, mark_place, over_place, rested_name, rested_place}
 use Rattle.bl_emit_laws.specs.Counters.Own.{names_counter}
 use Rattle.bl_emit_laws.specs.Counters.Places.{CPath, StepParts, places_in_place}
 use Rattle.bl_emit_laws.proofs.OnCounters.Expressions.{ExprFine, PlaceFine, compare-fine, literal-fine, not-fine, read-fine, root-fine, two-fine}
@@ -71,7 +71,7 @@ module _ (P : CPath → Type 0) (plain : (place : CPath) → names_counter place
   pub local_read : (name : Text) → ExprFine P plain (c_read (c_place false name []))
   local_read name = read-fine P plain (c_place false name []) (local_fine name)
 
-  pub value_fine : (view : View) (k v : ℕ) → ExprFine P plain (counter_value view.sizes k v)
+  pub value_fine : (view : ActivityView) (k v : ℕ) → ExprFine P plain (counter_value view.sizes k v)
   value_fine view k v = literal-fine P plain (counter_type view.sizes k) (pos v)
 
   -- ---- many tests
@@ -95,16 +95,16 @@ module _ (P : CPath → Type 0) (plain : (place : CPath) → names_counter place
 
   -- ---- guards
 
-  slot_fine : (view : View) (slot : Slot) → ExprFine P plain (at_slot view slot)
+  slot_fine : (view : ActivityView) (slot : Slot) → ExprFine P plain (at_slot view slot)
   slot_fine view slot =
       two-fine P plain Eq (c_read (counter_place slot.counter)) (counter_value view.sizes slot.counter slot.value) (counter_read slot.counter)
       (value_fine view slot.counter slot.value)
 
-  slots_fine : (view : View) (slots : List Slot) → TestsFine (map (at_slot view) slots)
+  slots_fine : (view : ActivityView) (slots : List Slot) → TestsFine (map (at_slot view) slots)
   slots_fine view [] = tt
   slots_fine view (slot ∷ rest) = (slot_fine view slot, slots_fine view rest)
 
-  rested_fine : (view : View) (slot : Slot) → ExprFine P plain (rested_at view slot)
+  rested_fine : (view : ActivityView) (slot : Slot) → ExprFine P plain (rested_at view slot)
   rested_fine view slot = by (is_only view.sizes slot)
     where
       by : (only : Bool) → ExprFine P plain (rested_by view slot only)
@@ -115,7 +115,7 @@ module _ (P : CPath → Type 0) (plain : (place : CPath) → names_counter place
           two-fine P plain Eq (c_read (rested_place slot.counter)) (counter_value view.sizes slot.counter slot.value)
           (local_read (rested_name slot.counter)) (value_fine view slot.counter slot.value)
 
-  between_fine : (view : View) (k least most : ℕ) → ExprFine P plain (rested_between view k least most)
+  between_fine : (view : ActivityView) (k least most : ℕ) → ExprFine P plain (rested_between view k least most)
   between_fine view k least most =
       let s = counter_type view.sizes k in
       let here = local_read (rested_name k) in
@@ -124,12 +124,12 @@ module _ (P : CPath → Type 0) (plain : (place : CPath) → names_counter place
       (compare-fine P plain Ge s (c_read (rested_place k)) (counter_value view.sizes k least) here (value_fine view k least))
       (compare-fine P plain Le s (c_read (rested_place k)) (counter_value view.sizes k most) here (value_fine view k most))
 
-  in_fine : (view : View) (slots : List Slot) → ExprFine P plain (rested_in view slots)
+  in_fine : (view : ActivityView) (slots : List Slot) → ExprFine P plain (rested_in view slots)
   in_fine view [] = truth-fine P plain false
   in_fine view (slot ∷ []) = rested_fine view slot
   in_fine view (slot ∷ more ∷ rest) = between_fine view slot.counter slot.value (last_value more.value rest)
 
-  ends_fine : (view : View) (needed : Needed) → ExprFine P plain (ends_test view needed)
+  ends_fine : (view : ActivityView) (needed : Needed) → ExprFine P plain (ends_test view needed)
   ends_fine view needed = by needed.all
     where
       tests : List CExpr
@@ -139,17 +139,17 @@ module _ (P : CPath → Type 0) (plain : (place : CPath) → names_counter place
       by true = tree_fine (c_truth true) (truth-fine P plain true) And (length tests) tests (slots_fine view needed.slots)
       by false = tree_fine (c_truth false) (truth-fine P plain false) Or (length tests) tests (slots_fine view needed.slots)
 
-  mark_read : (view : View) (m : Node) → ExprFine P plain (c_read (mark_place (view.number m)))
+  mark_read : (view : ActivityView) (m : Node) → ExprFine P plain (c_read (mark_place (view.number m)))
   mark_read view m = local_read (mark_name (view.number m))
 
-  aged_fine : (view : View) (age : Age) (ends : CExpr) → ExprFine P plain ends → ExprFine P plain (aged_test view age ends)
+  aged_fine : (view : ActivityView) (age : Age) (ends : CExpr) → ExprFine P plain ends → ExprFine P plain (aged_test view age ends)
   aged_fine view (IsNew m) ends all = two-fine P plain And (c_read (mark_place (view.number m))) ends (mark_read view m) all
   aged_fine view (IsOld m) ends all =
       two-fine P plain And (c_not (c_read (mark_place (view.number m)))) ends
       (not-fine P plain (c_read (mark_place (view.number m))) (mark_read view m)) all
-  aged_fine view Whatever ends all = all
+  aged_fine view IsAny ends all = all
 
-  pub guard_fine : (view : View) (m : Node) (asked : Asked) → ExprFine P plain (guard_of view m asked)
+  pub guard_fine : (view : ActivityView) (m : Node) (asked : Asked) → ExprFine P plain (guard_of view m asked)
   guard_fine view m Flagged = local_read (flag_name (view.number m))
   guard_fine view m (Rested slot) = rested_fine view slot
   guard_fine view m (RestedIn slots) = in_fine view slots
@@ -157,31 +157,31 @@ module _ (P : CPath → Type 0) (plain : (place : CPath) → names_counter place
 
   -- ---- changes
 
-  flag_fine : (view : View) (m : Node) → StmtFine P plain (flagged_now view m)
+  flag_fine : (view : ActivityView) (m : Node) → StmtFine P plain (flagged_now view m)
   flag_fine view m = set-fine P plain (flag_place (view.number m)) (c_truth true) (local_fine (flag_name (view.number m))) (truth-fine P plain true)
 
-  freed_fine : (view : View) (k : ℕ) → StmtFine P plain (freed view k)
+  freed_fine : (view : ActivityView) (k : ℕ) → StmtFine P plain (freed view k)
   freed_fine view k = set-fine P plain (counter_place k) (counter_value view.sizes k 0) (counter_fine k) (value_fine view k 0)
 
-  forgotten_fine : (view : View) (k : ℕ) (read : Bool) → CodeFine P plain (forgotten view k read)
+  forgotten_fine : (view : ActivityView) (k : ℕ) (read : Bool) → CodeFine P plain (forgotten view k read)
   forgotten_fine view k true =
       first_stmt P plain (freed view k) (c_set (rested_place k) (counter_value view.sizes k 0) ∷ []) (freed_fine view k)
       (one_stmt P plain (c_set (rested_place k) (counter_value view.sizes k 0))
       (set-fine P plain (rested_place k) (counter_value view.sizes k 0) (local_fine (rested_name k)) (value_fine view k 0)))
   forgotten_fine view k false = one_stmt P plain (freed view k) (freed_fine view k)
 
-  change_fine : (view : View) (change : Change) → CodeFine P plain (change_code view change)
-  change_fine view (Flags m) = one_stmt P plain (flagged_now view m) (flag_fine view m)
-  change_fine view (Holds slot) =
+  change_fine : (view : ActivityView) (change : Change) → CodeFine P plain (change_code view change)
+  change_fine view (SetsFlag m) = one_stmt P plain (flagged_now view m) (flag_fine view m)
+  change_fine view (SetsCounter slot) =
       one_stmt P plain (c_set (counter_place slot.counter) (counter_value view.sizes slot.counter slot.value))
       (set-fine P plain (counter_place slot.counter) (counter_value view.sizes slot.counter slot.value) (counter_fine slot.counter)
       (value_fine view slot.counter slot.value))
-  change_fine view (Frees k) = one_stmt P plain (freed view k) (freed_fine view k)
-  change_fine view (Forgets k) = forgotten_fine view k (view.is_read k)
-  change_fine view (Marks m) =
+  change_fine view (ClearsCounter k) = one_stmt P plain (freed view k) (freed_fine view k)
+  change_fine view (ClearsBoth k) = forgotten_fine view k (view.is_read k)
+  change_fine view (SetsMark m) =
       one_stmt P plain (c_set (mark_place (view.number m)) (c_truth true))
       (set-fine P plain (mark_place (view.number m)) (c_truth true) (local_fine (mark_name (view.number m))) (truth-fine P plain true))
-  change_fine view (Ends start surface depth) =
+  change_fine view (EndsWhen start surface depth) =
       one_stmt P plain (c_if (c_read (mark_place (view.number start))) (flagged_now view surface ∷ []) (Some (flagged_now view depth ∷ [])))
       (if-fine P plain (c_read (mark_place (view.number start))) (flagged_now view surface ∷ []) (Some (flagged_now view depth ∷ []))
       (mark_read view start) (one_stmt P plain (flagged_now view surface) (flag_fine view surface))
@@ -190,7 +190,7 @@ module _ (P : CPath → Type 0) (plain : (place : CPath) → names_counter place
       one_stmt P plain (c_set over_place (c_truth true))
       (set-fine P plain over_place (c_truth true) (root-fine P plain true (codes "e")) (truth-fine P plain true))
 
-  pub changes_fine : (view : View) (changes : List Change) → CodeFine P plain (changes_code view changes)
+  pub changes_fine : (view : ActivityView) (changes : List Change) → CodeFine P plain (changes_code view changes)
   changes_fine view [] = tt
   changes_fine view (change ∷ rest) =
       then_code P plain (change_code view change) (changes_code view rest) (change_fine view change) (changes_fine view rest)

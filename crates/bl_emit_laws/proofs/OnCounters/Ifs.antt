@@ -12,19 +12,19 @@ use Rattle.bl_tree.specs.declared.c.CStmtKind.{CStmtKind, CStmtKind-F, fold-roll
 use Rattle.bl_tree.specs.declared.c.CStmtKind.TheVariants as statement
 use Rattle.bl_tree.specs.declared.scalar.Op.TheVariants.{Eq}
 use Rattle.bl_tree.specs.Reduce.{joined}
-use Rattle.bl_tree.specs.Typing.{Site}
-use Rattle.bl_nodes.specs.Nodes.{entry}
-use Rattle.bl_nodes.specs.Plain.{Block, Done, Then}
+use Rattle.bl_tree.specs.Typing.{TypingContext}
+use Rattle.bl_graph_nodes.specs.Nodes.{entry}
+use Rattle.bl_graph_nodes.specs.Plain.{Block, Done, Then}
 use Rattle.bl_emit_acts.specs.Acts.{c_copied, c_set, c_stmt}
 use Rattle.bl_emit_acts.specs.Places.{place_in}
 use Rattle.bl_emit_acts.specs.Trees.{c_place, c_read, c_two}
 use Rattle.bl_emit_acts.specs.Types.{copy_name}
 use Rattle.bl_emit_functions.specs.Trees.{c_if}
-use Rattle.bl_emit_pass.specs.Activities.{Activity, activity_code, blocks_code, blocks_in_order, body_of, copied_in, counters_read, entry_code, picked}
-use Rattle.bl_emit_pass.specs.Activities.{rested_code, turns_in_source, view_of}
-use Rattle.bl_emit_pass.specs.Blocks.{Turn, View, counter_value, merged_code, turn_code}
-use Rattle.bl_emit_pass.specs.Names.{counter_place, flag_place, rested_place}
-use Rattle.bl_emit_pass_laws.proofs.OnPlaced.Lists.{there_at}
+use Rattle.bl_emit_spec.specs.Activities.{Activity, activity_code, blocks_code, blocks_in_order, body_of, copied_in, counters_read, entry_code, picked}
+use Rattle.bl_emit_spec.specs.Activities.{rested_code, turns_in_source, view_of}
+use Rattle.bl_emit_spec.specs.Blocks.{ActivityView, NodeCode, counter_value, merged_code, turn_code}
+use Rattle.bl_emit_spec.specs.Names.{counter_place, flag_place, rested_place}
+use Rattle.bl_emit_spec_laws.proofs.OnPlaced.Lists.{there_at}
 use Rattle.bl_emit_laws.proofs.OnKept.Lists.{further, here}
 use Rattle.bl_emit_laws.specs.Counters.Ifs.{HasIfForEach, ifs_in, is_if, is_setting}
 
@@ -84,12 +84,12 @@ resteds : (counters : List ℕ) → AreSettings (map rested_code counters)
 resteds [] = no_settings
 resteds (k ∷ rest) = first_setting (rested_place k) (c_read (counter_place k)) (map rested_code rest) (resteds rest)
 
-entries : (view : View) (body : Block) → AreSettings (entry_code view body)
+entries : (view : ActivityView) (body : Block) → AreSettings (entry_code view body)
 entries view Done = no_settings
 entries view (Then s rest) =
     first_setting (flag_place (view.number (entry s))) (c_two Eq (c_read (counter_place 0)) (counter_value view.sizes 0 0)) [] no_settings
 
-copies : (site : Site) (ks : List ℕ) → AreSettings (map (c_copied site) ks)
+copies : (site : TypingContext) (ks : List ℕ) → AreSettings (map (c_copied site) ks)
 copies site [] = no_settings
 copies site (k ∷ rest) =
     first_setting (c_place false (copy_name k) []) (c_read (place_in site k [])) (map (c_copied site) rest) (copies site rest)
@@ -113,23 +113,23 @@ first_if test block code more =
     ∙ ap (λ (later : List CStmt). c_if test block None ∷ later) more
 
 -- nothing but `if`s stands there
-blocks_alone : (turns : List Turn) (blocks : List (List ℕ)) → ifs_in (blocks_code turns blocks) ≡ blocks_code turns blocks
+blocks_alone : (turns : List NodeCode) (blocks : List (List ℕ)) → ifs_in (blocks_code turns blocks) ≡ blocks_code turns blocks
 blocks_alone turns [] = refl
 blocks_alone turns (block ∷ rest) = by (picked turns block) (blocks_alone turns rest)
   where
-    by : (list : List Turn) → ifs_in (blocks_code turns rest) ≡ blocks_code turns rest →
+    by : (list : List NodeCode) → ifs_in (blocks_code turns rest) ≡ blocks_code turns rest →
         ifs_in (merged_code list ++ blocks_code turns rest) ≡ merged_code list ++ blocks_code turns rest
     by [] more = more
     by (first ∷ others) more = first_if first.test (first.code ++ map turn_code others) (blocks_code turns rest) more
 
 -- one for each block, where none is empty and each number is that of a turn
-pub blocks_many : (turns : List Turn) (blocks : List (List ℕ)) → ((block : List ℕ) → Contains blocks block → 0 < length block) →
+pub blocks_many : (turns : List NodeCode) (blocks : List (List ℕ)) → ((block : List ℕ) → Contains blocks block → 0 < length block) →
     ((k : ℕ) → Contains (joined blocks) k → k < length turns) → length (blocks_code turns blocks) ≡ length blocks
 blocks_many turns [] filled within = refl
 blocks_many turns ([] ∷ rest) filled within = absurd (let none : 0 < 0 = filled [] (here [] rest) in omega (arith, none))
 blocks_many turns ((k ∷ more) ∷ rest) filled within =
     let found = there_at turns k (within k (here k (more ++ joined rest))) in
-    ap (λ (o : Option Turn). length (merged_code (option_to_list o ++ picked turns more) ++ blocks_code turns rest)) found.1
+    ap (λ (o : Option NodeCode). length (merged_code (option_to_list o ++ picked turns more) ++ blocks_code turns rest)) found.1
     ∙ ap suc
     (blocks_many turns rest (λ block at. filled block (further (k ∷ more) rest block at))
     (λ j at. within j (Contains-append_right (k ∷ more) (joined rest) j at)))

@@ -23,7 +23,7 @@ use Rattle.std.proofs.Common.{
 use Rattle.std.proofs.lemmas.Option.{same_Some}
 use Rattle.std.specs.Prelude.{slice_get}
 use Rattle.bl_tree.specs.declared.tree.Unit.{Unit as UnitDef}
-use Rattle.bl_emit_pass_laws.specs.Tables.Tables.{each_from, kept}
+use Rattle.bl_emit_spec_laws.specs.Tables.Tables.{each_from, kept}
 use Rattle.bl_emit_laws.proofs.OnKept.Lists.{first_or, further, here, none_has}
 
 -- ---- what is kept

@@ -9,7 +9,7 @@ use Rattle.bl_tree.specs.declared.c.CMember.{CMember}
 use Rattle.bl_tree.specs.declared.c.CStruct.{CStruct}
 use Rattle.bl_tree.specs.declared.place.Place.{Place}
 use Rattle.bl_tree.specs.declared.text.Text.{Text}
-use Rattle.bl_cmeaning.specs.Faults.{
+use Rattle.bl_ctext_semantics.specs.Faults.{
   Clause,
   Signature,
   WellFormed,
@@ -27,9 +27,9 @@ use Rattle.bl_cmeaning.specs.Faults.{
   struct_table,
   unless,
 }
-use Rattle.bl_cmeaning.specs.Parts.{Parts}
-use Rattle.bl_cmeaning.specs.Tables.{Table, no_entries, with_entry}
-use Rattle.bl_cmeaning.proofs.EndLemmas.{nil-left, nil-right}
+use Rattle.bl_ctext_semantics.specs.Parts.{Parts}
+use Rattle.bl_ctext_semantics.specs.Tables.{Table, no_entries, with_entry}
+use Rattle.bl_ctext_semantics.proofs.EndLemmas.{nil-left, nil-right}
 use Rattle.bl_emit_laws.specs.Counters.Own.{functions_named, structs_named}
 
 -- ---- names that differ

@@ -18,7 +18,7 @@ use Rattle.bl_tree.specs.declared.tree.Stmt.{Stmt, fold-roll-Stmt}
 use Rattle.bl_tree.specs.declared.tree.StmtKind.{fold-roll-StmtKind}
 use Rattle.bl_tree.specs.declared.tree.Ty.{Ty}
 use Rattle.bl_tree.specs.Types.{scalar_in}
-use Rattle.bl_tree.specs.Typing.{Site, var_at}
+use Rattle.bl_tree.specs.Typing.{TypingContext, var_at}
 use Rattle.bl_tree.proofs.StmtInduction.{Cases, Each, EachArm, induct}
 use Rattle.bl_emit_acts.specs.Acts.{c_calling, c_clear, c_set, c_zeroed, call_args, call_made, code_made, copy_code, declared_code, initial_code}
 use Rattle.bl_emit_acts.specs.Acts.{is_copied, name_of_callee, output_arg, zeroed}
@@ -156,7 +156,7 @@ module _ (P : CPath → Type 0) (plain : (place : CPath) → names_counter place
 
   -- ---- all statements
 
-  module _ (site : Site) where
+  module _ (site : TypingContext) where
     code_fine : (e : Expr) → ExprFine P plain (code_made site e)
     code_fine e = expr_fine P plain site e
 

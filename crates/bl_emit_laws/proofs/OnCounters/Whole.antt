@@ -12,25 +12,25 @@ use Rattle.bl_tree.specs.declared.program.Program.{Program}
 use Rattle.bl_tree.specs.declared.text.Text.{Text}
 use Rattle.bl_tree.specs.declared.tree.StructDef.{StructDef}
 use Rattle.bl_tree.specs.declared.tree.Unit.{Unit as UnitDef}
-use Rattle.bl_tree.specs.Program.{Keeps}
+use Rattle.bl_tree.specs.Program.{IsWellTyped}
 use Rattle.bl_tree.specs.Typing.{is_activity}
 use Rattle.bl_ctree.specs.declared.instance.Instance.{Instance}
 use Rattle.bl_ctree.specs.Instances.{Setting, setting_of, unit_at, unit_of}
 use Rattle.bl_ctree_laws_confluence.specs.Deeds.Orderly.{AcceptedIsOrderly, Orderly}
-use Rattle.bl_cmeaning.specs.Faults.{Variable, WellFormed, struct_table, variables_of}
-use Rattle.bl_cmeaning.specs.Parts.{Parts}
-use Rattle.bl_cmeaning.specs.Tables.{Table, table_of}
+use Rattle.bl_ctext_semantics.specs.Faults.{Variable, WellFormed, struct_table, variables_of}
+use Rattle.bl_ctext_semantics.specs.Parts.{Parts}
+use Rattle.bl_ctext_semantics.specs.Tables.{Table, table_of}
 use Rattle.bl_machine.specs.declared.machine.Activity.{Activity as InMachine}
 use Rattle.bl_emit_acts.specs.Types.{unit_name}
 use Rattle.bl_emit_functions.specs.Functions.{function_code}
-use Rattle.bl_emit_pass.specs.Activities.{Activity, activity_function, frame_struct, remembers_any}
-use Rattle.bl_emit_pass.specs.Names.{counter_name, frame_name}
-use Rattle.bl_emit_pass.specs.Programs.{init_function, needed_units, tick_function}
-use Rattle.bl_emit_pass_laws.specs.Calls.Built.{Activities, AreBuilt, unit_number}
-use Rattle.bl_emit_pass_laws_formed.specs.Closed.{InstancesNeeded}
-use Rattle.bl_emit_pass_laws_files.specs.States.States.{FramesDeclared}
-use Rattle.bl_emit_pass_laws.specs.Tables.Laws.{ActivitiesBuilt}
-use Rattle.bl_emit_pass_laws.specs.Tables.Tables.{functions_of_all, unit_function}
+use Rattle.bl_emit_spec.specs.Activities.{Activity, activity_function, frame_struct, remembers_any}
+use Rattle.bl_emit_spec.specs.Names.{counter_name, frame_name}
+use Rattle.bl_emit_spec.specs.Programs.{init_function, needed_units, tick_function}
+use Rattle.bl_emit_spec_laws.specs.Calls.Built.{Activities, AreBuilt, unit_number}
+use Rattle.bl_emit_spec_laws_wellformed.specs.Closed.{InstancesNeeded}
+use Rattle.bl_emit_spec_laws_files.specs.States.States.{FramesDeclared}
+use Rattle.bl_emit_spec_laws.specs.Tables.Laws.{ActivitiesBuilt}
+use Rattle.bl_emit_spec_laws.specs.Tables.Tables.{functions_of_all, unit_function}
 use Rattle.bl_emit_laws.specs.Kept.{FileEnds, FilesEnd, FramesAreDeclared, activities_in, functions_before, written_file}
 use Rattle.bl_emit_laws.proofs.OnKept.Lists.{first_or, further, here, none_has}
 use Rattle.bl_emit_laws.specs.Counters.Laws.{FilesOwn}
@@ -247,7 +247,7 @@ module _ (program : Program) (machine : List InMachine) (unit : UnitDef) (ends :
 
     -- ---- one for each activity
 
-    module _ (needs : InstancesNeeded program.structs program.units program.entry) (keeps : Keeps program.structs program.units program.entry)
+    module _ (needs : InstancesNeeded program.structs program.units program.entry) (keeps : IsWellTyped program.structs program.units program.entry)
         (orderly : Orderly program.structs program.units (setting_of program.structs program.units program.entry))
         (declared : FramesDeclared program.structs program.units program.entry (activities_in program machine) unit (written_file program machine))
         (formed : WellFormed (written_file program machine))

@@ -26,33 +26,33 @@ use Rattle.bl_tree.specs.Reduce.{joined}
 use Rattle.bl_tree.specs.Types.{scalar_in}
 use Rattle.bl_tree.specs.Typing.{inputs_of, outputs_of}
 use Rattle.bl_tree.specs.Words.{are_distinct}
-use Rattle.bl_cmeaning.specs.Calls.{calls_in_arg, calls_in_block, calls_in_place, calls_in_stmt, most}
-use Rattle.bl_cmeaning.specs.Faults.{Context, Signature, Variable, bool_type, context_in, declared_before, depth_of_function, distinct_names}
-use Rattle.bl_cmeaning.specs.Faults.{faults_in_function, member_of, member_table, names_table, repeated, returns_result, short_chain, signature_as}
-use Rattle.bl_cmeaning.specs.Faults.{signature_of, surely_returns, variable_names}
-use Rattle.bl_cmeaning.specs.Loops.{turns_in, turns_in_block}
-use Rattle.bl_cmeaning.specs.Tables.{Table, entry_or}
+use Rattle.bl_ctext_semantics.specs.Calls.{calls_in_arg, calls_in_block, calls_in_place, calls_in_stmt, most}
+use Rattle.bl_ctext_semantics.specs.Faults.{Context, Signature, Variable, bool_type, context_in, declared_before, depth_of_function, distinct_names}
+use Rattle.bl_ctext_semantics.specs.Faults.{faults_in_function, member_of, member_table, names_table, repeated, returns_result, short_chain, signature_as}
+use Rattle.bl_ctext_semantics.specs.Faults.{signature_of, surely_returns, variable_names}
+use Rattle.bl_ctext_semantics.specs.Loops.{turns_in, turns_in_block}
+use Rattle.bl_ctext_semantics.specs.Tables.{Table, entry_or}
 use Rattle.bl_emit_acts.specs.Acts.{c_calling, c_clear}
 use Rattle.bl_emit_acts.specs.Trees.{c_call, c_literal, c_place, c_read, c_step, nowhere}
 use Rattle.bl_emit_acts.specs.Types.{unit_name}
 use Rattle.bl_emit_functions.specs.Functions.{memory_name}
 use Rattle.bl_emit_functions.specs.Trees.{c_if, c_return}
-use Rattle.bl_emit_acts_laws_formed.specs.Formed.Declared.{IsDeclared, parameter_for, plain_member, variable_of}
-use Rattle.bl_emit_acts_laws_formed.specs.Formed.Formed.{BlockIs, PlaceIs, StmtIs}
-use Rattle.bl_emit_acts_laws_formed.proofs.OnFormed.Acts.{block_cons, block_one, calling-is, clear-is}
-use Rattle.bl_emit_acts_laws_formed.proofs.OnFormed.Judged.{kept, literal-is, read-is}
-use Rattle.bl_emit_acts_laws_formed.proofs.OnFormed.Prelude.{unit_named}
-use Rattle.bl_emit_acts_laws_formed.proofs.OnFormed.Typed.{variable_place}
-use Rattle.bl_emit_functions_laws_formed.proofs.OnFiles.Shapes.{address-calls, call-calls, calling-calls, clear-calls, if-calls, literal-calls, place-calls}
-use Rattle.bl_emit_functions_laws_formed.proofs.OnFiles.Shapes.{read-calls, return-calls, step-calls, value-calls}
-use Rattle.bl_emit_functions_laws_formed.proofs.OnFormed.Shapes.{if-is, return-is}
-use Rattle.bl_emit_functions_laws_formed.proofs.OnFormed.Turns.{one-turns, return-turns}
-use Rattle.bl_emit_pass.specs.Names.{frame_name}
-use Rattle.bl_emit_pass.specs.Programs.{c_returned, init_function, input_arg, output_arg, port_struct, state_struct, tick_args, tick_function}
-use Rattle.bl_emit_pass_laws_bodies.proofs.OnSigned.Turns.{call-turns, clear-turns, if-turns}
-use Rattle.bl_emit_pass_laws_bodies.proofs.OnBodies.Calls.{Suit, suit-address, suit-append}
-use Rattle.bl_emit_pass_laws_bodies.proofs.OnBodies.Variables.{member_place}
-use Rattle.bl_emit_pass_laws_bodies.specs.Bodies.{memory_given, result_given, signature_of_activity}
+use Rattle.bl_emit_acts_laws_wellformed.specs.Formed.Declared.{IsDeclared, parameter_for, plain_member, variable_of}
+use Rattle.bl_emit_acts_laws_wellformed.specs.Formed.Formed.{BlockIs, PlaceIs, StmtIs}
+use Rattle.bl_emit_acts_laws_wellformed.proofs.OnFormed.Acts.{block_cons, block_one, calling-is, clear-is}
+use Rattle.bl_emit_acts_laws_wellformed.proofs.OnFormed.Judged.{kept, literal-is, read-is}
+use Rattle.bl_emit_acts_laws_wellformed.proofs.OnFormed.Prelude.{unit_named}
+use Rattle.bl_emit_acts_laws_wellformed.proofs.OnFormed.Typed.{variable_place}
+use Rattle.bl_emit_functions_laws_wellformed.proofs.OnFiles.Shapes.{address-calls, call-calls, calling-calls, clear-calls, if-calls, literal-calls, place-calls}
+use Rattle.bl_emit_functions_laws_wellformed.proofs.OnFiles.Shapes.{read-calls, return-calls, step-calls, value-calls}
+use Rattle.bl_emit_functions_laws_wellformed.proofs.OnFormed.Shapes.{if-is, return-is}
+use Rattle.bl_emit_functions_laws_wellformed.proofs.OnFormed.Turns.{one-turns, return-turns}
+use Rattle.bl_emit_spec.specs.Names.{frame_name}
+use Rattle.bl_emit_spec.specs.Programs.{c_returned, init_function, input_arg, output_arg, port_struct, state_struct, tick_args, tick_function}
+use Rattle.bl_emit_spec_laws_wellformed_bodies.proofs.OnSigned.Turns.{call-turns, clear-turns, if-turns}
+use Rattle.bl_emit_spec_laws_wellformed_bodies.proofs.OnBodies.Calls.{Suit, suit-address, suit-append}
+use Rattle.bl_emit_spec_laws_wellformed_bodies.proofs.OnBodies.Variables.{member_place}
+use Rattle.bl_emit_spec_laws_wellformed_bodies.specs.Bodies.{memory_given, result_given, signature_of_activity}
 use Rattle.bl_emit_laws.proofs.OnFormed.Ports.{inputs-suit, outputs-suit, port-place}
 
 -- what the functions of the interface need, of an entry

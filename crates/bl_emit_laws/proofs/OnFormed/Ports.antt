@@ -24,19 +24,19 @@ use Rattle.bl_tree.specs.Types.{scalar_in}
 use Rattle.bl_tree.specs.Typing.{inputs_of, outputs_of}
 use Rattle.bl_tree.specs.Words.{are_distinct, is_among}
 use Rattle.bl_eval.proofs.PassLemmas.{and_left, and_right, both}
-use Rattle.bl_cmeaning.specs.Faults.{Context, fits_arg, judged_arg, member_table}
-use Rattle.bl_cmeaning.specs.Tables.{Table, found}
+use Rattle.bl_ctext_semantics.specs.Faults.{Context, fits_arg, judged_arg, member_table}
+use Rattle.bl_ctext_semantics.specs.Tables.{Table, found}
 use Rattle.bl_emit_acts.specs.Trees.{c_place, c_read, c_step, nowhere}
 use Rattle.bl_emit_acts.specs.Types.{c_type}
-use Rattle.bl_emit_acts_laws_formed.specs.Formed.Declared.{parameter_for, variable_of}
-use Rattle.bl_emit_acts_laws_formed.specs.Formed.Formed.{ExprIs, PlaceIs, sound}
-use Rattle.bl_emit_acts_laws_formed.proofs.OnFormed.Judged.{of_value, read-is, value_arg-is}
-use Rattle.bl_emit_acts_laws_formed.proofs.OnFormed.Prelude.{type_same}
-use Rattle.bl_emit_pass.specs.Programs.{input_arg, output_arg, port_member, port_struct}
-use Rattle.bl_emit_pass_laws.proofs.OnOwn.Members.{contains_mapped, further, here as first_here}
-use Rattle.bl_emit_pass_laws_bodies.proofs.OnBodies.Calls.{Suit, suit-address, suit-append}
-use Rattle.bl_emit_pass_laws_bodies.proofs.OnBodies.Lists.{found-one, names_of_entries}
-use Rattle.bl_emit_pass_laws_bodies.proofs.OnBodies.Variables.{member_place}
+use Rattle.bl_emit_acts_laws_wellformed.specs.Formed.Declared.{parameter_for, variable_of}
+use Rattle.bl_emit_acts_laws_wellformed.specs.Formed.Formed.{ExprIs, PlaceIs, sound}
+use Rattle.bl_emit_acts_laws_wellformed.proofs.OnFormed.Judged.{of_value, read-is, value_arg-is}
+use Rattle.bl_emit_acts_laws_wellformed.proofs.OnFormed.Prelude.{type_same}
+use Rattle.bl_emit_spec.specs.Programs.{input_arg, output_arg, port_member, port_struct}
+use Rattle.bl_emit_spec_laws.proofs.OnOwn.Members.{contains_mapped, further, here as first_here}
+use Rattle.bl_emit_spec_laws_wellformed_bodies.proofs.OnBodies.Calls.{Suit, suit-address, suit-append}
+use Rattle.bl_emit_spec_laws_wellformed_bodies.proofs.OnBodies.Lists.{found-one, names_of_entries}
+use Rattle.bl_emit_spec_laws_wellformed_bodies.proofs.OnBodies.Variables.{member_place}
 
 -- ---- lists
 

@@ -14,14 +14,14 @@ use Rattle.bl_tree.specs.declared.program.Program.{Program}
 use Rattle.bl_tree.specs.declared.rule.Rule.TheVariants as rule
 use Rattle.bl_tree.specs.declared.tree.Unit.{Unit as UnitDef}
 use Rattle.bl_tree.specs.declared.tree.Var.{Var}
-use Rattle.bl_tree.specs.Program.{Keeps, is_entry, names_of, parameters_of}
+use Rattle.bl_tree.specs.Program.{IsWellTyped, is_entry, names_of, parameters_of}
 use Rattle.bl_tree.specs.Types.{scalar_in}
 use Rattle.bl_tree.specs.Typing.{inputs_of, is_activity, outputs_of}
 use Rattle.bl_tree.specs.Words.{are_distinct, is_name}
 use Rattle.bl_eval.proofs.PassLemmas.{and_left, and_right}
 use Rattle.bl_limits.specs.Rules.{Passes}
-use Rattle.bl_measures.specs.Units.{chain_at}
-use Rattle.bl_cmeaning.specs.Faults.{
+use Rattle.bl_limits_measures.specs.Units.{chain_at}
+use Rattle.bl_ctext_semantics.specs.Faults.{
   Fault,
   Signature,
   WellFormed,
@@ -37,20 +37,20 @@ use Rattle.bl_cmeaning.specs.Faults.{
   struct_table,
   unless,
 }
-use Rattle.bl_cmeaning.specs.Faults as faults
-use Rattle.bl_cmeaning.specs.Parts.{parts_from as file_from}
-use Rattle.bl_cmeaning.specs.Tables.{Table, no_entries, with_entry}
+use Rattle.bl_ctext_semantics.specs.Faults as faults
+use Rattle.bl_ctext_semantics.specs.Parts.{parts_from as file_from}
+use Rattle.bl_ctext_semantics.specs.Tables.{Table, no_entries, with_entry}
 use Rattle.bl_machine.specs.declared.machine.Activity.{Activity as InMachine}
 use Rattle.bl_emit_acts.specs.Types.{unit_name}
-use Rattle.bl_emit_acts_laws_formed.proofs.OnFormed.Judged.{kept}
-use Rattle.bl_emit_acts_laws_formed.proofs.OnFormed.Units.{inputs_stand, outputs_stand, unit_at}
-use Rattle.bl_emit_pass.specs.Programs.{Parts, file_at, init_function, needed_units, port_struct, state_struct, tick_function, written}
-use Rattle.bl_emit_pass_laws_formed.specs.Closed.{NeededClosed}
-use Rattle.bl_emit_pass_laws_bodies.specs.Lists.{FunctionsEnd, PartsFormed, signature_by}
-use Rattle.bl_emit_pass_laws.proofs.OnOwn.Members.{further, here}
+use Rattle.bl_emit_acts_laws_wellformed.proofs.OnFormed.Judged.{kept}
+use Rattle.bl_emit_acts_laws_wellformed.proofs.OnFormed.Units.{inputs_stand, outputs_stand, unit_at}
+use Rattle.bl_emit_spec.specs.Programs.{ProgramParts, file_at, init_function, needed_units, port_struct, state_struct, tick_function, written}
+use Rattle.bl_emit_spec_laws_wellformed.specs.Closed.{NeededClosed}
+use Rattle.bl_emit_spec_laws_wellformed_bodies.specs.Lists.{FunctionsEnd, PartsWellFormed, signature_by}
+use Rattle.bl_emit_spec_laws.proofs.OnOwn.Members.{further, here}
 use Rattle.bl_emit_laws.proofs.OnFormed.Interface.{Entry, init-fine, tick-fine}
 use Rattle.bl_emit_laws.proofs.OnFormed.Ports.{inputs_all, inputs_differ, outputs_differ}
-use Rattle.bl_emit_laws.specs.Formed.{FilesFormed, StructsSound, parts_of, table_of}
+use Rattle.bl_emit_laws.specs.Formed.{FilesWellFormed, StructsSound, parts_of, table_of}
 
 -- ---- the last two functions
 
@@ -93,12 +93,12 @@ no_result : {A : Type 0} (o : Option A) → is_none o ≡ true → o ≡ None
 no_result None is = refl
 no_result (Some x) is = absurd (cc)
 
-module _ (program : Program) (machine : List InMachine) (unit : UnitDef) (keeps : Keeps program.structs program.units program.entry)
+module _ (program : Program) (machine : List InMachine) (unit : UnitDef) (keeps : IsWellTyped program.structs program.units program.entry)
     (passes : Passes program.structs program.units program.entry) (there : slice_get program.units program.entry ≡ Some unit)
     (closed : NeededClosed program.structs program.units program.entry) (sound : StructsSound program machine unit)
     (end : FunctionsEnd program.structs program.units program.entry (table_of program machine) (parts_of program machine)
     (init_function unit.name ∷ tick_function unit (unwrap_or (slice_get (parts_of program machine).remember program.entry) false) ∷ [])) where
-  abbrev parts : Parts
+  abbrev parts : ProgramParts
   parts = parts_of program machine
 
   abbrev table : Table (Table CMember)
@@ -220,10 +220,10 @@ module _ (program : Program) (machine : List InMachine) (unit : UnitDef) (keeps 
   pub formed : WellFormed (file_from (written program machine).structs (written program machine).funcs)
   formed = subst (λ funcs. WellFormed (file_from (written program machine).structs funcs)) (sym funcs_are) (record { none = fine })
 
-pub files : (program : Program) → NeededClosed program.structs program.units program.entry → PartsFormed program.structs program.units program.entry →
-    FilesFormed program
-files program closed parts_formed machine unit keeps passes there forms sound =
+pub files : (program : Program) → NeededClosed program.structs program.units program.entry → PartsWellFormed program.structs program.units program.entry →
+    FilesWellFormed program
+files program closed parts_well_formed machine unit keeps passes there forms sound =
     formed program machine unit keeps passes there closed sound
-    (parts_formed machine (table_of program machine)
+    (parts_well_formed machine (table_of program machine)
     (init_function unit.name ∷ tick_function unit (unwrap_or (slice_get (parts_of program machine).remember program.entry) false) ∷ [])
     keeps passes forms sound.types sound.parts (omega arith))

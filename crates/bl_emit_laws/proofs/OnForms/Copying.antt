@@ -14,9 +14,9 @@ use Rattle.bl_tree.specs.declared.tree.StmtKind.TheOpen.{StmtKind-F}
 use Rattle.bl_tree.specs.declared.tree.StructDef.{StructDef}
 use Rattle.bl_tree.specs.declared.tree.Unit.{Unit as UnitDef}
 use Rattle.bl_tree.specs.declared.tree.Var.{Var}
-use Rattle.bl_tree.specs.Program.{Keeps}
+use Rattle.bl_tree.specs.Program.{IsWellTyped}
 use Rattle.bl_tree.specs.Types.{scalar_in}
-use Rattle.bl_nodes.specs.Nodes.{
+use Rattle.bl_graph_nodes.specs.Nodes.{
   ActAt,
   Arguments,
   CheckAt,
@@ -39,7 +39,7 @@ use Rattle.bl_nodes.specs.Nodes.{
   nodes_of,
   where_so,
 }
-use Rattle.bl_nodes.specs.Plain.{
+use Rattle.bl_graph_nodes.specs.Plain.{
   Act,
   Again,
   Await,
@@ -62,16 +62,16 @@ use Rattle.bl_nodes.specs.Plain.{
 }
 use Rattle.bl_machine.specs.Blocks.{up_to}
 use Rattle.bl_machine.specs.Uses.{Slots}
-use Rattle.bl_pass.specs.Rules.{Rule, rules}
-use Rattle.bl_prevs.specs.Prevs.{prevs_of}
-use Rattle.bl_prevs_laws.specs.Scalar.{PrevsAreScalar, is_scalar_var}
+use Rattle.bl_machine_pass.specs.Transitions.{Transition, rules}
+use Rattle.bl_machine_prevs.specs.Prevs.{prevs_of}
+use Rattle.bl_machine_prevs_laws.specs.Scalar.{PrevsAreScalar, is_scalar_var}
 use Rattle.bl_emit_acts.specs.Acts.{is_copied}
-use Rattle.bl_emit_pass.specs.Activities.{Activity, copies_of, rules_at}
-use Rattle.bl_emit_pass_laws_points.specs.Calling.{RunsStand}
-use Rattle.bl_emit_pass_laws_points.specs.Copied.{NodesCopied, RunsCopied}
-use Rattle.bl_emit_pass_laws_points.specs.Points.Nodes.{act_copied, copied_there}
-use Rattle.bl_emit_pass_laws.proofs.OnOwn.Members.{contains_mapped, further, stands_at}
-use Rattle.bl_emit_pass_laws_bodies.specs.Bodies.{CopiesSuffice, act_named, named_there}
+use Rattle.bl_emit_spec.specs.Activities.{Activity, copies_of, rules_at}
+use Rattle.bl_emit_spec_laws_nodes.specs.Calling.{RunsStand}
+use Rattle.bl_emit_spec_laws_nodes.specs.Copied.{NodesCopied, RunsCopied}
+use Rattle.bl_emit_spec_laws_nodes.specs.Points.Nodes.{act_copied, copied_there}
+use Rattle.bl_emit_spec_laws.proofs.OnOwn.Members.{contains_mapped, further, stands_at}
+use Rattle.bl_emit_spec_laws_wellformed_bodies.specs.Bodies.{CopiesSuffice, act_named, named_there}
 
 -- ---- where a `run` goes on one begins
 
@@ -219,16 +219,16 @@ scalar_there : (o : Option Var) (var : Var) → o ≡ Some var → is_scalar_var
 scalar_there None var is scalar = absurd (cc)
 scalar_there (Some v) var is scalar = ap (λ (v : Var). is_some (scalar_in v.ty)) (sym (same_Some v var is)) ∙ scalar
 
-module _ (structs : List StructDef) (units : List UnitDef) (entry k : ℕ) (a : Activity) (keeps : Keeps structs units entry)
+module _ (structs : List StructDef) (units : List UnitDef) (entry k : ℕ) (a : Activity) (keeps : IsWellTyped structs units entry)
     (there : slice_get units k ≡ Some a.unit)
-    (nodes : (slots : Slots) (body : Block) → map (λ (rule : Rule). rule.node) (rules slots body) ≡ nodes_in body)
+    (nodes : (slots : Slots) (body : Block) → map (λ (rule : Transition). rule.node) (rules slots body) ≡ nodes_in body)
     (copied_so : NodesCopied) (runs : RunsCopied) (scalar : PrevsAreScalar) where
   abbrev mine : ℕ → Bool
   mine = is_copied (copies_of a.unit)
 
-  node_there : (rule : Rule) → Contains (rules_at a) rule → Contains (nodes_in (plain_body a.unit.body)) rule.node
+  node_there : (rule : Transition) → Contains (rules_at a) rule → Contains (nodes_in (plain_body a.unit.body)) rule.node
   node_there rule has =
-      subst (λ ns. Contains ns rule.node) (nodes a.slots (plain_body a.unit.body)) (contains_mapped (λ (rule : Rule). rule.node) (rules_at a) rule has)
+      subst (λ ns. Contains ns rule.node) (nodes a.slots (plain_body a.unit.body)) (contains_mapped (λ (rule : Transition). rule.node) (rules_at a) rule has)
 
   node_copied : (n : Node) → Contains (nodes_in (plain_body a.unit.body)) n → copied_there mine n ≡ true
   node_copied n has =

@@ -7,47 +7,47 @@ use Rattle.bl_tree.specs.declared.tree.StructDef.{StructDef}
 use Rattle.bl_tree.specs.declared.tree.Unit.{Unit as UnitDef}
 use Rattle.bl_tree.specs.declared.tree.UnitKind.{UnitKind}
 use Rattle.bl_tree.specs.declared.tree.UnitKind.TheVariants.{Function, Activity as ActivityKind}
-use Rattle.bl_tree.specs.Program.{Keeps}
+use Rattle.bl_tree.specs.Program.{IsWellTyped}
 use Rattle.bl_tree.specs.Reduce.{greatest, joined, total}
 use Rattle.bl_tree.specs.Typing.{is_activity}
 use Rattle.bl_cause.specs.Activities.{EachTwo, activities}
 use Rattle.bl_effects.specs.Rules.{Passes}
 use Rattle.bl_limits.specs.Rules.{Passes as KeepsLimits}
-use Rattle.bl_measures.specs.Calls.{calls_of}
-use Rattle.bl_measures.specs.Laws.{CellsAdd}
-use Rattle.bl_measures.specs.Runs.{runs_of}
-use Rattle.bl_measures.specs.Statements.{statements_of}
-use Rattle.bl_measures.specs.Units.{cells_at, cells_with, variables_of}
-use Rattle.bl_measures_laws.specs.Laws.{UnitsUseEarlierOnes}
-use Rattle.bl_nodes.specs.Nodes.{nodes_in}
-use Rattle.bl_nodes.specs.Plain.{Block, plain_body}
+use Rattle.bl_limits_measures.specs.Calls.{calls_of}
+use Rattle.bl_limits_measures.specs.Laws.{CellsAdd}
+use Rattle.bl_limits_measures.specs.Runs.{runs_of}
+use Rattle.bl_limits_measures.specs.Statements.{cell_statements_of}
+use Rattle.bl_limits_measures.specs.Units.{cells_at, cells_with, variables_of}
+use Rattle.bl_limits_measures_laws.specs.Laws.{UnitsUseEarlierOnes}
+use Rattle.bl_graph_nodes.specs.Nodes.{nodes_in}
+use Rattle.bl_graph_nodes.specs.Plain.{Block, plain_body}
 use Rattle.bl_machine.specs.declared.machine.Activity.{Activity as InMachine}
 use Rattle.bl_machine.specs.Layout.{places_in}
 use Rattle.bl_machine.specs.Machines.{IsActivityOf}
 use Rattle.bl_machine.specs.Uses.{Slots}
 use Rattle.bl_machine_laws.specs.Rests.{ActivitiesCount}
-use Rattle.bl_pass.specs.Rules.{Rule, rules}
-use Rattle.bl_pass_laws.specs.Spots.{SpotsDiffer}
-use Rattle.bl_prevs_laws.specs.Scalar.{PrevsAreScalar}
-use Rattle.bl_emit_functions_laws_formed.specs.Formed.{IsNumbered}
-use Rattle.bl_emit_pass.specs.Activities.{Activity}
-use Rattle.bl_emit_pass.specs.Programs.{activity_of, needed_units, parts_of_function, parts_of_next}
-use Rattle.bl_emit_pass.specs.Shared.{IsSharedActivityOf}
-use Rattle.bl_emit_pass_laws_bodies.specs.Bodies.{OwnsRules}
-use Rattle.bl_emit_pass_laws_points.specs.Copied.{NodesCopied, RunsCopied}
-use Rattle.bl_emit_pass_laws_formed.specs.Counts.{NodesCounted}
-use Rattle.bl_emit_pass_laws_bodies.specs.Lists.{ActivityForms, AllForm, UnitForms}
-use Rattle.bl_emit_pass_laws_formed.specs.Machines.{IsModest, MachinesDiffer, MachinesSpell}
-use Rattle.bl_emit_pass_laws_formed.specs.Needed.{NeededNumbered, NeededSmall}
-use Rattle.bl_emit_pass_laws.proofs.OnOwn.Members.{contains_at}
-use Rattle.bl_emit_pass_laws.proofs.OnOwn.Listing.{Listing, shared_listing}
-use Rattle.bl_emit_pass_laws.proofs.OnOwn.Owning.{asks_on, changes_on, copied_below}
+use Rattle.bl_machine_pass.specs.Transitions.{Transition, rules}
+use Rattle.bl_machine_pass_laws.specs.Spots.{SpotsDiffer}
+use Rattle.bl_machine_prevs_laws.specs.Scalar.{PrevsAreScalar}
+use Rattle.bl_emit_functions_laws_wellformed.specs.Formed.{IsNumbered}
+use Rattle.bl_emit_spec.specs.Activities.{Activity}
+use Rattle.bl_emit_spec.specs.Programs.{activity_of, needed_units, parts_of_function, parts_of_next}
+use Rattle.bl_emit_spec.specs.Shared.{IsSharedActivityOf}
+use Rattle.bl_emit_spec_laws_wellformed_bodies.specs.Bodies.{OwnsRules}
+use Rattle.bl_emit_spec_laws_nodes.specs.Copied.{NodesCopied, RunsCopied}
+use Rattle.bl_emit_spec_laws_wellformed.specs.Counts.{NodesCounted}
+use Rattle.bl_emit_spec_laws_wellformed_bodies.specs.Lists.{ActivityConditions, AllConditions, UnitConditions}
+use Rattle.bl_emit_spec_laws_wellformed.specs.Machines.{IsModest, MachinesDiffer, MachinesSpell}
+use Rattle.bl_emit_spec_laws_wellformed.specs.Needed.{NeededNumbered, NeededSmall}
+use Rattle.bl_emit_spec_laws.proofs.OnOwn.Members.{contains_at}
+use Rattle.bl_emit_spec_laws.proofs.OnOwn.Listing.{Listing, shared_listing}
+use Rattle.bl_emit_spec_laws.proofs.OnOwn.Owning.{asks_on, changes_on, copied_below}
 use Rattle.bl_emit_laws.proofs.OnForms.Copying.{copies-suffice}
 use Rattle.bl_machine.specs.declared.slots.Slot.{Slot}
-use Rattle.bl_pass_listed.specs.Shared.{shared}
-use Rattle.bl_pass_listed_laws.specs.Laws.{RulesAreListed}
-use Rattle.bl_pass_listed_laws.proofs.Shared.{shared_many}
-use Rattle.bl_emit_laws.specs.Forms.{UnitsForm}
+use Rattle.bl_machine_transitions.specs.Shared.{shared}
+use Rattle.bl_machine_transitions_laws.specs.Laws.{RulesAreListed}
+use Rattle.bl_machine_transitions_laws.proofs.Shared.{shared_many}
+use Rattle.bl_emit_laws.specs.Forms.{UnitsMeetConditions}
 
 get_behind : {A : Type 0} (xs : List A) (y : A) (ys : List A) → slice_get (xs ++ y ∷ ys) (length xs) ≡ Some y
 get_behind [] y ys = refl
@@ -77,12 +77,12 @@ pub record Promised (structs : List StructDef) (units : List UnitDef) (entry : �
   pub numbered : NeededNumbered structs units entry
   pub spots : SpotsDiffer
   pub listed : RulesAreListed
-  pub nodes : (slots : Slots) (body : Block) → map (λ (rule : Rule). rule.node) (rules slots body) ≡ nodes_in body
+  pub nodes : (slots : Slots) (body : Block) → map (λ (rule : Transition). rule.node) (rules slots body) ≡ nodes_in body
   pub copied : NodesCopied
   pub runs : RunsCopied
   pub scalar : PrevsAreScalar
 
-module _ (structs : List StructDef) (units : List UnitDef) (entry : ℕ) (laws : Promised structs units entry) (keeps : Keeps structs units entry)
+module _ (structs : List StructDef) (units : List UnitDef) (entry : ℕ) (laws : Promised structs units entry) (keeps : IsWellTyped structs units entry)
     (passes : Passes units) (limits : KeepsLimits structs units entry) where
   -- these tests tell of the units behind so many which are needed
   abbrev Told : ℕ → List Bool → Type 0
@@ -91,10 +91,10 @@ module _ (structs : List StructDef) (units : List UnitDef) (entry : ℕ) (laws :
   told_rest : (n : ℕ) (test : Bool) (needed : List Bool) → Told n (test ∷ needed) → Told (suc n) needed
   told_rest n test needed told j is = subst (λ m. slice_get (needed_units units entry) m ≡ Some true) (omega arith) (told (suc j) is)
 
-  statements_less : (k : ℕ) (unit : UnitDef) → slice_get units k ≡ Some unit → statements_of unit ≤ cells_at structs units k
+  statements_less : (k : ℕ) (unit : UnitDef) → slice_get units k ≡ Some unit → cell_statements_of unit ≤ cells_at structs units k
   statements_less k unit there =
-      subst (λ n. statements_of unit ≤ n) (sym (laws.add structs units k unit (laws.uses structs units keeps.units_stand) there))
-      (enough unit.kind (variables_of structs unit) (statements_of unit) (total (map (cells_at structs units) (runs_of unit)))
+      subst (λ n. cell_statements_of unit ≤ n) (sym (laws.add structs units k unit (laws.uses structs units keeps.units_stand) there))
+      (enough unit.kind (variables_of structs unit) (cell_statements_of unit) (total (map (cells_at structs units) (runs_of unit)))
       (greatest (map (cells_at structs units) (calls_of unit))))
 
   module _ (earlier : List UnitDef) (unit : UnitDef) (rest : List UnitDef) (whole : earlier ++ unit ∷ rest ≡ units) (remember : List Bool) where
@@ -117,7 +117,7 @@ module _ (structs : List StructDef) (units : List UnitDef) (entry : ℕ) (laws :
 
       few_places : places_in (plain_body unit.body) < 2 ^ 32
       few_places =
-          places_small (places_in (plain_body unit.body)) (statements_of unit) (cells_at structs units k)
+          places_small (places_in (plain_body unit.body)) (cell_statements_of unit) (cells_at structs units k)
           (laws.nodes_counted k unit keeps there).places (statements_less k unit there) modest.cells
 
       -- the numbers of its places
@@ -137,7 +137,7 @@ module _ (structs : List StructDef) (units : List UnitDef) (entry : ℕ) (laws :
         read = λ c on. copied_below a numbers laws.spots refl listing c on;
       }
 
-      forms : ActivityForms structs units k a
+      forms : ActivityConditions structs units k a
       forms = record {
         can = laws.spell k unit one remember keeps modest;
         differ = laws.differ k unit one remember keeps modest;
@@ -145,14 +145,14 @@ module _ (structs : List StructDef) (units : List UnitDef) (entry : ℕ) (laws :
         copies = copies-suffice structs units entry k a keeps there laws.nodes laws.copied laws.runs laws.scalar;
       }
 
-      activity_forms : ActivityForms structs units k (activity_of structs earlier remember unit one)
-      activity_forms = subst (λ before. ActivityForms structs units k (activity_of structs before remember unit one)) before forms
+      activity_forms : ActivityConditions structs units k (activity_of structs earlier remember unit one)
+      activity_forms = subst (λ before. ActivityConditions structs units k (activity_of structs before remember unit one)) before forms
 
     -- what is listed of a unit and those behind it, an activity or a function
     abbrev Listed : Bool → Bool → List Bool → List InMachine → Type 0
     Listed active test needed machine =
-        UnitForms active test structs units earlier remember unit machine
-        × AllForm structs units (earlier ++ unit ∷ [])
+        UnitConditions active test structs units earlier remember unit machine
+        × AllConditions structs units (earlier ++ unit ∷ [])
         (remember ++ (if active then parts_of_next structs earlier remember unit machine else parts_of_function structs earlier unit).remember)
         rest needed (if active then drop 1 machine else machine)
 
@@ -160,7 +160,7 @@ module _ (structs : List StructDef) (units : List UnitDef) (entry : ℕ) (laws :
     abbrev Behind : Type 0
     Behind = (remember : List Bool) (needed : List Bool) (machine : List InMachine) → Told (suc k) needed →
         EachTwo IsActivityOf (activities rest) machine → EachTwo IsSharedActivityOf (activities rest) machine →
-        AllForm structs units (earlier ++ unit ∷ []) remember rest needed machine
+        AllConditions structs units (earlier ++ unit ∷ []) remember rest needed machine
 
     own_needed : (needed : List Bool) → Told k (true ∷ needed) → slice_get (needed_units units entry) k ≡ Some true
     own_needed needed told = subst (λ m. slice_get (needed_units units entry) m ≡ Some true) (omega arith) (told 0 refl)
@@ -185,7 +185,7 @@ module _ (structs : List StructDef) (units : List UnitDef) (entry : ℕ) (laws :
 
   all_forms : (earlier : List UnitDef) (remember : List Bool) (rest : List UnitDef) (needed : List Bool) (machine : List InMachine) →
       earlier ++ rest ≡ units → Told (length earlier) needed → EachTwo IsActivityOf (activities rest) machine →
-      EachTwo IsSharedActivityOf (activities rest) machine → AllForm structs units earlier remember rest needed machine
+      EachTwo IsSharedActivityOf (activities rest) machine → AllConditions structs units earlier remember rest needed machine
   all_forms earlier remember [] needed machine whole told own plain = tt
   all_forms earlier remember (unit ∷ rest) [] machine whole told own plain = tt
   all_forms earlier remember (unit ∷ rest) (test ∷ needed) machine whole told own plain =
@@ -197,7 +197,7 @@ module _ (structs : List StructDef) (units : List UnitDef) (entry : ℕ) (laws :
 behind_none : (needed : List Bool) (n j : ℕ) → n ≡ 0 → slice_get needed j ≡ Some true → slice_get needed (n + j) ≡ Some true
 behind_none needed n j none is = subst (λ m. slice_get needed m ≡ Some true) (omega (arith, none)) is
 
-pub form : (structs : List StructDef) (units : List UnitDef) (entry : ℕ) → Promised structs units entry → UnitsForm structs units entry
+pub form : (structs : List StructDef) (units : List UnitDef) (entry : ℕ) → Promised structs units entry → UnitsMeetConditions structs units entry
 form structs units entry laws machine keeps passes limits agrees plain =
     let needed : List Bool = needed_units units entry in
     all_forms structs units entry laws keeps passes limits [] [] units needed machine refl

@@ -9,7 +9,7 @@ use Rattle.bl_tree.specs.declared.program.Program.{Program}
 use Rattle.bl_tree.specs.declared.text.Text.{Text}
 use Rattle.bl_tree.specs.declared.tree.StructDef.{StructDef}
 use Rattle.bl_tree.specs.declared.tree.Unit.{Unit as UnitDef}
-use Rattle.bl_tree.specs.Program.{Keeps, is_entry}
+use Rattle.bl_tree.specs.Program.{IsWellTyped, is_entry}
 use Rattle.bl_tree.specs.Typing.{inputs_of, is_activity, outputs_of}
 use Rattle.bl_effects.specs.Rules.{Passes}
 use Rattle.bl_eval.proofs.PassLemmas.{and_left}
@@ -18,25 +18,25 @@ use Rattle.bl_ctree.specs.Instances.{Setting, setting_of, unit_at, unit_of}
 use Rattle.bl_ctree_laws_confluence.specs.Deeds.Orderly.{AcceptedIsOrderly}
 use Rattle.bl_emit_acts.specs.Trees.{nowhere}
 use Rattle.bl_emit_functions.specs.Functions.{memory_name, struct_of}
-use Rattle.bl_emit_pass.specs.Activities.{frame_struct, remembered, remembered_struct, remembers_any}
-use Rattle.bl_emit_pass.specs.Programs.{Parts, file_at, interface_structs, needed_units, parts_from, port_struct, state_struct, written}
+use Rattle.bl_emit_spec.specs.Activities.{frame_struct, remembered, remembered_struct, remembers_any}
+use Rattle.bl_emit_spec.specs.Programs.{ProgramParts, file_at, interface_structs, needed_units, parts_from, port_struct, state_struct, written}
 use Rattle.bl_emit_structs.specs.Structs.{structs_of}
-use Rattle.bl_emit_structs_laws.specs.Names.{TypesApart}
+use Rattle.bl_emit_structs_laws_wellformed.specs.Names.{TypesApart}
 use Rattle.bl_machine.specs.declared.machine.Activity.{Activity as InMachine}
 use Rattle.bl_machine.specs.Machines.{AreActivitiesOf}
-use Rattle.bl_emit_pass_laws.specs.Calls.Built.{Activities, unit_number}
-use Rattle.bl_emit_pass_laws_runs.proofs.OnRuns.Running.{unit_there}
-use Rattle.bl_emit_pass_laws_formed.specs.Closed.{InstancesNeeded}
-use Rattle.bl_emit_pass_laws_files.specs.States.States.{FramesDeclared, memory_of_activity}
-use Rattle.bl_emit_pass_laws.specs.Tables.Laws.{ActivitiesBuilt, WrittenAs, WrittenIsKept}
-use Rattle.bl_emit_pass_laws.specs.Tables.Tables.{activities_of}
+use Rattle.bl_emit_spec_laws.specs.Calls.Built.{Activities, unit_number}
+use Rattle.bl_emit_spec_laws_simulation.proofs.OnRuns.Running.{unit_there}
+use Rattle.bl_emit_spec_laws_wellformed.specs.Closed.{InstancesNeeded}
+use Rattle.bl_emit_spec_laws_files.specs.States.States.{FramesDeclared, memory_of_activity}
+use Rattle.bl_emit_spec_laws.specs.Tables.Laws.{ActivitiesBuilt, WrittenAs, WrittenIsKept}
+use Rattle.bl_emit_spec_laws.specs.Tables.Tables.{activities_of}
 use Rattle.bl_emit_laws.specs.Kept.{FramesAreDeclared, written_file}
 use Rattle.bl_emit_laws.proofs.OnKept.Lists.{further, here}
 use Rattle.bl_emit_laws.proofs.OnKept.Types.{stands_once, type_declared}
 use Rattle.bl_emit_laws.proofs.OnKept.Walk.{own, walk}
 
 -- the entry of a typed program is an activity
-pub entry_active : (structs : List StructDef) (units : List UnitDef) (entry : ℕ) (unit : UnitDef) → Keeps structs units entry →
+pub entry_active : (structs : List StructDef) (units : List UnitDef) (entry : ℕ) (unit : UnitDef) → IsWellTyped structs units entry →
     slice_get units entry ≡ Some unit → is_activity unit.kind ≡ true
 entry_active structs units entry unit keeps there =
     let entry_so : is_entry (Some unit) ≡ true = ap is_entry (sym there) ∙ keeps.entry_stands in and_left (is_activity unit.kind) _ entry_so
@@ -55,7 +55,7 @@ module _ (program : Program) (machine : List InMachine) (unit : UnitDef) (there 
     abbrev activities : Activities
     activities = activities_of program.structs program.units machine
 
-    abbrev parts : Parts
+    abbrev parts : ProgramParts
     parts = parts_from program.structs [] [] program.units (needed_units program.units program.entry) machine
 
     abbrev last : List CStruct
@@ -99,7 +99,7 @@ module _ (program : Program) (machine : List InMachine) (unit : UnitDef) (there 
     w = setting_of program.structs program.units program.entry
 
     module _ (orderly : AcceptedIsOrderly) (built : ActivitiesBuilt) (needs : InstancesNeeded program.structs program.units program.entry)
-        (keeps : Keeps program.structs program.units program.entry) (passes : Passes program.units) (agrees : AreActivitiesOf program.units machine)
+        (keeps : IsWellTyped program.structs program.units program.entry) (passes : Passes program.units) (agrees : AreActivitiesOf program.units machine)
       where
         -- the unit of an instance is needed
         needed : (i : ℕ) (other : UnitDef) → unit_at w i ≡ Some other →

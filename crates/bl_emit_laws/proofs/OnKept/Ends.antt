@@ -11,14 +11,14 @@ use Rattle.bl_tree.specs.declared.text.Text.{Text}
 use Rattle.bl_tree.specs.declared.tree.StructDef.{StructDef}
 use Rattle.bl_tree.specs.declared.tree.Unit.{Unit as UnitDef}
 use Rattle.bl_tree.specs.Typing.{is_activity}
-use Rattle.bl_cmeaning.specs.Parts.{parts_from as file_from}
+use Rattle.bl_ctext_semantics.specs.Parts.{parts_from as file_from}
 use Rattle.bl_machine.specs.declared.machine.Activity.{Activity as InMachine}
 use Rattle.bl_emit_acts.specs.Types.{unit_name}
 use Rattle.bl_emit_functions.specs.Functions.{function_code, members_of, memory_name, struct_of}
-use Rattle.bl_emit_pass.specs.Activities.{Activity, activity_function, frame_struct, remembered, remembered_struct, remembers_any}
-use Rattle.bl_emit_pass.specs.Names.{frame_name}
-use Rattle.bl_emit_pass.specs.Programs.{
-  Parts,
+use Rattle.bl_emit_spec.specs.Activities.{Activity, activity_function, frame_struct, remembered, remembered_struct, remembers_any}
+use Rattle.bl_emit_spec.specs.Names.{frame_name}
+use Rattle.bl_emit_spec.specs.Programs.{
+  ProgramParts,
   activity_of,
   interface_structs,
   needed_units,
@@ -29,9 +29,9 @@ use Rattle.bl_emit_pass.specs.Programs.{
   written,
 }
 use Rattle.bl_emit_structs.specs.Structs.{structs_of}
-use Rattle.bl_emit_pass_laws.specs.Calls.Built.{Activities}
-use Rattle.bl_emit_pass_laws.specs.Tables.Laws.{WrittenAs, WrittenIsKept}
-use Rattle.bl_emit_pass_laws.specs.Tables.Tables.{activities_of, each_from, functions_of_all, kept, unit_function}
+use Rattle.bl_emit_spec_laws.specs.Calls.Built.{Activities}
+use Rattle.bl_emit_spec_laws.specs.Tables.Laws.{WrittenAs, WrittenIsKept}
+use Rattle.bl_emit_spec_laws.specs.Tables.Tables.{activities_of, each_from, functions_of_all, kept, unit_function}
 use Rattle.bl_emit_laws.specs.Kept.{FilesEnd, structs_before}
 use Rattle.bl_emit_laws.proofs.OnKept.Declared.{entry_active, structs_are}
 use Rattle.bl_emit_laws.proofs.OnKept.Lists.{first_or, further, here, none_has}
@@ -49,7 +49,7 @@ of_memory name (m ∷ rest) s at =
     ⊎_elim (λ is. (name, inl (ap (λ (s : CStruct). s.name) (sym is)))) (λ none. absurd (none_has s none)) (first_or _ [] s at)
 
 module _ (structs : List StructDef) where
-  abbrev own : Bool → List UnitDef → List Bool → UnitDef → List InMachine → Parts
+  abbrev own : Bool → List UnitDef → List Bool → UnitDef → List InMachine → ProgramParts
   own active earlier remember unit machine =
       if active then parts_of_next structs earlier remember unit machine else parts_of_function structs earlier unit
 
@@ -69,8 +69,8 @@ module _ (structs : List StructDef) where
   parts_named earlier remember (unit ∷ units) [] machine s at = absurd (none_has s at)
   parts_named earlier remember (unit ∷ units) (test ∷ needed) machine s at =
       let active : Bool = is_activity unit.kind in
-      let first : Parts = own active earlier remember unit machine in
-      let rest : Parts =
+      let first : ProgramParts = own active earlier remember unit machine in
+      let rest : ProgramParts =
       parts_from structs (earlier ++ unit ∷ []) (remember ++ first.remember) units needed (if active then drop 1 machine else machine) in
       ⊎_elim (λ here. own_named test active earlier remember unit machine s here)
       (λ later. parts_named (earlier ++ unit ∷ []) (remember ++ first.remember) units needed (if active then drop 1 machine else machine) s later)

@@ -1,18 +1,18 @@
 -- Each `run` calls the unit that its node names.
 use Rattle.std.proofs.Common.{◌≡◌, false, ℕ, List, [], Some, length, sym, ap, ◌∙◌, arith}
 use Rattle.std.specs.Prelude.{slice_get}
-use Rattle.bl_nodes.specs.Nodes.{EnterAt, Node, nodes_in}
-use Rattle.bl_nodes.specs.Plain.{plain_body}
+use Rattle.bl_graph_nodes.specs.Nodes.{EnterAt, Node, nodes_in}
+use Rattle.bl_graph_nodes.specs.Plain.{plain_body}
 use Rattle.bl_ctree.specs.Instances.{setting_of}
 use Rattle.bl_ctree_laws_confluence.specs.Deeds.Orderly.{AcceptedIsOrderly}
 use Rattle.bl_ctree_laws_confluence.specs.Deeds.Origins.{InstancesHaveCallers}
-use Rattle.bl_pass.specs.Numbered.{slots_of}
-use Rattle.bl_pass.specs.Rules.{Rule, rules}
-use Rattle.bl_pass_laws.specs.Turns.Laws.{StaysPlaced}
-use Rattle.bl_pass_listed.specs.Callees.{callees_in}
-use Rattle.bl_pass_listed_laws.specs.Laws.{RulesAreListed}
-use Rattle.bl_emit_pass_laws_runs.proofs.OnRuns.Running.{CallsUnit, node_calls}
-use Rattle.bl_emit_pass_laws.proofs.OnPlaced.Lists.{mapped_many, stands_at, there_at, within_at}
+use Rattle.bl_machine_pass.specs.Numbered.{slots_of}
+use Rattle.bl_machine_pass.specs.Transitions.{Transition, rules}
+use Rattle.bl_machine_pass_laws.specs.Turns.Laws.{StaysPlaced}
+use Rattle.bl_machine_transitions.specs.Callees.{callees_in}
+use Rattle.bl_machine_transitions_laws.specs.Laws.{RulesAreListed}
+use Rattle.bl_emit_spec_laws_simulation.proofs.OnRuns.Running.{CallsUnit, node_calls}
+use Rattle.bl_emit_spec_laws.proofs.OnPlaced.Lists.{mapped_many, stands_at, there_at, within_at}
 use Rattle.bl_emit_laws.specs.Kept.{RunsAreFound}
 
 pub runs_are_found : AcceptedIsOrderly → InstancesHaveCallers → StaysPlaced → RulesAreListed → RunsAreFound
@@ -29,7 +29,7 @@ runs_are_found orderly callers placed listed structs units entry machine activit
     many : length (callees_in (plain_body unit.body)) ≡ length (nodes_in (plain_body unit.body))
     many =
         listed.each unit.body []
-        ∙ (sym (mapped_many (λ (rule : Rule). rule.node) (rules (slots_of (plain_body unit.body) []) (plain_body unit.body)))
+        ∙ (sym (mapped_many (λ (rule : Transition). rule.node) (rules (slots_of (plain_body unit.body) []) (plain_body unit.body)))
         ∙ ap (λ (nodes : List Node). length nodes) (placed.nodes (slots_of (plain_body unit.body) []) (plain_body unit.body)))
 
     callee : (u : ℕ) × (slice_get (callees_in (plain_body unit.body)) node.0 ≡ Some u)

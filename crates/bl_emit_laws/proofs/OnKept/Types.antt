@@ -16,21 +16,21 @@ use Rattle.bl_tree.specs.declared.tree.Ty.{Ty, out-Ty}
 use Rattle.bl_tree.specs.declared.tree.Ty.TheOpen.{Ty-F}
 use Rattle.bl_tree.specs.declared.tree.Unit.{Unit as UnitDef}
 use Rattle.bl_tree.specs.declared.tree.Var.{Var}
-use Rattle.bl_tree.specs.Program.{Keeps}
+use Rattle.bl_tree.specs.Program.{IsWellTyped}
 use Rattle.bl_tree.specs.Reduce.{joined}
-use Rattle.bl_measures.specs.Types.{nesting, struct_nestings}
+use Rattle.bl_limits_measures.specs.Types.{nesting, struct_nestings}
 use Rattle.bl_emit_acts.specs.Structs.{c_array, c_definition}
 use Rattle.bl_emit_acts.specs.Types.{type_name}
-use Rattle.bl_emit_acts_laws.specs.Holds.{part_level, part_type, type_after}
-use Rattle.bl_emit_acts_laws_formed.proofs.OnFormed.Parts.{name_at}
-use Rattle.bl_emit_pass_laws.proofs.OnPlaced.Lists.{contains_at}
-use Rattle.bl_emit_pass_laws_files.specs.States.States.{TypeDeclared}
+use Rattle.bl_emit_acts_laws_simulation.specs.Encodes.{part_level, part_type, type_after}
+use Rattle.bl_emit_acts_laws_wellformed.proofs.OnFormed.Parts.{name_at}
+use Rattle.bl_emit_spec_laws.proofs.OnPlaced.Lists.{contains_at}
+use Rattle.bl_emit_spec_laws_files.specs.States.States.{TypeDeclared}
 use Rattle.bl_emit_structs.specs.Structs.{arrays_of, each_once, structs_for, structs_for_definition, structs_for_unit}
 use Rattle.bl_emit_structs.proofs.Steps.{array_is}
-use Rattle.bl_emit_structs_laws.specs.Names.{TypesApart}
-use Rattle.bl_emit_structs_laws.specs.Formed.{NestsAtMost}
-use Rattle.bl_emit_structs_laws.proofs.OnFormed.Levels.{nesting_at}
-use Rattle.bl_emit_structs_laws.proofs.OnFormed.Types.{StructOf, all_are, struct_level}
+use Rattle.bl_emit_structs_laws_wellformed.specs.Names.{TypesApart}
+use Rattle.bl_emit_structs_laws_wellformed.specs.Formed.{NestsAtMost}
+use Rattle.bl_emit_structs_laws_wellformed.proofs.OnFormed.Levels.{nesting_at}
+use Rattle.bl_emit_structs_laws_wellformed.proofs.OnFormed.Types.{StructOf, all_are, struct_level}
 use Rattle.bl_emit_laws.proofs.OnKept.Lists.{each_few, first_or, further, here, index_few, into_joined, sum}
 
 -- ---- each once
@@ -105,7 +105,7 @@ nests structs units = record {
       let all = each_few (λ (unit : UnitDef). sum (map (λ (var : Var). nesting structs var.ty) unit.vars)) units k unit there in omega arith;
 }
 
-module _ (structs : List StructDef) (units : List UnitDef) (entry : ℕ) (keeps : Keeps structs units entry) where
+module _ (structs : List StructDef) (units : List UnitDef) (entry : ℕ) (keeps : IsWellTyped structs units entry) where
   -- each struct that types need is that of a type
   type_of : (s : CStruct) → Contains (structs_for structs units) s → StructOf structs (most_of structs units) s
   type_of =

@@ -11,9 +11,9 @@ use Rattle.bl_tree.specs.declared.tree.Unit.{Unit as UnitDef}
 use Rattle.bl_tree.specs.Typing.{is_activity}
 use Rattle.bl_cause.specs.Activities.{graph_position}
 use Rattle.bl_machine.specs.declared.machine.Activity.{Activity as InMachine}
-use Rattle.bl_emit_pass.specs.Activities.{frame_struct, remembered_struct, remembers_any}
-use Rattle.bl_emit_pass.specs.Programs.{
-  Parts,
+use Rattle.bl_emit_spec.specs.Activities.{frame_struct, remembered_struct, remembers_any}
+use Rattle.bl_emit_spec.specs.Programs.{
+  ProgramParts,
   activity_of,
   parts_from,
   parts_of_activity,
@@ -22,12 +22,12 @@ use Rattle.bl_emit_pass.specs.Programs.{
   parts_then,
   where_needed,
 }
-use Rattle.bl_emit_pass_laws.specs.Calls.Built.{Activities, AreBuilt, MadeOf}
-use Rattle.bl_emit_pass_laws.specs.Tables.Tables.{activities_of, no_part, no_unit, remembered_before}
+use Rattle.bl_emit_spec_laws.specs.Calls.Built.{Activities, AreBuilt, MadeOf}
+use Rattle.bl_emit_spec_laws.specs.Tables.Tables.{activities_of, no_part, no_unit, remembered_before}
 use Rattle.bl_emit_laws.proofs.OnKept.Lists.{drop_at, drop_next, drop_one, length_last, take_next}
 
 -- a needed unit's structs stand before those of others
-first_has : (test : Bool) (here rest : Parts) (own : List CStruct) (s : CStruct) → test ≡ true → here.structs ≡ own → Contains own s →
+first_has : (test : Bool) (here rest : ProgramParts) (own : List CStruct) (s : CStruct) → test ≡ true → here.structs ≡ own → Contains own s →
     Contains (parts_then (where_needed test here) rest).structs s
 first_has true here rest own s is same at = Contains-append_left here.structs rest.structs s (subst (λ l. Contains l s) (sym same) at)
 first_has false here rest own s is same at = absurd (cc)
@@ -48,7 +48,7 @@ module _ (structs : List StructDef) (units : List UnitDef) (machine : List InMac
     abbrev left : ℕ → List InMachine
     left k = drop (graph_position units k) machine
 
-    abbrev parts : ℕ → List UnitDef → List Bool → Parts
+    abbrev parts : ℕ → List UnitDef → List Bool → ProgramParts
     parts k xs tests = parts_from structs (take k units) (told k) xs tests (left k)
 
     -- the structs of the activity at a position
@@ -56,7 +56,7 @@ module _ (structs : List StructDef) (units : List UnitDef) (machine : List InMac
     own k = frame_struct (activities k) ∷ remembered_struct (activities k)
 
     module _ (k : ℕ) (unit : UnitDef) (there : slice_get units k ≡ Some unit) where
-      abbrev here : Bool → Parts
+      abbrev here : Bool → ProgramParts
       here active = if active then parts_of_next structs (take k units) (told k) unit (left k) else parts_of_function structs (take k units) unit
 
       -- the activity that the machine has next
@@ -72,11 +72,11 @@ module _ (structs : List StructDef) (units : List UnitDef) (machine : List InMac
           same = λ i. activity_of structs (take k units) (told k) (unwrap_or (there i) no_unit) (unwrap_or (made.is i) no_part)
 
       remembered : (active : Bool) → is_activity unit.kind ≡ active → (here active).remember ≡ (active && remembers_any (activities k)) ∷ []
-      remembered true is = ap (λ (p : Parts). p.remember) (next_is is)
+      remembered true is = ap (λ (p : ProgramParts). p.remember) (next_is is)
       remembered false is = refl
 
       own_structs : (active : Bool) → active ≡ true → is_activity unit.kind ≡ active → (here active).structs ≡ own k
-      own_structs true so is = ap (λ (p : Parts). p.structs) (next_is is)
+      own_structs true so is = ap (λ (p : ProgramParts). p.structs) (next_is is)
       own_structs false so is = absurd (cc)
 
       left_next : (active : Bool) → is_activity unit.kind ≡ active → left (suc k) ≡ (if active then drop 1 (left k) else left k)
@@ -106,7 +106,7 @@ module _ (structs : List StructDef) (units : List UnitDef) (machine : List InMac
       told_next = ap (λ o. told k ++ (is_activity (unwrap_or o no_unit).kind && remembers_any (activities k)) ∷ []) there
 
       -- the parts of the units behind it, as they are written
-      abbrev rest : List UnitDef → List Bool → Parts
+      abbrev rest : List UnitDef → List Bool → ProgramParts
       rest xs tests =
           parts_from structs (take k units ++ unit ∷ []) (told k ++ (here (is_activity unit.kind)).remember) xs tests
           (if is_activity unit.kind then drop 1 (left k) else left k)
@@ -127,7 +127,7 @@ module _ (structs : List StructDef) (units : List UnitDef) (machine : List InMac
           Contains (parts k (unit ∷ xs) (test ∷ tests)).structs s
       later_first xs test tests s at =
           Contains-append_right (where_needed test (here (is_activity unit.kind))).structs (rest xs tests).structs s
-          (subst (λ (p : Parts). Contains p.structs s) (rest_is xs tests) at)
+          (subst (λ (p : ProgramParts). Contains p.structs s) (rest_is xs tests) at)
 
     pub walk : (xs : List UnitDef) (k : ℕ) (tests : List Bool) → drop k units ≡ xs → (j : ℕ) (unit : UnitDef) → slice_get xs j ≡ Some unit →
         slice_get tests j ≡ Some true → is_activity unit.kind ≡ true → (s : CStruct) → Contains (own (k + j)) s →

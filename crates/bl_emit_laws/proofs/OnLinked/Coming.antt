@@ -3,17 +3,17 @@ use Rattle.std.proofs.Common.{◌≡◌, ℕ, suc, ◌+◌, List, Option, Some, 
 use Rattle.std.specs.Prelude.{option_and_then, option_map, slice_get, unwrap_or}
 use Rattle.bl_tree.specs.declared.tree.StructDef.{StructDef}
 use Rattle.bl_tree.specs.declared.tree.Unit.{Unit as UnitDef}
-use Rattle.bl_cmeaning.specs.Meaning.{Meaning, applied}
-use Rattle.bl_cmeaning.specs.Tables.{Table}
+use Rattle.bl_ctext_semantics.specs.Meaning.{Meaning, applied}
+use Rattle.bl_ctext_semantics.specs.Tables.{Table}
 use Rattle.bl_ctree.specs.declared.instance.Instance.{Instance}
 use Rattle.bl_ctree.specs.Instances.{Setting, setting_of, unit_at, unit_of}
 use Rattle.bl_emit_acts.specs.Types.{unit_name}
-use Rattle.bl_emit_pass.specs.Activities.{remembers_any}
-use Rattle.bl_emit_pass_laws.specs.Calls.Built.{Activities, activity_at, unit_number}
-use Rattle.bl_emit_pass_laws.specs.Calls.Calls.{ActivityComes, CallLeaves, passed_to}
-use Rattle.bl_emit_laws.specs.Linked.{NeededAreKnown, NeededCome, table_of_needed}
-use Rattle.bl_emit_pass_laws.specs.Tables.Laws.{TablesKnowAll}
-use Rattle.bl_emit_pass_laws.specs.Tables.Tables.{table_of_all}
+use Rattle.bl_emit_spec.specs.Activities.{remembers_any}
+use Rattle.bl_emit_spec_laws.specs.Calls.Built.{Activities, activity_at, unit_number}
+use Rattle.bl_emit_spec_laws.specs.Calls.Calls.{ActivitySimulates, CallLeaves, passed_to}
+use Rattle.bl_emit_laws.specs.Linked.{NeededAreKnown, NeededSimulate, table_of_needed}
+use Rattle.bl_emit_spec_laws.specs.Tables.Laws.{TablesKnowAll}
+use Rattle.bl_emit_spec_laws.specs.Tables.Tables.{table_of_all}
 
 -- the unit of an instance stands at its position
 unit_there : (structs : List StructDef) (units : List UnitDef) (entry i : ℕ) (unit : UnitDef) → unit_at (setting_of structs units entry) i ≡ Some unit →
@@ -28,7 +28,7 @@ unit_there structs units entry i unit is = by_instance (slice_get (setting_of st
 -- what a table knows under the names of an activity's unit is all that its calls ask
 same_comes : (w : Setting) (activities : Activities) (u depth : ℕ) (one other : Table Meaning) →
     ((i : ℕ) (unit : UnitDef) → unit_number w i ≡ u → unit_at w i ≡ Some unit → other (unit_name unit.name) ≡ one (unit_name unit.name)) →
-    ActivityComes w activities u one depth → ActivityComes w activities u other depth
+    ActivitySimulates w activities u one depth → ActivitySimulates w activities u other depth
 same_comes w activities u depth one other same comes = record {
   executes = λ i unit given frames store r frames' left r' here number at may begins starts runs.
       subst
@@ -40,9 +40,9 @@ same_comes w activities u depth one other same comes = record {
       ∙ comes.cut i unit given frames store r here number at may begins starts is_cut;
 }
 
-pub all_come : (structs : List StructDef) (units : List UnitDef) (entry : ℕ) → NeededAreKnown structs units entry → TablesKnowAll →
-    NeededCome structs units entry
-all_come structs units entry known tables machine activities u depth compiled none law is =
+pub compiled_simulate : (structs : List StructDef) (units : List UnitDef) (entry : ℕ) → NeededAreKnown structs units entry → TablesKnowAll →
+    NeededSimulate structs units entry
+compiled_simulate structs units entry known tables machine activities u depth compiled none law is =
     same_comes (setting_of structs units entry) activities u depth (table_of_all structs units activities)
     (table_of_needed structs units entry activities) same
     (law (suc u) u (table_of_all structs units activities) depth compiled none

@@ -19,28 +19,28 @@ use Rattle.bl_tree.specs.Reduce.{joined}
 use Rattle.bl_tree.specs.Types.{scalar_in}
 use Rattle.bl_tree.specs.Typing.{inputs_of, is_activity, outputs_of}
 use Rattle.bl_eval.proofs.PassLemmas.{and_left, and_right, both}
-use Rattle.bl_cmeaning.specs.Calls.{calls_in, calls_in_arg, calls_in_block, calls_in_place, calls_in_stmt}
-use Rattle.bl_cmeaning.specs.Meaning.{Meaning, Passed, applied, function_c, meanings_after}
-use Rattle.bl_cmeaning.specs.Memory.{Memory}
-use Rattle.bl_cmeaning.specs.Parts.{Parts}
-use Rattle.bl_cmeaning.specs.Tables.{Table, found, no_entries, with_entry}
-use Rattle.bl_cmeaning.specs.Trace.{entered}
-use Rattle.bl_cmeaning_laws_known.specs.Known.{AreAlike, CallsDecide}
+use Rattle.bl_ctext_semantics.specs.Calls.{calls_in, calls_in_arg, calls_in_block, calls_in_place, calls_in_stmt}
+use Rattle.bl_ctext_semantics.specs.Meaning.{ArgumentValue, Meaning, applied, function_c, meanings_after}
+use Rattle.bl_ctext_semantics.specs.Memory.{Memory}
+use Rattle.bl_ctext_semantics.specs.Parts.{Parts}
+use Rattle.bl_ctext_semantics.specs.Tables.{Table, found, no_entries, with_entry}
+use Rattle.bl_ctext_semantics.specs.Trace.{entered}
+use Rattle.bl_ctext_semantics_laws_calls.specs.Known.{AreAlike, CallsDecide}
 use Rattle.bl_emit_acts.specs.Acts.{c_calling}
 use Rattle.bl_emit_acts.specs.Trees.{c_call, c_literal, c_place, c_read, c_step}
 use Rattle.bl_emit_acts.specs.Types.{unit_name}
 use Rattle.bl_emit_functions.specs.Functions.{function_code}
 use Rattle.bl_emit_functions.specs.Trees.{c_if}
-use Rattle.bl_emit_functions_laws_formed.proofs.OnFiles.Shapes.{address-calls, call-calls, calling-calls, if-calls, literal-calls, place-calls, read-calls}
-use Rattle.bl_emit_functions_laws_formed.proofs.OnFiles.Shapes.{return-calls, step-calls, value-calls}
-use Rattle.bl_emit_functions_laws.specs.Units.{known_after}
-use Rattle.bl_emit_pass.specs.Activities.{activity_function, remembers_any}
-use Rattle.bl_emit_pass.specs.Programs.{c_returned, init_function, input_arg, needed_units, output_arg, tick_args, tick_function}
-use Rattle.bl_emit_pass_laws.specs.Calls.Built.{Activities}
+use Rattle.bl_emit_functions_laws_wellformed.proofs.OnFiles.Shapes.{address-calls, call-calls, calling-calls, if-calls, literal-calls, place-calls, read-calls}
+use Rattle.bl_emit_functions_laws_wellformed.proofs.OnFiles.Shapes.{return-calls, step-calls, value-calls}
+use Rattle.bl_emit_functions_laws_simulation.specs.Units.{known_after}
+use Rattle.bl_emit_spec.specs.Activities.{activity_function, remembers_any}
+use Rattle.bl_emit_spec.specs.Programs.{c_returned, init_function, input_arg, needed_units, output_arg, tick_args, tick_function}
+use Rattle.bl_emit_spec_laws.specs.Calls.Built.{Activities}
 use Rattle.bl_emit_laws.specs.Linked.{FilesEnter, table_of_needed}
 use Rattle.bl_emit_laws.proofs.OnLinked.Spared.{other_entry}
-use Rattle.bl_emit_pass_laws.specs.Tables.Laws.{WrittenAs, WrittenIsKept}
-use Rattle.bl_emit_pass_laws.specs.Tables.Tables.{activities_of, each_from, functions_of_all, kept, unit_function}
+use Rattle.bl_emit_spec_laws.specs.Tables.Laws.{WrittenAs, WrittenIsKept}
+use Rattle.bl_emit_spec_laws.specs.Tables.Tables.{activities_of, each_from, functions_of_all, kept, unit_function}
 
 -- ---- what a tick calls
 
@@ -152,7 +152,7 @@ module _ (structs : List StructDef) (units : List UnitDef) (activities : Activit
 -- ---- the interface
 
 -- a tick doesn't call what joins under another name
-tick_same : CallsDecide → (known : Table Meaning) (meaning : Meaning) (unit : UnitDef) (remembers : Bool) (passed : List Passed) (memory : Memory) →
+tick_same : CallsDecide → (known : Table Meaning) (meaning : Meaning) (unit : UnitDef) (remembers : Bool) (passed : List ArgumentValue) (memory : Memory) →
     function_c (with_entry known (codes "bl_init") meaning) (tick_function unit remembers) 0 passed memory
     ≡ function_c known (tick_function unit remembers) 0 passed memory
 tick_same decide known meaning unit remembers passed memory =
@@ -185,14 +185,14 @@ module _ (decide : CallsDecide) (known : Table Meaning) (functions : List CFunc)
       ∙ ap (λ known. Some (function_c (with_entry known (codes "bl_init") (function_c known (init_function unit.name))) (tick_function unit remembers)))
       table
 
-  pub init_done : (file : Parts) → file.funcs ≡ all → others (codes "bl_init") functions ≡ true → (passed : List Passed) (memory : Memory) →
+  pub init_done : (file : Parts) → file.funcs ≡ all → others (codes "bl_init") functions ≡ true → (passed : List ArgumentValue) (memory : Memory) →
       entered file (codes "bl_init") passed memory ≡ function_c known (init_function unit.name) 0 passed memory
   unfolding entered
   init_done file is other passed memory =
       ap (λ functions. applied (found (codes "bl_init") (meanings_after no_entries functions)) 0 passed memory) is
       ∙ ap (λ o. applied o 0 passed memory) (init_found other)
 
-  pub tick_done : (file : Parts) → file.funcs ≡ all → others (codes "bl_tick") functions ≡ true → (passed : List Passed) (memory : Memory) →
+  pub tick_done : (file : Parts) → file.funcs ≡ all → others (codes "bl_tick") functions ≡ true → (passed : List ArgumentValue) (memory : Memory) →
       entered file (codes "bl_tick") passed memory ≡ function_c known (tick_function unit remembers) 0 passed memory
   unfolding entered
   tick_done file is other passed memory =

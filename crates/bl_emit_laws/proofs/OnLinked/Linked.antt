@@ -9,36 +9,36 @@ use Rattle.bl_tree.specs.declared.scalar.Scalar.{Scalar as ScalarType}
 use Rattle.bl_tree.specs.declared.text.Text.{Text}
 use Rattle.bl_tree.specs.declared.tree.StructDef.{StructDef}
 use Rattle.bl_tree.specs.declared.tree.Unit.{Unit as UnitDef}
-use Rattle.bl_tree.specs.Program.{Keeps}
+use Rattle.bl_tree.specs.Program.{IsWellTyped}
 use Rattle.bl_tree.specs.Typing.{is_activity, site_of}
 use Rattle.bl_tree.specs.Words.{are_distinct, is_name}
 use Rattle.bl_eval.proofs.PassLemmas.{and_right}
 use Rattle.bl_machine.specs.declared.machine.Activity.{Activity as InMachine}
-use Rattle.bl_measures.specs.Calls.{calls_of}
-use Rattle.bl_measures.specs.Runs.{runs_of}
-use Rattle.bl_cmeaning.specs.Calls.{calls_in_block}
-use Rattle.bl_cmeaning.specs.Tables.{no_entries}
-use Rattle.bl_cmeaning_laws_known.specs.Known.{CallsDecide}
+use Rattle.bl_limits_measures.specs.Calls.{calls_of}
+use Rattle.bl_limits_measures.specs.Runs.{runs_of}
+use Rattle.bl_ctext_semantics.specs.Calls.{calls_in_block}
+use Rattle.bl_ctext_semantics.specs.Tables.{no_entries}
+use Rattle.bl_ctext_semantics_laws_calls.specs.Known.{CallsDecide}
 use Rattle.bl_emit_acts.specs.Acts.{name_of_callee}
 use Rattle.bl_emit_acts.specs.Expressions.{function_name}
 use Rattle.bl_emit_acts.specs.Types.{unit_name}
 use Rattle.bl_emit_functions.specs.Functions.{function_code}
-use Rattle.bl_emit_functions_laws_formed.proofs.OnFiles.Chains.{code_few, taken}
-use Rattle.bl_emit_functions_laws_formed.proofs.OnFiles.Growing.{distinct_behind}
-use Rattle.bl_emit_functions_laws_formed.proofs.OnFiles.Under.{front-under}
-use Rattle.bl_emit_pass.specs.Activities.{activity_function}
-use Rattle.bl_emit_pass.specs.Programs.{needed_units, needs_of}
-use Rattle.bl_emit_pass_laws.specs.Calls.Built.{Activities, AreBuilt}
-use Rattle.bl_emit_pass_laws_formed.specs.Chains.{ActivitiesCallFew, NoneAbove}
-use Rattle.bl_emit_pass_laws_formed.specs.Closed.{NeededClosed}
+use Rattle.bl_emit_functions_laws_wellformed.proofs.OnFiles.Chains.{code_few, taken}
+use Rattle.bl_emit_functions_laws_wellformed.proofs.OnFiles.Growing.{distinct_behind}
+use Rattle.bl_emit_functions_laws_wellformed.proofs.OnFiles.Under.{front-under}
+use Rattle.bl_emit_spec.specs.Activities.{activity_function}
+use Rattle.bl_emit_spec.specs.Programs.{needed_units, needs_of}
+use Rattle.bl_emit_spec_laws.specs.Calls.Built.{Activities, AreBuilt}
+use Rattle.bl_emit_spec_laws_wellformed.specs.Chains.{ActivitiesCallFew, NoneAbove}
+use Rattle.bl_emit_spec_laws_wellformed.specs.Closed.{NeededClosed}
 use Rattle.bl_emit_laws.specs.Linked.{NeededAreKnown, table_of_needed}
 use Rattle.bl_emit_laws.proofs.OnLinked.Spared.{Sparing, spared}
 use Rattle.bl_emit_laws.proofs.OnLinked.Units.{all_none, counted, drop_next, drop_none, names, needed_other, none_tested, on, prelude_other}
 use Rattle.bl_emit_laws.proofs.OnLinked.Units.{unnamed_other, unneeded, unneeded_is}
-use Rattle.bl_emit_pass_laws.specs.Tables.Tables.{each_from, functions_of_all, table_of_all, unit_function}
+use Rattle.bl_emit_spec_laws.specs.Tables.Tables.{each_from, functions_of_all, table_of_all, unit_function}
 
 module _ (structs : List StructDef) (units : List UnitDef) (entry : ℕ) (decide : CallsDecide) (few : ActivitiesCallFew)
-    (closed : NeededClosed structs units entry) (machine : List InMachine) (activities : Activities) (keeps : Keeps structs units entry)
+    (closed : NeededClosed structs units entry) (machine : List InMachine) (activities : Activities) (keeps : IsWellTyped structs units entry)
     (built : AreBuilt structs units machine activities) where
   abbrev needed : List Bool
   needed = needed_units units entry

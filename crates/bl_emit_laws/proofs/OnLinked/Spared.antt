@@ -6,12 +6,12 @@ use Rattle.std.specs.Option.{option_or}
 use Rattle.std.specs.Prelude.{All, bytes_eq, if◌then◌else◌}
 use Rattle.bl_tree.specs.declared.text.Text.{Text}
 use Rattle.bl_tree.specs.declared.c.CFunc.{CFunc}
-use Rattle.bl_cmeaning.specs.Calls.{calls_in_block}
-use Rattle.bl_cmeaning.specs.Meaning.{Meaning, applied, function_c}
-use Rattle.bl_cmeaning.specs.Tables.{Table, with_entry}
-use Rattle.bl_cmeaning_laws_known.specs.Known.{AreAlike, CallsDecide}
-use Rattle.bl_emit_functions_laws.specs.Units.{known_after}
-use Rattle.bl_emit_pass_laws.specs.Tables.Tables.{kept}
+use Rattle.bl_ctext_semantics.specs.Calls.{calls_in_block}
+use Rattle.bl_ctext_semantics.specs.Meaning.{Meaning, applied, function_c}
+use Rattle.bl_ctext_semantics.specs.Tables.{Table, with_entry}
+use Rattle.bl_ctext_semantics_laws_calls.specs.Known.{AreAlike, CallsDecide}
+use Rattle.bl_emit_functions_laws_simulation.specs.Units.{known_after}
+use Rattle.bl_emit_spec_laws.specs.Tables.Tables.{kept}
 
 -- an entry under another name
 pub other_entry : (o : Option Meaning) (b : Bool) (meaning : Meaning) → b ≡ false → option_or o (if b then Some meaning else None) ≡ o

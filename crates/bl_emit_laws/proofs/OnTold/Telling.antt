@@ -13,37 +13,37 @@ use Rattle.bl_tree.specs.declared.tree.StructDef.{StructDef}
 use Rattle.bl_tree.specs.declared.tree.Unit.{Unit as UnitDef}
 use Rattle.bl_tree.specs.Program.{parameters_of}
 use Rattle.bl_tree.specs.Reduce.{joined}
-use Rattle.bl_nodes.specs.Nodes.{ActAt, CheckAt, EnterAt, Node, ResumeAt, TestAt}
-use Rattle.bl_nodes.specs.Plain.{Block, Done, Then, plain_body}
+use Rattle.bl_graph_nodes.specs.Nodes.{ActAt, CheckAt, EnterAt, Node, ResumeAt, TestAt}
+use Rattle.bl_graph_nodes.specs.Plain.{Block, Done, Then, plain_body}
 use Rattle.bl_machine.specs.declared.machine.Activity.{Activity as InMachine}
 use Rattle.bl_machine.specs.declared.slots.Slot.{Slot}
 use Rattle.bl_machine.specs.Blocks.{up_to}
-use Rattle.bl_pass.specs.Numbered.{slots_of}
-use Rattle.bl_pass.specs.Rules as nodes
-use Rattle.bl_pass.specs.Rules.{Ended, Ends, Finishes, Flagged, Flags, Forgets, Frees, Holds, Marks, Rested, RestedIn}
-use Rattle.bl_pass_listed.specs.Callees.{callees_in, number_in}
-use Rattle.bl_pass_listed.specs.Shared.{shared}
-use Rattle.bl_pass_listed.specs.Told.{Rule, all_told, task_at, told_asked, told_change}
-use Rattle.bl_pass_listed_laws.specs.Laws.{RulesAreListed, entries, first_number}
+use Rattle.bl_machine_pass.specs.Numbered.{slots_of}
+use Rattle.bl_machine_pass.specs.Transitions as nodes
+use Rattle.bl_machine_pass.specs.Transitions.{ClearsBoth, ClearsCounter, Ended, EndsWhen, Finishes, Flagged, Rested, RestedIn, SetsCounter, SetsFlag, SetsMark}
+use Rattle.bl_machine_transitions.specs.Callees.{callees_in, number_in}
+use Rattle.bl_machine_transitions.specs.Shared.{shared}
+use Rattle.bl_machine_transitions.specs.Told.{NumberedTransition, all_told, task_at, told_asked, told_change}
+use Rattle.bl_machine_transitions_laws.specs.Laws.{RulesAreListed, entries, first_number}
 use Rattle.bl_emit_functions.specs.Functions.{params_from, struct_of}
-use Rattle.bl_emit_pass.specs.Activities.{Activity, RunAt, activity_function, blocks_code, entry_code, flag_local, is_flagged, is_read_by}
-use Rattle.bl_emit_pass.specs.Activities.{mark_local, mark_locals, memory_params, reads_counter, remembered, rested_code}
-use Rattle.bl_emit_pass.specs.Activities.{rested_local, run_at}
-use Rattle.bl_emit_pass.specs.Activities.{over_param, pointer_param, result_params, runs_at, runs_in_body, scalar_local, view_of}
-use Rattle.bl_emit_pass.specs.Blocks.{Sizes, Turn, View}
-use Rattle.bl_emit_pass.specs.Names.{flag_name, frame_name}
-use Rattle.bl_emit_pass.specs.Programs.{Parts, activity_of, parts_of_activity}
+use Rattle.bl_emit_spec.specs.Activities.{Activity, RunAt, activity_function, blocks_code, entry_code, flag_local, is_flagged, is_read_by}
+use Rattle.bl_emit_spec.specs.Activities.{mark_local, mark_locals, memory_params, reads_counter, remembered, rested_code}
+use Rattle.bl_emit_spec.specs.Activities.{rested_local, run_at}
+use Rattle.bl_emit_spec.specs.Activities.{over_param, pointer_param, result_params, runs_at, runs_in_body, scalar_local, view_of}
+use Rattle.bl_emit_spec.specs.Blocks.{ActivityView, NodeCode, Sizes}
+use Rattle.bl_emit_spec.specs.Names.{flag_name, frame_name}
+use Rattle.bl_emit_spec.specs.Programs.{ProgramParts, activity_of, parts_of_activity}
 use Rattle.bl_emit_acts.specs.Acts.{c_copied}
 use Rattle.bl_emit_blocks.specs.Laws.{Alike, BlocksAlike}
 use Rattle.bl_emit_blocks.specs.Numbered.{numbered_turn}
 use Rattle.bl_emit_blocks_laws.specs.Laws.{BodiesAreNumbered}
 use Rattle.bl_emit_tables.specs.Told.{asks_counter, asks_flag, flags_told, mark_told, marks_told, read_told, run_told}
 use Rattle.bl_emit_tables.specs.Told.{runs_told}
-use Rattle.bl_emit.specs.Activities.{Told, code_told, copied_told, copy_told, counters_told, entry_at, entry_told, frame_by, function_by}
+use Rattle.bl_emit.specs.Activities.{ActivityInput, code_told, copied_told, copy_told, counters_told, entry_at, entry_told, frame_by, function_by}
 use Rattle.bl_emit.specs.Activities.{function_told, locals_told, memory_params_told, params_told, remembered_by, remembers_told}
 use Rattle.bl_emit.specs.Activities.{run_locals_told, view_told}
 use Rattle.bl_emit.specs.Programs.{parts_told, told_of}
-use Rattle.bl_emit_laws.specs.Told.{ActivitiesAreTold}
+use Rattle.bl_emit_laws.specs.Told.{ActivitiesAreComputed}
 
 -- ---- rules, one by one
 
@@ -56,7 +56,7 @@ module _ (number : Node → ℕ) where
   run_is unit (ResumeAt l at arguments) = refl
   run_is unit n = refl
 
-  runs_are : (units : List ℕ) (rules : List nodes.Rule) → runs_at number units rules ≡ runs_told (all_told number units rules)
+  runs_are : (units : List ℕ) (rules : List nodes.Transition) → runs_at number units rules ≡ runs_told (all_told number units rules)
   runs_are [] rules = refl
   runs_are (unit ∷ units) [] = refl
   runs_are (unit ∷ units) (rule ∷ rules) = ap₂ ◌++◌ (run_is unit rule.node) (runs_are units rules)
@@ -67,7 +67,7 @@ module _ (number : Node → ℕ) where
   asked_is (RestedIn slots) = refl
   asked_is (Ended age needed) = refl
 
-  flags_are : (units : List ℕ) (rules : List nodes.Rule) → length units ≡ length rules →
+  flags_are : (units : List ℕ) (rules : List nodes.Transition) → length units ≡ length rules →
       joined (map (flag_local number) rules) ≡ flags_told (all_told number units rules)
   flags_are [] [] same = refl
   flags_are [] (rule ∷ rules) same = absurd (omega (arith, same))
@@ -78,12 +78,12 @@ module _ (number : Node → ℕ) where
       (flags_are units rules (omega (arith, same)))
 
   mark_is : (change : nodes.Change) → mark_local number change ≡ mark_told (told_change number change)
-  mark_is (Flags n) = refl
-  mark_is (Holds slot) = refl
-  mark_is (Frees k) = refl
-  mark_is (Forgets k) = refl
-  mark_is (Marks n) = refl
-  mark_is (Ends start surface depth) = refl
+  mark_is (SetsFlag n) = refl
+  mark_is (SetsCounter slot) = refl
+  mark_is (ClearsCounter k) = refl
+  mark_is (ClearsBoth k) = refl
+  mark_is (SetsMark n) = refl
+  mark_is (EndsWhen start surface depth) = refl
   mark_is Finishes = refl
 
   rule_marks : (changes : List nodes.Change) →
@@ -91,7 +91,7 @@ module _ (number : Node → ℕ) where
   rule_marks [] = refl
   rule_marks (change ∷ rest) = ap₂ ◌++◌ (mark_is change) (rule_marks rest)
 
-  marks_are : (units : List ℕ) (rules : List nodes.Rule) → length units ≡ length rules →
+  marks_are : (units : List ℕ) (rules : List nodes.Transition) → length units ≡ length rules →
       joined (map (mark_locals number) rules) ≡ marks_told (all_told number units rules)
   marks_are [] [] same = refl
   marks_are [] (rule ∷ rules) same = absurd (omega (arith, same))
@@ -104,7 +104,7 @@ module _ (number : Node → ℕ) where
   counter_is k (RestedIn slots) = refl
   counter_is k (Ended age needed) = refl
 
-  reads_are : (units : List ℕ) (rules : List nodes.Rule) → length units ≡ length rules → (k : ℕ) →
+  reads_are : (units : List ℕ) (rules : List nodes.Transition) → length units ≡ length rules → (k : ℕ) →
       is_read_by rules k ≡ read_told (all_told number units rules) k
   reads_are [] [] same k = refl
   reads_are [] (rule ∷ rules) same k = absurd (omega (arith, same))
@@ -113,11 +113,11 @@ module _ (number : Node → ℕ) where
 
 -- ---- the entry
 
-entries_are : (view : View) (body : Block) → entry_code view body ≡ map (entry_at view.sizes) (map view.number (entries body))
+entries_are : (view : ActivityView) (body : Block) → entry_code view body ≡ map (entry_at view.sizes) (map view.number (entries body))
 entries_are view Done = refl
 entries_are view (Then s rest) = refl
 
-first_is : (sizes : Sizes) (rules : List Rule) → entry_told sizes rules ≡ map (entry_at sizes) (first_number rules)
+first_is : (sizes : Sizes) (rules : List NumberedTransition) → entry_told sizes rules ≡ map (entry_at sizes) (first_number rules)
 first_is sizes [] = refl
 first_is sizes (rule ∷ rest) = refl
 
@@ -132,7 +132,7 @@ module _ (law : RulesAreListed) (bodies : BodiesAreNumbered) (alike : BlocksAlik
   abbrev a : Activity
   a = activity_of structs earlier remember unit one
 
-  abbrev t : Told
+  abbrev t : ActivityInput
   t = told_of structs earlier remember unit one
 
   abbrev number : Node → ℕ
@@ -144,7 +144,7 @@ module _ (law : RulesAreListed) (bodies : BodiesAreNumbered) (alike : BlocksAlik
   abbrev slots : List Slot
   slots = shared (joined one.blocks) (plain_body unit.body) one.slots
 
-  abbrev rules : List nodes.Rule
+  abbrev rules : List nodes.Transition
   rules = nodes.rules (slots_of (plain_body unit.body) slots) (plain_body unit.body)
 
   told_is : all_told number calls rules ≡ t.rules
@@ -163,7 +163,7 @@ module _ (law : RulesAreListed) (bodies : BodiesAreNumbered) (alike : BlocksAlik
   marks_so = sym (marks_are number calls rules each ∙ ap marks_told told_is)
 
   read_at : (k : ℕ) → read_told t.rules k ≡ is_read_by rules k
-  read_at k = sym (reads_are number calls rules each k ∙ ap (λ (rules : List Rule). read_told rules k) told_is)
+  read_at k = sym (reads_are number calls rules each k ∙ ap (λ (rules : List NumberedTransition). read_told rules k) told_is)
 
   read_so : read_told t.rules ≡ is_read_by rules
   read_so = λ i k. read_at k i
@@ -184,14 +184,14 @@ module _ (law : RulesAreListed) (bodies : BodiesAreNumbered) (alike : BlocksAlik
   views = record { site = refl; copies = refl; sizes = refl; is_read = read_at; remembers = λ k. refl }
 
   turns_so : map (numbered_turn (view_told t)) t.rules ≡ map (numbered_turn (view_of a)) t.rules
-  turns_so = ap (λ (turn : Rule → Turn). map turn t.rules) (λ i rule. alike (view_told t) (view_of a) views rule i)
+  turns_so = ap (λ (turn : NumberedTransition → NodeCode). map turn t.rules) (λ i rule. alike (view_told t) (view_of a) views rule i)
 
   code_so : code_told t ≡ (activity_function a).body
   code_so =
       ap₂ (λ (counters : List ℕ) (start : List CStmt). map rested_code counters
       ++ (start
       ++ (map (c_copied (view_of a).site) (copied_told unit) ++ blocks_code (map (numbered_turn (view_told t)) t.rules) t.blocks))) counters_so entry_so
-      ∙ ap (λ (turns : List Turn). map rested_code (filter (is_read_by rules) (up_to (length t.sizes)))
+      ∙ ap (λ (turns : List NodeCode). map rested_code (filter (is_read_by rules) (up_to (length t.sizes)))
       ++ (entry_code (view_of a) (plain_body unit.body) ++ (map (c_copied (view_of a).site) (copied_told unit) ++ blocks_code turns t.blocks)))
       (turns_so ∙ sym (bodies (view_of a) unit.body (joined one.blocks) slots refl))
 
@@ -226,9 +226,9 @@ module _ (law : RulesAreListed) (bodies : BodiesAreNumbered) (alike : BlocksAlik
       ap₂ (λ (runs : List RunAt) (f : CFunc). made (frame_by earlier unit.name t.sizes runs) (remembered_by structs earlier remember unit runs) f)
       runs_so function_so
     where
-      made : CStruct → List CMember → CFunc → Parts
+      made : CStruct → List CMember → CFunc → ProgramParts
       made frame members f =
           record { structs = frame ∷ struct_of unit.name members; funcs = f ∷ []; remember = nat_lt 0 (length members) ∷ [] }
 
-pub activities_are_told : RulesAreListed → BodiesAreNumbered → BlocksAlike → ActivitiesAreTold
+pub activities_are_told : RulesAreListed → BodiesAreNumbered → BlocksAlike → ActivitiesAreComputed
 activities_are_told law bodies alike = λ structs earlier remember unit one. parts_so law bodies alike structs earlier remember unit one

@@ -5,24 +5,24 @@ use Rattle.bl_tree.specs.declared.tree.StructDef.{StructDef}
 use Rattle.bl_tree.specs.declared.tree.Unit.{Unit as UnitDef}
 use Rattle.bl_tree.specs.Typing.{is_activity}
 use Rattle.bl_machine.specs.declared.machine.Activity.{Activity as InMachine}
-use Rattle.bl_emit_pass.specs.Programs.{Parts, file_at, needed_units, parts_from, parts_of_function, parts_of_next, parts_then, where_needed}
+use Rattle.bl_emit_spec.specs.Programs.{ProgramParts, file_at, needed_units, parts_from, parts_of_function, parts_of_next, parts_then, where_needed}
 use Rattle.bl_emit.specs.Programs.{next_told, unit_told, units_told}
-use Rattle.bl_emit_laws.specs.Told.{ActivitiesAreTold, WrittenIsTold}
+use Rattle.bl_emit_laws.specs.Told.{ActivitiesAreComputed, WrittenIsComputed}
 
-module _ (law : ActivitiesAreTold) (structs : List StructDef) where
+module _ (law : ActivitiesAreComputed) (structs : List StructDef) where
   next_is : (earlier : List UnitDef) (remember : List Bool) (unit : UnitDef) (machine : List InMachine) →
       next_told structs earlier remember unit machine ≡ parts_of_next structs earlier remember unit machine
   next_is earlier remember unit [] = refl
   next_is earlier remember unit (one ∷ machine) = law structs earlier remember unit one
 
-  abbrev parts_for : List UnitDef → List Bool → UnitDef → List InMachine → Parts
+  abbrev parts_for : List UnitDef → List Bool → UnitDef → List InMachine → ProgramParts
   parts_for earlier remember unit machine =
       if is_activity unit.kind then parts_of_next structs earlier remember unit machine else parts_of_function structs earlier unit
 
   unit_is : (earlier : List UnitDef) (remember : List Bool) (unit : UnitDef) (machine : List InMachine) →
       unit_told structs earlier remember unit machine ≡ parts_for earlier remember unit machine
   unit_is earlier remember unit machine =
-      ap (λ (parts : Parts). if is_activity unit.kind then parts else parts_of_function structs earlier unit) (next_is earlier remember unit machine)
+      ap (λ (parts : ProgramParts). if is_activity unit.kind then parts else parts_of_function structs earlier unit) (next_is earlier remember unit machine)
 
   units_are : (earlier : List UnitDef) (remember : List Bool) (units : List UnitDef) (needed : List Bool) (machine : List InMachine) →
       units_told structs earlier remember units needed machine ≡ parts_from structs earlier remember units needed machine
@@ -31,11 +31,11 @@ module _ (law : ActivitiesAreTold) (structs : List StructDef) where
   units_are earlier remember (unit ∷ units) (test ∷ needed) machine =
       let here = parts_for earlier remember unit machine in
       let left = if is_activity unit.kind then drop 1 machine else machine in
-      ap (λ (here : Parts). parts_then (where_needed test here)
+      ap (λ (here : ProgramParts). parts_then (where_needed test here)
       (units_told structs (earlier ++ unit ∷ []) (remember ++ here.remember) units needed left)) (unit_is earlier remember unit machine)
       ∙ ap (parts_then (where_needed test here)) (units_are (earlier ++ unit ∷ []) (remember ++ here.remember) units needed left)
 
-pub written_is_told : ActivitiesAreTold → WrittenIsTold
+pub written_is_told : ActivitiesAreComputed → WrittenIsComputed
 written_is_told law = λ program machine.
-    ap (λ (parts : Parts). file_at program parts (slice_get program.units program.entry))
+    ap (λ (parts : ProgramParts). file_at program parts (slice_get program.units program.entry))
     (units_are law program.structs [] [] program.units (needed_units program.units program.entry) machine)

@@ -35,9 +35,9 @@ use Rattle.bl_tree.specs.Reduce.{greatest}
 use Rattle.bl_machine.specs.declared.slots.Slot.{Slot}
 use Rattle.bl_machine.specs.Blocks.{up_to}
 use Rattle.bl_machine.specs.Slots.{counters_at, numbered, numbered_after, times}
-use Rattle.bl_pass.specs.Numbered.{sizes_for, sizes_of}
-use Rattle.bl_emit_pass.specs.Activities.{Activity, counter_member, frame_member, frame_struct, runs_in_body}
-use Rattle.bl_emit_pass.specs.Names.{callee_name, counter_name}
+use Rattle.bl_machine_pass.specs.Numbered.{sizes_for, sizes_of}
+use Rattle.bl_emit_spec.specs.Activities.{Activity, counter_member, frame_member, frame_struct, runs_in_body}
+use Rattle.bl_emit_spec.specs.Names.{callee_name, counter_name}
 use Rattle.bl_emit_laws.specs.Counters.Own.{is_digit_run, is_counter_name}
 use Rattle.bl_emit_laws.specs.Width.{is_counter}
 

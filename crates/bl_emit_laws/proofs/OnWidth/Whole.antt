@@ -9,7 +9,7 @@ use Rattle.bl_tree.specs.Program.{is_entry}
 use Rattle.bl_tree.specs.Reduce.{joined}
 use Rattle.bl_tree.specs.Typing.{is_activity}
 use Rattle.bl_effects.specs.Surface.{width}
-use Rattle.bl_nodes.specs.Plain.{plain_body}
+use Rattle.bl_graph_nodes.specs.Plain.{plain_body}
 use Rattle.bl_cause.proofs.PairLemmas.{each_at, filtered_at}
 use Rattle.bl_cause.specs.Activities.{EachTwo, activities as activities_among, graph_position}
 use Rattle.bl_ctree.specs.Instances.{Setting, setting_of, unit_at}
@@ -17,14 +17,14 @@ use Rattle.bl_ctree_laws_confluence.specs.Deeds.Orderly.{AcceptedIsOrderly}
 use Rattle.bl_machine.specs.declared.machine.Activity.{Activity as InMachine}
 use Rattle.bl_machine.specs.Layout.{counters_in}
 use Rattle.bl_machine_laws.specs.Numbers.Width.{TakesItsWidth}
-use Rattle.bl_pass_listed_laws.proofs.Shared.{shared_many}
-use Rattle.bl_emit_pass.specs.Activities.{frame_struct}
-use Rattle.bl_emit_pass.specs.Names.{frame_name}
-use Rattle.bl_emit_pass.specs.Shared.{IsSharedActivityOf}
-use Rattle.bl_emit_pass_laws_runs.proofs.OnRuns.Running.{unit_there}
-use Rattle.bl_emit_pass_laws.specs.Calls.Built.{Activities, MadeOf, unit_number}
-use Rattle.bl_emit_pass_laws.specs.Calls.Laws.{Compiled}
-use Rattle.bl_emit_pass_laws.proofs.OnOwn.Members.{some_is}
+use Rattle.bl_machine_transitions_laws.proofs.Shared.{shared_many}
+use Rattle.bl_emit_spec.specs.Activities.{frame_struct}
+use Rattle.bl_emit_spec.specs.Names.{frame_name}
+use Rattle.bl_emit_spec.specs.Shared.{IsSharedActivityOf}
+use Rattle.bl_emit_spec_laws_simulation.proofs.OnRuns.Running.{unit_there}
+use Rattle.bl_emit_spec_laws.specs.Calls.Built.{Activities, MadeOf, unit_number}
+use Rattle.bl_emit_spec_laws.specs.Calls.Laws.{CompilationContext}
+use Rattle.bl_emit_spec_laws.proofs.OnOwn.Members.{some_is}
 use Rattle.bl_emit_laws.specs.Kept.{FramesAreDeclared, activities_in, written_file}
 use Rattle.bl_emit_laws.specs.Width.{FrameHasWidth, FramesHaveWidth}
 use Rattle.bl_emit_laws.proofs.OnWidth.Counting.{frame_counts, sizes_wide}
@@ -35,7 +35,7 @@ entry_there (Some unit) is = (unit, refl)
 
 module _ (program : Program) (orderly : AcceptedIsOrderly) (wide : (body : List Stmt) → TakesItsWidth body) (declares : FramesAreDeclared program)
     (machine : List InMachine) (i : ℕ) (unit : UnitDef)
-    (compiled : Compiled program.structs program.units program.entry machine (activities_in program machine))
+    (compiled : CompilationContext program.structs program.units program.entry machine (activities_in program machine))
     (plain : EachTwo IsSharedActivityOf (activities_among program.units) machine)
     (is : unit_at (setting_of program.structs program.units program.entry) i ≡ Some unit)
   where

@@ -9,7 +9,7 @@ use Rattle.bl_tree.specs.declared.tree.Unit.{Unit as UnitDef}
 use Rattle.bl_cause.specs.Activities.{graph_position}
 use Rattle.bl_ctree.specs.declared.instance.Instance.{Instance}
 use Rattle.bl_ctree.specs.Instances.{setting_of}
-use Rattle.bl_cmeaning.specs.Parts.{Parts}
+use Rattle.bl_ctext_semantics.specs.Parts.{Parts}
 use Rattle.bl_machine.specs.declared.machine.Activity.{Activity as InMachine}
 use Rattle.bl_emit_acts.specs.Types.{unit_name}
 use Rattle.bl_emit_laws.specs.Counters.Own.{functions_named}

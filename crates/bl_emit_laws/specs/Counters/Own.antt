@@ -13,11 +13,11 @@ use Rattle.bl_tree.specs.declared.tree.StructDef.{StructDef}
 use Rattle.bl_tree.specs.declared.tree.Unit.{Unit as UnitDef}
 use Rattle.bl_tree.specs.Typing.{is_activity}
 use Rattle.bl_ctree.specs.Instances.{setting_of, unit_at}
-use Rattle.bl_cmeaning.specs.Faults.{struct_table, variables_of}
-use Rattle.bl_cmeaning.specs.Parts.{Parts}
-use Rattle.bl_cmeaning.specs.Tables.{Table, table_of}
+use Rattle.bl_ctext_semantics.specs.Faults.{struct_table, variables_of}
+use Rattle.bl_ctext_semantics.specs.Parts.{Parts}
+use Rattle.bl_ctext_semantics.specs.Tables.{Table, table_of}
 use Rattle.bl_emit_acts.specs.Types.{unit_name}
-use Rattle.bl_emit_pass.specs.Names.{frame_name}
+use Rattle.bl_emit_spec.specs.Names.{frame_name}
 use Rattle.bl_emit_laws.specs.Counters.Places.{CPath, places_named}
 
 -- ---- one function for each activity

@@ -16,7 +16,7 @@ use Rattle.bl_tree.specs.Apart.{Roots, expr_layer_roots, kind_roots, part_roots,
 use Rattle.bl_tree.specs.Reduce.{joined}
 use Rattle.bl_tree.specs.Static.{
   Reach,
-  Step,
+  StaticStep,
   expr_mentions,
   index_mentions,
   kind_mentions,
@@ -37,7 +37,7 @@ use Rattle.bl_eval.specs.Changes.{part_of_path}
 use Rattle.bl_eval.specs.Meaning.{
   Meaning,
   PathMeaning,
-  Position,
+  PathPosition,
   Scope,
   View,
   call_datum,
@@ -103,9 +103,9 @@ read_within root fields rest now = by_value (slice_get now root)
 
 -- ---- what is mentioned, by kinds
 
-abbrev parts_mentioned : ExprKind-F ExprKind Part Expr Path → ExprKind-F (List Static) Step (List Static) Reach
-parts_mentioned = map-ExprKind ExprKind Part Expr Path (List Static) Step (List Static) Reach
-    (fold-ExprKind (List Static) Step (List Static) Reach kind_mentions part_step expr_mentions path_reach) step_of mentions reach_of
+abbrev parts_mentioned : ExprKind-F ExprKind Part Expr Path → ExprKind-F (List Static) StaticStep (List Static) Reach
+parts_mentioned = map-ExprKind ExprKind Part Expr Path (List Static) StaticStep (List Static) Reach
+    (fold-ExprKind (List Static) StaticStep (List Static) Reach kind_mentions part_step expr_mentions path_reach) step_of mentions reach_of
 
 mentions_at : (place : Place) (layer : ExprKind-F ExprKind Part Expr Path) → mentions (expr place layer) ≡ kind_mentions (parts_mentioned layer)
 mentions_at place layer = rw (fold-roll-Expr, fold-roll-ExprKind) refl
@@ -156,21 +156,21 @@ pub record Front (fields positions : List ℕ) : Type 0 where
 
 -- ---- parts of paths, by their kinds
 
-abbrev mentioned : Part-F ExprKind Part Expr Path → Step
-mentioned q = part_step (map-Part ExprKind Part Expr Path (List Static) Step (List Static) Reach
-    (fold-ExprKind (List Static) Step (List Static) Reach kind_mentions part_step expr_mentions path_reach) step_of mentions reach_of q)
+abbrev mentioned : Part-F ExprKind Part Expr Path → StaticStep
+mentioned q = part_step (map-Part ExprKind Part Expr Path (List Static) StaticStep (List Static) Reach
+    (fold-ExprKind (List Static) StaticStep (List Static) Reach kind_mentions part_step expr_mentions path_reach) step_of mentions reach_of q)
 
 step_at : (part : Part) (q : Part-F ExprKind Part Expr Path) → out-Part part ≡ q → step_of part ≡ mentioned q
-step_at part q e = fold_out-Part (List Static) Step (List Static) Reach kind_mentions part_step expr_mentions path_reach part ∙ ap mentioned e
+step_at part q e = fold_out-Part (List Static) StaticStep (List Static) Reach kind_mentions part_step expr_mentions path_reach part ∙ ap mentioned e
 
 module _ (scope : Scope) where
-  abbrev meant : Part-F ExprKind Part Expr Path → Position
-  meant q = part_means (map-Part ExprKind Part Expr Path Meaning Position Meaning PathMeaning
-      (fold-ExprKind Meaning Position Meaning PathMeaning (kind_means scope) part_means expr_means path_means)
+  abbrev meant : Part-F ExprKind Part Expr Path → PathPosition
+  meant q = part_means (map-Part ExprKind Part Expr Path Meaning PathPosition Meaning PathMeaning
+      (fold-ExprKind Meaning PathPosition Meaning PathMeaning (kind_means scope) part_means expr_means path_means)
       (part_of_path scope) (meaning_of scope) (path_meaning_of scope) q)
 
   part_at : (part : Part) (q : Part-F ExprKind Part Expr Path) → out-Part part ≡ q → part_of_path scope part ≡ meant q
-  part_at part q e = fold_out-Part Meaning Position Meaning PathMeaning (kind_means scope) part_means expr_means path_means part ∙ ap meant e
+  part_at part q e = fold_out-Part Meaning PathPosition Meaning PathMeaning (kind_means scope) part_means expr_means path_means part ∙ ap meant e
 
   -- the positions of a path begin with its fields
   one_on : (k : ℕ) (fields : List ℕ) (later : Option (List ℕ)) (positions : List ℕ) → option_map (λ ks. k ∷ ks) later ≡ Some positions →
@@ -201,9 +201,9 @@ module _ (scope : Scope) where
 
   -- ---- expressions and paths, by their kinds
 
-  abbrev parts_meant : ExprKind-F ExprKind Part Expr Path → ExprKind-F Meaning Position Meaning PathMeaning
-  parts_meant = map-ExprKind ExprKind Part Expr Path Meaning Position Meaning PathMeaning
-      (fold-ExprKind Meaning Position Meaning PathMeaning (kind_means scope) part_means expr_means path_means)
+  abbrev parts_meant : ExprKind-F ExprKind Part Expr Path → ExprKind-F Meaning PathPosition Meaning PathMeaning
+  parts_meant = map-ExprKind ExprKind Part Expr Path Meaning PathPosition Meaning PathMeaning
+      (fold-ExprKind Meaning PathPosition Meaning PathMeaning (kind_means scope) part_means expr_means path_means)
       (part_of_path scope) (meaning_of scope) (path_meaning_of scope)
 
   kind_at : (place : Place) (layer : ExprKind-F ExprKind Part Expr Path) (view : View) →

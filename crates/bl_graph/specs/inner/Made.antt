@@ -9,8 +9,8 @@ use Rattle.bl_tree.specs.declared.tree.Expr.{Expr}
 use Rattle.bl_tree.specs.declared.tree.Stmt.{Stmt, roll-Stmt}
 use Rattle.bl_tree.specs.declared.tree.StmtKind.{StmtKind}
 use Rattle.bl_tree.specs.Static.{mentions, set_of}
-use Rattle.bl_nodes.specs.Laws.{plain_arm, plain_branch}
-use Rattle.bl_nodes.specs.Nodes.{
+use Rattle.bl_graph_nodes.specs.Laws.{plain_arm, plain_branch}
+use Rattle.bl_graph_nodes.specs.Nodes.{
   DepthJoinAt,
   ForkAt,
   Node,
@@ -22,7 +22,7 @@ use Rattle.bl_nodes.specs.Nodes.{
   nodes_in_each,
   nodes_of,
 }
-use Rattle.bl_nodes.specs.Plain.{
+use Rattle.bl_graph_nodes.specs.Plain.{
   Block,
   Bodies,
   Body,
@@ -46,7 +46,7 @@ use Rattle.bl_graph.specs.declared.part.Branches.{Branches}
 use Rattle.bl_graph.specs.declared.part.Links.{Links}
 use Rattle.bl_graph.specs.declared.part.Out.{Out}
 use Rattle.bl_graph.specs.declared.part.Part.{Part as Made}
-use Rattle.bl_graph.specs.Graph.{shown}
+use Rattle.bl_graph.specs.Graph.{graph_node}
 use Rattle.bl_graph.specs.Listed.{
   Pair,
   across,
@@ -76,9 +76,9 @@ Names naming n [] = ⊤
 Names naming n (x ∷ xs) = (naming n ≡ Some x) × Names naming (n + 1) xs
 
 -- the number names the node at which a block begins
-abbrev pub Leads : Naming → ℕ → Block → Type 0
-Leads naming n Done = ⊤
-Leads naming n (Then s rest) = naming n ≡ Some (entry s)
+abbrev pub NamesEntry : Naming → ℕ → Block → Type 0
+NamesEntry naming n Done = ⊤
+NamesEntry naming n (Then s rest) = naming n ≡ Some (entry s)
 
 -- the elements of the one list are as those of the other, one by one
 abbrev pub Pairwise : {A B : Type 0} → (A → B → Type 0) → List A → List B → Type 0
@@ -157,7 +157,7 @@ turning body first last = record {
 
 -- a node as the code keeps it
 abbrev pub flow_of : Marked → Flow
-flow_of m = record { node = shown m.node; mark = m.mark; reads = node_reads m.node; writes = node_writes m.node }
+flow_of m = record { node = graph_node m.node; mark = m.mark; reads = node_reads m.node; writes = node_writes m.node }
 
 -- the part was made, and its edges were appended
 pub record Makes (naming : Naming) (whole : Whole) (made : Made) (before after : Links) : Type 0 where
@@ -190,7 +190,7 @@ pub record Open (naming : Naming) (whole : Whole) (rest : Block) (next : ℕ) (m
 -- the condition of an `if` and its block were made
 abbrev pub ChoiceMade : Place → List Static → List Stmt → Bool → ℕ → Made → Links → Links → Type 0
 ChoiceMade place reads body more first made before after = (l : Label) (at : Position) (e : Expr) (rest : Block) (naming : Naming)
-    → reads ≡ set_of (mentions e) → is_empty rest ≡ not more → ((n : ℕ) → Names naming n (nodes_in rest) → Leads naming n rest)
+    → reads ≡ set_of (mentions e) → is_empty rest ≡ not more → ((n : ℕ) → Names naming n (nodes_in rest) → NamesEntry naming n rest)
     → Names naming first (nodes_of (If l place e (plain_block body at) rest))
     → Open naming (whole_of (If l place e (plain_block body at) rest)) rest (first + length made.flows) made before after
 

@@ -55,10 +55,10 @@ abbrev pub kept : List (Static × List ℕ) → Static → List ℕ
 kept table path = unwrap_or (lookup (is_at (static_cmp path)) table) []
 
 -- the table has these notes
-abbrev pub Keeps : List (Static × List ℕ) → List Note → Type 0
-Keeps table ns = (path : Static) → kept table path ≡ numbers_at path ns
+abbrev pub HasNotes : List (Static × List ℕ) → List Note → Type 0
+HasNotes table ns = (path : Static) → kept table path ≡ numbers_at path ns
 
 -- both tables have these notes, the one with all fronts of their paths
-pub record Tells (notes : Notes) (ns : List Note) : Type 0 where
-  pub within : Keeps notes.within (with_fronts ns)
-  pub exactly : Keeps notes.exactly ns
+pub record HasNotesAndFronts (notes : Notes) (ns : List Note) : Type 0 where
+  pub within : HasNotes notes.within (with_fronts ns)
+  pub exactly : HasNotes notes.exactly ns

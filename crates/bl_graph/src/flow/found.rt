@@ -3,7 +3,7 @@
 ghost use Rattle.std.specs.Prelude.{◌≡◌, ◌++◌, ◌∷◌, ◌<◌, [], Contains, IfOk, IsTrue, OnOk, List as Elements, false, length, true};
 ghost use Rattle.bl_graph.specs.Graph.{edge_between};
 ghost use Rattle.bl_graph.specs.inner.Found.{Gains, Recalls, links, links_met};
-ghost use Rattle.bl_graph.specs.inner.Noted.{Note, Tells, front as front_of, numbers_at, numbers_met, numbers_to};
+ghost use Rattle.bl_graph.specs.inner.Noted.{HasNotesAndFronts, Note, front as front_of, numbers_at, numbers_met, numbers_to};
 
 use crate::flow::notes::{Notes, front};
 use bl_tree::graph::Edge;
@@ -79,7 +79,7 @@ impl Found {
         to: u32,
     ) -> Result<(), NoMemory>
         requires { count < length path.now.fields }
-        ensures { OnOk result ((ns : Elements Note) → Tells notes.now ns → Gains self.old self.new (links to (numbers_at (front_of path.now count) ns))) }
+        ensures { OnOk result ((ns : Elements Note) → HasNotesAndFronts notes.now ns → Gains self.old self.new (links to (numbers_at (front_of path.now count) ns))) }
     {
         let front = front(alloc, path, count)?;
         self.link_all(notes.exactly.at(&front), to)
@@ -92,7 +92,7 @@ impl Found {
         path: &Static,
         to: u32,
     ) -> Result<(), NoMemory>
-        ensures { OnOk result ((ns : Elements Note) → Tells notes.now ns
+        ensures { OnOk result ((ns : Elements Note) → HasNotesAndFronts notes.now ns
             → Gains self.old self.new (links to (numbers_to ns path.now (length path.now.fields)))) }
     {
         for k in 0..path.fields.len() {
@@ -109,7 +109,7 @@ impl Found {
         path: &Static,
         to: u32,
     ) -> Result<(), NoMemory>
-        ensures { OnOk result ((ns : Elements Note) → Tells notes.now ns → Gains self.old self.new (links to (numbers_met ns path.now))) }
+        ensures { OnOk result ((ns : Elements Note) → HasNotesAndFronts notes.now ns → Gains self.old self.new (links to (numbers_met ns path.now))) }
     {
         self.link_all(notes.within.at(path), to)?;
         self.link_fronts(alloc, notes, path, to)
@@ -123,7 +123,7 @@ impl Found {
         paths: &[Static],
         to: u32,
     ) -> Result<(), NoMemory>
-        ensures { OnOk result ((ns : Elements Note) → Tells notes.now ns → Gains self.old self.new (links_met ns to paths.now)) }
+        ensures { OnOk result ((ns : Elements Note) → HasNotesAndFronts notes.now ns → Gains self.old self.new (links_met ns to paths.now)) }
     {
         for path in paths {
             self.link_met(alloc, notes, path, to)?;

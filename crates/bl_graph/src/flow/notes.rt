@@ -5,7 +5,7 @@ ghost use Rattle.std.specs.Map.{lookup};
 ghost use Rattle.std.specs.Prelude.{◌≡◌, ◌≤◌, ◌++◌, ◌∷◌, [], List as Elements, None, Some, cond, length, IfOk, OnOk};
 ghost use Rattle.bl_tree.specs.Order.{static_cmp};
 ghost use Rattle.bl_graph.specs.inner.Found.{notes_of};
-ghost use Rattle.bl_graph.specs.inner.Noted.{Keeps, Note, Tells, front, fronts_to, kept, note};
+ghost use Rattle.bl_graph.specs.inner.Noted.{HasNotes, HasNotesAndFronts, Note, front, fronts_to, kept, note};
 
 use bl_tree::static_path::copy_of;
 use bl_tree::{List, NoMemory, Static};
@@ -60,7 +60,7 @@ impl ByPath {
 
     /// Notes the node with the path. Fails only for want of memory, as all that follows.
     fn note(&mut self, alloc: Global, path: Static, node: u32) -> Result<(), NoMemory>
-        ensures { OnOk result ((ns : Elements Note) → Keeps self.old ns → Keeps self.new (ns ++ note node path ∷ [])) }
+        ensures { OnOk result ((ns : Elements Note) → HasNotes self.old ns → HasNotes self.new (ns ++ note node path ∷ [])) }
     {
         let mut nodes = self.take(alloc, &path);
         nodes.push(node)?;
@@ -86,7 +86,7 @@ impl ByPath {
         node: u32,
     ) -> Result<(), NoMemory>
         requires { count ≤ length path.now.fields }
-        ensures { OnOk result ((ns : Elements Note) → Keeps self.old ns → Keeps self.new (ns ++ note node (front path.now count) ∷ [])) }
+        ensures { OnOk result ((ns : Elements Note) → HasNotes self.old ns → HasNotes self.new (ns ++ note node (front path.now count) ∷ [])) }
     {
         let front = front(alloc, path, count)?;
         self.note(alloc, front, node)
@@ -94,7 +94,7 @@ impl ByPath {
 
     /// Notes the node with each shorter front of the path.
     fn note_fronts(&mut self, alloc: Global, path: &Static, node: u32) -> Result<(), NoMemory>
-        ensures { OnOk result ((ns : Elements Note) → Keeps self.old ns → Keeps self.new (ns ++ fronts_to node path.now (length path.now.fields))) }
+        ensures { OnOk result ((ns : Elements Note) → HasNotes self.old ns → HasNotes self.new (ns ++ fronts_to node path.now (length path.now.fields))) }
     {
         for k in 0..path.fields.len() {
             self.note_front(alloc, path, k, node)?;
@@ -129,7 +129,7 @@ pub struct Notes {
 
 impl Notes {
     pub fn new(alloc: Global) -> Notes
-        ensures { Tells result [] }
+        ensures { HasNotesAndFronts result [] }
     {
         Notes {
             within: ByPath::new(alloc),
@@ -138,7 +138,7 @@ impl Notes {
     }
 
     fn note(&mut self, alloc: Global, path: &Static, node: u32) -> Result<(), NoMemory>
-        ensures { OnOk result ((ns : Elements Note) → Tells self.old ns → Tells self.new (ns ++ note node path.now ∷ [])) }
+        ensures { OnOk result ((ns : Elements Note) → HasNotesAndFronts self.old ns → HasNotesAndFronts self.new (ns ++ note node path.now ∷ [])) }
     {
         self.within.note_fronts(alloc, path, node)?;
         self.within.note(alloc, copy_of(alloc, path)?, node)?;
@@ -147,7 +147,7 @@ impl Notes {
 
     /// Notes the node with each of the paths.
     pub fn note_all(&mut self, alloc: Global, paths: &[Static], node: u32) -> Result<(), NoMemory>
-        ensures { OnOk result ((ns : Elements Note) → Tells self.old ns → Tells self.new (ns ++ notes_of node paths.now)) }
+        ensures { OnOk result ((ns : Elements Note) → HasNotesAndFronts self.old ns → HasNotesAndFronts self.new (ns ++ notes_of node paths.now)) }
     {
         for path in paths {
             self.note(alloc, path, node)?;

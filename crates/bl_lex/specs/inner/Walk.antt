@@ -28,34 +28,34 @@ use Rattle.bl_lex.specs.declared.scan.Before.{Before}
 use Rattle.bl_lex.specs.declared.scan.Before.TheVariants.{Other, At, AtBracket}
 use Rattle.bl_lex.specs.declared.sign.TheConstants.{OPEN_BRACKET, AT, OPEN_BRACE, CLOSE_BRACE}
 use Rattle.bl_lex.specs.Pieces.{kind_of}
-use Rattle.bl_lex.specs.Tokens.{Part, place_of, Covers, line_at, tokens_of, without_between}
+use Rattle.bl_lex.specs.Tokens.{LexedPiece, place_of, Covers, line_at, tokens_of, without_between}
 use Rattle.bl_lex.specs.Rules.{IsLeftOut}
 
 -- the last token is `@`
-pub record EndsAt (tokens : List Part) : Type 0 where
-  pub front : List Part
-  pub at : Part
+pub record EndsAt (tokens : List LexedPiece) : Type 0 where
+  pub front : List LexedPiece
+  pub at : LexedPiece
   pub stands : tokens ≡ front ++ (at ∷ [])
   pub is_at : at.form ≡ Token (Sign AT)
 
 -- the last two tokens are `@ [`
-pub record EndsAtBracket (tokens : List Part) : Type 0 where
-  pub front : List Part
-  pub at : Part
-  pub bracket : Part
+pub record EndsAtBracket (tokens : List LexedPiece) : Type 0 where
+  pub front : List LexedPiece
+  pub at : LexedPiece
+  pub bracket : LexedPiece
   pub stands : tokens ≡ front ++ (at ∷ bracket ∷ [])
   pub is_at : at.form ≡ Token (Sign AT)
   pub is_bracket : bracket.form ≡ Token (Sign OPEN_BRACKET)
 
 -- how the tokens end
-abbrev pub IsBefore : Before → List Part → Type 0
+abbrev pub IsBefore : Before → List LexedPiece → Type 0
 IsBefore Other tokens = (¬ EndsAt tokens) × (¬ EndsAtBracket tokens)
 IsBefore At tokens = EndsAt tokens
 IsBefore AtBracket tokens = EndsAtBracket tokens
 
 -- how the tokens end after one part more
 abbrev pub NextBefore : Before → Form → Before → Type 0
-NextBefore before form next = (tokens : List Part) (part : Part) → part.form ≡ form → IsBefore before tokens →
+NextBefore before form next = (tokens : List LexedPiece) (part : LexedPiece) → part.form ≡ form → IsBefore before tokens →
     IsBefore next (tokens ++ without_between (part ∷ []))
 
 -- the profile leaves out a token of this form and these bytes, after tokens that end so
@@ -64,27 +64,27 @@ IsLeftOutAfter before form bytes = (form ≡ Outside) ⊎ ((form ≡ Token (Sign
     ⊎ ((before ≡ AtBracket) × (form ≡ Token Name) × (bytes ≢ codes "EntryPoint"))))
 
 -- the profile leaves out none of the tokens
-abbrev pub NoneLeftOut : List ℕ → List Part → Type 0
-NoneLeftOut text tokens = (before : List Part) (part : Part) (after : List Part) → tokens ≡ before ++ part ∷ after → ¬ IsLeftOut text before part
+abbrev pub NoneLeftOut : List ℕ → List LexedPiece → Type 0
+NoneLeftOut text tokens = (before : List LexedPiece) (part : LexedPiece) (after : List LexedPiece) → tokens ≡ before ++ part ∷ after → ¬ IsLeftOut text before part
 
 -- the first token that the profile leaves out stands at this place
-pub record IsFirstLeftOut (text : List ℕ) (tokens : List Part) (place : Place) : Type 0 where
-  pub before : List Part
-  pub part : Part
-  pub after : List Part
+pub record IsFirstLeftOut (text : List ℕ) (tokens : List LexedPiece) (place : Place) : Type 0 where
+  pub before : List LexedPiece
+  pub part : LexedPiece
+  pub after : List LexedPiece
   pub stands : tokens ≡ before ++ part ∷ after
   pub left_out : IsLeftOut text before part
   pub at : place ≡ place_of part
   pub first : NoneLeftOut text before
 
 -- the first token that the profile leaves out, if there is one, stands at this place
-abbrev pub IsLeftOutPlace : List ℕ → List Part → Option Place → Type 0
+abbrev pub IsLeftOutPlace : List ℕ → List LexedPiece → Option Place → Type 0
 IsLeftOutPlace text tokens None = NoneLeftOut text tokens
 IsLeftOutPlace text tokens (Some place) = IsFirstLeftOut text tokens place
 
 -- what the walk has found of the text up to a place
 pub record IsScanned (text : List ℕ) (at : ℕ) (scan : Scan) : Type 0 where
-  pub parts : List Part
+  pub parts : List LexedPiece
   pub covers : Covers text 0 parts at
   pub tokens : scan.tokens.items ≡ tokens_of text parts
   pub line : scan.line ≡ line_at text at

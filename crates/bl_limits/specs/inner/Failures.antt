@@ -9,8 +9,8 @@ use Rattle.bl_tree.specs.declared.tree.StructDef.{StructDef}
 use Rattle.bl_tree.specs.declared.tree.Unit.{Unit as UnitDef}
 use Rattle.bl_tree.specs.declared.tree.Var.{Var}
 use Rattle.bl_tree.specs.Reduce.{joined}
-use Rattle.bl_measures.specs.Types.{nesting, struct_nestings}
-use Rattle.bl_measures.specs.Units.{all_chains, cells_at, instances_at}
+use Rattle.bl_limits_measures.specs.Types.{nesting, struct_nestings}
+use Rattle.bl_limits_measures.specs.Units.{all_chains, cells_at, instances_at}
 
 -- the failure of a rule at a place
 abbrev pub failure_at : Rule → Place → Failure

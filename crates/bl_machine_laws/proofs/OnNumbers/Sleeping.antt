@@ -1,8 +1,8 @@
 -- What rested when the tick began waits, and no turn makes more of it.
 use Rattle.std.proofs.Common.{ℕ, Bool, List, Option, Some, None, inl, inr}
-use Rattle.bl_nodes.specs.Nodes.{Node}
-use Rattle.bl_nodes.specs.Plain.{Block, Bodies, Body as BodyOf, Done, Last, Plain, Then}
-use Rattle.bl_nodes.specs.Steps.{end_node}
+use Rattle.bl_graph_nodes.specs.Nodes.{Node}
+use Rattle.bl_graph_nodes.specs.Plain.{Block, Bodies, Body as BodyOf, Done, Last, Plain, Then}
+use Rattle.bl_graph_nodes.specs.Steps.{end_node}
 use Rattle.bl_ctree.specs.Control.{Body, Check}
 use Rattle.bl_ctree.specs.Instances.{Setting}
 use Rattle.bl_ctree_laws.specs.Pending.{Deed}
@@ -19,14 +19,14 @@ use Rattle.bl_ctree_laws.specs.Trees.{
   Par,
   Guard,
   Run,
-  begun,
+  trees_begun,
   beside,
   do_block,
   no_tree,
   seq,
 }
 use Rattle.bl_machine_laws.specs.Numbers.Turns as turns
-use Rattle.bl_machine_laws.specs.Numbers.Turns.{Answered, OneTurns, Point, Turns}
+use Rattle.bl_machine_laws.specs.Numbers.Turns.{AnsweredDeed, InstancePoint, OneTurns, Turns}
 use Rattle.bl_machine_laws.specs.Numbers.Waiting.{Sleeps, SomeSleeps, SomeWaits, Waits, first_in}
 
 mutual
@@ -56,7 +56,7 @@ block_awake Done y h = h
 block_awake (Then s Done) y h = h
 block_awake (Then s (Then t rest)) y h = h
 
-begun_awake : (bodies : Bodies) (y : Node) → SomeSleeps (begun bodies) y → ⊥
+begun_awake : (bodies : Bodies) (y : Node) → SomeSleeps (trees_begun bodies) y → ⊥
 begun_awake Last y h = h
 begun_awake (BodyOf weak body rest) y (inl h) = block_awake body y h
 begun_awake (BodyOf weak body rest) y (inr h) = begun_awake rest y h
@@ -74,7 +74,7 @@ seq_sleeps (Run p callee phase stood c) s rest y h = h
 
 -- ---- turns
 
-point_wakes : {w : Setting} {i : ℕ} {c : Tree} {d : Bool} {a : Deed} {n : Node} {c' : Tree} (y : Node) → Point w i c d a n c' →
+point_wakes : {w : Setting} {i : ℕ} {c : Tree} {d : Bool} {a : Deed} {n : Node} {c' : Tree} (y : Node) → InstancePoint w i c d a n c' →
     Sleeps c' y → Sleeps c y
 point_wakes y turns.acts h = h
 point_wakes y (turns.takes {body = body}) h = block_awake body y h
@@ -97,7 +97,7 @@ point_wakes y turns.guard_ends h = h
 point_wakes y (turns.joins settled done) h = absurd h
 
 mutual
-  pub turn_wakes : {w : Setting} {rank : ℕ → Node → ℕ} {i : ℕ} {c : Tree} {done : List Answered} {n : Node} {c' : Tree} (y : Node) →
+  pub turn_wakes : {w : Setting} {rank : ℕ → Node → ℕ} {i : ℕ} {c : Tree} {done : List AnsweredDeed} {n : Node} {c' : Tree} (y : Node) →
       Turns w rank i c done n c' → Sleeps c' y → Sleeps c y
   turn_wakes y (turns.point p) h = point_wakes y p h
   turn_wakes y (turns.runs called is passes lasts) h = h
@@ -107,7 +107,7 @@ mutual
   turn_wakes y (turns.in_par t) h = one_wakes y t h
   turn_wakes y (turns.in_guard t) h = turn_wakes y t h
 
-  one_wakes : {w : Setting} {rank : ℕ → Node → ℕ} {i : ℕ} {branches : Trees} {done : List Answered} {n : Node} {branches' : Trees} (y : Node) →
+  one_wakes : {w : Setting} {rank : ℕ → Node → ℕ} {i : ℕ} {branches : Trees} {done : List AnsweredDeed} {n : Node} {branches' : Trees} (y : Node) →
       OneTurns w rank i branches done n branches' → SomeSleeps branches' y → SomeSleeps branches y
   one_wakes y (turns.first t) (inl h) = inl (turn_wakes y t h)
   one_wakes y (turns.first t) (inr h) = inr h

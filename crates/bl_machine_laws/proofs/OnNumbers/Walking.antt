@@ -17,10 +17,10 @@ use Rattle.std.proofs.Common.{
   sym,
   subst,
 }
-use Rattle.bl_nodes.specs.Nodes.{Node}
-use Rattle.bl_nodes.specs.Plain.{Block, Done, Plain, Then}
-use Rattle.bl_nodes.specs.Steps as labels
-use Rattle.bl_nodes.specs.Steps.{StepLabel, end_node}
+use Rattle.bl_graph_nodes.specs.Nodes.{Node}
+use Rattle.bl_graph_nodes.specs.Plain.{Block, Done, Plain, Then}
+use Rattle.bl_graph_nodes.specs.Steps as labels
+use Rattle.bl_graph_nodes.specs.Steps.{StepLabel, end_node}
 use Rattle.bl_ctree.specs.Control.{Body}
 use Rattle.bl_ctree.specs.Instances.{Setting}
 use Rattle.bl_ctree_laws.specs.Pending.{Deed}
@@ -47,12 +47,12 @@ use Rattle.bl_ctree_laws.specs.Trees.{
 }
 use Rattle.bl_machine_laws.specs.Numbers.Steps.{Walks, on, stay}
 use Rattle.bl_machine_laws.specs.Numbers.Turns as turns
-use Rattle.bl_machine_laws.specs.Numbers.Turns.{Answered, OneTurns, Passes, Point, Turns}
+use Rattle.bl_machine_laws.specs.Numbers.Turns.{AnsweredDeed, InstancePoint, OneTurns, Passes, Turns}
 use Rattle.bl_machine_laws.specs.Numbers.Waiting.{SomeWaits, Waits, first_in}
 
 -- ---- steps that follow one another
 
-pub walk_on : {w : Setting} {i : ℕ} {c : Tree} {done : List Answered} {c' : Tree} {others : List Answered} {c'' : Tree} →
+pub walk_on : {w : Setting} {i : ℕ} {c : Tree} {done : List AnsweredDeed} {c' : Tree} {others : List AnsweredDeed} {c'' : Tree} →
     Walks w i c done c' → Walks w i c' others c'' → Walks w i c (done ++ others) c''
 walk_on stay more = more
 walk_on (on m rest) more = on m (walk_on rest more)
@@ -94,7 +94,7 @@ moving_open : {w : Setting} {i : ℕ} {c : Tree} {d : Bool} {a : Deed} {n : Step
 moving_open {w} {i} {c} {d} {a} {n} {c'} m is = nil_stays {T = Anyway} (subst (λ (t : Tree). Moves Anyway w i t d a n c') is m)
 
 -- steps of a tree are steps of it with what follows
-walk_after : {w : Setting} {i : ℕ} {c : Tree} {done : List Answered} {c' : Tree} (rest : Block) →
+walk_after : {w : Setting} {i : ℕ} {c : Tree} {done : List AnsweredDeed} {c' : Tree} (rest : Block) →
     Walks w i c done c' → Walks w i (seq c rest) done (seq c' rest)
 walk_after rest stay = stay
 walk_after {w} {i} {c} Done (on {d = d} {a = a} {n = n} {c' = c'} {done = done} {c'' = c''} m more) =
@@ -106,12 +106,12 @@ walk_after {w} {i} {c} (Then s rest) (on {d = d} {a = a} {n = n} {c' = c'} {done
 
 -- ---- inside what holds one tree
 
-walk_guard : {w : Setting} {i : ℕ} {c : Tree} {done : List Answered} {c' : Tree} (s : Watch) (stood : Bool) →
+walk_guard : {w : Setting} {i : ℕ} {c : Tree} {done : List AnsweredDeed} {c' : Tree} (s : Watch) (stood : Bool) →
     Walks w i c done c' → Walks w i (Guard s Body stood c) done (Guard s Body stood c')
 walk_guard s stood stay = stay
 walk_guard s stood (on m more) = on (moves.in_guard m) (walk_guard s stood more)
 
-walk_run : {w : Setting} {i callee : ℕ} {c : Tree} {done : List Answered} {c' : Tree} (s : Call) (stood : Bool) →
+walk_run : {w : Setting} {i callee : ℕ} {c : Tree} {done : List AnsweredDeed} {c' : Tree} (s : Call) (stood : Bool) →
     Walks w callee c done c' → Walks w i (Run s callee Body stood c) done (Run s callee Body stood c')
 walk_run s stood stay = stay
 walk_run s stood (on m more) = on (moves.in_run m) (walk_run s stood more)
@@ -119,23 +119,23 @@ walk_run s stood (on m more) = on (moves.in_run m) (walk_run s stood more)
 -- ---- inside branches
 
 -- steps of branches one after another
-data EachWalks (w : Setting) : ℕ → Trees → List Answered → Trees → Type 0 where
+data EachWalks (w : Setting) : ℕ → Trees → List AnsweredDeed → Trees → Type 0 where
   stay_all : {i : ℕ} {branches : Trees} → EachWalks w i branches [] branches
-  on_one : {i : ℕ} {branches : Trees} {d : Bool} {a : Deed} {n : StepLabel} {branches' : Trees} {done : List Answered} {branches'' : Trees} →
+  on_one : {i : ℕ} {branches : Trees} {d : Bool} {a : Deed} {n : StepLabel} {branches' : Trees} {done : List AnsweredDeed} {branches'' : Trees} →
       OneMoves Anyway w i branches d a n branches' → EachWalks w i branches' done branches'' →
       EachWalks w i branches (record { deed = a; answer = d } ∷ done) branches''
 
-walk_first : {w : Setting} {i : ℕ} {c : Tree} {done : List Answered} {c' : Tree} (weak : Bool) (others : Trees) →
+walk_first : {w : Setting} {i : ℕ} {c : Tree} {done : List AnsweredDeed} {c' : Tree} (weak : Bool) (others : Trees) →
     Walks w i c done c' → EachWalks w i (beside weak c others) done (beside weak c' others)
 walk_first weak others stay = stay_all
 walk_first weak others (on m more) = on_one (moves.first m tt) (walk_first weak others more)
 
-walk_later : {w : Setting} {i : ℕ} {others : Trees} {done : List Answered} {others' : Trees} (weak : Bool) (c : Tree) →
+walk_later : {w : Setting} {i : ℕ} {others : Trees} {done : List AnsweredDeed} {others' : Trees} (weak : Bool) (c : Tree) →
     EachWalks w i others done others' → EachWalks w i (beside weak c others) done (beside weak c others')
 walk_later weak c stay_all = stay_all
 walk_later weak c (on_one m more) = on_one (moves.later m tt) (walk_later weak c more)
 
-walk_par : {w : Setting} {i : ℕ} {branches : Trees} {done : List Answered} {branches' : Trees} (s : Fork) (stood : Bool) →
+walk_par : {w : Setting} {i : ℕ} {branches : Trees} {done : List AnsweredDeed} {branches' : Trees} (s : Fork) (stood : Bool) →
     EachWalks w i branches done branches' → Walks w i (Par s stood branches) done (Par s stood branches')
 walk_par s stood stay_all = stay
 walk_par s stood (on_one m more) = on (moves.in_par m) (walk_par s stood more)
@@ -144,7 +144,7 @@ walk_par s stood (on_one m more) = on (moves.in_par m) (walk_par s stood more)
 
 -- a point is a step
 pub point_moves : {w : Setting} {i : ℕ} {c : Tree} {d : Bool} {a : Deed} {n : Node} {c' : Tree} →
-    Point w i c d a n c' → Moves Anyway w i c d a (labels.Here n) c'
+    InstancePoint w i c d a n c' → Moves Anyway w i c d a (labels.Here n) c'
 point_moves turns.acts = moves.acts
 point_moves turns.takes = moves.takes
 point_moves turns.passes = moves.passes
@@ -166,24 +166,24 @@ point_moves turns.guard_ends = moves.guard_ends
 point_moves (turns.joins settled done) = moves.joins settled done
 
 -- what has a turn has not ended
-turn_unended : {w : Setting} {rank : ℕ → Node → ℕ} {i : ℕ} {c : Tree} {done : List Answered} {n : Node} {c' : Tree} →
+turn_unended : {w : Setting} {rank : ℕ → Node → ℕ} {i : ℕ} {c : Tree} {done : List AnsweredDeed} {n : Node} {c' : Tree} →
     Turns w rank i c done n c' → c ≡ Nil → ⊥
 turn_unended {w} {rank} {i} {c} {done} {n} {c'} t is =
     nil_rests (subst (λ (tree : Tree). Turns w rank i tree done n c') is t)
   where
-    nil_point : {d : Bool} {a : Deed} {m : Node} {tree : Tree} → Point w i Nil d a m tree → ⊥
+    nil_point : {d : Bool} {a : Deed} {m : Node} {tree : Tree} → InstancePoint w i Nil d a m tree → ⊥
     nil_point p = elim p [ ]
 
-    nil_rests : {acts : List Answered} {m : Node} {tree : Tree} → Turns w rank i Nil acts m tree → ⊥
+    nil_rests : {acts : List AnsweredDeed} {m : Node} {tree : Tree} → Turns w rank i Nil acts m tree → ⊥
     nil_rests (turns.point p) = nil_point p
 
-in_sequence : {w : Setting} {i : ℕ} {c : Tree} {done : List Answered} {c' : Tree} (s : Plain) (rest : Block) → Walks w i c done c' →
+in_sequence : {w : Setting} {i : ℕ} {c : Tree} {done : List AnsweredDeed} {c' : Tree} (s : Plain) (rest : Block) → Walks w i c done c' →
     (c ≡ Nil → ⊥) → Walks w i (Seq c (Then s rest)) done (seq c' (Then s rest))
 in_sequence {w} {i} {c} {done} {c'} s rest walk unended =
     subst (λ (t : Tree). Walks w i t done (seq c' (Then s rest))) (seq_open c (Then s rest) unended) (walk_after (Then s rest) walk)
 
 mutual
-  pub turn_walks : {w : Setting} {rank : ℕ → Node → ℕ} {i : ℕ} {c : Tree} {done : List Answered} {n : Node} {c' : Tree} →
+  pub turn_walks : {w : Setting} {rank : ℕ → Node → ℕ} {i : ℕ} {c : Tree} {done : List AnsweredDeed} {n : Node} {c' : Tree} →
       Turns w rank i c done n c' → Walks w i c done c'
   turn_walks (turns.point p) = one (point_moves p)
   turn_walks (turns.runs called is passes lasts) = on (moves.runs called is) (walk_run _ false (pass_walks passes))
@@ -193,12 +193,12 @@ mutual
   turn_walks (turns.in_par t) = walk_par _ _ (one_walks t)
   turn_walks (turns.in_guard t) = walk_guard _ _ (turn_walks t)
 
-  one_walks : {w : Setting} {rank : ℕ → Node → ℕ} {i : ℕ} {branches : Trees} {done : List Answered} {n : Node} {branches' : Trees} →
+  one_walks : {w : Setting} {rank : ℕ → Node → ℕ} {i : ℕ} {branches : Trees} {done : List AnsweredDeed} {n : Node} {branches' : Trees} →
       OneTurns w rank i branches done n branches' → EachWalks w i branches done branches'
   one_walks (turns.first t) = walk_first _ _ (turn_walks t)
   one_walks (turns.later t) = walk_later _ _ (one_walks t)
 
-  pub pass_walks : {w : Setting} {rank : ℕ → Node → ℕ} {i k : ℕ} {c : Tree} {done : List Answered} {c' : Tree} →
+  pub pass_walks : {w : Setting} {rank : ℕ → Node → ℕ} {i k : ℕ} {c : Tree} {done : List AnsweredDeed} {c' : Tree} →
       Passes w rank i k c done c' → Walks w i c done c'
   pass_walks (turns.rests settled) = stay
   pass_walks (turns.goes before t more) = walk_on (turn_walks t) (pass_walks more)
@@ -206,7 +206,7 @@ mutual
 -- ---- what waits
 
 point_waits : {w : Setting} {i : ℕ} {c : Tree} {d : Bool} {a : Deed} {n : Node} {c' : Tree} (next : Option Node) →
-    Point w i c d a n c' → Waits c next n
+    InstancePoint w i c d a n c' → Waits c next n
 point_waits next turns.acts = refl
 point_waits next turns.takes = refl
 point_waits next turns.passes = refl
@@ -228,7 +228,7 @@ point_waits next turns.guard_ends = refl
 point_waits next (turns.joins settled done) = inr (done, refl)
 
 mutual
-  pub turn_waits : {w : Setting} {rank : ℕ → Node → ℕ} {i : ℕ} {c : Tree} {done : List Answered} {n : Node} {c' : Tree} (next : Option Node) →
+  pub turn_waits : {w : Setting} {rank : ℕ → Node → ℕ} {i : ℕ} {c : Tree} {done : List AnsweredDeed} {n : Node} {c' : Tree} (next : Option Node) →
       Turns w rank i c done n c' → Waits c next n
   turn_waits next (turns.point p) = point_waits next p
   turn_waits next (turns.runs called is passes lasts) = refl
@@ -238,7 +238,7 @@ mutual
   turn_waits next (turns.in_par t) = inl (one_waits t)
   turn_waits next (turns.in_guard {s = s} {stood = stood} t) = turn_waits (Some (end_node stood s.label s.place)) t
 
-  one_waits : {w : Setting} {rank : ℕ → Node → ℕ} {i : ℕ} {branches : Trees} {done : List Answered} {n : Node} {branches' : Trees} →
+  one_waits : {w : Setting} {rank : ℕ → Node → ℕ} {i : ℕ} {branches : Trees} {done : List AnsweredDeed} {n : Node} {branches' : Trees} →
       OneTurns w rank i branches done n branches' → SomeWaits branches n
   one_waits (turns.first t) = inl (turn_waits None t)
   one_waits (turns.later t) = inr (one_waits t)

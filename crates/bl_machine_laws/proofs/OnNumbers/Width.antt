@@ -42,8 +42,8 @@ use Rattle.bl_tree.specs.declared.tree.StmtKind.TheOpen.{StmtKind-F}
 use Rattle.bl_tree.specs.Reduce.{greatest, total}
 use Rattle.bl_tree.proofs.StmtInduction.{Cases, Each, EachArm, EachBranch, induct, stmt}
 use Rattle.bl_effects.specs.Surface.{arm_width, branch_width, kind_width, stmt_layer_width, stmt_width, width}
-use Rattle.bl_nodes.specs.Laws.{PlainStatements, plain_arm, plain_branch}
-use Rattle.bl_nodes.specs.Plain.{
+use Rattle.bl_graph_nodes.specs.Laws.{PlainStatements, plain_arm, plain_branch}
+use Rattle.bl_graph_nodes.specs.Plain.{
   Act,
   Again,
   Await,

@@ -2,8 +2,8 @@
 use Rattle.std.proofs.Common.{◌≡◌, ◌⊎◌, inl, inr, ℕ, ◌≤◌, Bool, true, false, not, ◌&&◌, List, [], ◌∷◌}
 use Rattle.std.proofs.Common.{◌++◌, Some, refl, ap, ◌∙◌, subst, arith}
 use Rattle.std.specs.Prelude.{unwrap_or}
-use Rattle.bl_nodes.specs.Nodes.{Node, place_of_node}
-use Rattle.bl_nodes.specs.Steps.{Gives, Here, Inside, StepLabel, run_node}
+use Rattle.bl_graph_nodes.specs.Nodes.{Node, place_of_node}
+use Rattle.bl_graph_nodes.specs.Steps.{Gives, Here, Inside, StepLabel, run_node}
 use Rattle.bl_ctree.specs.Control.{Body}
 use Rattle.bl_ctree.specs.Instances.{Setting, callee_of}
 use Rattle.bl_ctree.specs.Store.{Store}
@@ -13,7 +13,7 @@ use Rattle.bl_ctree_laws.specs.Steps as moves
 use Rattle.bl_ctree_laws.specs.Steps.{Anyway, Moves}
 use Rattle.bl_ctree_laws.specs.Trees.{Call, Tree, Nil, Run, is_nil, is_settled}
 use Rattle.bl_ctree_laws_traces.specs.Ready.Ranks.{Lower, ranks_in}
-use Rattle.bl_machine_laws.specs.Numbers.Turns.{Answered}
+use Rattle.bl_machine_laws.specs.Numbers.Turns.{AnsweredDeed}
 use Rattle.bl_machine_laws.proofs.OnWaiting.Quiet.{differ}
 use Rattle.bl_machine_laws.specs.Passes.Low.{LowSteps, LowTrap, Lowest, on, stay}
 use Rattle.bl_machine_laws.proofs.OnPasses.Holes.{Has, Hole, fill, hole_moves, lift_moves, this_has}
@@ -21,13 +21,13 @@ use Rattle.bl_machine_laws.proofs.OnPasses.Numbers.{not_less}
 
 -- ---- lists of lowest steps
 
-pub low_append : {w : Setting} {rank : ℕ → Node → ℕ} {i : ℕ} {c : Tree} {store : Store} {done : List Answered} {c' : Tree} {store' : Store}
-    {others : List Answered} {c'' : Tree} {store'' : Store} → LowSteps w rank i c store done c' store' →
+pub low_append : {w : Setting} {rank : ℕ → Node → ℕ} {i : ℕ} {c : Tree} {store : Store} {done : List AnsweredDeed} {c' : Tree} {store' : Store}
+    {others : List AnsweredDeed} {c'' : Tree} {store'' : Store} → LowSteps w rank i c store done c' store' →
     LowSteps w rank i c' store' others c'' store'' → LowSteps w rank i c store (done ++ others) c'' store''
 low_append stay more = more
 low_append (on move low performs rest) more = on move low performs (low_append rest more)
 
-pub trap_after : {w : Setting} {rank : ℕ → Node → ℕ} {i : ℕ} {c : Tree} {store : Store} {done : List Answered} {c' : Tree} {store' : Store} →
+pub trap_after : {w : Setting} {rank : ℕ → Node → ℕ} {i : ℕ} {c : Tree} {store : Store} {done : List AnsweredDeed} {c' : Tree} {store' : Store} →
     LowSteps w rank i c store done c' store' → LowTrap w rank i c' store' → LowTrap w rank i c store
 trap_after {done = done} steps trap = record {
   done = done ++ trap.done;
@@ -133,7 +133,7 @@ module _ (moving : MovingIsUnsettled) (w : Setting) (rank : ℕ → Node → ℕ
           (rest_lower (rank i here) [] [] (subst (λ x. Lower (ranks_in w rank i x) (rank i here ∷ [])) (end_inner own.moves) low))
       by_side (inr has) = beside_not m [] has low
 
-  pub call_steps : {t : Tree} {store : Store} {done : List Answered} {t' : Tree} {store' : Store} → LowSteps w rank callee t store done t' store' →
+  pub call_steps : {t : Tree} {store : Store} {done : List AnsweredDeed} {t' : Tree} {store' : Store} → LowSteps w rank callee t store done t' store' →
       LowSteps w rank i (fill h (Run s callee Body stood t)) store done (fill h (Run s callee Body stood t')) store'
   call_steps stay = stay
   call_steps (on {c = t} {d = d} {a = a} {n = q} {c' = t'} move low performs rest) =

@@ -5,8 +5,8 @@ use Rattle.bl_tree.specs.declared.place.Place.{Place as Source}
 use Rattle.bl_tree.specs.declared.tree.Expr.{Expr}
 use Rattle.bl_tree.specs.declared.tree.Path.{Path}
 use Rattle.bl_tree.specs.declared.tree.Unit.{Unit as UnitDef}
-use Rattle.bl_nodes.specs.Nodes.{Node, entry, is_instant}
-use Rattle.bl_nodes.specs.Plain.{
+use Rattle.bl_graph_nodes.specs.Nodes.{Node, entry, is_instant}
+use Rattle.bl_graph_nodes.specs.Plain.{
   Act,
   Again,
   Await,
@@ -27,7 +27,7 @@ use Rattle.bl_nodes.specs.Plain.{
   While,
   plain_body,
 }
-use Rattle.bl_nodes.specs.Steps.{end_node, join_node, run_node}
+use Rattle.bl_graph_nodes.specs.Steps.{end_node, join_node, run_node}
 use Rattle.bl_graph.specs.Edges.{EdgeEach, In}
 use Rattle.bl_graph.specs.Walks.{Rises}
 use Rattle.bl_ctree.specs.Control.{Body, Check}
@@ -56,7 +56,7 @@ use Rattle.bl_ctree_laws.specs.Trees.{
   seq,
   strong_ended,
 }
-use Rattle.bl_ctree_laws_traces.specs.Progress.Live.{Live, Lives, fork_stmt}
+use Rattle.bl_ctree_laws_traces.specs.Progress.FitsGraph.{AllFitGraph, FitsGraph, fork_stmt}
 use Rattle.bl_ctree_laws_traces.specs.Progress.Places.{Place, ahead_of, guarded, in_branch, later_on, whole}
 use Rattle.bl_machine_laws.specs.Numbers.Waiting.{SomeWaits, Waits, check_of}
 use Rattle.bl_machine_laws.proofs.OnWaiting.Fresh.{done_strong, is_weak}
@@ -89,7 +89,7 @@ pub data Ready (w : Setting) (i : ℕ) : Tree → Node → Type 0 where
       callee_of w i at ≡ Some callee → unit_at w callee ≡ Some unit →
       Ready w i (Do (RunOf l at target a inputs outputs)) (entry (RunOf l at target a inputs outputs))
   copies : {s : Call} {callee : ℕ} {stood : Bool} {c : Tree} {unit : UnitDef} → callee_of w i s.place ≡ Some callee → unit_at w callee ≡ Some unit →
-      Live w callee c (whole stood (plain_body unit.body)) → Steady c →
+      FitsGraph w callee c (whole stood (plain_body unit.body)) → Steady c →
       Ready w i (Run s callee Check stood c) (run_node stood s.label s.place s.arguments)
 
 settled_free : (a b : Bool) → b ≡ true → (a && not b) ≡ false
@@ -123,7 +123,7 @@ module _ {w : Setting} {i : ℕ} where
   here : {n m : Node} (t : Tree) → m ≡ n → Ready w i t n → Found w i t m
   here t is ready = record { hole = top; tree = t; is = refl; ready = subst (Ready w i t) (sym is) ready }
 
-  found_do : (g : Place) (s : Plain) (n : Node) → Live w i (Do s) g → n ≡ entry s → Found w i (Do s) n
+  found_do : (g : Place) (s : Plain) (n : Node) → FitsGraph w i (Do s) g → n ≡ entry s → Found w i (Do s) n
   found_do g (Act l s) n live is = here _ is (simple (begins refl))
   found_do g (Await l at e) n live is = here _ is (simple (begins refl))
   found_do g (RunOf l at target a inputs outputs) n live is =
@@ -186,7 +186,7 @@ weak_edge false weak body rest l at instant n instantly there is = inr (inr (inl
 
 late_first : (w : Setting) (i : ℕ) (g : Place) (stood instant weak : Bool) (c : Tree) (branches : Trees) (weak' : Bool) (body : Block)
     (rest : Bodies) (l : Label) (at : Source) → (stood ≡ false → instant ≡ true) →
-    Lives w i (beside weak c branches) (BodyOf weak' body rest) stood g →
+    AllFitGraph w i (beside weak c branches) (BodyOf weak' body rest) stood g →
     Steady c → (weak || is_nil c) ≡ true → (is_settled c ≡ true → Late branches (EdgeEach rest l at instant) (join_node stood l at)) →
     Late (beside weak c branches) (EdgeEach (BodyOf weak' body rest) l at instant) (join_node stood l at)
 late_first w i g stood instant weak c branches weak' body rest l at instantly live steady ended others = by_first (is_settled c) refl
@@ -206,7 +206,7 @@ late_first w i g stood instant weak c branches weak' body rest l at instantly li
         let more = others e in record { node = more.node; waits = inr more.waits; edge = inr (inr (inr (inr more.edge))) }
 
 late : (w : Setting) (i : ℕ) (g : Place) (stood instant : Bool) (branches : Trees) (bodies : Bodies) (l : Label) (at : Source) →
-    (stood ≡ false → instant ≡ true) → Lives w i branches bodies stood g → AllSteady branches → strong_ended branches ≡ true →
+    (stood ≡ false → instant ≡ true) → AllFitGraph w i branches bodies stood g → AllSteady branches → strong_ended branches ≡ true →
     are_settled branches ≡ false → Late branches (EdgeEach bodies l at instant) (join_node stood l at)
 late w i g stood instant no_tree bodies l at instantly live steady ended left = differ true refl left
 late w i g stood instant (beside weak c branches) Last l at instantly live steady ended left = absurd live
@@ -224,7 +224,7 @@ IsFirst number c follows n = (y : Node) → Waits c follows y → number n ≤ n
 
 module _ {w : Setting} (number : Node → ℕ) where
   found_join : {i : ℕ} (g : Place) (s : Fork) (stood : Bool) (branches : Trees) (follows : Option Node) (n : Node) →
-      Live w i (Par s stood branches) g → AllSteady branches → Rises number g.edges → IsFirst number (Par s stood branches) follows n →
+      FitsGraph w i (Par s stood branches) g → AllSteady branches → Rises number g.edges → IsFirst number (Par s stood branches) follows n →
       are_done branches ≡ true → n ≡ join_node stood s.label s.place → Found w i (Par s stood branches) n
   found_join {i} g s stood branches follows n live steady up first done is = by_left (are_settled branches) refl
     where
@@ -243,7 +243,7 @@ module _ {w : Setting} (number : Node → ℕ) where
       by_left false e = absurd (before e)
 
   mutual
-    pub find : {i : ℕ} (g : Place) (c : Tree) (follows : Option Node) (n : Node) → Live w i c g → Steady c → Rises number g.edges →
+    pub find : {i : ℕ} (g : Place) (c : Tree) (follows : Option Node) (n : Node) → FitsGraph w i c g → Steady c → Rises number g.edges →
         is_nil c ≡ false → Waits c follows n → IsFirst number c follows n → Found w i c n
     find g Nil follows n live steady up unended h first = differ true refl unended
     find g (Wait s) follows n live steady up unended h first = absurd h
@@ -279,7 +279,7 @@ module _ {w : Setting} (number : Node → ℕ) where
         here (Run s callee Check stood c) h (copies live.2.called live.2.is live.1 steady)
 
     find_one : {i : ℕ} (g : Place) (stood : Bool) (branches : Trees) (bodies : Bodies) (l : Label) (at : Source) (instant : Bool) (n : Node) →
-        Lives w i branches bodies stood g → AllSteady branches → Rises number (EdgeEach bodies l at instant) → SomeWaits branches n →
+        AllFitGraph w i branches bodies stood g → AllSteady branches → Rises number (EdgeEach bodies l at instant) → SomeWaits branches n →
         ((y : Node) → SomeWaits branches y → number n ≤ number y) → FoundOne w i branches n
     find_one g stood no_tree bodies l at instant n live steady up h first = absurd h
     find_one g stood (beside weak c branches) Last l at instant n live steady up h first = absurd live

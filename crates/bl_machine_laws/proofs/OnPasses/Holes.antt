@@ -18,9 +18,9 @@ use Rattle.std.proofs.Common.{
   ◌∙◌,
   subst,
 }
-use Rattle.bl_nodes.specs.Nodes.{Node}
-use Rattle.bl_nodes.specs.Plain.{Block, Plain, Then}
-use Rattle.bl_nodes.specs.Steps.{StepLabel}
+use Rattle.bl_graph_nodes.specs.Nodes.{Node}
+use Rattle.bl_graph_nodes.specs.Plain.{Block, Plain, Then}
+use Rattle.bl_graph_nodes.specs.Steps.{StepLabel}
 use Rattle.bl_ctree.specs.Control.{Body}
 use Rattle.bl_ctree.specs.Instances.{Setting}
 use Rattle.bl_ctree.specs.Store.{Store}
@@ -49,9 +49,9 @@ use Rattle.bl_ctree_laws.specs.Trees.{
   seq,
 }
 use Rattle.bl_machine_laws.specs.Numbers.Turns as turns
-use Rattle.bl_machine_laws.specs.Numbers.Turns.{Answered, OneTurns, Turns}
+use Rattle.bl_machine_laws.specs.Numbers.Turns.{AnsweredDeed, OneTurns, Turns}
 use Rattle.bl_machine_laws.specs.Passes.Follows as follows
-use Rattle.bl_machine_laws.specs.Passes.Follows.{Breaks, OneBreaks, OneTakes, Takes}
+use Rattle.bl_machine_laws.specs.Passes.Follows.{OneTurnSteps, OneTurnTraps, TurnSteps, TurnTraps}
 use Rattle.bl_machine_laws.proofs.OnWaiting.Fresh.{seq_open}
 use Rattle.bl_machine_laws.proofs.OnWaiting.Quiet.{differ}
 
@@ -142,7 +142,7 @@ module _ {w : Setting} {i : ℕ} {d : Bool} {a : Deed} {n : StepLabel} where
     lift_one_moves (this weak h others) t t' e move = moves.first (lift_moves h t t' e move) tt
     lift_one_moves (next weak c hs) t t' e move = moves.later (lift_one_moves hs t t' e move) tt
 
-module _ {w : Setting} {rank : ℕ → Node → ℕ} {i : ℕ} {done : List Answered} {n : Node} where
+module _ {w : Setting} {rank : ℕ → Node → ℕ} {i : ℕ} {done : List AnsweredDeed} {n : Node} where
   mutual
     pub lift_turn : (h : Hole) (t t' : Tree) → is_nil t ≡ false → Turns w rank i t done n t' → Turns w rank i (fill h t) done n (fill h t')
     lift_turn top t t' e turn = turn
@@ -159,31 +159,31 @@ module _ {w : Setting} {rank : ℕ → Node → ℕ} {i : ℕ} {done : List Answ
 
 module _ {w : Setting} {rank : ℕ → Node → ℕ} {i : ℕ} {store left : Store} {n : Node} where
   mutual
-    pub lift_takes : (h : Hole) (t t' : Tree) → is_nil t ≡ false → Takes w rank i t store n t' left →
-        Takes w rank i (fill h t) store n (fill h t') left
+    pub lift_takes : (h : Hole) (t t' : Tree) → is_nil t ≡ false → TurnSteps w rank i t store n t' left →
+        TurnSteps w rank i (fill h t) store n (fill h t') left
     lift_takes top t t' e turn = turn
     lift_takes (in_block h s rest) t t' e turn =
-        subst (λ (x : Tree). Takes w rank i x store n (seq (fill h t') (Then s rest)) left) (sym (seq_is (fill h t) s rest (fill_open h t e)))
+        subst (λ (x : Tree). TurnSteps w rank i x store n (seq (fill h t') (Then s rest)) left) (sym (seq_is (fill h t) s rest (fill_open h t e)))
         (follows.in_seq (lift_takes h t t' e turn))
     lift_takes (in_fork s stood hs) t t' e turn = follows.in_par (lift_one_takes hs t t' e turn)
     lift_takes (in_watch s stood h) t t' e turn = follows.in_guard (lift_takes h t t' e turn)
 
-    lift_one_takes : (hs : Holes) (t t' : Tree) → is_nil t ≡ false → Takes w rank i t store n t' left →
-        OneTakes w rank i (fill_one hs t) store n (fill_one hs t') left
+    lift_one_takes : (hs : Holes) (t t' : Tree) → is_nil t ≡ false → TurnSteps w rank i t store n t' left →
+        OneTurnSteps w rank i (fill_one hs t) store n (fill_one hs t') left
     lift_one_takes (this weak h others) t t' e turn = follows.first (lift_takes h t t' e turn)
     lift_one_takes (next weak c hs) t t' e turn = follows.later (lift_one_takes hs t t' e turn)
 
 module _ {w : Setting} {rank : ℕ → Node → ℕ} {i : ℕ} {store : Store} {n : Node} where
   mutual
-    pub lift_breaks : (h : Hole) (t : Tree) → is_nil t ≡ false → Breaks w rank i t store n → Breaks w rank i (fill h t) store n
+    pub lift_breaks : (h : Hole) (t : Tree) → is_nil t ≡ false → TurnTraps w rank i t store n → TurnTraps w rank i (fill h t) store n
     lift_breaks top t e turn = turn
     lift_breaks (in_block h s rest) t e turn =
-        subst (λ (x : Tree). Breaks w rank i x store n) (sym (seq_is (fill h t) s rest (fill_open h t e)))
+        subst (λ (x : Tree). TurnTraps w rank i x store n) (sym (seq_is (fill h t) s rest (fill_open h t e)))
         (follows.seq_traps (lift_breaks h t e turn))
     lift_breaks (in_fork s stood hs) t e turn = follows.par_traps (lift_one_breaks hs t e turn)
     lift_breaks (in_watch s stood h) t e turn = follows.guard_traps (lift_breaks h t e turn)
 
-    lift_one_breaks : (hs : Holes) (t : Tree) → is_nil t ≡ false → Breaks w rank i t store n → OneBreaks w rank i (fill_one hs t) store n
+    lift_one_breaks : (hs : Holes) (t : Tree) → is_nil t ≡ false → TurnTraps w rank i t store n → OneTurnTraps w rank i (fill_one hs t) store n
     lift_one_breaks (this weak h others) t e turn = follows.first_traps (lift_breaks h t e turn)
     lift_one_breaks (next weak c hs) t e turn = follows.later_traps (lift_one_breaks hs t e turn)
 

@@ -2,8 +2,8 @@
 use Rattle.std.proofs.Common.{◌≡◌, ◌⊎◌, inl, inr, ⊎_elim, ℕ, zero, suc, ◌+◌, ◌<◌, ◌≤◌, Bool, true, false, List}
 use Rattle.std.proofs.Common.{[], ◌∷◌, Option, Some, None, refl, ap, arith}
 use Rattle.std.specs.Prelude.{Contains}
-use Rattle.bl_nodes.specs.Nodes.{Node, entry}
-use Rattle.bl_nodes.specs.Steps.{end_node, join_node, run_node}
+use Rattle.bl_graph_nodes.specs.Nodes.{Node, entry}
+use Rattle.bl_graph_nodes.specs.Steps.{end_node, join_node, run_node}
 use Rattle.bl_graph.specs.Walks.{After, Rises, Walk, on, stay}
 use Rattle.bl_ctree.specs.Control.{Body, Check}
 use Rattle.bl_ctree_laws.specs.Trees.{

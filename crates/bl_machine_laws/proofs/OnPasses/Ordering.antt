@@ -31,8 +31,8 @@ use Rattle.std.specs.Prelude.{Contains, nat_eq, slice_get, if◌then◌else◌}
 use Rattle.std.proofs.lemmas.Option.{slice_get_within}
 use Rattle.bl_tree.specs.declared.tree.Stmt.{Stmt}
 use Rattle.bl_tree.specs.declared.tree.Unit.{Unit as UnitDef}
-use Rattle.bl_nodes.specs.Nodes.{Node, label_of, nodes_in}
-use Rattle.bl_nodes.specs.Plain.{Block, Label, Position, plain_block, plain_body}
+use Rattle.bl_graph_nodes.specs.Nodes.{Node, label_of, nodes_in}
+use Rattle.bl_graph_nodes.specs.Plain.{Block, Label, Position, plain_block, plain_body}
 use Rattle.bl_graph.specs.Laws.{StaysWithin}
 use Rattle.bl_ctree.specs.Instances.{Setting, unit_at}
 use Rattle.bl_ctree_laws.proofs.Tests.{and_both, and_first, and_second}

@@ -34,9 +34,9 @@ use Rattle.std.proofs.lemmas.Option.{slice_get_within}
 use Rattle.bl_tree.specs.declared.place.Place.{Place as Source}
 use Rattle.bl_tree.specs.declared.tree.StructDef.{StructDef}
 use Rattle.bl_tree.specs.declared.tree.Unit.{Unit as UnitDef}
-use Rattle.bl_nodes.specs.Nodes.{Node, entry, nodes_in}
-use Rattle.bl_nodes.specs.Plain.{Block, plain_body}
-use Rattle.bl_nodes.specs.Steps.{Here, StepLabel}
+use Rattle.bl_graph_nodes.specs.Nodes.{Node, entry, nodes_in}
+use Rattle.bl_graph_nodes.specs.Plain.{Block, plain_body}
+use Rattle.bl_graph_nodes.specs.Steps.{Here, StepLabel}
 use Rattle.bl_graph.specs.Edges.{In}
 use Rattle.bl_graph.specs.Laws.{StaysWithin}
 use Rattle.bl_ctree.specs.declared.instance.Instance.{Instance}
@@ -52,20 +52,20 @@ use Rattle.bl_ctree_laws.specs.Steps.{Anyway, Moves, call}
 use Rattle.bl_ctree_laws.specs.Trees.{Call, Tree, Nil, Run, do_block, is_nil, is_settled}
 use Rattle.bl_ctree_laws.proofs.Less.{do_ends}
 use Rattle.bl_ctree_laws_confluence.specs.Deeds.Nesting.{ProgramsNest}
-use Rattle.bl_ctree_laws_traces.specs.Progress.Laws.{BodiesBeginLive, StepsKeepLive}
-use Rattle.bl_ctree_laws_traces.specs.Progress.Live.{Live}
+use Rattle.bl_ctree_laws_traces.specs.Progress.Laws.{BodiesFitGraph, StepsKeepFitsGraph}
+use Rattle.bl_ctree_laws_traces.specs.Progress.FitsGraph.{FitsGraph}
 use Rattle.bl_ctree_laws_traces.specs.Progress.Places.{AllCallable, whole}
 use Rattle.bl_ctree_laws_traces.specs.Ready.Ranks.{Lower, ranks_in}
 use Rattle.bl_machine_laws.specs.Numbers.Steps.{TurnsAreWalks, TurnsWait}
 use Rattle.bl_machine_laws.specs.Numbers.Turns as turns
-use Rattle.bl_machine_laws.specs.Numbers.Turns.{Answered, Passes, Turns, did}
+use Rattle.bl_machine_laws.specs.Numbers.Turns.{AnsweredDeed, Passes, Turns, did}
 use Rattle.bl_machine_laws.specs.Numbers.Waiting.{Waits}
 use Rattle.bl_machine_laws.proofs.OnNumbers.Walking.{point_moves}
 use Rattle.bl_machine_laws.specs.Waiting.Laws.{TurnsLeadOn, WaitsInPart}
 use Rattle.bl_machine_laws.proofs.OnWaiting.Fresh.{ends_walk, nil_is}
 use Rattle.bl_machine_laws.proofs.OnWaiting.Quiet.{differ, something_waits}
 use Rattle.bl_machine_laws.specs.Passes.Follows as follows
-use Rattle.bl_machine_laws.specs.Passes.Follows.{Breaks, Fails, First, Follows, Takes}
+use Rattle.bl_machine_laws.specs.Passes.Follows.{Fails, First, Follows, TurnSteps, TurnTraps}
 use Rattle.bl_machine_laws.specs.Passes.Low.{LowSteps, LowTrap, Lowest, on, stay}
 use Rattle.bl_machine_laws.specs.Passes.Orders.{Orders}
 use Rattle.bl_machine_laws.specs.Passes.Pass.{InstancesHavePasses, PassOrTrap, WaitsFrom, comes_to_end, is_cut}
@@ -79,21 +79,21 @@ use Rattle.bl_machine_laws.proofs.OnPasses.Steadying.{block_steady, candidate, s
 
 -- a turn, and where it leads, each of its steps the lowest
 pub record TurnMade (w : Setting) (rank : ℕ → Node → ℕ) (i : ℕ) (c : Tree) (store : Store) (n : Node) : Type 0 where
-  pub done : List Answered
+  pub done : List AnsweredDeed
   pub tree : Tree
   pub left : Store
   pub turn : Turns w rank i c done n tree
   pub steps : LowSteps w rank i c store done tree left
-  pub takes : Takes w rank i c store n tree left
+  pub takes : TurnSteps w rank i c store n tree left
 
 pub data TurnOrTrap (w : Setting) (rank : ℕ → Node → ℕ) (i : ℕ) (c : Tree) (store : Store) (n : Node) : Type 0 where
   is_made : TurnMade w rank i c store n → TurnOrTrap w rank i c store n
-  traps : LowTrap w rank i c store → Breaks w rank i c store n → TurnOrTrap w rank i c store n
+  traps : LowTrap w rank i c store → TurnTraps w rank i c store n → TurnOrTrap w rank i c store n
 
 -- a called instance has passes
 abbrev HasPasses : Setting → (ℕ → Node → ℕ) → ℕ → Type 0
 HasPasses w rank callee =
-    (unit : UnitDef) (stood : Bool) (c : Tree) (store : Store) → unit_at w callee ≡ Some unit → Live w callee c (whole stood (plain_body unit.body)) →
+    (unit : UnitDef) (stood : Bool) (c : Tree) (store : Store) → unit_at w callee ≡ Some unit → FitsGraph w callee c (whole stood (plain_body unit.body)) →
     Steady c → PassOrTrap w rank callee 0 c store
 
 -- ---- one turn
@@ -141,7 +141,7 @@ module _ (moving : MovingIsUnsettled) (w : Setting) (rank : ℕ → Node → ℕ
         LowSteps w rank i (fill h t) store (did a true) (fill h t') left
     copied store left performs = on (lift_moves h t t' unended move) lowest performs stay
 
-    copy_turn : (store : Store) → (done_by w a store ≡ None → Breaks w rank i t store n) →
+    copy_turn : (store : Store) → (done_by w a store ≡ None → TurnTraps w rank i t store n) →
         ((p : Performed) → done_by w a store ≡ Some p → p.answer ≡ true) →
         ((left : Store) → done_by w a store ≡ Some (record { answer = true; store = left }) → TurnOrTrap w rank i (fill h t) store n) →
         TurnOrTrap w rank i (fill h t) store n
@@ -165,11 +165,11 @@ module _ (moving : MovingIsUnsettled) (w : Setting) (rank : ℕ → Node → ℕ
 
 -- ---- turns of an instance whose callees have passes
 
-module _ (moving : MovingIsUnsettled) (shrinks : EndsShrink) (lists : TurnsAreWalks) (waiting : TurnsWait) (begins : BodiesBeginLive) (w : Setting)
+module _ (moving : MovingIsUnsettled) (shrinks : EndsShrink) (lists : TurnsAreWalks) (waiting : TurnsWait) (begins : BodiesFitGraph) (w : Setting)
     (rank : ℕ → Node → ℕ) (paces : Paces w) (callable : AllCallable w) (i : ℕ)
     (inner : (callee : ℕ) (at : Source) → callee_of w i at ≡ Some callee → HasPasses w rank callee) where
   -- a body that begins doesn't end
-  lasts : (callee : ℕ) (unit : UnitDef) (done : List Answered) (c : Tree) → unit_at w callee ≡ Some unit →
+  lasts : (callee : ℕ) (unit : UnitDef) (done : List AnsweredDeed) (c : Tree) → unit_at w callee ≡ Some unit →
       Passes w rank callee 0 (do_block (plain_body unit.body)) done c → is_nil c ≡ false
   lasts callee unit done c is passes = by_end (is_nil c) refl
     where
@@ -250,7 +250,7 @@ module _ (moving : MovingIsUnsettled) (shrinks : EndsShrink) (lists : TurnsAreWa
       lowest = first_lowest moving w rank i (fill h t) n steady first
 
       made : (left : Store) → done_by w copy store ≡ Some (record { answer = true; store = left }) →
-          (done : List Answered) (tree : Tree) (left' : Store) →
+          (done : List AnsweredDeed) (tree : Tree) (left' : Store) →
           Passes w rank callee 0 c done tree → LowSteps w rank callee c left done tree left' → Follows w rank callee 0 c left tree left' →
           (b : Bool) → is_nil tree ≡ b →
           TurnOrTrap w rank i (fill h t) store n
@@ -299,26 +299,26 @@ within_body : (within : (body : Block) → StaysWithin body) (body : Block) (sto
 within_body within body true n there = (within body).depth n there
 within_body within body false n there = (within body).surface n there
 
-pub low_live : {w : Setting} {rank : ℕ → Node → ℕ} {i : ℕ} {c : Tree} {store : Store} {done : List Answered} {c' : Tree} {store' : Store}
-    (kept : StepsKeepLive) (stood : Bool) (body : Block) → Paces w → AllCallable w → LowSteps w rank i c store done c' store' →
-    Live w i c (whole stood body) → Live w i c' (whole stood body)
+pub low_live : {w : Setting} {rank : ℕ → Node → ℕ} {i : ℕ} {c : Tree} {store : Store} {done : List AnsweredDeed} {c' : Tree} {store' : Store}
+    (kept : StepsKeepFitsGraph) (stood : Bool) (body : Block) → Paces w → AllCallable w → LowSteps w rank i c store done c' store' →
+    FitsGraph w i c (whole stood body) → FitsGraph w i c' (whole stood body)
 low_live kept stood body paces callable stay live = live
 low_live {w} {rank} {i} {c} kept stood body paces callable (on {d = d} {a = a} {n = n} {c' = c'} move low performs rest) live =
     low_live kept stood body paces callable rest (kept w i stood body c d a n c' paces callable live move)
 
-module _ (moving : MovingIsUnsettled) (shrinks : EndsShrink) (lists : TurnsAreWalks) (waiting : TurnsWait) (begins : BodiesBeginLive)
-    (kept : StepsKeepLive) (lead : TurnsLeadOn) (part : WaitsInPart) (within : (body : Block) → StaysWithin body) (w : Setting)
+module _ (moving : MovingIsUnsettled) (shrinks : EndsShrink) (lists : TurnsAreWalks) (waiting : TurnsWait) (begins : BodiesFitGraph)
+    (kept : StepsKeepFitsGraph) (lead : TurnsLeadOn) (part : WaitsInPart) (within : (body : Block) → StaysWithin body) (w : Setting)
     (rank : ℕ → Node → ℕ) (orders : Orders w rank) (paces : Paces w) (callable : AllCallable w) (i : ℕ)
     (inner : (callee : ℕ) (at : Source) → callee_of w i at ≡ Some callee → HasPasses w rank callee) (unit : UnitDef)
     (is : unit_at w i ≡ Some unit) (stood : Bool) where
   abbrev body : Block
   body = plain_body unit.body
 
-  stands : (c : Tree) (n : Node) → Live w i c (whole stood body) → Waits c None n → Contains (nodes_in body) n
+  stands : (c : Tree) (n : Node) → FitsGraph w i c (whole stood body) → Waits c None n → Contains (nodes_in body) n
   stands c n live h = within_body within body stood n (part w i stood body c n live h)
 
   -- after the turn of a first node all that waits has a greater number
-  after_turn : (c : Tree) (done : List Answered) (n : Node) (c' : Tree) → Live w i c (whole stood body) → First rank i c n →
+  after_turn : (c : Tree) (done : List AnsweredDeed) (n : Node) (c' : Tree) → FitsGraph w i c (whole stood body) → First rank i c n →
       Turns w rank i c done n c' → WaitsFrom rank i (suc (rank i n)) c'
   after_turn c done n c' live first turn y h =
       ⊎_elim
@@ -332,11 +332,11 @@ module _ (moving : MovingIsUnsettled) (shrinks : EndsShrink) (lists : TurnsAreWa
 
   -- what is passed from the greater numbers on
   abbrev Later : Tree → Type 0
-  Later c = (n : Node) → Waits c None n → (tree : Tree) (left : Store) → Live w i tree (whole stood body) → Steady tree →
+  Later c = (n : Node) → Waits c None n → (tree : Tree) (left : Store) → FitsGraph w i tree (whole stood body) → Steady tree →
       WaitsFrom rank i (suc (rank i n)) tree → PassOrTrap w rank i (suc (rank i n)) tree left
 
   -- the first node has its turn, and then what has greater numbers
-  pass_by : (k : ℕ) (c : Tree) (store : Store) → Live w i c (whole stood body) → Steady c → WaitsFrom rank i k c → Later c →
+  pass_by : (k : ℕ) (c : Tree) (store : Store) → FitsGraph w i c (whole stood body) → Steady c → WaitsFrom rank i k c → Later c →
       PassOrTrap w rank i k c store
   pass_by k c store live steady from later = by_rest (is_settled c) refl
     where
@@ -374,7 +374,7 @@ module _ (moving : MovingIsUnsettled) (shrinks : EndsShrink) (lists : TurnsAreWa
   top = (bound_of (rank i) (nodes_in body)).top
 
   -- as many turns as there are numbers left
-  pub pass_from : (fuel k : ℕ) (c : Tree) (store : Store) → top ≤ fuel + k → Live w i c (whole stood body) → Steady c → WaitsFrom rank i k c →
+  pub pass_from : (fuel k : ℕ) (c : Tree) (store : Store) → top ≤ fuel + k → FitsGraph w i c (whole stood body) → Steady c → WaitsFrom rank i k c →
       PassOrTrap w rank i k c store
   pass_from zero k c store enough live steady from = pass_by k c store live steady from (λ n h tree left live' steady' from'. beyond_top n h)
     where
@@ -396,14 +396,14 @@ there w i unit is = by_found (slice_get w.instances i) refl
     by_found None e = absurd (cc (ap (option_and_then (unit_of w)) e, is))
     by_found (Some instance) e = slice_get_within w.instances i instance e
 
-module _ (moving : MovingIsUnsettled) (shrinks : EndsShrink) (lists : TurnsAreWalks) (waiting : TurnsWait) (begins : BodiesBeginLive)
-    (kept : StepsKeepLive) (lead : TurnsLeadOn) (part : WaitsInPart) (within : (body : Block) → StaysWithin body) (nest : ProgramsNest) where
+module _ (moving : MovingIsUnsettled) (shrinks : EndsShrink) (lists : TurnsAreWalks) (waiting : TurnsWait) (begins : BodiesFitGraph)
+    (kept : StepsKeepFitsGraph) (lead : TurnsLeadOn) (part : WaitsInPart) (within : (body : Block) → StaysWithin body) (nest : ProgramsNest) where
   module _ (structs : List StructDef) (units : List UnitDef) (entry : ℕ) (rank : ℕ → Node → ℕ) where
     abbrev W : Setting
     W = setting_of structs units entry
 
     pass_all : (limit i k : ℕ) (unit : UnitDef) (stood : Bool) (c : Tree) (store : Store) → length W.instances ≤ limit + i → Paces W →
-        AllCallable W → Orders W rank → unit_at W i ≡ Some unit → Live W i c (whole stood (plain_body unit.body)) → Steady c →
+        AllCallable W → Orders W rank → unit_at W i ≡ Some unit → FitsGraph W i c (whole stood (plain_body unit.body)) → Steady c →
         WaitsFrom rank i k c →
         PassOrTrap W rank i k c store
     pass_all zero i k unit stood c store enough paces callable orders is live steady from =

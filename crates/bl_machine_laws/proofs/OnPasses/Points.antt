@@ -3,8 +3,8 @@ use Rattle.std.proofs.Common.{◌≡◌, ◌⊎◌, inl, inr, ℕ, Bool, true, f
 use Rattle.std.specs.Prelude.{option_map}
 use Rattle.bl_tree.specs.declared.tree.Guard.{Guard as GuardKind}
 use Rattle.bl_tree.specs.declared.tree.Guard.TheVariants.{Abort, Reset}
-use Rattle.bl_nodes.specs.Nodes.{Node, entry}
-use Rattle.bl_nodes.specs.Plain.{
+use Rattle.bl_graph_nodes.specs.Nodes.{Node, entry}
+use Rattle.bl_graph_nodes.specs.Plain.{
   Act,
   Again,
   Await,
@@ -17,7 +17,7 @@ use Rattle.bl_nodes.specs.Plain.{
   When,
   While,
 }
-use Rattle.bl_nodes.specs.Steps.{end_node, join_node}
+use Rattle.bl_graph_nodes.specs.Steps.{end_node, join_node}
 use Rattle.bl_ctree.specs.Actions.{Acts, Asks, Copies, Effect, Gives, Performed, Silent, done, effect_on}
 use Rattle.bl_ctree.specs.Control.{Body, Check}
 use Rattle.bl_ctree.specs.Instances.{Setting}
@@ -39,7 +39,7 @@ use Rattle.bl_ctree_laws.specs.Trees.{
   are_settled,
 }
 use Rattle.bl_machine_laws.specs.Numbers.Turns as turns
-use Rattle.bl_machine_laws.specs.Numbers.Turns.{Point}
+use Rattle.bl_machine_laws.specs.Numbers.Turns.{InstancePoint}
 use Rattle.bl_machine_laws.specs.Numbers.Waiting.{check_of, test_of}
 
 -- ---- answers
@@ -80,14 +80,14 @@ pub record PointMade (w : Setting) (i : ℕ) (t : Tree) (n : Node) (store : Stor
   pub deed : Deed
   pub after : Tree
   pub left : Store
-  pub point : Point w i t answer deed n after
+  pub point : InstancePoint w i t answer deed n after
   pub performs : done_by w deed store ≡ Some (record { answer = answer; store = left })
 
 pub record PointFails (w : Setting) (i : ℕ) (t : Tree) (n : Node) (store : Store) : Type 0 where
   pub answer : Bool
   pub deed : Deed
   pub after : Tree
-  pub point : Point w i t answer deed n after
+  pub point : InstancePoint w i t answer deed n after
   pub fails : done_by w deed store ≡ None
 
 abbrev pub PointOver : Setting → ℕ → Tree → Node → Store → Type 0
@@ -99,7 +99,7 @@ pub answered : (w : Setting) (a : Deed) (store : Store) (p : Performed) (d : Boo
 answered w a store p d is same = is ∙ ap (λ x. Some (record { answer = x; store = p.store })) same
 
 module _ {w : Setting} {i : ℕ} {t : Tree} {n : Node} (store : Store) where
-  sure : {a : Deed} {t' : Tree} → is_plain a.effect ≡ true → Point w i t true a n t' → PointOver w i t n store
+  sure : {a : Deed} {t' : Tree} → is_plain a.effect ≡ true → InstancePoint w i t true a n t' → PointOver w i t n store
   sure {a = a} {t' = t'} plain point = by_answer (done_by w a store) refl
     where
       by_answer : (x : Option Performed) → done_by w a store ≡ x → PointOver w i t n store
@@ -113,7 +113,7 @@ module _ {w : Setting} {i : ℕ} {t : Tree} {n : Node} (store : Store) where
         performs = answered w a store p true is (plain_answer w a store p plain is);
       })
 
-  asked : {a : Deed} {t' t'' : Tree} → Point w i t true a n t' → Point w i t false a n t'' → PointOver w i t n store
+  asked : {a : Deed} {t' t'' : Tree} → InstancePoint w i t true a n t' → InstancePoint w i t false a n t'' → PointOver w i t n store
   asked {a = a} {t' = t'} {t'' = t''} holds fails = by_answer (done_by w a store) refl
     where
       by_bool : (p : Performed) → done_by w a store ≡ Some p → (b : Bool) → p.answer ≡ b → PointOver w i t n store

@@ -1,27 +1,27 @@
 -- Steady trees: what can act in them waits, and turns keep them steady.
 use Rattle.std.proofs.Common.{◌≡◌, ℕ, Bool, true, List, Option, Some, None, inl, inr, refl}
-use Rattle.bl_nodes.specs.Nodes.{Node}
-use Rattle.bl_nodes.specs.Plain.{Block, Bodies, Plain, Body as BodyOf, Done, Last, Then}
-use Rattle.bl_nodes.specs.Steps.{Here, StepLabel, end_node}
+use Rattle.bl_graph_nodes.specs.Nodes.{Node}
+use Rattle.bl_graph_nodes.specs.Plain.{Block, Bodies, Plain, Body as BodyOf, Done, Last, Then}
+use Rattle.bl_graph_nodes.specs.Steps.{Here, StepLabel, end_node}
 use Rattle.bl_ctree.specs.Control.{Body, Check}
 use Rattle.bl_ctree.specs.Instances.{Setting}
 use Rattle.bl_ctree_laws.specs.Pending.{Deed}
 use Rattle.bl_ctree_laws.specs.Shrinks.{MovingIsUnsettled}
 use Rattle.bl_ctree_laws.specs.Steps as moves
 use Rattle.bl_ctree_laws.specs.Steps.{Anyway, Moves, OneMoves, turn}
-use Rattle.bl_ctree_laws.specs.Trees.{Tree, Trees, Nil, Wait, Test, Idle, Do, Seq, Par, Guard, Run, all_woken, begun, beside, do_block, is_settled}
+use Rattle.bl_ctree_laws.specs.Trees.{Tree, Trees, Nil, Wait, Test, Idle, Do, Seq, Par, Guard, Run, all_woken, trees_begun, beside, do_block, is_settled}
 use Rattle.bl_ctree_laws.specs.Trees.{no_tree, seq, woken}
 use Rattle.bl_machine_laws.specs.Numbers.Turns as turns
-use Rattle.bl_machine_laws.specs.Numbers.Turns.{Answered, OneTurns, Passes, Point, Turns}
+use Rattle.bl_machine_laws.specs.Numbers.Turns.{AnsweredDeed, InstancePoint, OneTurns, Passes, Turns}
 use Rattle.bl_machine_laws.specs.Numbers.Waiting.{SomeWaits, Waits, check_of, first_in}
-use Rattle.bl_machine_laws.specs.Waiting.Laws.{AllPassed, Passed}
+use Rattle.bl_machine_laws.specs.Waiting.Laws.{AllPassed, RunsArePassed}
 use Rattle.bl_machine_laws.proofs.OnWaiting.Quiet.{differ}
 use Rattle.bl_machine_laws.specs.Passes.Steady.{AllSteady, Steady}
 
 -- ---- steady trees
 
 mutual
-  pub steady_passed : (c : Tree) → Steady c → Passed c
+  pub steady_passed : (c : Tree) → Steady c → RunsArePassed c
   steady_passed Nil steady = tt
   steady_passed (Wait s) steady = tt
   steady_passed (Test s) steady = tt
@@ -42,7 +42,7 @@ block_steady Done = tt
 block_steady (Then s Done) = tt
 block_steady (Then s (Then t rest)) = tt
 
-begun_steady : (bodies : Bodies) → AllSteady (begun bodies)
+begun_steady : (bodies : Bodies) → AllSteady (trees_begun bodies)
 begun_steady Last = tt
 begun_steady (BodyOf weak body rest) = (block_steady body, begun_steady rest)
 
@@ -73,7 +73,7 @@ mutual
   all_woken_steady no_tree = tt
   all_woken_steady (beside weak c branches) = (woken_steady c, all_woken_steady branches)
 
-point_steady : {w : Setting} {i : ℕ} {c : Tree} {d : Bool} {a : Deed} {n : Node} {c' : Tree} → Point w i c d a n c' → Steady c → Steady c'
+point_steady : {w : Setting} {i : ℕ} {c : Tree} {d : Bool} {a : Deed} {n : Node} {c' : Tree} → InstancePoint w i c d a n c' → Steady c → Steady c'
 point_steady turns.acts steady = tt
 point_steady (turns.takes {body = body}) steady = block_steady body
 point_steady (turns.passes {other = other}) steady = block_steady other
@@ -95,13 +95,13 @@ point_steady turns.guard_ends steady = tt
 point_steady (turns.joins settled done) steady = tt
 
 -- a pass leaves nothing to do
-pub pass_settles : {w : Setting} {rank : ℕ → Node → ℕ} {i k : ℕ} {c : Tree} {done : List Answered} {c' : Tree} →
+pub pass_settles : {w : Setting} {rank : ℕ → Node → ℕ} {i k : ℕ} {c : Tree} {done : List AnsweredDeed} {c' : Tree} →
     Passes w rank i k c done c' → is_settled c' ≡ true
 pass_settles (turns.rests settled) = settled
 pass_settles (turns.goes before t more) = pass_settles more
 
 mutual
-  pub turn_steady : {w : Setting} {rank : ℕ → Node → ℕ} {i : ℕ} {c : Tree} {done : List Answered} {n : Node} {c' : Tree} →
+  pub turn_steady : {w : Setting} {rank : ℕ → Node → ℕ} {i : ℕ} {c : Tree} {done : List AnsweredDeed} {n : Node} {c' : Tree} →
       Turns w rank i c done n c' → Steady c → Steady c'
   turn_steady (turns.point p) steady = point_steady p steady
   turn_steady (turns.runs called is passes lasts) steady = (pass_settles passes, lasts)
@@ -111,7 +111,7 @@ mutual
   turn_steady (turns.in_par t) steady = one_steady t steady
   turn_steady (turns.in_guard t) steady = turn_steady t steady
 
-  one_steady : {w : Setting} {rank : ℕ → Node → ℕ} {i : ℕ} {branches : Trees} {done : List Answered} {n : Node} {branches' : Trees} →
+  one_steady : {w : Setting} {rank : ℕ → Node → ℕ} {i : ℕ} {branches : Trees} {done : List AnsweredDeed} {n : Node} {branches' : Trees} →
       OneTurns w rank i branches done n branches' → AllSteady branches → AllSteady branches'
   one_steady (turns.first t) steady = (turn_steady t steady.0, steady.1)
   one_steady (turns.later t) steady = (steady.0, one_steady t steady.1)

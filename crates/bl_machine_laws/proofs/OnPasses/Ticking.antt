@@ -4,18 +4,18 @@ use Rattle.std.proofs.Common.{Some, None, refl, sym, ap, ◌∙◌, subst, arith
 use Rattle.std.specs.Prelude.{ℤ, map, option_map, unwrap_or}
 use Rattle.bl_tree.specs.declared.tree.StructDef.{StructDef}
 use Rattle.bl_tree.specs.declared.tree.Unit.{Unit as UnitDef}
-use Rattle.bl_tree.specs.Program.{Keeps}
+use Rattle.bl_tree.specs.Program.{IsWellTyped}
 use Rattle.bl_effects.specs.Rules.{Passes}
-use Rattle.bl_nodes.specs.Nodes.{Node}
-use Rattle.bl_nodes.specs.Plain.{Block, Done, plain_body}
-use Rattle.bl_nodes.specs.Steps.{StepLabel, head_of}
+use Rattle.bl_graph_nodes.specs.Nodes.{Node}
+use Rattle.bl_graph_nodes.specs.Plain.{Block, Done, plain_body}
+use Rattle.bl_graph_nodes.specs.Steps.{StepLabel, head_of}
 use Rattle.bl_graph.specs.Edges.{In}
 use Rattle.bl_ctree.specs.Actions.{Action}
 use Rattle.bl_ctree.specs.Control as control
 use Rattle.bl_ctree.specs.Control.{Control}
 use Rattle.bl_ctree.specs.Instances.{Setting, setting_of, unit_at}
-use Rattle.bl_ctree.specs.Laws.{ReachedInsideIsLeft, ReachedIsLeft, StepsFollow}
-use Rattle.bl_ctree.specs.Left.{Left}
+use Rattle.bl_ctree.specs.Laws.{ReachedInsideIsResidual, ReachedIsResidual, StepsFollow}
+use Rattle.bl_ctree.specs.Residual.{Residual}
 use Rattle.bl_ctree.specs.Means.{entry_items}
 use Rattle.bl_ctree.specs.Positions.{body_items}
 use Rattle.bl_ctree.specs.Reaches.{ReachesInside}
@@ -32,13 +32,13 @@ use Rattle.bl_ctree_laws.specs.Shrinks.{MayIsCould, MovingIsUnsettled}
 use Rattle.bl_ctree_laws.specs.Steps.{Anyway, Moves}
 use Rattle.bl_ctree_laws.specs.Trees.{Tree, is_settled, woken}
 use Rattle.bl_ctree_laws_confluence.specs.Deeds.Orderly.{AcceptedIsOrderly}
-use Rattle.bl_ctree_laws_traces.specs.Progress.Accepted.{AcceptedTreesAreLive, ProgramsAreCallable}
+use Rattle.bl_ctree_laws_traces.specs.Progress.Accepted.{AcceptedTreesFitGraphs, ProgramsAreCallable}
 use Rattle.bl_ctree_laws_traces.specs.Progress.Laws.{Could, NodesAreInPart, UnsettledCould}
-use Rattle.bl_ctree_laws_traces.specs.Progress.Live.{Live}
+use Rattle.bl_ctree_laws_traces.specs.Progress.FitsGraph.{FitsGraph}
 use Rattle.bl_ctree_laws_traces.specs.Progress.Places.{whole}
 use Rattle.bl_ctree_laws_traces.specs.Ready.Never.{ReachedLowestMayAct}
 use Rattle.bl_machine_laws.specs.Numbers.Turns as turns
-use Rattle.bl_machine_laws.specs.Numbers.Turns.{Answered}
+use Rattle.bl_machine_laws.specs.Numbers.Turns.{AnsweredDeed}
 use Rattle.bl_machine_laws.proofs.OnWaiting.Quiet.{differ}
 use Rattle.bl_machine_laws.specs.Passes.Follows as follows
 use Rattle.bl_machine_laws.specs.Passes.Low.{LowSteps, LowTrap, Lowest, on, stay}
@@ -61,18 +61,18 @@ record Standing (w : Setting) (c : Tree) : Type 0 where
   unit : UnitDef
   is : unit_at w 0 ≡ Some unit
   stood : Bool
-  lives : Live w 0 c (whole stood (plain_body unit.body))
+  lives : FitsGraph w 0 c (whole stood (plain_body unit.body))
 
 -- where something could act in the whole tree there is a unit
 in_unit : NodesAreInPart → StatementsArePlain → (w : Setting) (stood : Bool) (c : Tree) (found : Option UnitDef) → unit_at w 0 ≡ found →
-    Live w 0 c (whole stood (body_of found)) → Could w 0 c → Standing w c
+    FitsGraph w 0 c (whole stood (body_of found)) → Could w 0 c → Standing w c
 in_unit part plain w stood c None is lives one =
     absurd (no_node stood (head_of one.label) (part w 0 stood Done c one.answer one.deed one.label one.after lives one.moves))
 in_unit part plain w stood c (Some unit) is lives one = record {
   unit = unit;
   is = is;
   stood = stood;
-  lives = subst (λ body. Live w 0 c (whole stood body)) (sym (plain.blocks unit.body [])) lives;
+  lives = subst (λ body. FitsGraph w 0 c (whole stood body)) (sym (plain.blocks unit.body [])) lives;
 }
 
 map_last : {A B : Type 0} (f : A → B) (xs : List A) (y : A) → map f (xs ++ y ∷ []) ≡ map f xs ++ f y ∷ []
@@ -81,8 +81,8 @@ map_last f (x ∷ xs) y = ap (λ zs. f x ∷ zs) (map_last f xs y)
 
 -- ---- steps of the program's tree
 
-module _ (lowest : ReachedLowestMayAct) (complete : PlainStepsAreSteps) (inside : ReachedInsideIsLeft) (armed : ReachedIsArmed) (follow : StepsFollow)
-    (structs : List StructDef) (units : List UnitDef) (entry : ℕ) (rank : ℕ → Node → ℕ) (keeps : Keeps structs units entry) (passes : Passes units)
+module _ (lowest : ReachedLowestMayAct) (complete : PlainStepsAreSteps) (inside : ReachedInsideIsResidual) (armed : ReachedIsArmed) (follow : StepsFollow)
+    (structs : List StructDef) (units : List UnitDef) (entry : ℕ) (rank : ℕ → Node → ℕ) (keeps : IsWellTyped structs units entry) (passes : Passes units)
     (orders : Orders (setting_of structs units entry) rank) (fitted : Fitted (setting_of structs units entry)) (rows : List (List ℤ)) (row : List ℤ) where
   abbrev W : Setting
   W = setting_of structs units entry
@@ -99,7 +99,7 @@ module _ (lowest : ReachedLowestMayAct) (complete : PlainStepsAreSteps) (inside 
       (lowest structs units entry rank keeps passes orders.rising rows row taken c store reaches d a n c'
       (subst (λ (x : Tree). Moves Anyway W 0 x d a n c') (sym eq) move))
 
-  pub record Located (c : Control) (store : Store) (done : List Answered) (tree : Tree) (left : Store) : Type 0 where
+  pub record Located (c : Control) (store : Store) (done : List AnsweredDeed) (tree : Tree) (left : Store) : Type 0 where
     pub actions : List Action
     pub after : Control
     pub is : plain_tree after ≡ tree
@@ -129,7 +129,7 @@ module _ (lowest : ReachedLowestMayAct) (complete : PlainStepsAreSteps) (inside 
   }
 
   pub locate : (c : Control) (store : Store) (taken : List Action) → ReachesInside W rows row taken (ticks.Rests c store) → {t : Tree} →
-      {done : List Answered} {tree : Tree} {left : Store} → plain_tree c ≡ t → LowSteps W rank 0 t store done tree left → Located c store done tree left
+      {done : List AnsweredDeed} {tree : Tree} {left : Store} → plain_tree c ≡ t → LowSteps W rank 0 t store done tree left → Located c store done tree left
   locate c store taken reaches eq stay =
       record { actions = []; after = c; is = eq; steps = ticks.none; deeds = refl; taken = taken; reaches = reaches }
   locate c store taken reaches {t = t} eq (on {d = d} {a = a} {n = n} {c' = c'} {store' = store'} move low performs rest) =
@@ -172,7 +172,7 @@ module _ (lowest : ReachedLowestMayAct) (complete : PlainStepsAreSteps) (inside 
 
   module _ (sound : StepsArePlain) (could : MayIsCould) (moving : MovingIsUnsettled) (answers : AnswersArePlain) where
     -- where nothing is left to do nothing may act
-    still : (c : Control) → Left W true 0 (entry_items W) c → is_settled (plain_tree c) ≡ true → located.IsStill W c
+    still : (c : Control) → Residual W true 0 (entry_items W) c → is_settled (plain_tree c) ≡ true → located.IsStill W c
     still c is_left settled d a c' move =
         let plain = sound W true 0 (entry_items W) c d a c' is_left move in
         differ (is_settled (plain_tree c)) settled
@@ -199,8 +199,8 @@ module _ (lowest : ReachedLowestMayAct) (complete : PlainStepsAreSteps) (inside 
 -- ---- ticks
 
 module _ (lowest : ReachedLowestMayAct) (complete : PlainStepsAreSteps) (sound : StepsArePlain) (could : MayIsCould) (moving : MovingIsUnsettled)
-    (answers : AnswersArePlain) (inside : ReachedInsideIsLeft) (between : ReachedIsLeft) (armed : ReachedIsArmed) (follow : StepsFollow)
-    (waking : WakingIsPlain) (plain : StatementsArePlain) (part : NodesAreInPart) (unsettled : UnsettledCould) (live : AcceptedTreesAreLive)
+    (answers : AnswersArePlain) (inside : ReachedInsideIsResidual) (between : ReachedIsResidual) (armed : ReachedIsArmed) (follow : StepsFollow)
+    (waking : WakingIsPlain) (plain : StatementsArePlain) (part : NodesAreInPart) (unsettled : UnsettledCould) (live : AcceptedTreesFitGraphs)
     (callable : ProgramsAreCallable) (orderly : AcceptedIsOrderly) (have : InstancesHavePasses) where
   pub ticks_are_passes : TicksArePasses
   ticks_are_passes structs units entry rank keeps passes orders rows row c store reached = by_rest (is_settled tree) refl
@@ -230,7 +230,7 @@ module _ (lowest : ReachedLowestMayAct) (complete : PlainStepsAreSteps) (sound :
           ends (comes_to_end (record { done = []; tree = tree; left = woken_store row store; passes = turns.rests e; steps = stay; follows = follows.rests e }))
       by_rest false e =
           let now = (live structs units entry keeps passes).inside rows row [] (control.woken c) (woken_store row store) reaches in
-          let lives : Live W 0 tree (whole now.stood (entry_block W)) = subst (λ (x : Tree). Live W 0 x (whole now.stood (entry_block W))) eq now.lives in
+          let lives : FitsGraph W 0 tree (whole now.stood (entry_block W)) = subst (λ (x : Tree). FitsGraph W 0 x (whole now.stood (entry_block W))) eq now.lives in
           let at = in_unit part plain W now.stood tree (unit_at W 0) refl lives (unsettled W 0 now.stood (entry_block W) tree lives e) in
           ends (have structs units entry rank 0 0 at.unit at.stood tree (woken_store row store) (orderly structs units entry keeps passes).paces
           (callable structs units entry keeps) orders at.is at.lives (woken_steady (plain_tree c)) (λ n h. omega arith))

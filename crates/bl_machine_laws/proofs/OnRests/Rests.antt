@@ -12,9 +12,9 @@ use Rattle.bl_tree.specs.declared.tree.Path.{Path}
 use Rattle.bl_tree.specs.declared.tree.Stmt.{Stmt, fold-roll-Stmt}
 use Rattle.bl_tree.specs.declared.tree.StmtKind.{fold-roll-StmtKind}
 use Rattle.bl_tree.specs.declared.tree.StmtKind.TheOpen.{StmtKind-F}
-use Rattle.bl_tree.specs.Instant.{Ends, arm_instant, branch_ends, instant, kind_instant, stmt_instant}
+use Rattle.bl_tree.specs.Instant.{BranchInstant, arm_instant, branch_ends, instant, kind_instant, stmt_instant}
 use Rattle.bl_tree.specs.Reduce.{all_of, any_of}
-use Rattle.bl_tree.specs.Typing.{Site, arm_fits, branch_fits, fits, is_activity, is_inhabited, is_truth, kind_fits, stmt_fits, type_of}
+use Rattle.bl_tree.specs.Typing.{TypingContext, arm_fits, branch_fits, fits, is_activity, is_inhabited, is_truth, kind_fits, stmt_fits, type_of}
 use Rattle.bl_tree.proofs.StmtInduction.{Cases, Each, EachArm, EachBranch, induct, stmt}
 use Rattle.bl_effects.specs.Rules.{
   BranchLoops,
@@ -28,9 +28,9 @@ use Rattle.bl_effects.specs.Rules.{
   loops_in,
   stmt_loops,
 }
-use Rattle.bl_nodes.specs.Plain.{Arm as PlainArm, Await, Block, Branch as PlainBranch, Cobegin, Label, Plain, Position, Repeat, Run}
-use Rattle.bl_nodes.specs.Plain.{Until, When, arm_plain, block_at, block_from, bodies_from, branch_plain, else_at, if_with, inside, kind_plain}
-use Rattle.bl_nodes.specs.Plain.{label_at, passed_one, plain, plain_body, stmt_plain}
+use Rattle.bl_graph_nodes.specs.Plain.{Arm as PlainArm, Await, Block, Branch as PlainBranch, Cobegin, Label, Plain, Position, Repeat, Run}
+use Rattle.bl_graph_nodes.specs.Plain.{Until, When, arm_plain, block_at, block_from, bodies_from, branch_plain, else_at, if_with, inside, kind_plain}
+use Rattle.bl_graph_nodes.specs.Plain.{label_at, passed_one, plain, plain_body, stmt_plain}
 use Rattle.bl_machine.specs.Layout.{places_in, places_in_each, places_of}
 
 -- ---- answers
@@ -74,12 +74,12 @@ abbrev loops_of_branch : Branch → BranchLoops
 loops_of_branch = fold-Branch (Place → Loops) Loops BranchLoops Loops kind_loops arm_loops branch_loops stmt_loops
 
 abbrev instant_of_arm : Arm → Bool
-instant_of_arm = fold-Arm Bool Bool Ends Bool kind_instant arm_instant branch_ends stmt_instant
+instant_of_arm = fold-Arm Bool Bool BranchInstant Bool kind_instant arm_instant branch_ends stmt_instant
 
-abbrev ends_of_branch : Branch → Ends
-ends_of_branch = fold-Branch Bool Bool Ends Bool kind_instant arm_instant branch_ends stmt_instant
+abbrev ends_of_branch : Branch → BranchInstant
+ends_of_branch = fold-Branch Bool Bool BranchInstant Bool kind_instant arm_instant branch_ends stmt_instant
 
-module _ (agree : (s : Stmt) → (loops_in s).instant ≡ instant s) (site : Site) where
+module _ (agree : (s : Stmt) → (loops_in s).instant ≡ instant s) (site : TypingContext) where
   abbrev S : Stmt → Type 0
   S s = fits site s ≡ true → (loops_in s).places ≡ [] → instant s ≡ false → (at : Position) → 0 < places_of (plain s at)
 
@@ -135,7 +135,7 @@ module _ (agree : (s : Stmt) → (loops_in s).instant ≡ instant s) (site : Sit
       ap (λ (loops : Loops). loops.places)
       (sym (fold_out-Arm (Place → Loops) Loops BranchLoops Loops kind_loops arm_loops branch_loops stmt_loops arm)) ∙ paced in
       let ends_so : all_of (map instant body) ≡ false =
-      sym (fold_out-Arm Bool Bool Ends Bool kind_instant arm_instant branch_ends stmt_instant arm) ∙ ends in
+      sym (fold_out-Arm Bool Bool BranchInstant Bool kind_instant arm_instant branch_ends stmt_instant arm) ∙ ends in
       subst (λ (arm : PlainArm). Rests (arm.body at))
       (sym (fold_out-Arm (Place → Position → Plain) PlainArm PlainBranch (Position → Plain) kind_plain arm_plain branch_plain stmt_plain arm))
       (blocks_rest body each (and_right (is_truth (type_of site (out-Arm arm).test)) (all_of (map (fits site) body)) fits_so) paced_so ends_so 0 at)

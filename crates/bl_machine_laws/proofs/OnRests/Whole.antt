@@ -16,13 +16,13 @@ use Rattle.bl_tree.specs.Program.{names_of, parameters_of, roles_stand, unit_sta
 use Rattle.bl_tree.specs.Reduce.{all_of, greatest}
 use Rattle.bl_tree.specs.Returns.{unit_returns}
 use Rattle.bl_tree.specs.Types.{type_stands}
-use Rattle.bl_tree.specs.Typing.{Site, fits, is_activity, site_of}
+use Rattle.bl_tree.specs.Typing.{TypingContext, fits, is_activity, site_of}
 use Rattle.bl_tree.specs.Words.{are_distinct, is_name}
 use Rattle.bl_effects.specs.Rules.{Passes, instant_loops, loops_in}
 use Rattle.bl_machine.specs.declared.slots.Slot.{Slot}
 use Rattle.bl_machine.specs.Blocks.{up_to}
 use Rattle.bl_machine.specs.Slots.{counters_at, times}
-use Rattle.bl_pass.specs.Numbered.{sizes_of}
+use Rattle.bl_machine_pass.specs.Numbered.{sizes_of}
 use Rattle.bl_machine_laws.specs.Rests.{ActivitiesCount, ActivitiesRest}
 use Rattle.bl_machine_laws.proofs.OnRests.Rests.{and_left, and_right, body_rests}
 
@@ -100,7 +100,7 @@ no_instant units unit passes there active = by (instant_loops unit) refl
 pub activities_rest : ((s : Stmt) → (loops_in s).instant ≡ instant s) → ActivitiesRest
 activities_rest agree structs units entry unit keeps passes there active =
     let own = unit_at structs [] units there.0 unit keeps.units_stand there.1 there.2 in
-    let site : Site = site_of structs own.before unit in
+    let site : TypingContext = site_of structs own.before unit in
     body_rests agree site unit.body (body_fits structs own.before unit own.stands) (no_instant units unit passes there active)
     (no_pause units unit passes there active)
 

@@ -34,8 +34,8 @@ use Rattle.std.proofs.lemmas.Option.{slice_get_within}
 use Rattle.bl_tree.specs.declared.tree.Unit.{Unit as UnitDef}
 use Rattle.bl_tree.specs.Reduce.{joined}
 use Rattle.bl_tree.specs.Typing.{is_activity}
-use Rattle.bl_nodes.specs.Nodes.{Node, nodes_in}
-use Rattle.bl_nodes.specs.Plain.{Block, plain_body}
+use Rattle.bl_graph_nodes.specs.Nodes.{Node, nodes_in}
+use Rattle.bl_graph_nodes.specs.Plain.{Block, plain_body}
 use Rattle.bl_graph.specs.Laws.{StaysWithin}
 use Rattle.bl_cause.specs.Activities.{activities, graph_position}
 use Rattle.bl_cause.proofs.ListLemmas.{contains_head, contains_tail}
@@ -45,7 +45,7 @@ use Rattle.bl_ctree.specs.Instances.{Setting, setting_of, unit_at, unit_of}
 use Rattle.bl_ctree_laws_confluence.specs.Deeds.Orderly.{AcceptedIsOrderly}
 use Rattle.bl_ctree_laws_traces.proofs.OnReady.Keys.{Differ, Has, Same, bodies_differ_so}
 use Rattle.bl_machine.specs.declared.machine.Activity.{Activity}
-use Rattle.bl_machine.specs.Blocks.{Leads, Ordered, up_to}
+use Rattle.bl_machine.specs.Blocks.{EdgeLeads, Ordered, up_to}
 use Rattle.bl_machine.specs.Machines.{AreActivitiesOf, IsActivityOf}
 use Rattle.bl_machine_laws.proofs.OnWaiting.Quiet.{differ}
 use Rattle.bl_machine_laws.specs.Passes.Orders.{GraphsGiveOrders, HasOrders, Orders}
@@ -192,7 +192,7 @@ module _ (within : (body : Block) → StaysWithin body) (w : Setting) (machine :
   at_rank i unit s n k e = go_by i s.instance.instance unit s.activity.activity n k s.instance.is s.instance.is_unit s.activity.is e
 
   rises : (i : ℕ) (unit : UnitDef) → unit_at w i ≡ Some unit → (n m : Node) → Contains (nodes_in (plain_body unit.body)) n →
-      Contains (nodes_in (plain_body unit.body)) m → Leads (plain_body unit.body) n m → rank i n < rank i m
+      Contains (nodes_in (plain_body unit.body)) m → EdgeLeads (plain_body unit.body) n m → rank i n < rank i m
   rises i unit is n m one other leads =
       let s = stands i unit is in
       let first = stands_at (nodes_in (plain_body unit.body)) n one in

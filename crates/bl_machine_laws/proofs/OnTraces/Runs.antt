@@ -6,16 +6,16 @@ use Rattle.bl_tree.specs.declared.row.Last.TheVariants.{Open, Ended as HasEnded,
 use Rattle.bl_tree.specs.declared.row.Trace.{Trace}
 use Rattle.bl_tree.specs.declared.tree.StructDef.{StructDef}
 use Rattle.bl_tree.specs.declared.tree.Unit.{Unit as UnitDef}
-use Rattle.bl_tree.specs.Program.{Keeps}
+use Rattle.bl_tree.specs.Program.{IsWellTyped}
 use Rattle.bl_effects.specs.Rules.{Passes}
-use Rattle.bl_nodes.specs.Nodes.{Node}
+use Rattle.bl_graph_nodes.specs.Nodes.{Node}
 use Rattle.bl_ctree.specs.Control as control
 use Rattle.bl_ctree.specs.Control.{Control}
 use Rattle.bl_ctree.specs.Instances.{Setting, setting_of}
-use Rattle.bl_ctree.specs.Laws.{ReachedInsideIsLeft, ReachedIsLeft, StepsFollow}
-use Rattle.bl_ctree.specs.Left.{Left}
+use Rattle.bl_ctree.specs.Laws.{ReachedInsideIsResidual, ReachedIsResidual, StepsFollow}
+use Rattle.bl_ctree.specs.Residual.{Residual}
 use Rattle.bl_ctree.specs.Means as means
-use Rattle.bl_ctree.specs.Means.{Allows, Shown, entry_items, shown}
+use Rattle.bl_ctree.specs.Means.{Allows, ShownTrace, entry_items, shown_trace}
 use Rattle.bl_ctree.specs.Reaches.{Reaches, ReachesInside, after_tick, at_first}
 use Rattle.bl_ctree.specs.Steps as located
 use Rattle.bl_ctree.specs.Store.{Store, first_store, outputs_row, woken_store}
@@ -49,23 +49,23 @@ trace_with rows last = record { rows = rows; last = last }
 some_last : (x y : Last) → Some x ≡ Some y → x ≡ y
 some_last x y e = cc
 
-traces_same : (a b : Trace) → shown a ≡ shown b → a ≡ b
+traces_same : (a b : Trace) → shown_trace a ≡ shown_trace b → a ≡ b
 traces_same a b e =
-    let rows : a.rows ≡ b.rows = ap (λ (s : Shown). s.rows) e in
-    let last : a.last ≡ b.last = some_last a.last b.last (ap (λ (s : Shown). s.last) e) in
+    let rows : a.rows ≡ b.rows = ap (λ (s : ShownTrace). s.rows) e in
+    let last : a.last ≡ b.last = some_last a.last b.last (ap (λ (s : ShownTrace). s.last) e) in
     ap (λ rows. trace_with rows a.last) rows ∙ ap (λ last. trace_with b.rows last) last
 
 -- ---- runs
 
 module _ (lowest : ReachedLowestMayAct) (complete : PlainStepsAreSteps) (sound : StepsArePlain) (could : MayIsCould) (moving : MovingIsUnsettled)
-    (answers : AnswersArePlain) (inside : ReachedInsideIsLeft) (between : ReachedIsLeft) (armed : ReachedIsArmed) (follow : StepsFollow)
+    (answers : AnswersArePlain) (inside : ReachedInsideIsResidual) (between : ReachedIsResidual) (armed : ReachedIsArmed) (follow : StepsFollow)
     (waking : WakingIsPlain) (orderly : AcceptedIsOrderly) (have : TicksArePasses) (structs : List StructDef) (units : List UnitDef) (entry : ℕ)
-    (rank : ℕ → Node → ℕ) (keeps : Keeps structs units entry) (passes : Passes units) (orders : Orders (setting_of structs units entry) rank) where
+    (rank : ℕ → Node → ℕ) (keeps : IsWellTyped structs units entry) (passes : Passes units) (orders : Orders (setting_of structs units entry) rank) where
   abbrev W : Setting
   W = setting_of structs units entry
 
   -- where nothing is left to do nothing may act
-  still : (c : Control) → Left W true 0 (entry_items W) c → is_settled (plain_tree c) ≡ true → located.IsStill W c
+  still : (c : Control) → Residual W true 0 (entry_items W) c → is_settled (plain_tree c) ≡ true → located.IsStill W c
   still c is_left settled d a c' move =
       let plain = sound W true 0 (entry_items W) c d a c' is_left move in
       differ (is_settled (plain_tree c)) settled
@@ -89,7 +89,7 @@ module _ (lowest : ReachedLowestMayAct) (complete : PlainStepsAreSteps) (sound :
       let same : plain_tree (control.woken c) ≡ woken t = waking W c (between W before c store reached) ∙ ap woken eq in
       let all = locate lowest complete inside armed follow structs units entry rank keeps passes orders (orderly structs units entry keeps passes).fitted
       before row (control.woken c) (woken_store row store) [] (begins before row c store reached) same pass.steps in
-      let is_left : Left W true 0 (entry_items W) all.after = inside W before row all.taken all.after pass.left all.reaches in
+      let is_left : Residual W true 0 (entry_items W) all.after = inside W before row all.taken all.after pass.left all.reaches in
       let settled : is_settled (plain_tree all.after) ≡ true = ap is_settled all.is ∙ pass_settles pass.passes in
       record {
         after = all.after;
@@ -118,7 +118,7 @@ module _ (lowest : ReachedLowestMayAct) (complete : PlainStepsAreSteps) (sound :
   paused after left e settled =
       ap (λ nil. resting_outcome nil (control.is_settled after)) e ∙ ap (λ settled. resting_outcome false settled) settled
 
-  goes_on : (row : List ℤ) (rows : List (List ℤ)) (c : Control) (store : Store) (after : Control) (left : Store) (rest : Shown) →
+  goes_on : (row : List ℤ) (rows : List (List ℤ)) (c : Control) (store : Store) (after : Control) (left : Store) (rest : ShownTrace) →
       Tick W row c store (Rests after left) → outcome_at (Rests after left) ≡ Paused → Allows W rows after left rest →
       Allows W (row ∷ rows) c store (means.row_then (outputs_row W left) rest)
   goes_on row rows c store after left rest tick waits more = means.goes_on tick waits more
@@ -126,7 +126,7 @@ module _ (lowest : ReachedLowestMayAct) (complete : PlainStepsAreSteps) (sound :
   -- what a run of passes shows is allowed
   allowed : {rows : List (List ℤ)} {t : Tree} {store : Store} {trace : Trace} → PassRun W rank rows t store trace →
       (before : List (List ℤ)) (c : Control) →
-      plain_tree c ≡ t → Reaches W before c store → Allows W rows c store (shown trace)
+      plain_tree c ≡ t → Reaches W before c store → Allows W rows c store (shown_trace trace)
   allowed runs.stays_open before c eq reached = means.stays_open
   allowed (runs.traps {row = row} {c = t} {store = store} trap) before c eq reached =
       means.traps (trap_tick before row c store reached t eq trap)
@@ -136,7 +136,7 @@ module _ (lowest : ReachedLowestMayAct) (complete : PlainStepsAreSteps) (sound :
   allowed (runs.goes_on {row = row} {rows = rows} {c = t} {store = store} {rest = rest} pass nil more) before c eq reached =
       let one = pass_tick before row c store reached t eq pass in
       let waits = paused one.after pass.left (nil_after one.after pass.tree false one.is nil) one.settled in
-      goes_on row rows c store one.after pass.left (shown rest) one.tick waits
+      goes_on row rows c store one.after pass.left (shown_trace rest) one.tick waits
       (allowed more (before ++ row ∷ []) one.after one.is (after_tick reached one.tick waits refl))
 
   -- and there is such a run
@@ -172,7 +172,7 @@ module _ (lowest : ReachedLowestMayAct) (complete : PlainStepsAreSteps) (sound :
   made (row ∷ rows) before c store reached =
       by_tick rows (made rows) before row c store reached (have structs units entry rank keeps passes orders before row c store reached)
 
-  pub meant : (rows : List (List ℤ)) (trace : Trace) → runs.Runs structs units entry rank rows trace → means.Means structs units entry rows (shown trace)
+  pub meant : (rows : List (List ℤ)) (trace : Trace) → runs.RunsByPasses structs units entry rank rows trace → means.Means structs units entry rows (shown_trace trace)
   meant rows trace run = allowed run [] (control.Idle (entry_items W)) refl at_first
 
   pub one_run : AcceptedTracesAreOne → (rows : List (List ℤ)) → runs.OneRun structs units entry rank rows
@@ -183,13 +183,13 @@ module _ (lowest : ReachedLowestMayAct) (complete : PlainStepsAreSteps) (sound :
         trace = one.trace;
         runs = one.made;
         means = allows;
-        only = λ shows other. at_most structs units entry rows shows (shown one.trace) keeps passes other allows;
+        only = λ shows other. at_most structs units entry rows shows (shown_trace one.trace) keeps passes other allows;
         same = λ other run. traces_same other one.trace
-            (at_most structs units entry rows (shown other) (shown one.trace) keeps passes (meant rows other run) allows);
+            (at_most structs units entry rows (shown_trace other) (shown_trace one.trace) keeps passes (meant rows other run) allows);
       }
 
 pub runs_are_meant : ReachedLowestMayAct → PlainStepsAreSteps → StepsArePlain → MayIsCould → MovingIsUnsettled → AnswersArePlain →
-    ReachedInsideIsLeft → ReachedIsLeft → ReachedIsArmed → StepsFollow → WakingIsPlain → AcceptedIsOrderly → TicksArePasses → AcceptedTracesAreOne →
+    ReachedInsideIsResidual → ReachedIsResidual → ReachedIsArmed → StepsFollow → WakingIsPlain → AcceptedIsOrderly → TicksArePasses → AcceptedTracesAreOne →
     RunsAreMeant
 runs_are_meant lowest complete sound could moving answers inside between armed follow waking orderly have at_most = record {
   meant = λ structs units entry rank keeps passes orders rows trace run.

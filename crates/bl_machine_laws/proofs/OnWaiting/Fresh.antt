@@ -24,7 +24,7 @@ use Rattle.std.proofs.Common.{
   ◌∙◌,
 }
 use Rattle.bl_tree.specs.declared.place.Place.{Place as Source}
-use Rattle.bl_nodes.specs.Nodes.{
+use Rattle.bl_graph_nodes.specs.Nodes.{
   DepthEndAt,
   DepthJoinAt,
   ForkAt,
@@ -38,7 +38,7 @@ use Rattle.bl_nodes.specs.Nodes.{
   some_strong,
   strong_instant,
 }
-use Rattle.bl_nodes.specs.Plain.{
+use Rattle.bl_graph_nodes.specs.Plain.{
   Block,
   Bodies,
   Body as BodyOf,
@@ -50,7 +50,7 @@ use Rattle.bl_nodes.specs.Plain.{
   Then,
   is_empty,
 }
-use Rattle.bl_nodes.specs.Steps.{end_node, join_node, run_node}
+use Rattle.bl_graph_nodes.specs.Steps.{end_node, join_node, run_node}
 use Rattle.bl_graph.specs.DataEdges.{BesideEach}
 use Rattle.bl_graph.specs.Edges.{EdgeEach, Guarded, In, InEach, Into, OutAll}
 use Rattle.bl_graph.specs.Walks.{After, Walk, on, stay}
@@ -73,7 +73,7 @@ use Rattle.bl_ctree_laws.specs.Trees.{
   Guard,
   Run,
   are_done,
-  begun,
+  trees_begun,
   beside,
   do_block,
   has_strong,
@@ -83,12 +83,12 @@ use Rattle.bl_ctree_laws.specs.Trees.{
   some_ended,
   strong_ended,
 }
-use Rattle.bl_ctree_laws_traces.specs.Progress.Live.{Live, Lives, fork_stmt}
+use Rattle.bl_ctree_laws_traces.specs.Progress.FitsGraph.{AllFitGraph, FitsGraph, fork_stmt}
 use Rattle.bl_ctree_laws_traces.specs.Progress.Places.{Place, ahead_of, guarded, in_branch, later_on}
 use Rattle.bl_machine_laws.specs.Numbers.Steps.{TurnsAreWalks, TurnsWait, Walks}
 use Rattle.bl_machine_laws.specs.Numbers.Steps as walks
 use Rattle.bl_machine_laws.specs.Numbers.Turns as turns
-use Rattle.bl_machine_laws.specs.Numbers.Turns.{Answered, OneTurns, Point, Turns}
+use Rattle.bl_machine_laws.specs.Numbers.Turns.{AnsweredDeed, InstancePoint, OneTurns, Turns}
 use Rattle.bl_machine_laws.specs.Numbers.Waiting.{Is, SomeWaits, Waits, check_of, first_in}
 use Rattle.bl_machine_laws.proofs.OnWaiting.Quiet.{after_closed, along, and_first, and_second, differ, done_ends, each_in_part, in_part, part_closed}
 
@@ -193,7 +193,7 @@ end_out : (s : Watch) (stood : Bool) (g : Place) → (stood ≡ false → are_in
 end_out s true g instant outs = outs (end_node true s.label s.place) (inr refl)
 end_out s false g instant outs = outs (end_node false s.label s.place) (inl (instant refl, refl))
 
-point_leads : {w : Setting} {i : ℕ} {c : Tree} {d : Bool} {a : Deed} {n : Node} {c' : Tree} (g : Place) → Live w i c g → Point w i c d a n c' →
+point_leads : {w : Setting} {i : ℕ} {c : Tree} {d : Bool} {a : Deed} {n : Node} {c' : Tree} (g : Place) → FitsGraph w i c g → InstancePoint w i c d a n c' →
     is_nil c' ≡ true → LeadsOut g.edges g.out n
 point_leads g live turns.acts nil = at_once _ (live.0.outs _ refl)
 point_leads g live (turns.takes {body = body}) nil = at_once _ (live.0.outs _ (inr (inr (inl (sym (block_nil body) ∙ nil), refl))))
@@ -224,7 +224,7 @@ point_leads g live (turns.guard_ends {s = s} {stood = stood}) nil =
 point_leads {w} {i} g live (turns.joins {s = s} {stood = stood} {branches = branches} settled done) nil =
     at_once _ (join_out w i s stood g (live.1.joins (done_ends branches done)).0 live.1.fits.outs)
 
-pub turn_leads : {w : Setting} {rank : ℕ → Node → ℕ} {i : ℕ} {c : Tree} {done : List Answered} {n : Node} {c' : Tree} (g : Place) → Live w i c g →
+pub turn_leads : {w : Setting} {rank : ℕ → Node → ℕ} {i : ℕ} {c : Tree} {done : List AnsweredDeed} {n : Node} {c' : Tree} (g : Place) → FitsGraph w i c g →
     Turns w rank i c done n c' → is_nil c' ≡ true → LeadsOut g.edges g.out n
 turn_leads g live (turns.point p) nil = point_leads g live p nil
 turn_leads g live (turns.runs called is passes lasts) nil = differ false nil refl
@@ -242,54 +242,54 @@ data HasEmpty : Bodies → Type 0 where
   here : {weak : Bool} {rest : Bodies} → HasEmpty (BodyOf weak Done rest)
   there : {weak : Bool} {body : Block} {rest : Bodies} → HasEmpty rest → HasEmpty (BodyOf weak body rest)
 
-begun_strong : (bodies : Bodies) → has_strong (begun bodies) ≡ some_strong bodies
+begun_strong : (bodies : Bodies) → has_strong (trees_begun bodies) ≡ some_strong bodies
 begun_strong Last = refl
 begun_strong (BodyOf weak body rest) = ap (λ b. not weak || b) (begun_strong rest)
 
 -- all strong branches are empty: so all may end at once, and one is empty where one is strong
-strong_begun : (bodies : Bodies) → strong_ended (begun bodies) ≡ true → strong_instant bodies ≡ true
+strong_begun : (bodies : Bodies) → strong_ended (trees_begun bodies) ≡ true → strong_instant bodies ≡ true
 strong_begun Last e = refl
 strong_begun (BodyOf true body rest) e = strong_begun rest e
 strong_begun (BodyOf false Done rest) e = strong_begun rest e
-strong_begun (BodyOf false (Then s after) rest) e = differ _ e (ap (λ b. b && strong_ended (begun rest)) (block_nil (Then s after)))
+strong_begun (BodyOf false (Then s after) rest) e = differ _ e (ap (λ b. b && strong_ended (trees_begun rest)) (block_nil (Then s after)))
 
-strong_empty : (bodies : Bodies) → strong_ended (begun bodies) ≡ true → some_strong bodies ≡ true → HasEmpty bodies
+strong_empty : (bodies : Bodies) → strong_ended (trees_begun bodies) ≡ true → some_strong bodies ≡ true → HasEmpty bodies
 strong_empty Last e f = differ false f refl
 strong_empty (BodyOf true body rest) e f = there (strong_empty rest e f)
 strong_empty (BodyOf false Done rest) e f = here
-strong_empty (BodyOf false (Then s after) rest) e f = differ _ e (ap (λ b. b && strong_ended (begun rest)) (block_nil (Then s after)))
+strong_empty (BodyOf false (Then s after) rest) e f = differ _ e (ap (λ b. b && strong_ended (trees_begun rest)) (block_nil (Then s after)))
 
-some_begun : (bodies : Bodies) → some_ended (begun bodies) ≡ true → some_instant bodies ≡ true
+some_begun : (bodies : Bodies) → some_ended (trees_begun bodies) ≡ true → some_instant bodies ≡ true
 some_begun Last e = e
 some_begun (BodyOf weak Done rest) e = refl
 some_begun (BodyOf weak (Then s after) rest) e =
     or_last (are_instant (Then s after)) (some_instant rest)
-    (some_begun rest (ap (λ b. b || some_ended (begun rest)) (sym (block_nil (Then s after))) ∙ e))
+    (some_begun rest (ap (λ b. b || some_ended (trees_begun rest)) (sym (block_nil (Then s after))) ∙ e))
   where
     or_last : (a b : Bool) → b ≡ true → (a || b) ≡ true
     or_last true b f = refl
     or_last false b f = f
 
-some_empty : (bodies : Bodies) → some_ended (begun bodies) ≡ true → HasEmpty bodies
+some_empty : (bodies : Bodies) → some_ended (trees_begun bodies) ≡ true → HasEmpty bodies
 some_empty Last e = differ false e refl
 some_empty (BodyOf weak Done rest) e = here
-some_empty (BodyOf weak (Then s after) rest) e = there (some_empty rest (ap (λ b. b || some_ended (begun rest)) (sym (block_nil (Then s after))) ∙ e))
+some_empty (BodyOf weak (Then s after) rest) e = there (some_empty rest (ap (λ b. b || some_ended (trees_begun rest)) (sym (block_nil (Then s after))) ∙ e))
 
-done_instant : (l : Label) (at : Source) (bodies : Bodies) → are_done (begun bodies) ≡ true → is_instant (Cobegin l at bodies) ≡ true
+done_instant : (l : Label) (at : Source) (bodies : Bodies) → are_done (trees_begun bodies) ≡ true → is_instant (Cobegin l at bodies) ≡ true
 done_instant l at bodies e = by_strong (some_strong bodies) (begun_strong bodies)
   where
-    by_strong : (b : Bool) → has_strong (begun bodies) ≡ b → (if b then strong_instant bodies else some_instant bodies) ≡ true
-    by_strong true is = strong_begun bodies (ap (λ b. if b then strong_ended (begun bodies) else some_ended (begun bodies)) (sym is) ∙ e)
-    by_strong false is = some_begun bodies (ap (λ b. if b then strong_ended (begun bodies) else some_ended (begun bodies)) (sym is) ∙ e)
+    by_strong : (b : Bool) → has_strong (trees_begun bodies) ≡ b → (if b then strong_instant bodies else some_instant bodies) ≡ true
+    by_strong true is = strong_begun bodies (ap (λ b. if b then strong_ended (trees_begun bodies) else some_ended (trees_begun bodies)) (sym is) ∙ e)
+    by_strong false is = some_begun bodies (ap (λ b. if b then strong_ended (trees_begun bodies) else some_ended (trees_begun bodies)) (sym is) ∙ e)
 
-done_empty : (bodies : Bodies) → are_done (begun bodies) ≡ true → HasEmpty bodies
+done_empty : (bodies : Bodies) → are_done (trees_begun bodies) ≡ true → HasEmpty bodies
 done_empty bodies e = by_strong (some_strong bodies) refl
   where
     by_strong : (b : Bool) → some_strong bodies ≡ b → HasEmpty bodies
     by_strong true is =
-        strong_empty bodies (ap (λ b. if b then strong_ended (begun bodies) else some_ended (begun bodies)) (sym (begun_strong bodies ∙ is)) ∙ e) is
+        strong_empty bodies (ap (λ b. if b then strong_ended (trees_begun bodies) else some_ended (trees_begun bodies)) (sym (begun_strong bodies ∙ is)) ∙ e) is
     by_strong false is =
-        some_empty bodies (ap (λ b. if b then strong_ended (begun bodies) else some_ended (begun bodies)) (sym (begun_strong bodies ∙ is)) ∙ e)
+        some_empty bodies (ap (λ b. if b then strong_ended (trees_begun bodies) else some_ended (trees_begun bodies)) (sym (begun_strong bodies ∙ is)) ∙ e)
 
 empty_joins : (bodies : Bodies) (l : Label) (at : Source) → HasEmpty bodies → EdgeEach bodies l at true (ForkAt l at) (SurfaceJoinAt l at)
 empty_joins Last l at has = elim has [ ]
@@ -297,7 +297,7 @@ empty_joins (BodyOf weak Done rest) l at here = inr (inl (refl, inr (refl, (refl
 empty_joins (BodyOf weak body rest) l at (there later) = inr (inr (inr (inr (empty_joins rest l at later))))
 
 -- the fork leads to what begins in its branches
-fork_leads : (bodies : Bodies) (l : Label) (at : Source) (instant : Bool) (y : Node) → SomeWaits (begun bodies) y →
+fork_leads : (bodies : Bodies) (l : Label) (at : Source) (instant : Bool) (y : Node) → SomeWaits (trees_begun bodies) y →
     EdgeEach bodies l at instant (ForkAt l at) y
 fork_leads Last l at instant y h = absurd h
 fork_leads (BodyOf weak body rest) l at instant y (inl h) = inr (inl (refl, begins body (block_waits body None y h)))
@@ -312,7 +312,7 @@ at_edge {y = y} edge = record { by = y; edge = edge; rest = stay y }
 
 -- what waits in what a point leaves comes after it
 point_fresh : {w : Setting} {i : ℕ} {c : Tree} {d : Bool} {a : Deed} {n : Node} {c' : Tree} (g : Place) (next : Option Node) (y : Node) →
-    Live w i c g → Point w i c d a n c' → is_nil c' ≡ false → Waits c' next y → After g.edges n y
+    FitsGraph w i c g → InstancePoint w i c d a n c' → is_nil c' ≡ false → Waits c' next y → After g.edges n y
 point_fresh g next y live turns.acts lasts h = differ true refl lasts
 point_fresh g next y live (turns.takes {body = body}) lasts h =
     ⊎_elim
@@ -381,14 +381,14 @@ nil_is (Guard s phase stood c) e = differ false e refl
 nil_is (Run s callee phase stood c) e = differ false e refl
 
 -- what has a turn has not ended
-unended : {w : Setting} {rank : ℕ → Node → ℕ} {i : ℕ} {c : Tree} {done : List Answered} {n : Node} {c' : Tree} →
+unended : {w : Setting} {rank : ℕ → Node → ℕ} {i : ℕ} {c : Tree} {done : List AnsweredDeed} {n : Node} {c' : Tree} →
     Turns w rank i c done n c' → is_nil c ≡ false
 unended {w} {rank} {i} {c} {done} {n} {c'} t = by_test (is_nil c) refl
   where
-    nil_point : {d : Bool} {a : Deed} {m : Node} {tree : Tree} → Point w i Nil d a m tree → ⊥
+    nil_point : {d : Bool} {a : Deed} {m : Node} {tree : Tree} → InstancePoint w i Nil d a m tree → ⊥
     nil_point p = elim p [ ]
 
-    nil_rests : {acts : List Answered} {m : Node} {tree : Tree} → Turns w rank i Nil acts m tree → ⊥
+    nil_rests : {acts : List AnsweredDeed} {m : Node} {tree : Tree} → Turns w rank i Nil acts m tree → ⊥
     nil_rests (turns.point p) = nil_point p
 
     by_test : (b : Bool) → is_nil c ≡ b → is_nil c ≡ false
@@ -439,16 +439,16 @@ Parted links = (n m : Node) → links n m → (label_of n).position ≡ (label_o
 -- ---- turns
 
 module _ {w : Setting} (rank : ℕ → Node → ℕ) (paces : Paces w) (shrinks : EndsShrink) (lists : TurnsAreWalks) (waiting : TurnsWait) where
-  pub ends_walk : {i : ℕ} {c : Tree} {done : List Answered} {c' : Tree} → Walks w i c done c' → may_end c' ≡ true → may_end c ≡ true
+  pub ends_walk : {i : ℕ} {c : Tree} {done : List AnsweredDeed} {c' : Tree} → Walks w i c done c' → may_end c' ≡ true → may_end c ≡ true
   ends_walk walks.stay e = e
   ends_walk {i} {c} (walks.on {d = d} {a = a} {n = n} {c' = c'} m more) e = shrinks w i c d a n c' paces m (ends_walk more e)
 
-  ends_before : {i : ℕ} {c : Tree} {done : List Answered} {n : Node} {c' : Tree} → Turns w rank i c done n c' → may_end c' ≡ true → may_end c ≡ true
+  ends_before : {i : ℕ} {c : Tree} {done : List AnsweredDeed} {n : Node} {c' : Tree} → Turns w rank i c done n c' → may_end c' ≡ true → may_end c ≡ true
   ends_before {i} {c} {done} {n} {c'} t e = ends_walk (lists.turns w rank i c done n c' t) e
 
   -- where a branch ends, edges lead to the join
-  branch_joins : {i : ℕ} {c : Tree} {done : List Answered} {n : Node} {c' : Tree} (g : Place) (stood weak instant : Bool) (body : Block) (rest : Bodies)
-      (l : Label) (at : Source) → (stood ≡ false → instant ≡ true) → Live w i c (in_branch stood body g) → Turns w rank i c done n c' →
+  branch_joins : {i : ℕ} {c : Tree} {done : List AnsweredDeed} {n : Node} {c' : Tree} (g : Place) (stood weak instant : Bool) (body : Block) (rest : Bodies)
+      (l : Label) (at : Source) → (stood ≡ false → instant ≡ true) → FitsGraph w i c (in_branch stood body g) → Turns w rank i c done n c' →
       is_nil c' ≡ true → After (EdgeEach (BodyOf weak body rest) l at instant) n (join_node stood l at)
   branch_joins {i} {c} {done} {n} {c'} g stood weak instant body rest l at instantly live t nil =
       let leads = turn_leads (in_branch stood body g) live t nil in
@@ -464,13 +464,13 @@ module _ {w : Setting} (rank : ℕ → Node → ℕ) (paces : Paces w) (shrinks 
       join_edge false instantly m inside out = inr (inr (inl ((inside, inr out), (instantly refl, refl))))
 
   -- what has a turn in a branch is of the branch
-  inside : {i : ℕ} {c : Tree} {done : List Answered} {n : Node} {c' : Tree} (g : Place) (stood : Bool) (body : Block) →
-      Live w i c (in_branch stood body g) → Turns w rank i c done n c' → In stood body n
+  inside : {i : ℕ} {c : Tree} {done : List AnsweredDeed} {n : Node} {c' : Tree} (g : Place) (stood : Bool) (body : Block) →
+      FitsGraph w i c (in_branch stood body g) → Turns w rank i c done n c' → In stood body n
   inside {i} {c} {done} {n} {c'} g stood body live t =
       in_part w i (in_branch stood body g) c None n live (part_closed stood body) (λ e m is. absurd is) (waiting w rank i c done n c' None t)
 
-  one_inside : {i : ℕ} {branches : Trees} {done : List Answered} {n : Node} {branches' : Trees} (g : Place) (stood : Bool) (bodies : Bodies) →
-      Lives w i branches bodies stood g → OneTurns w rank i branches done n branches' → InEach stood bodies n
+  one_inside : {i : ℕ} {branches : Trees} {done : List AnsweredDeed} {n : Node} {branches' : Trees} (g : Place) (stood : Bool) (bodies : Bodies) →
+      AllFitGraph w i branches bodies stood g → OneTurns w rank i branches done n branches' → InEach stood bodies n
   one_inside g stood Last live (turns.first t) = absurd live
   one_inside g stood Last live (turns.later t) = absurd live
   one_inside g stood (BodyOf weak body rest) live (turns.first t) = inl (inside g stood body live.0 t)
@@ -478,8 +478,8 @@ module _ {w : Setting} (rank : ℕ → Node → ℕ) (paces : Paces w) (shrinks 
 
   -- where after a turn so many branches have ended as are needed, edges lead from its node to the join: each node of a weak branch has one,
   -- and a strong branch has ended
-  joins_after : {i : ℕ} {branches : Trees} {done : List Answered} {n : Node} {branches' : Trees} (g : Place) (stood instant : Bool)
-      (bodies : Bodies) (l : Label) (at : Source) → (stood ≡ false → instant ≡ true) → Lives w i branches bodies stood g →
+  joins_after : {i : ℕ} {branches : Trees} {done : List AnsweredDeed} {n : Node} {branches' : Trees} (g : Place) (stood instant : Bool)
+      (bodies : Bodies) (l : Label) (at : Source) → (stood ≡ false → instant ≡ true) → AllFitGraph w i branches bodies stood g →
       OneTurns w rank i branches done n branches' → strong_ended branches' ≡ true → After (EdgeEach bodies l at instant) n (join_node stood l at)
   joins_after g stood instant Last l at instantly live (turns.first t) ended = absurd live
   joins_after g stood instant Last l at instantly live (turns.later t) ended = absurd live
@@ -503,7 +503,7 @@ module _ {w : Setting} (rank : ℕ → Node → ℕ) (paces : Paces w) (shrinks 
 
   mutual
     -- what waits after a turn waited before it at another node, or edges lead to it from the turn's node
-    pub fresh : {i : ℕ} {c : Tree} {done : List Answered} {n : Node} {c' : Tree} (g : Place) (next : Option Node) (y : Node) → Live w i c g →
+    pub fresh : {i : ℕ} {c : Tree} {done : List AnsweredDeed} {n : Node} {c' : Tree} (g : Place) (next : Option Node) (y : Node) → FitsGraph w i c g →
         Parted g.links → FollowsBy c next g → Turns w rank i c done n c' → Waits c' next y →
         (Waits c next y × (y ≡ n → ⊥)) ⊎ After g.edges n y
     fresh {c = c} {n = n} {c' = c'} g next y live parted follows (turns.point p) h = by_end (is_nil c') refl
@@ -533,8 +533,8 @@ module _ {w : Setting} (rank : ℕ → Node → ℕ) (paces : Paces w) (shrinks 
         fresh (guarded s g) (Some (end_node stood s.label s.place)) y live.0 parted (λ may m out k is. subst (g.edges m) (sym is)
         (end_edge s stood (g.edges m) (λ e. (live.1.closes may).0 e) out)) t h
 
-    one_fresh : {i : ℕ} {branches : Trees} {done : List Answered} {n : Node} {branches' : Trees} (g : Place) (stood : Bool) (bodies : Bodies) (l : Label)
-        (at : Source) (instant : Bool) (y : Node) → Lives w i branches bodies stood g → Parted g.links →
+    one_fresh : {i : ℕ} {branches : Trees} {done : List AnsweredDeed} {n : Node} {branches' : Trees} (g : Place) (stood : Bool) (bodies : Bodies) (l : Label)
+        (at : Source) (instant : Bool) (y : Node) → AllFitGraph w i branches bodies stood g → Parted g.links →
         ((n m : Node) → BesideEach bodies n m → g.links n m) → OneTurns w rank i branches done n branches' →
         SomeWaits branches' y → (SomeWaits branches y × (y ≡ n → ⊥)) ⊎ After (EdgeEach bodies l at instant) n y
     one_fresh g stood Last l at instant y live parted links (turns.first t) h = absurd live

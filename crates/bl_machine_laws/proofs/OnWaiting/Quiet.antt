@@ -20,9 +20,9 @@ use Rattle.std.proofs.Common.{
   subst,
   ◌∙◌,
 }
-use Rattle.bl_nodes.specs.Nodes.{Node, entry}
-use Rattle.bl_nodes.specs.Plain.{Block, Bodies, Body as BodyOf, Done, Last, Then}
-use Rattle.bl_nodes.specs.Steps.{end_node, join_node, run_node}
+use Rattle.bl_graph_nodes.specs.Nodes.{Node, entry}
+use Rattle.bl_graph_nodes.specs.Plain.{Block, Bodies, Body as BodyOf, Done, Last, Then}
+use Rattle.bl_graph_nodes.specs.Steps.{end_node, join_node, run_node}
 use Rattle.bl_graph.specs.Edges.{EdgeAll, In, InEach}
 use Rattle.bl_graph.specs.Walks.{After, Walk, on, stay}
 use Rattle.bl_ctree.specs.Control.{Body, Check}
@@ -52,10 +52,10 @@ use Rattle.bl_ctree_laws.specs.Trees.{
   some_ended,
   strong_ended,
 }
-use Rattle.bl_ctree_laws_traces.specs.Progress.Live.{Live, Lives}
+use Rattle.bl_ctree_laws_traces.specs.Progress.FitsGraph.{AllFitGraph, FitsGraph}
 use Rattle.bl_ctree_laws_traces.specs.Progress.Places.{Place, ahead_of, guarded, in_branch, later_on, whole}
 use Rattle.bl_machine_laws.specs.Numbers.Waiting.{Is, SomeWaits, Waits, check_of, first_in, test_of}
-use Rattle.bl_machine_laws.specs.Waiting.Laws.{AllPassed, Passed, SomethingWaits}
+use Rattle.bl_machine_laws.specs.Waiting.Laws.{AllPassed, RunsArePassed, SomethingWaits}
 
 -- ---- tests
 
@@ -94,7 +94,7 @@ either_quiet (Guard s phase stood c) n quiet h = quiet refl h
 either_quiet (Run s callee phase stood c) n quiet h = quiet refl h
 
 mutual
-  quiet : (w : Setting) (i : ℕ) (g : Place) (c : Tree) (next : Option Node) (n : Node) → Live w i c g → is_settled c ≡ true → is_nil c ≡ false →
+  quiet : (w : Setting) (i : ℕ) (g : Place) (c : Tree) (next : Option Node) (n : Node) → FitsGraph w i c g → is_settled c ≡ true → is_nil c ≡ false →
       Waits c next n → ⊥
   quiet w i g Nil next n live settled unended h = differ true refl unended
   quiet w i g (Wait s) next n live settled unended h = h
@@ -115,7 +115,7 @@ mutual
   quiet w i g (Run s callee Body stood c) next n live settled unended h = h
   quiet w i g (Run s callee Check stood c) next n live settled unended h = differ false settled refl
 
-  quiet_each : (w : Setting) (i : ℕ) (g : Place) (stood : Bool) (branches : Trees) (bodies : Bodies) (n : Node) → Lives w i branches bodies stood g →
+  quiet_each : (w : Setting) (i : ℕ) (g : Place) (stood : Bool) (branches : Trees) (bodies : Bodies) (n : Node) → AllFitGraph w i branches bodies stood g →
       are_settled branches ≡ true → SomeWaits branches n → ⊥
   quiet_each w i g stood no_tree bodies n live settled h = h
   quiet_each w i g stood (beside weak c branches) Last n live settled h = live
@@ -126,7 +126,7 @@ mutual
       quiet_each w i g stood branches rest n live.2 (and_second (is_settled c) (are_settled branches) settled) h
 
 -- of a whole body, also where it has ended
-pub quiet_branch : (w : Setting) (i : ℕ) (g : Place) (c : Tree) (n : Node) → Live w i c g → is_settled c ≡ true → Waits c None n → ⊥
+pub quiet_branch : (w : Setting) (i : ℕ) (g : Place) (c : Tree) (n : Node) → FitsGraph w i c g → is_settled c ≡ true → Waits c None n → ⊥
 quiet_branch w i g c n live settled h = either_quiet c n (λ unended k. quiet w i g c None n live settled unended k) h
 
 -- ---- where something is left to do something waits
@@ -192,7 +192,7 @@ settled_so true b e f = ap not f
 settled_so false b e f = absurd cc
 
 mutual
-  stirs : (w : Setting) (i : ℕ) (g : Place) (c : Tree) (next : Option Node) → Live w i c g → Passed c → is_settled c ≡ false → Some_at c next
+  stirs : (w : Setting) (i : ℕ) (g : Place) (c : Tree) (next : Option Node) → FitsGraph w i c g → RunsArePassed c → is_settled c ≡ false → Some_at c next
   stirs w i g Nil next live passed left = differ true refl left
   stirs w i g (Wait s) next live passed left = differ true refl left
   stirs w i g (Test s) next live passed left = record { node = test_of s; waits = refl }
@@ -211,7 +211,7 @@ mutual
       differ (is_settled c && not (is_nil c)) (settled_so (is_settled c) (is_nil c) passed.0 passed.1) left
   stirs w i g (Run s callee Check stood c) next live passed left = record { node = run_node stood s.label s.place s.arguments; waits = refl }
 
-  stirs_each : (w : Setting) (i : ℕ) (g : Place) (stood : Bool) (branches : Trees) (bodies : Bodies) → Lives w i branches bodies stood g →
+  stirs_each : (w : Setting) (i : ℕ) (g : Place) (stood : Bool) (branches : Trees) (bodies : Bodies) → AllFitGraph w i branches bodies stood g →
       AllPassed branches → are_settled branches ≡ false → Some_in branches
   stirs_each w i g stood no_tree bodies live passed left = differ true refl left
   stirs_each w i g stood (beside weak c branches) Last live passed left = absurd live
@@ -219,7 +219,7 @@ mutual
       first_stirs weak c branches left (λ e. stirs w i (in_branch stood body g) c None live.0 passed.0 e)
       (λ e. stirs_each w i g stood branches rest live.2 passed.1 e)
 
-pub something_waits : (w : Setting) (i : ℕ) (g : Place) (c : Tree) → Live w i c g → Passed c → is_settled c ≡ false → SomethingWaits c
+pub something_waits : (w : Setting) (i : ℕ) (g : Place) (c : Tree) → FitsGraph w i c g → RunsArePassed c → is_settled c ≡ false → SomethingWaits c
 something_waits w i g c live passed left =
     let some = stirs w i g c None live passed left in record { node = some.node; waits = some.waits }
 
@@ -293,7 +293,7 @@ abbrev pub NextNow : Tree → Option Node → (Node → Type 0) → Type 0
 NextNow c next now = is_nil c ≡ true → (n : Node) → Is next n → now n
 
 mutual
-  pub in_part : (w : Setting) (i : ℕ) (g : Place) (c : Tree) (next : Option Node) (n : Node) → Live w i c g → Closed g.edges g.now →
+  pub in_part : (w : Setting) (i : ℕ) (g : Place) (c : Tree) (next : Option Node) (n : Node) → FitsGraph w i c g → Closed g.edges g.now →
       NextNow c next g.now → Waits c next n → g.now n
   in_part w i g Nil next n live closed follows h = follows refl n h
   in_part w i g (Wait s) next n live closed follows h = absurd h
@@ -318,7 +318,7 @@ mutual
   in_part w i g (Run s callee Check stood c) next n live closed follows h = subst g.now (sym h) live.2.now
 
   pub each_in_part : (w : Setting) (i : ℕ) (g : Place) (stood : Bool) (branches : Trees) (bodies : Bodies) (n : Node) →
-      Lives w i branches bodies stood g →
+      AllFitGraph w i branches bodies stood g →
       SomeWaits branches n → InEach stood bodies n
   each_in_part w i g stood no_tree bodies n live h = absurd h
   each_in_part w i g stood (beside weak c branches) Last n live h = absurd live
@@ -327,6 +327,6 @@ mutual
   each_in_part w i g stood (beside weak c branches) (BodyOf weak' body rest) n live (inr h) =
       inr (each_in_part w i g stood branches rest n live.2 h)
 
-pub waits_now : (w : Setting) (i : ℕ) (stood : Bool) (body : Block) (c : Tree) (n : Node) → Live w i c (whole stood body) → Waits c None n →
+pub waits_now : (w : Setting) (i : ℕ) (stood : Bool) (body : Block) (c : Tree) (n : Node) → FitsGraph w i c (whole stood body) → Waits c None n →
     In stood body n
 waits_now w i stood body c n live h = in_part w i (whole stood body) c None n live (part_closed stood body) (λ nil m is. absurd is) h

@@ -1,9 +1,9 @@
 -- What waits in a woken tree, and its numbers.
 use Rattle.std.proofs.Common.{◌≡◌, ℕ, suc, Bool, true, false, not, ◌&&◌, ◌||◌, if◌then◌else◌, Option, Some}
 use Rattle.std.proofs.Common.{None, inl, inr, refl, sym, ap, ◌∙◌}
-use Rattle.bl_nodes.specs.Nodes.{Node, entry}
-use Rattle.bl_nodes.specs.Plain.{Bodies, Body as BodyOf, Done, Label, Last, Then}
-use Rattle.bl_nodes.specs.Steps.{end_node}
+use Rattle.bl_graph_nodes.specs.Nodes.{Node, entry}
+use Rattle.bl_graph_nodes.specs.Plain.{Bodies, Body as BodyOf, Done, Label, Last, Then}
+use Rattle.bl_graph_nodes.specs.Steps.{end_node}
 use Rattle.bl_ctree.specs.Control.{Body, Check}
 use Rattle.bl_ctree.specs.Instances.{Setting}
 use Rattle.bl_ctree_laws.specs.Trees.{
@@ -30,7 +30,7 @@ use Rattle.bl_ctree_laws.specs.Trees.{
   strong_ended,
   woken,
 }
-use Rattle.bl_ctree_laws_traces.specs.Progress.Live.{Live, Lives}
+use Rattle.bl_ctree_laws_traces.specs.Progress.FitsGraph.{AllFitGraph, FitsGraph}
 use Rattle.bl_ctree_laws_traces.specs.Progress.Places.{Place, ahead_of, guarded, in_branch, later_on}
 use Rattle.bl_machine.specs.Uses.{Slots, uses_in_branch}
 use Rattle.bl_machine_laws.specs.Numbers.Numbers.{Next, Over, Rests, into, numbers_in, numbers_of}
@@ -39,7 +39,7 @@ use Rattle.bl_machine_laws.proofs.OnWaiting.Quiet.{and_first, and_second, differ
 
 -- ---- ends are the same in a woken tree
 
-woken_nil : (w : Setting) (i : ℕ) (g : Place) (c : Tree) → Live w i c g → is_nil (woken c) ≡ is_nil c
+woken_nil : (w : Setting) (i : ℕ) (g : Place) (c : Tree) → FitsGraph w i c g → is_nil (woken c) ≡ is_nil c
 woken_nil w i g Nil live = refl
 woken_nil w i g (Wait s) live = refl
 woken_nil w i g (Test s) live = refl
@@ -50,14 +50,14 @@ woken_nil w i g (Par s stood branches) live = refl
 woken_nil w i g (Guard s phase stood c) live = refl
 woken_nil w i g (Run s callee phase stood c) live = refl
 
-strong_woken : (w : Setting) (i : ℕ) (g : Place) (stood : Bool) (branches : Trees) (bodies : Bodies) → Lives w i branches bodies stood g →
+strong_woken : (w : Setting) (i : ℕ) (g : Place) (stood : Bool) (branches : Trees) (bodies : Bodies) → AllFitGraph w i branches bodies stood g →
     has_strong (all_woken branches) ≡ has_strong branches
 strong_woken w i g stood no_tree bodies live = refl
 strong_woken w i g stood (beside weak c branches) Last live = absurd live
 strong_woken w i g stood (beside weak c branches) (BodyOf weak' body rest) live =
     ap (λ b. not weak || b) (strong_woken w i g stood branches rest live.2)
 
-strong_ends : (w : Setting) (i : ℕ) (g : Place) (stood : Bool) (branches : Trees) (bodies : Bodies) → Lives w i branches bodies stood g →
+strong_ends : (w : Setting) (i : ℕ) (g : Place) (stood : Bool) (branches : Trees) (bodies : Bodies) → AllFitGraph w i branches bodies stood g →
     strong_ended (all_woken branches) ≡ strong_ended branches
 strong_ends w i g stood no_tree bodies live = refl
 strong_ends w i g stood (beside weak c branches) Last live = absurd live
@@ -65,7 +65,7 @@ strong_ends w i g stood (beside weak c branches) (BodyOf weak' body rest) live =
     ap (λ b. (weak || b) && strong_ended (all_woken branches)) (woken_nil w i (in_branch stood body g) c live.0)
     ∙ ap (λ b. (weak || is_nil c) && b) (strong_ends w i g stood branches rest live.2)
 
-some_ends : (w : Setting) (i : ℕ) (g : Place) (stood : Bool) (branches : Trees) (bodies : Bodies) → Lives w i branches bodies stood g →
+some_ends : (w : Setting) (i : ℕ) (g : Place) (stood : Bool) (branches : Trees) (bodies : Bodies) → AllFitGraph w i branches bodies stood g →
     some_ended (all_woken branches) ≡ some_ended branches
 some_ends w i g stood no_tree bodies live = refl
 some_ends w i g stood (beside weak c branches) Last live = absurd live
@@ -73,7 +73,7 @@ some_ends w i g stood (beside weak c branches) (BodyOf weak' body rest) live =
     ap (λ b. b || some_ended (all_woken branches)) (woken_nil w i (in_branch stood body g) c live.0)
     ∙ ap (λ b. is_nil c || b) (some_ends w i g stood branches rest live.2)
 
-woken_done : (w : Setting) (i : ℕ) (g : Place) (stood : Bool) (branches : Trees) (bodies : Bodies) → Lives w i branches bodies stood g →
+woken_done : (w : Setting) (i : ℕ) (g : Place) (stood : Bool) (branches : Trees) (bodies : Bodies) → AllFitGraph w i branches bodies stood g →
     are_done (all_woken branches) ≡ are_done branches
 woken_done w i g stood branches bodies live =
     ap (λ b. if b then strong_ended (all_woken branches) else some_ended (all_woken branches)) (strong_woken w i g stood branches bodies live)
@@ -96,7 +96,7 @@ either_rested (Guard s phase stood c) n rested h = rested refl h
 either_rested (Run s callee phase stood c) n rested h = rested refl h
 
 mutual
-  rested : (w : Setting) (i : ℕ) (g : Place) (c : Tree) (next : Option Node) (n : Node) → Live w i c g → is_settled c ≡ true → is_nil c ≡ false →
+  rested : (w : Setting) (i : ℕ) (g : Place) (c : Tree) (next : Option Node) (n : Node) → FitsGraph w i c g → is_settled c ≡ true → is_nil c ≡ false →
       Waits (woken c) next n → Sleeps (woken c) n
   rested w i g Nil next n live settled unended h = differ true refl unended
   rested w i g (Wait s) next n live settled unended h = h
@@ -118,7 +118,7 @@ mutual
   rested w i g (Guard s Check stood c) next n live settled unended h = differ false settled refl
   rested w i g (Run s callee phase stood c) next n live settled unended h = h
 
-  each_rested : (w : Setting) (i : ℕ) (g : Place) (stood : Bool) (branches : Trees) (bodies : Bodies) (n : Node) → Lives w i branches bodies stood g →
+  each_rested : (w : Setting) (i : ℕ) (g : Place) (stood : Bool) (branches : Trees) (bodies : Bodies) (n : Node) → AllFitGraph w i branches bodies stood g →
       are_settled branches ≡ true → SomeWaits (all_woken branches) n → SomeSleeps (all_woken branches) n
   each_rested w i g stood no_tree bodies n live settled h = h
   each_rested w i g stood (beside weak c branches) Last n live settled h = absurd live
@@ -128,14 +128,14 @@ mutual
   each_rested w i g stood (beside weak c branches) (BodyOf weak' body rest) n live settled (inr h) =
       inr (each_rested w i g stood branches rest n live.2 (and_second (is_settled c) (are_settled branches) settled) h)
 
-pub branch_rested : (w : Setting) (i : ℕ) (g : Place) (c : Tree) (n : Node) → Live w i c g → is_settled c ≡ true → Waits (woken c) None n →
+pub branch_rested : (w : Setting) (i : ℕ) (g : Place) (c : Tree) (n : Node) → FitsGraph w i c g → is_settled c ≡ true → Waits (woken c) None n →
     Sleeps (woken c) n
 branch_rested w i g c n live settled h = either_rested c n (λ unended k. rested w i g c None n live settled unended k) h
 
 -- ---- waking keeps numbers
 
 mutual
-  pub numbers_woken : (w : Setting) (i : ℕ) (g : Place) (slots : Slots) (c : Tree) (next : Next) (counter : ℕ) → Live w i c g →
+  pub numbers_woken : (w : Setting) (i : ℕ) (g : Place) (slots : Slots) (c : Tree) (next : Next) (counter : ℕ) → FitsGraph w i c g →
       numbers_of slots (woken c) next counter ≡ numbers_of slots c next counter
   numbers_woken w i g slots Nil next counter live = refl
   numbers_woken w i g slots (Wait s) next counter live = refl
@@ -151,7 +151,7 @@ mutual
   numbers_woken w i g slots (Run s callee phase stood c) next counter live = refl
 
   each_woken : (w : Setting) (i : ℕ) (g : Place) (stood : Bool) (slots : Slots) (l : Label) (k : ℕ) (bodies : Bodies) (branches : Trees) (counter : ℕ) →
-      Lives w i branches bodies stood g → numbers_in slots l k bodies (all_woken branches) counter ≡ numbers_in slots l k bodies branches counter
+      AllFitGraph w i branches bodies stood g → numbers_in slots l k bodies (all_woken branches) counter ≡ numbers_in slots l k bodies branches counter
   each_woken w i g stood slots l k Last no_tree counter live = refl
   each_woken w i g stood slots l k Last (beside weak c branches) counter live = absurd live
   each_woken w i g stood slots l k (BodyOf weak body rest) no_tree counter live = absurd live

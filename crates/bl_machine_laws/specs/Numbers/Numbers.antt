@@ -1,7 +1,7 @@
 -- The numbers of a tree: what the counters of an instance hold where it stands.
 use Rattle.std.specs.Prelude.{ℕ, suc, if◌then◌else◌}
-use Rattle.bl_nodes.specs.Nodes.{Node, entry}
-use Rattle.bl_nodes.specs.Plain.{Block, Bodies, Body as BodyOf, Done, Label, Last, Then}
+use Rattle.bl_graph_nodes.specs.Nodes.{Node, entry}
+use Rattle.bl_graph_nodes.specs.Plain.{Block, Bodies, Body as BodyOf, Done, Label, Last, Then}
 use Rattle.bl_ctree_laws.specs.Trees.{
   Tree,
   Trees,
@@ -39,13 +39,13 @@ into (Then s rest) next = At (entry s)
 -- ---- numbers
 
 -- the value of the number at its counter, and nothing at the others
-abbrev pub shown : Slot → ℕ → ℕ
-shown slot counter = if is_of slot counter then slot.value else 0
+abbrev pub value_at_counter : Slot → ℕ → ℕ
+value_at_counter slot counter = if is_of slot counter then slot.value else 0
 
 -- what the counters hold where a part has ended
 abbrev pub at_next : Next → ℕ → ℕ
 at_next (At n) counter = 0
-at_next (Rests slot) counter = shown slot counter
+at_next (Rests slot) counter = value_at_counter slot counter
 at_next Over counter = 0
 
 abbrev mutual
@@ -53,14 +53,14 @@ abbrev mutual
   -- not, and else 0. A `run` has its place in the instance of its caller; what rests in the called one has numbers of its own
   pub numbers_of : Slots → Tree → Next → ℕ → ℕ
   numbers_of slots Nil next counter = at_next next counter
-  numbers_of slots (Wait s) next counter = shown (slots.rest s.label) counter
-  numbers_of slots (Test s) next counter = shown (slots.rest s.label) counter
+  numbers_of slots (Wait s) next counter = value_at_counter (slots.rest s.label) counter
+  numbers_of slots (Test s) next counter = value_at_counter (slots.rest s.label) counter
   numbers_of slots (Idle body) next counter = 0
   numbers_of slots (Do s) next counter = 0
   numbers_of slots (Seq c rest) next counter = numbers_of slots c (into rest next) counter
   numbers_of slots (Par s stood branches) next counter = numbers_in slots s.label 0 s.bodies branches counter
   numbers_of slots (Guard s phase stood c) next counter = numbers_of slots c Over counter
-  numbers_of slots (Run s callee phase stood c) next counter = shown (slots.rest s.label) counter
+  numbers_of slots (Run s callee phase stood c) next counter = value_at_counter (slots.rest s.label) counter
 
   -- a counter of a branch holds what that branch has there; a branch that has ended rests at its end
   pub numbers_in : Slots → Label → ℕ → Bodies → Trees → ℕ → ℕ

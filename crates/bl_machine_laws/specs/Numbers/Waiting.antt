@@ -1,8 +1,8 @@
 -- What of a tree waits for its node in a pass of its instance.
 use Rattle.std.specs.Prelude.{◌≡◌, ◌⊎◌, true, Option, Some, None}
-use Rattle.bl_nodes.specs.Nodes.{CheckAt, Node, TestAt, entry}
-use Rattle.bl_nodes.specs.Plain.{Block, Done, Then}
-use Rattle.bl_nodes.specs.Steps.{end_node, join_node, run_node}
+use Rattle.bl_graph_nodes.specs.Nodes.{CheckAt, Node, TestAt, entry}
+use Rattle.bl_graph_nodes.specs.Plain.{Block, Done, Then}
+use Rattle.bl_graph_nodes.specs.Steps.{end_node, join_node, run_node}
 use Rattle.bl_ctree.specs.Control.{Body, Check}
 use Rattle.bl_ctree_laws.specs.Trees.{
   Pause,

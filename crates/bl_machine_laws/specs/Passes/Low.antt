@@ -1,7 +1,7 @@
 -- Steps each of which is the lowest that could be taken, over a store.
 use Rattle.std.specs.Prelude.{◌≡◌, ℕ, Bool, List, [], ◌∷◌, Some, None}
-use Rattle.bl_nodes.specs.Nodes.{Node}
-use Rattle.bl_nodes.specs.Steps.{StepLabel}
+use Rattle.bl_graph_nodes.specs.Nodes.{Node}
+use Rattle.bl_graph_nodes.specs.Steps.{StepLabel}
 use Rattle.bl_ctree.specs.Instances.{Setting}
 use Rattle.bl_ctree.specs.Store.{Store}
 use Rattle.bl_ctree_laws.specs.Ends.{done_by}
@@ -9,7 +9,7 @@ use Rattle.bl_ctree_laws.specs.Pending.{Deed}
 use Rattle.bl_ctree_laws.specs.Steps.{Anyway, Moves}
 use Rattle.bl_ctree_laws.specs.Trees.{Tree}
 use Rattle.bl_ctree_laws_traces.specs.Ready.Ranks.{Lower, ranks_in}
-use Rattle.bl_machine_laws.specs.Numbers.Turns.{Answered}
+use Rattle.bl_machine_laws.specs.Numbers.Turns.{AnsweredDeed}
 
 -- no step that could be taken is lower than the one with this label
 abbrev pub Lowest : Setting → (ℕ → Node → ℕ) → ℕ → Tree → StepLabel → Type 0
@@ -18,9 +18,9 @@ Lowest w rank i c n = (d : Bool) (a : Deed) (m : StepLabel) (c' : Tree) → Move
 
 -- LowSteps w rank i c store done c' store': steps that could be taken, each the lowest one, lead from the tree c, which stands in the instance
 -- i, and the store to c' and store'. Their deeds are done with the answers that the store gives
-pub data LowSteps (w : Setting) (rank : ℕ → Node → ℕ) : ℕ → Tree → Store → List Answered → Tree → Store → Type 0 where
+pub data LowSteps (w : Setting) (rank : ℕ → Node → ℕ) : ℕ → Tree → Store → List AnsweredDeed → Tree → Store → Type 0 where
   stay : {i : ℕ} {c : Tree} {store : Store} → LowSteps w rank i c store [] c store
-  on : {i : ℕ} {c : Tree} {store : Store} {d : Bool} {a : Deed} {n : StepLabel} {c' : Tree} {store' : Store} {done : List Answered}
+  on : {i : ℕ} {c : Tree} {store : Store} {d : Bool} {a : Deed} {n : StepLabel} {c' : Tree} {store' : Store} {done : List AnsweredDeed}
       {c'' : Tree} {store'' : Store} →
       Moves Anyway w i c d a n c' → Lowest w rank i c n → done_by w a store ≡ Some (record { answer = d; store = store' }) →
       LowSteps w rank i c' store' done c'' store'' →
@@ -28,7 +28,7 @@ pub data LowSteps (w : Setting) (rank : ℕ → Node → ℕ) : ℕ → Tree →
 
 -- such steps lead to a tree and a store in which the lowest step traps
 pub record LowTrap (w : Setting) (rank : ℕ → Node → ℕ) (i : ℕ) (c : Tree) (store : Store) : Type 0 where
-  pub done : List Answered
+  pub done : List AnsweredDeed
   pub tree : Tree
   pub left : Store
   pub steps : LowSteps w rank i c store done tree left

@@ -1,8 +1,8 @@
 -- Numbers by which one pass takes the nodes of each instance.
 use Rattle.std.specs.Prelude.{◌≡◌, ℕ, Contains, Some}
 use Rattle.bl_tree.specs.declared.tree.Unit.{Unit as UnitDef}
-use Rattle.bl_nodes.specs.Nodes.{Node, nodes_in}
-use Rattle.bl_nodes.specs.Plain.{plain_body}
+use Rattle.bl_graph_nodes.specs.Nodes.{Node, nodes_in}
+use Rattle.bl_graph_nodes.specs.Plain.{plain_body}
 use Rattle.bl_ctree.specs.Instances.{Setting, unit_at}
 use Rattle.bl_ctree_laws_traces.specs.Ready.Ordered.{AllOrdered}
 use Rattle.bl_ctree_laws_traces.specs.Ready.Ranks.{Rising}

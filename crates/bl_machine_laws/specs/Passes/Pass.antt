@@ -2,15 +2,15 @@
 use Rattle.std.specs.Prelude.{◌≡◌, ◌≤◌, ℕ, Bool, List, Some, None}
 use Rattle.bl_tree.specs.declared.tree.StructDef.{StructDef}
 use Rattle.bl_tree.specs.declared.tree.Unit.{Unit as UnitDef}
-use Rattle.bl_nodes.specs.Nodes.{Node}
-use Rattle.bl_nodes.specs.Plain.{plain_body}
+use Rattle.bl_graph_nodes.specs.Nodes.{Node}
+use Rattle.bl_graph_nodes.specs.Plain.{plain_body}
 use Rattle.bl_ctree.specs.Instances.{Setting, setting_of, unit_at}
 use Rattle.bl_ctree.specs.Store.{Store}
 use Rattle.bl_ctree_laws.specs.Shrinks.{Paces}
 use Rattle.bl_ctree_laws.specs.Trees.{Tree}
-use Rattle.bl_ctree_laws_traces.specs.Progress.Live.{Live}
+use Rattle.bl_ctree_laws_traces.specs.Progress.FitsGraph.{FitsGraph}
 use Rattle.bl_ctree_laws_traces.specs.Progress.Places.{AllCallable, whole}
-use Rattle.bl_machine_laws.specs.Numbers.Turns.{Answered, Passes}
+use Rattle.bl_machine_laws.specs.Numbers.Turns.{AnsweredDeed, Passes}
 use Rattle.bl_machine_laws.specs.Numbers.Waiting.{Waits}
 use Rattle.bl_machine_laws.specs.Passes.Follows.{Fails, Follows}
 use Rattle.bl_machine_laws.specs.Passes.Low.{LowSteps, LowTrap}
@@ -23,7 +23,7 @@ WaitsFrom rank i k c = (n : Node) → Waits c None n → k ≤ rank i n
 
 -- a whole pass over the instance, from its node with number k on, and where it leads: each of its steps is the lowest that could be taken
 pub record WholePass (w : Setting) (rank : ℕ → Node → ℕ) (i k : ℕ) (c : Tree) (store : Store) : Type 0 where
-  pub done : List Answered
+  pub done : List AnsweredDeed
   pub tree : Tree
   pub left : Store
   pub passes : Passes w rank i k c done tree
@@ -42,5 +42,5 @@ InstancesHavePasses =
     (structs : List StructDef) (units : List UnitDef) (entry : ℕ) (rank : ℕ → Node → ℕ) (i k : ℕ) (unit : UnitDef) (stood : Bool) (c : Tree)
     (store : Store) →
     let w = setting_of structs units entry in
-    Paces w → AllCallable w → Orders w rank → unit_at w i ≡ Some unit → Live w i c (whole stood (plain_body unit.body)) → Steady c →
+    Paces w → AllCallable w → Orders w rank → unit_at w i ≡ Some unit → FitsGraph w i c (whole stood (plain_body unit.body)) → Steady c →
     WaitsFrom rank i k c → PassOrTrap w rank i k c store

@@ -2,9 +2,9 @@
 use Rattle.std.specs.Prelude.{◌≡◌, ◌⊎◌, ℕ, ℤ, true, List, [], ◌∷◌, ◌++◌, map}
 use Rattle.bl_tree.specs.declared.tree.StructDef.{StructDef}
 use Rattle.bl_tree.specs.declared.tree.Unit.{Unit as UnitDef}
-use Rattle.bl_tree.specs.Program.{Keeps}
+use Rattle.bl_tree.specs.Program.{IsWellTyped}
 use Rattle.bl_effects.specs.Rules.{Passes}
-use Rattle.bl_nodes.specs.Nodes.{Node}
+use Rattle.bl_graph_nodes.specs.Nodes.{Node}
 use Rattle.bl_ctree.specs.Actions.{Action}
 use Rattle.bl_ctree.specs.Control as control
 use Rattle.bl_ctree.specs.Control.{Control}
@@ -38,7 +38,7 @@ pub record TickTraps (w : Setting) (rank : ℕ → Node → ℕ) (row : List ℤ
 -- so it is for each tree and store that a run of an accepted program reaches between ticks, over each row of inputs, by any order of the nodes
 abbrev pub TicksArePasses : Type 0
 TicksArePasses =
-    (structs : List StructDef) (units : List UnitDef) (entry : ℕ) (rank : ℕ → Node → ℕ) → Keeps structs units entry → Passes units →
+    (structs : List StructDef) (units : List UnitDef) (entry : ℕ) (rank : ℕ → Node → ℕ) → IsWellTyped structs units entry → Passes units →
     let w = setting_of structs units entry in
     Orders w rank → (rows : List (List ℤ)) (row : List ℤ) (c : Control) (store : Store) → Reaches w rows c store →
     TickPasses w rank row c store ⊎ TickTraps w rank row c store

@@ -2,11 +2,11 @@
 use Rattle.std.specs.Prelude.{◌≡◌, ℕ, List, Some, slice_get}
 use Rattle.bl_tree.specs.declared.tree.StructDef.{StructDef}
 use Rattle.bl_tree.specs.declared.tree.Unit.{Unit as UnitDef}
-use Rattle.bl_tree.specs.Program.{Keeps}
+use Rattle.bl_tree.specs.Program.{IsWellTyped}
 use Rattle.bl_tree.specs.Reduce.{joined}
 use Rattle.bl_effects.specs.Rules.{Passes}
-use Rattle.bl_nodes.specs.Nodes.{Node, nodes_in}
-use Rattle.bl_nodes.specs.Plain.{plain_body}
+use Rattle.bl_graph_nodes.specs.Nodes.{Node, nodes_in}
+use Rattle.bl_graph_nodes.specs.Plain.{plain_body}
 use Rattle.bl_cause.specs.Activities.{graph_position}
 use Rattle.bl_ctree.specs.declared.instance.Instance.{Instance}
 use Rattle.bl_ctree.specs.Instances.{Setting, setting_of}
@@ -31,7 +31,7 @@ pub record HasPositions (w : Setting) (machine : List Activity) : Type 0 where
 pub record MachinesGiveOrders : Type 0 where
   pub orders : (structs : List StructDef) (units : List UnitDef) (entry : ℕ) (machine : List Activity) (rank : ℕ → Node → ℕ) →
       let w = setting_of structs units entry in
-      Keeps structs units entry → Passes units → AreActivitiesOf units machine → GoBy w machine rank → Orders w rank
+      IsWellTyped structs units entry → Passes units → AreActivitiesOf units machine → GoBy w machine rank → Orders w rank
   pub positions : (structs : List StructDef) (units : List UnitDef) (entry : ℕ) (machine : List Activity) →
-      Keeps structs units entry → Passes units → ActivitiesAreOrdered units → AreActivitiesOf units machine →
+      IsWellTyped structs units entry → Passes units → ActivitiesAreOrdered units → AreActivitiesOf units machine →
       HasPositions (setting_of structs units entry) machine

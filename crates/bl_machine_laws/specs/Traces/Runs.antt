@@ -1,16 +1,16 @@
--- Runs each tick of which is one pass, and the traces that they show.
+-- RunsByPasses each tick of which is one pass, and the traces that they show.
 use Rattle.std.specs.Prelude.{◌≡◌, ℕ, ℤ, true, false, List, [], ◌∷◌}
 use Rattle.bl_tree.specs.declared.row.Last.{Last}
 use Rattle.bl_tree.specs.declared.row.Last.TheVariants.{Open, Ended as HasEnded, Trap as HasTrapped}
 use Rattle.bl_tree.specs.declared.row.Trace.{Trace}
 use Rattle.bl_tree.specs.declared.tree.StructDef.{StructDef}
 use Rattle.bl_tree.specs.declared.tree.Unit.{Unit as UnitDef}
-use Rattle.bl_tree.specs.Program.{Keeps}
+use Rattle.bl_tree.specs.Program.{IsWellTyped}
 use Rattle.bl_effects.specs.Rules.{Passes}
-use Rattle.bl_nodes.specs.Nodes.{Node}
+use Rattle.bl_graph_nodes.specs.Nodes.{Node}
 use Rattle.bl_cause.specs.Accepted.{AcceptedProgram, IsAccepted}
 use Rattle.bl_ctree.specs.Instances.{Setting, setting_of}
-use Rattle.bl_ctree.specs.Means.{Means, Shown, shown}
+use Rattle.bl_ctree.specs.Means.{Means, ShownTrace, shown_trace}
 use Rattle.bl_ctree.specs.Store.{Store, first_store, outputs_row, woken_store}
 use Rattle.bl_ctree_laws.specs.Runs.{entry_block}
 use Rattle.bl_ctree_laws.specs.Trees.{Tree, Idle, is_nil, woken}
@@ -45,8 +45,8 @@ pub data PassRun (w : Setting) (rank : ℕ → Node → ℕ) : List (List ℤ) �
       PassRun w rank (row ∷ rows) c store (row_before (outputs_row w pass.left) rest)
 
 -- such a run of a whole program, from its beginning
-abbrev pub Runs : List StructDef → List UnitDef → ℕ → (ℕ → Node → ℕ) → List (List ℤ) → Trace → Type 0
-Runs structs units entry rank rows trace =
+abbrev pub RunsByPasses : List StructDef → List UnitDef → ℕ → (ℕ → Node → ℕ) → List (List ℤ) → Trace → Type 0
+RunsByPasses structs units entry rank rows trace =
     let w = setting_of structs units entry in PassRun w rank rows (Idle (entry_block w)) (first_store w) trace
 
 -- ---- traces
@@ -55,18 +55,18 @@ Runs structs units entry rank rows trace =
 -- shows another one
 pub record OneRun (structs : List StructDef) (units : List UnitDef) (entry : ℕ) (rank : ℕ → Node → ℕ) (rows : List (List ℤ)) : Type 0 where
   pub trace : Trace
-  pub runs : Runs structs units entry rank rows trace
-  pub means : Means structs units entry rows (shown trace)
-  pub only : (shows : Shown) → Means structs units entry rows shows → shows ≡ shown trace
-  pub same : (other : Trace) → Runs structs units entry rank rows other → other ≡ trace
+  pub runs : RunsByPasses structs units entry rank rows trace
+  pub means : Means structs units entry rows (shown_trace trace)
+  pub only : (shows : ShownTrace) → Means structs units entry rows shows → shows ≡ shown_trace trace
+  pub same : (other : Trace) → RunsByPasses structs units entry rank rows other → other ≡ trace
 
 -- in a program that passes the rules, by numbers that rise along all edges and tell nodes apart: what a run of passes shows is allowed by the
 -- meaning, and there is one over all rows
 pub record RunsAreMeant : Type 0 where
-  pub meant : (structs : List StructDef) (units : List UnitDef) (entry : ℕ) (rank : ℕ → Node → ℕ) → Keeps structs units entry → Passes units →
-      Orders (setting_of structs units entry) rank → (rows : List (List ℤ)) (trace : Trace) → Runs structs units entry rank rows trace →
-      Means structs units entry rows (shown trace)
-  pub one : (structs : List StructDef) (units : List UnitDef) (entry : ℕ) (rank : ℕ → Node → ℕ) → Keeps structs units entry → Passes units →
+  pub meant : (structs : List StructDef) (units : List UnitDef) (entry : ℕ) (rank : ℕ → Node → ℕ) → IsWellTyped structs units entry → Passes units →
+      Orders (setting_of structs units entry) rank → (rows : List (List ℤ)) (trace : Trace) → RunsByPasses structs units entry rank rows trace →
+      Means structs units entry rows (shown_trace trace)
+  pub one : (structs : List StructDef) (units : List UnitDef) (entry : ℕ) (rank : ℕ → Node → ℕ) → IsWellTyped structs units entry → Passes units →
       Orders (setting_of structs units entry) rank → (rows : List (List ℤ)) → OneRun structs units entry rank rows
 
 -- so it is of the machine of each accepted program, with no further premise on orders: there are numbers by which its passes go, and whatever such
@@ -74,10 +74,10 @@ pub record RunsAreMeant : Type 0 where
 pub record MachinesHaveOneTrace : Type 0 where
   pub positions : (accepted : AcceptedProgram) (machine : List Activity) →
       let program = accepted.tree in
-      Keeps program.structs program.units program.entry → IsAccepted accepted → AreActivitiesOf program.units machine →
+      IsWellTyped program.structs program.units program.entry → IsAccepted accepted → AreActivitiesOf program.units machine →
       HasPositions (setting_of program.structs program.units program.entry) machine
   pub traces : (accepted : AcceptedProgram) (machine : List Activity) (rank : ℕ → Node → ℕ) →
       let program = accepted.tree in
-      Keeps program.structs program.units program.entry → IsAccepted accepted → AreActivitiesOf program.units machine →
+      IsWellTyped program.structs program.units program.entry → IsAccepted accepted → AreActivitiesOf program.units machine →
       GoBy (setting_of program.structs program.units program.entry) machine rank →
       (rows : List (List ℤ)) → OneRun program.structs program.units program.entry rank rows

@@ -1,13 +1,13 @@
 -- What is made of a program behind its parts.
 use Rattle.std.specs.Prelude.{[], ◌∷◌, ◌++◌}
-use Rattle.bl_named.specs.declared.item.NamedConstant.{NamedConstant}
-use Rattle.bl_named.specs.declared.item.NamedVar.{NamedVar}
-use Rattle.bl_scopes.specs.declared.kind.Kind.TheVariants as kind
-use Rattle.bl_scopes.specs.Marks.{declares, struct_marks, unit_marks}
-use Rattle.bl_scopes.specs.Scopes.{after, enter, file_scope}
-use Rattle.bl_raw.specs.declared.item.RawStruct.{RawStruct}
-use Rattle.bl_raw.specs.declared.item.RawUnit.{RawUnit}
-use Rattle.bl_raw.specs.declared.name.Name.{Name}
+use Rattle.bl_names_tree.specs.declared.item.NamedConstant.{NamedConstant}
+use Rattle.bl_names_tree.specs.declared.item.NamedVar.{NamedVar}
+use Rattle.bl_names_scopes.specs.declared.kind.Kind.TheVariants as kind
+use Rattle.bl_names_scopes.specs.Marks.{declares, struct_marks, unit_marks}
+use Rattle.bl_names_scopes.specs.Scopes.{after, enter, file_scope}
+use Rattle.bl_parse_tree.specs.declared.item.RawStruct.{RawStruct}
+use Rattle.bl_parse_tree.specs.declared.item.RawUnit.{RawUnit}
+use Rattle.bl_parse_tree.specs.declared.name.Name.{Name}
 use Rattle.bl_names.specs.declared.state.State.{State}
 use Rattle.bl_names.specs.Named.{Piece, constants_in_unit, named_struct, named_unit}
 

@@ -1,8 +1,8 @@
 -- Steps of `specs/Apart.antt` that proofs name.
 use Rattle.bl_tree.specs.Apart.{Naming, Roots}
-use Rattle.bl_named.specs.declared.expr.NamedPart.{NamedPart, fold-NamedPart}
-use Rattle.bl_named.specs.declared.stmt.NamedArm.{NamedArm, fold-NamedArm}
-use Rattle.bl_named.specs.declared.stmt.NamedBranch.{NamedBranch, fold-NamedBranch}
+use Rattle.bl_names_tree.specs.declared.expr.NamedPart.{NamedPart, fold-NamedPart}
+use Rattle.bl_names_tree.specs.declared.stmt.NamedArm.{NamedArm, fold-NamedArm}
+use Rattle.bl_names_tree.specs.declared.stmt.NamedBranch.{NamedBranch, fold-NamedBranch}
 use Rattle.bl_names_laws.specs.Apart.{arm_naming, branch_naming, expr_layer_roots, kind_roots, part_roots, stmt_kind_naming, stmt_layer_naming}
 use Rattle.bl_names_laws.specs.Apart.{target_layer_roots}
 

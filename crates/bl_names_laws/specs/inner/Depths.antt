@@ -1,9 +1,9 @@
 -- Steps of `specs/Depths.antt` that proofs name.
 use Rattle.std.specs.Prelude.{ℕ}
 use Rattle.bl_tree.specs.Depths.{Depth}
-use Rattle.bl_named.specs.declared.expr.NamedPart.{NamedPart, fold-NamedPart}
-use Rattle.bl_named.specs.declared.stmt.NamedArm.{NamedArm, fold-NamedArm}
-use Rattle.bl_named.specs.declared.stmt.NamedBranch.{NamedBranch, fold-NamedBranch}
+use Rattle.bl_names_tree.specs.declared.expr.NamedPart.{NamedPart, fold-NamedPart}
+use Rattle.bl_names_tree.specs.declared.stmt.NamedArm.{NamedArm, fold-NamedArm}
+use Rattle.bl_names_tree.specs.declared.stmt.NamedBranch.{NamedBranch, fold-NamedBranch}
 use Rattle.bl_names_laws.specs.Depths.{arm_depth, branch_depth, expr_layer_depth, kind_depth, part_depth, stmt_kind_depth, stmt_layer_depth, target_layer_depth}
 
 -- how deep a part of a target nests

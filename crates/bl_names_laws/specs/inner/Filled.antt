@@ -1,8 +1,8 @@
 -- Which arms and branches of a named tree have what the grammar wants.
 use Rattle.std.specs.Prelude.{Bool, List}
-use Rattle.bl_named.specs.declared.item.NamedVar.{NamedVar}
-use Rattle.bl_named.specs.declared.stmt.NamedArm.{NamedArm, fold-NamedArm}
-use Rattle.bl_named.specs.declared.stmt.NamedBranch.{NamedBranch, fold-NamedBranch}
+use Rattle.bl_names_tree.specs.declared.item.NamedVar.{NamedVar}
+use Rattle.bl_names_tree.specs.declared.stmt.NamedArm.{NamedArm, fold-NamedArm}
+use Rattle.bl_names_tree.specs.declared.stmt.NamedBranch.{NamedBranch, fold-NamedBranch}
 use Rattle.bl_names_laws.specs.Filled.{arm_filled, branch_filled, kind_filled, layer_filled}
 
 -- whether all that stands in an arm has what the grammar wants, where these are the variables of its unit

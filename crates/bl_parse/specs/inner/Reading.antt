@@ -22,12 +22,12 @@ use Rattle.std.specs.Prelude.{
 use Rattle.bl_tree.specs.Words.{is_name}
 use Rattle.bl_tree.specs.declared.token.Token.{Token}
 use Rattle.bl_tree.specs.declared.token.TokenKind.{TokenKind}
-use Rattle.bl_syntax.specs.declared.grammar.View.{View}
+use Rattle.bl_parse_syntax.specs.declared.grammar.TokenView.{TokenView}
 use Rattle.bl_lex.specs.declared.sign.TheConstants.{DOT, OPEN_BRACKET}
-use Rattle.bl_syntax.specs.declared.grammar.Class.{Class}
-use Rattle.bl_syntax.specs.declared.grammar.Class.TheVariants.{Mark}
-use Rattle.bl_syntax.specs.declared.grammar.Part.{Part}
-use Rattle.bl_syntax.specs.declared.grammar.Part.TheVariants.{
+use Rattle.bl_parse_syntax.specs.declared.grammar.Class.{Class}
+use Rattle.bl_parse_syntax.specs.declared.grammar.Class.TheVariants.{Mark}
+use Rattle.bl_parse_syntax.specs.declared.grammar.Part.{Part}
+use Rattle.bl_parse_syntax.specs.declared.grammar.Part.TheVariants.{
   Accesses,
   AssignTail,
   PathRest,
@@ -43,13 +43,13 @@ use Rattle.bl_syntax.specs.declared.grammar.Part.TheVariants.{
   Product,
   Cast,
 }
-use Rattle.bl_syntax.specs.Grammar.{Piece, the, views, class_of}
-use Rattle.bl_syntax.specs.Tables.{has}
-use Rattle.bl_syntax.specs.Expects.{Expects}
+use Rattle.bl_parse_syntax.specs.Grammar.{Piece, the, views, class_of}
+use Rattle.bl_parse_syntax.specs.Tables.{has}
+use Rattle.bl_parse_syntax.specs.Expects.{Expects}
 use Rattle.bl_parse.specs.At.{kind_at, start_at, end_at}
 
 -- the tokens from a position on, as the grammar sees them
-abbrev pub left : List Token → ℕ → List View
+abbrev pub left : List Token → ℕ → List TokenView
 left tokens k = drop k (views tokens)
 
 -- from the position on, up to the end, the tokens are expected to spell these symbols

@@ -3,7 +3,7 @@ use Rattle.std.specs.Prelude.{List, [], ◌∷◌, ◌++◌, ℤ, Option, Some, 
 use Rattle.bl_rows.specs.declared.fault.RowFault.{RowFault}
 use Rattle.bl_rows.specs.declared.verdict.Verdict.{Verdict}
 use Rattle.bl_rows.specs.declared.verdict.Verdict.TheVariants.{Passed, Header, Numbers, Bad}
-use Rattle.bl_rows.specs.declared.verdict.Place.{Place}
+use Rattle.bl_rows.specs.declared.verdict.RowPlace.{RowPlace}
 use Rattle.bl_rows.specs.Reading.{Scan}
 
 -- the fault of a bad line
@@ -21,7 +21,7 @@ rows_by (Numbers row) = row ∷ []
 rows_by (Bad fault) = []
 
 -- what is left to be told, for a reader that stands here and may have stopped
-abbrev pub left_after_stop : Option RowFault → Place → Scan → Scan
+abbrev pub left_after_stop : Option RowFault → RowPlace → Scan → Scan
 left_after_stop None at s = s
 left_after_stop (Some fault) at s = record { rows = []; at = at; fault = Some fault }
 

@@ -4,21 +4,21 @@ use Rattle.std.proofs.lemmas.Bool.{cases_lt}
 use Rattle.std.specs.Prelude.{Option, Some, None, slice_get}
 use Rattle.bl_tree.specs.declared.rule.Rule.TheVariants as rule
 use Rattle.bl_tree.specs.declared.tree.Unit.{Unit as UnitDef}
-use Rattle.bl_tree.specs.Program.{Keeps, is_entry}
+use Rattle.bl_tree.specs.Program.{IsWellTyped, is_entry}
 use Rattle.bl_lex.specs.Rules.{Passes as TextPasses}
-use Rattle.bl_raw.specs.declared.item.RawItem.{RawItem}
-use Rattle.bl_raw.specs.declared.raw.Raw.{Raw}
-use Rattle.bl_raw.specs.Keeps.{RawKeeps as ItemsKeep}
-use Rattle.bl_scopes.specs.Rules.{Passes as NamesPass}
+use Rattle.bl_parse_tree.specs.declared.item.RawItem.{RawItem}
+use Rattle.bl_parse_tree.specs.declared.raw.Raw.{Raw}
+use Rattle.bl_parse_tree.specs.WellFormed.{RawIsWellFormed as ItemsKeep}
+use Rattle.bl_names_scopes.specs.Rules.{Passes as NamesPass}
 use Rattle.bl_names.specs.Named.{named_program}
 use Rattle.bl_types.specs.Programs.{typed_program}
 use Rattle.bl_types.specs.Rules.{Passes as TypesPass}
-use Rattle.bl_program.specs.Programs.{named_of, typed_of}
+use Rattle.bl_types_program.specs.Programs.{named_of, typed_of}
 use Rattle.bl_effects.specs.Rules.{Passes as UnitsPass}
 use Rattle.bl_cause.specs.Rules.{Passes as GraphsPass}
 use Rattle.bl_ctree.specs.Instances.{instances_of}
-use Rattle.bl_measures.specs.Units.{instances_at}
-use Rattle.bl_measures_laws.specs.Laws.{TypedInstancesAreCounted}
+use Rattle.bl_limits_measures.specs.Units.{instances_at}
+use Rattle.bl_limits_measures_laws.specs.Laws.{TypedInstancesAreCounted}
 use Rattle.bl_rules.specs.Rules.{in_bytes, in_graphs, in_limits, in_names, in_program, in_tree, in_types, in_units}
 use Rattle.bl_rules_laws.proofs.OnTraces.OneTrace.{SpelledKeeps}
 use Rattle.bl_rules_laws.specs.Traces.Instances.{TextsHaveFewInstances}
@@ -27,7 +27,7 @@ use Rattle.bl_rules_laws.specs.Traces.Instances.{TextsHaveFewInstances}
 abbrev pub TypedKeeps : Type 0
 TypedKeeps =
     (items : List RawItem) (bytes : ℕ) → ItemsKeep items → NamesPass items → TypesPass (named_program items bytes) →
-    let typed = typed_program (named_program items bytes) in Keeps typed.structs typed.units typed.entry
+    let typed = typed_program (named_program items bytes) in IsWellTyped typed.structs typed.units typed.entry
 
 record IsThere (found : Option UnitDef) : Type 0 where
   unit : UnitDef

@@ -4,13 +4,13 @@ use Rattle.bl_tree.specs.declared.rule.Rule.TheVariants as rule
 use Rattle.bl_tree.specs.declared.token.Token.{Token}
 use Rattle.bl_lex.specs.Rules.{Passes as TextPasses}
 use Rattle.bl_lex.specs.Tokens.{Lexes}
-use Rattle.bl_syntax.specs.Rules.{PassesDepth}
-use Rattle.bl_raw.specs.declared.raw.Raw.{Raw}
-use Rattle.bl_raw.specs.Keeps.{RawKeeps}
+use Rattle.bl_parse_syntax.specs.Rules.{PassesDepth}
+use Rattle.bl_parse_tree.specs.declared.raw.Raw.{Raw}
+use Rattle.bl_parse_tree.specs.WellFormed.{RawIsWellFormed}
 use Rattle.bl_parse.specs.Programs.{Spells}
-use Rattle.bl_scopes.specs.Rules.{Passes as NamesPass}
+use Rattle.bl_names_scopes.specs.Rules.{Passes as NamesPass}
 use Rattle.bl_types.specs.Rules.{Passes as TypesPass}
-use Rattle.bl_program.specs.Programs.{named_of, typed_of}
+use Rattle.bl_types_program.specs.Programs.{named_of, typed_of}
 use Rattle.bl_effects.specs.Rules.{Passes as UnitsPass}
 use Rattle.bl_cause.specs.Laws.{RulesLeaveNoWalk}
 use Rattle.bl_cause.specs.Rules.{Passes as GraphsPass}
@@ -32,7 +32,7 @@ units_are_ordered graphs walks ranks units passes unit there activity =
 -- what a tree keeps that tokens of a text spell
 abbrev pub SpelledKeeps : Type 0
 SpelledKeeps =
-    (text : List ℕ) (tokens : List Token) (raw : Raw) → Lexes text tokens → PassesDepth tokens → Spells text tokens raw → RawKeeps raw.items
+    (text : List ℕ) (tokens : List Token) (raw : Raw) → Lexes text tokens → PassesDepth tokens → Spells text tokens raw → RawIsWellFormed raw.items
 
 pub texts_have_one_trace : SpelledKeeps → UnitsAreOrdered → TypedHaveOneTrace → TextsHaveOneTrace
 texts_have_one_trace keeps ordered traces text program has =

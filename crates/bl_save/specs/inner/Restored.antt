@@ -1,7 +1,7 @@
 -- What a runner is whose cells were set to numbers that bytes stand for.
 use Rattle.std.specs.Prelude.{◌≡◌, ℕ, ℤ, true, List}
 use Rattle.bl_tree.specs.Ports.{in_ranges}
-use Rattle.bl_cinterface.specs.Layout.{kinds_of}
+use Rattle.bl_crun_ports.specs.Layout.{kinds_of}
 use Rattle.bl_crun.specs.Running.{Running}
 use Rattle.bl_save.specs.Bytes.{cells_bytes}
 use Rattle.bl_save.specs.States.{with_numbers}

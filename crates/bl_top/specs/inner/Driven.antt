@@ -1,16 +1,16 @@
 -- A drive before anything of it is written, and then what was written of it.
 use Rattle.std.specs.Prelude.{◌≡◌, ◌⊎◌, ℕ, [], List, Result}
-use Rattle.bl_cmeaning.specs.Cells.{outputs_of}
-use Rattle.bl_cmeaning.specs.Parts.{Parts}
-use Rattle.bl_cmeaning_laws_places.specs.Behaviour.{behaviour_of}
-use Rattle.bl_commands.specs.Calls.{HasRisen, Output}
-use Rattle.bl_commands.specs.declared.answer.Answer.{Answer}
-use Rattle.bl_commands.specs.declared.status.Status.TheVariants as status
-use Rattle.bl_commands.specs.Traces.{OneTrace}
-use Rattle.bl_drive.specs.declared.driven.Driven.{Driven}
-use Rattle.bl_drive.specs.declared.fault.DriveFault.{DriveFault}
-use Rattle.bl_drive_run.specs.Reports.{IsDriven, IsReportOf}
-use Rattle.bl_drive_run.specs.declared.report.Report.{Report}
+use Rattle.bl_ctext_semantics.specs.Cells.{outputs_of}
+use Rattle.bl_ctext_semantics.specs.Parts.{Parts}
+use Rattle.bl_ctext_semantics_laws_places.specs.Behaviour.{behaviour_of}
+use Rattle.bl_top_commands.specs.Calls.{HasRisen, Output}
+use Rattle.bl_top_commands.specs.declared.answer.Answer.{Answer}
+use Rattle.bl_top_commands.specs.declared.status.Status.TheVariants as status
+use Rattle.bl_top_commands.specs.Traces.{OneTrace}
+use Rattle.bl_plant_drive.specs.declared.driven.Driven.{Driven}
+use Rattle.bl_plant_drive.specs.declared.fault.DriveFault.{DriveFault}
+use Rattle.bl_plant_drive_report.specs.Reports.{IsDriven, IsReportOf}
+use Rattle.bl_plant_drive_report.specs.declared.report.Report.{Report}
 use Rattle.bl_io.specs.Held.{Appends, AppendsPart}
 use Rattle.bl_top.specs.Drive.{Plants, setting_of, status_at}
 use Rattle.bl_tree.specs.declared.tree.StructDef.{StructDef}

@@ -1,9 +1,9 @@
 -- The program of a text, on its way to what is written.
 use Rattle.std.specs.Prelude.{ℕ, List}
-use Rattle.bl_cmeaning.specs.Faults.{WellFormed}
-use Rattle.bl_cmeaning.specs.Parts.{parts_of}
-use Rattle.bl_cmeaning_laws_places.specs.Behaviour.{behaviour_of}
-use Rattle.bl_commands.specs.Traces.{OneTrace}
+use Rattle.bl_ctext_semantics.specs.Faults.{WellFormed}
+use Rattle.bl_ctext_semantics.specs.Parts.{parts_of}
+use Rattle.bl_ctext_semantics_laws_places.specs.Behaviour.{behaviour_of}
+use Rattle.bl_top_commands.specs.Traces.{OneTrace}
 use Rattle.bl_ctext.specs.declared.file.CFile.{CFile}
 use Rattle.bl_emit_file.specs.Merged.{HasMergedBlocks}
 use Rattle.bl_emit_laws.specs.Counters.Own.{FunctionsOwn}

@@ -9,5 +9,5 @@ first_named name [] = None
 first_named name (field ∷ rest) = if bytes_eq field.name name then Some 0 else option_map suc (first_named name rest)
 
 -- the table has the position of the first field of each name, and no other name
-abbrev pub Tells : {Z S : Type 0} → HashMap (String Z) ℕ S → List Field → Type 0
-Tells table fields = (name : List ℕ) → get_by_text table name ≡ first_named name fields
+abbrev pub IndexesFields : {Z S : Type 0} → HashMap (String Z) ℕ S → List Field → Type 0
+IndexesFields table fields = (name : List ℕ) → get_by_text table name ≡ first_named name fields

@@ -1,6 +1,6 @@
 use Rattle.std.proofs.Common.{rules}
 use Rattle.bl_tree.specs.declared.c.CExpr.{the_lemmas}
-use Rattle.bl_cmeaning.specs.Calls.{calls_in_arg, calls_in_step}
+use Rattle.bl_ctext_semantics.specs.Calls.{calls_in_arg, calls_in_step}
 use Rattle.bl_bound.specs.inner.Capped.{costs_in}
 use Rattle.bl_bound.proofs.CapLemmas.{calls-done, calls-next, cap-calls}
 use Rattle.bl_bound.proofs.calls.+calling.Goals as goal

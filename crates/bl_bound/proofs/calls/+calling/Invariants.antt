@@ -1,7 +1,7 @@
 use Rattle.std.proofs.Common.{◌≡◌, ◌+◌, drop, map}
 use Rattle.bl_tree.specs.Reduce.{joined}
-use Rattle.bl_cmeaning.specs.Calls.{calls_in_arg, calls_in_step}
-use Rattle.bl_cmeaning.specs.Cost.{cost_of_calls}
+use Rattle.bl_ctext_semantics.specs.Calls.{calls_in_arg, calls_in_step}
+use Rattle.bl_ctext_semantics.specs.Cost.{cost_of_calls}
 use Rattle.bl_bound.specs.inner.Capped.{amount, capped, costs_in}
 use Rattle.bl_bound.proofs.calls.+calling.Given as goal
 

@@ -1,6 +1,6 @@
 use Rattle.std.proofs.Common.{◌≡◌, ℕ, List, ap, ◌∙◌}
-use Rattle.bl_cmeaning.specs.inner.Maps.{text_at}
-use Rattle.bl_cmeaning.specs.Tables.{with_entry}
+use Rattle.bl_ctext_semantics.specs.inner.Maps.{text_at}
+use Rattle.bl_ctext_semantics.specs.Tables.{with_entry}
 use Rattle.bl_bound.specs.inner.Capped.{costs_in}
 use Rattle.bl_bound.proofs.CostLemmas.{costs-done, costs-next}
 use Rattle.bl_bound.proofs.functions.costs_of.Goals as goal

@@ -1,5 +1,5 @@
 use Rattle.std.proofs.Common.{◌<◌, ◌^◌, map, rules, ap, sym, ◌∙◌}
-use Rattle.bl_cmeaning.specs.Cost.{block_cost, cost_of_function, cost_of_stmt}
+use Rattle.bl_ctext_semantics.specs.Cost.{block_cost, cost_of_function, cost_of_stmt}
 use Rattle.bl_bound.specs.declared.cost.Cost.TheVariants.{Number, Over}
 use Rattle.bl_bound.specs.inner.Capped.{amount, capped, costs_in}
 use Rattle.bl_bound.proofs.CostLemmas.{function-block, told-of}

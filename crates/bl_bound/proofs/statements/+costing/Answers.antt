@@ -2,9 +2,9 @@ use Rattle.std.proofs.Common.{◌≡◌, ℕ, ◌+◌, ◌*◌, List, map, max, 
 use Rattle.bl_tree.specs.declared.c.CExpr.{CExpr}
 use Rattle.bl_tree.specs.declared.c.CStmt.{CStmt}
 use Rattle.bl_tree.specs.declared.c.CStmtKind.{the_lemmas}
-use Rattle.bl_cmeaning.specs.Calls.{calls_in, calls_in_place}
-use Rattle.bl_cmeaning.specs.Cost.{Costs, block_cost, cost_of_calls, cost_of_stmt}
-use Rattle.bl_cmeaning.specs.Course.{turn_limit}
+use Rattle.bl_ctext_semantics.specs.Calls.{calls_in, calls_in_place}
+use Rattle.bl_ctext_semantics.specs.Cost.{Costs, block_cost, cost_of_calls, cost_of_stmt}
+use Rattle.bl_ctext_semantics.specs.Course.{turn_limit}
 use Rattle.bl_bound.specs.inner.Capped.{capped, costs_in}
 use Rattle.bl_bound.proofs.CapLemmas.{tell-both, tell-else, tell-if, tell-loop, tell-one}
 use Rattle.bl_bound.proofs.CostLemmas.{block-done, block-next}

@@ -1,5 +1,5 @@
 use Rattle.std.proofs.Common.{◌≡◌, ◌+◌, drop, map}
-use Rattle.bl_cmeaning.specs.Cost.{block_cost, cost_of_stmt}
+use Rattle.bl_ctext_semantics.specs.Cost.{block_cost, cost_of_stmt}
 use Rattle.bl_bound.specs.inner.Capped.{amount, capped, costs_in}
 use Rattle.bl_bound.proofs.statements.+costing.Given as goal
 

@@ -1,5 +1,5 @@
 use Rattle.std.proofs.Common.{◌≡◌, ◌<◌, ap, sym, subst, ◌∙◌, length, get_or, reverse, arith}
-use Rattle.bl_cause.specs.Walks.{Walk}
+use Rattle.bl_cause.specs.Walks.{EdgeWalk}
 use Rattle.bl_cause.proofs.StepLemmas.{back_more, blank}
 use Rattle.bl_cause.proofs.way_back.walk_to.Goals as goal
 
@@ -18,7 +18,7 @@ pub returns : goal.returns
 returns c = λ edges first d tree.
     let start : c.loop-at.at ≡ 0 = omega (arith, c.loop-at-test.false) in
     let turned : c.reverse.new.self.items ≡ reverse c.loop-at.walk = c.reverse.ensures.items ∙ ap reverse c.into_vec-walk.ensures in
-    subst (λ walk. Walk edges first.to walk (get_or c.args.steps.now c.args.last d).edge.to) (sym turned)
-    (subst (λ edge. Walk edges edge.to (reverse c.loop-at.walk) (get_or c.args.steps.now c.args.last d).edge.to) (tree.begins d)
-    (subst (λ at. Walk edges (get_or c.args.steps.now at d).edge.to (reverse c.loop-at.walk) (get_or c.args.steps.now c.args.last d).edge.to) start
+    subst (λ walk. EdgeWalk edges first.to walk (get_or c.args.steps.now c.args.last d).edge.to) (sym turned)
+    (subst (λ edge. EdgeWalk edges edge.to (reverse c.loop-at.walk) (get_or c.args.steps.now c.args.last d).edge.to) (tree.begins d)
+    (subst (λ at. EdgeWalk edges (get_or c.args.steps.now at d).edge.to (reverse c.loop-at.walk) (get_or c.args.steps.now c.args.last d).edge.to) start
     (c.loop-at.invariant.leads edges first d tree)))

@@ -1,5 +1,5 @@
 use Rattle.std.proofs.Common.{◌≡◌, ◌∙◌, get_or, sym, subst}
-use Rattle.bl_cause.specs.Walks.{Walk}
+use Rattle.bl_cause.specs.Walks.{EdgeWalk}
 use Rattle.bl_cause.specs.inner.Steps.{Ends, Tree}
 use Rattle.bl_cause.proofs.StepLemmas.{blank, no_way_back}
 use Rattle.bl_cause.proofs.way_back.way_back.Goals as goal
@@ -14,4 +14,4 @@ returns-clause-some c = λ edges rows there.
     let tree = subst (Tree edges c.args.first) (sym c.deref-in-Some.ensures) (c.in_ok-steps.ensures.tree edges rows) in
     let same = c.deref.ensures ∙ sym c.deref-in-Some.ensures in
     let last = subst (λ steps. (get_or steps c.in-Some.last blank).edge.to ≡ c.args.first.from) same (c.in-Some.ensures.1 blank) in
-    (there, subst (λ node. Walk edges c.args.first.to c.in_ok-rest-in-Some.rest.items node) last (c.in_ok-rest-in-Some.ensures edges c.args.first blank tree))
+    (there, subst (λ node. EdgeWalk edges c.args.first.to c.in_ok-rest-in-Some.rest.items node) last (c.in_ok-rest-in-Some.ensures edges c.args.first blank tree))

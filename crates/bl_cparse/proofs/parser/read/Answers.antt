@@ -2,8 +2,8 @@ use Rattle.std.proofs.Common.{◌≡◌, ℕ, List, ◌++◌, length, drop, sym,
 use Rattle.bl_ctext.specs.declared.prelude.TheConstants.{PRELUDE}
 use Rattle.bl_ctext.specs.Prelude.{prelude}
 use Rattle.bl_ctext.specs.Token.{Token, SpacedC}
-use Rattle.bl_csyntax.specs.Pieces.{pieces}
-use Rattle.bl_csyntax.specs.Grammar.{most_open}
+use Rattle.bl_cparse_syntax.specs.Pieces.{pieces}
+use Rattle.bl_cparse_syntax.specs.Grammar.{most_open}
 use Rattle.bl_cparse.proofs.FileLemmas.{spells, is_file, whole_tokens, passes_tokens, passes_flat, expected}
 use Rattle.bl_cparse.proofs.ReadLemmas.{wanting}
 use Rattle.bl_cparse.proofs.parser.read.Goals as goal

@@ -2,8 +2,8 @@ use Rattle.std.proofs.Common.{◌+◌, ap, ◌∙◌, rules}
 use Rattle.std.specs.Prelude.{slice_set}
 use Rattle.std.proofs.lemmas.Int.{to_z-of_z}
 use Rattle.std.specs.Int.{w128}
-use Rattle.bl_cmeaning_laws.specs.Flat.{with_args}
-use Rattle.bl_bytecode_machine.specs.Steps.{holding}
+use Rattle.bl_ctext_semantics_laws.specs.Flat.{with_args}
+use Rattle.bl_crun_bytecode_vm.specs.Steps.{holding}
 use Rattle.bl_crun.proofs.Loops.{set-step}
 use Rattle.bl_crun.proofs.ports.set_inputs.Goals as goal
 

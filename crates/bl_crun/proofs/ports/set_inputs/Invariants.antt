@@ -1,6 +1,6 @@
 use Rattle.std.specs.Prelude.{◌≡◌, ◌+◌, drop}
-use Rattle.bl_cmeaning_laws.specs.Flat.{with_args}
-use Rattle.bl_bytecode_machine.specs.Steps.{holding}
+use Rattle.bl_ctext_semantics_laws.specs.Flat.{with_args}
+use Rattle.bl_crun_bytecode_vm.specs.Steps.{holding}
 use Rattle.bl_crun.proofs.ports.set_inputs.Given as goal
 
 abbrev pub invariant-loop-k : goal.invariant-loop-k

@@ -1,4 +1,4 @@
-use Rattle.bl_cmeaning.specs.Parts.{parts_of}
+use Rattle.bl_ctext_semantics.specs.Parts.{parts_of}
 use Rattle.bl_crun.proofs.Keeping.{set-within, tick-done, tick-keeps, tick-required, tick-ticked}
 use Rattle.bl_crun.proofs.prepared.do_tick.Goals as goal
 

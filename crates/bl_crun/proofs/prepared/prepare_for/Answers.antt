@@ -1,10 +1,10 @@
 use Rattle.std.proofs.Common.{◌≡◌, pos, length, replicate, ap, ◌∙◌, arith}
 use Rattle.std.specs.Prelude.{codes}
-use Rattle.bl_bytecode.specs.Laws.{code_of_file, entry_in_file}
-use Rattle.bl_cmeaning.specs.Cells.{inputs_of, outputs_of}
-use Rattle.bl_cmeaning.specs.Parts.{parts_from, parts_of}
-use Rattle.bl_cinterface.specs.Layout.{kinds_of}
-use Rattle.bl_cinterface.specs.Ports.{inputs_start, outputs_start}
+use Rattle.bl_crun_bytecode.specs.Laws.{code_of_file, entry_in_file}
+use Rattle.bl_ctext_semantics.specs.Cells.{inputs_of, outputs_of}
+use Rattle.bl_ctext_semantics.specs.Parts.{parts_from, parts_of}
+use Rattle.bl_crun_ports.specs.Layout.{kinds_of}
+use Rattle.bl_crun_ports.specs.Ports.{inputs_start, outputs_start}
 use Rattle.bl_crun.proofs.Keeping.{inputs-fit, kinds-base, kinds-fit, outputs-fit}
 use Rattle.bl_crun.proofs.Ticks.{zeros-keep}
 use Rattle.bl_crun.proofs.prepared.prepare_for.Goals as goal

@@ -1,5 +1,5 @@
 use Rattle.std.proofs.Common.{◌∙◌}
-use Rattle.bl_cmeaning.specs.Parts.{parts_of}
+use Rattle.bl_ctext_semantics.specs.Parts.{parts_of}
 use Rattle.bl_crun.proofs.Keeping.{start-done, start-keeps, start-numbers, start-ready, start-required}
 use Rattle.bl_crun.proofs.prepared.start.Goals as goal
 

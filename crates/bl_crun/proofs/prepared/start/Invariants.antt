@@ -1,5 +1,5 @@
 use Rattle.std.specs.Prelude.{codes}
-use Rattle.bl_cmeaning.specs.Parts.{parts_of}
+use Rattle.bl_ctext_semantics.specs.Parts.{parts_of}
 use Rattle.bl_crun.proofs.Calls.{steps_of}
 use Rattle.bl_crun.proofs.prepared.start.Given as goal
 

@@ -1,4 +1,4 @@
-use Rattle.bl_nodes.specs.Plain.{plain_body}
+use Rattle.bl_graph_nodes.specs.Plain.{plain_body}
 use Rattle.bl_ctree_laws_traces.specs.Ready.Ordered.{HasOrder}
 use Rattle.bl_ctree_laws_examples.proofs.OnTraces.Ordering.{has_order}
 use Rattle.bl_ctree_laws_examples.proofs.OnTraces.Placed.{one_alone}

@@ -1,8 +1,8 @@
 use Rattle.std.proofs.Common.{◌≡◌, ◌++◌, drop, map}
 use Rattle.bl_emit_blocks.specs.Numbered.{numbered_turn}
 use Rattle.bl_emit_blocks.specs.Views.{view_in}
-use Rattle.bl_emit_pass.specs.Activities.{blocks_code}
-use Rattle.bl_pass_listed.specs.Told.{rule_in}
+use Rattle.bl_emit_spec.specs.Activities.{blocks_code}
+use Rattle.bl_machine_transitions.specs.Told.{rule_in}
 use Rattle.bl_emit.proofs.code.add_blocks.Given as goal
 
 abbrev pub invariant-loop-block : goal.invariant-loop-block

@@ -1,5 +1,5 @@
 use Rattle.std.proofs.Common.{◌≡◌, ◌++◌, drop, map}
-use Rattle.bl_emit_pass.specs.Activities.{rested_code}
+use Rattle.bl_emit_spec.specs.Activities.{rested_code}
 use Rattle.bl_emit.proofs.code.all_rested.Given as goal
 
 abbrev pub invariant-loop-k : goal.invariant-loop-k

@@ -1,5 +1,5 @@
 use Rattle.std.proofs.Common.{◌≡◌, ◌++◌, drop, map}
-use Rattle.bl_emit_pass.specs.Programs.{port_member}
+use Rattle.bl_emit_spec.specs.Programs.{port_member}
 use Rattle.bl_emit.proofs.interface.add_ports.Given as goal
 
 abbrev pub invariant-loop-var : goal.invariant-loop-var

@@ -1,5 +1,5 @@
 use Rattle.std.proofs.Common.{◌≡◌, ◌++◌, drop, map}
-use Rattle.bl_pass_listed.specs.Told.{rule_in}
+use Rattle.bl_machine_transitions.specs.Told.{rule_in}
 use Rattle.bl_emit_tables.specs.Told.{flags_told}
 use Rattle.bl_emit.proofs.registers.add_flags.Given as goal
 

@@ -1,5 +1,5 @@
 use Rattle.std.proofs.Common.{◌≡◌, ◌++◌, drop, map}
-use Rattle.bl_pass_listed.specs.Told.{rule_in}
+use Rattle.bl_machine_transitions.specs.Told.{rule_in}
 use Rattle.bl_emit_tables.specs.Told.{runs_told}
 use Rattle.bl_emit.specs.Kept.{run_in}
 use Rattle.bl_emit.proofs.runs.runs_of.Given as goal

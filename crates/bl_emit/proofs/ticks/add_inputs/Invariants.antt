@@ -1,5 +1,5 @@
 use Rattle.std.proofs.Common.{◌≡◌, ◌++◌, drop, map}
-use Rattle.bl_emit_pass.specs.Programs.{input_arg}
+use Rattle.bl_emit_spec.specs.Programs.{input_arg}
 use Rattle.bl_emit.proofs.ticks.add_inputs.Given as goal
 
 abbrev pub invariant-loop-var : goal.invariant-loop-var

@@ -1,5 +1,5 @@
 use Rattle.std.proofs.Common.{◌≡◌, [], drop, take}
-use Rattle.bl_emit_pass.specs.Programs.{parts_then}
+use Rattle.bl_emit_spec.specs.Programs.{parts_then}
 use Rattle.bl_emit.specs.Kept.{parts_in}
 use Rattle.bl_emit.specs.Programs.{units_told}
 use Rattle.bl_emit.proofs.units.all_parts.Given as goal

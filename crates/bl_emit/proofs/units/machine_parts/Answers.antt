@@ -1,7 +1,7 @@
 use Rattle.std.proofs.Common.{◌≡◌, ℕ, IfOk, List, ap, ap₂, ◌∙◌, subst, map}
-use Rattle.bl_pass_listed.specs.Told.{Rule, rule_in}
-use Rattle.bl_emit_pass.specs.Programs.{where_needed}
-use Rattle.bl_emit.specs.Activities.{Told}
+use Rattle.bl_machine_transitions.specs.Told.{NumberedTransition, rule_in}
+use Rattle.bl_emit_spec.specs.Programs.{where_needed}
+use Rattle.bl_emit.specs.Activities.{ActivityInput}
 use Rattle.bl_emit.specs.Kept.{parts_in, shared_in}
 use Rattle.bl_emit.specs.Programs.{SharedRules, parts_told, shared_told}
 use Rattle.bl_emit.proofs.units.machine_parts.Goals as goal
@@ -13,7 +13,7 @@ returns c =
     let rules_are : map rule_in c.deref-2.result.now ≡ made.rules =
     ap (map rule_in) c.deref-2.ensures ∙ ap (λ (shared : SharedRules). shared.rules) both in
     let sizes_are : c.deref-3.result.now ≡ made.sizes = c.deref-3.ensures ∙ ap (λ (shared : SharedRules). shared.sizes) both in
-    let told : List (List ℕ) → List Rule → List ℕ → Told = λ blocks rules sizes. record {
+    let told : List (List ℕ) → List NumberedTransition → List ℕ → ActivityInput = λ blocks rules sizes. record {
       structs = c.args.structs.now;
       earlier = c.args.earlier.now;
       unit = c.args.unit.now;
@@ -22,7 +22,7 @@ returns c =
       sizes = sizes;
       remember = c.args.remember.now;
     } in
-    subst (λ (a : Told). IfOk c.activity_parts.result (λ made. parts_in made ≡ where_needed c.args.needed (parts_told a)))
-    (ap₂ (λ (blocks : List (List ℕ)) (rules : List Rule). told blocks rules c.deref-3.result.now) c.deref.ensures rules_are
+    subst (λ (a : ActivityInput). IfOk c.activity_parts.result (λ made. parts_in made ≡ where_needed c.args.needed (parts_told a)))
+    (ap₂ (λ (blocks : List (List ℕ)) (rules : List NumberedTransition). told blocks rules c.deref-3.result.now) c.deref.ensures rules_are
     ∙ ap (told c.args.one.now.blocks made.rules) sizes_are)
     c.activity_parts.ensures

@@ -1,5 +1,5 @@
 use Rattle.std.proofs.Common.{◌≡◌, drop}
-use Rattle.bl_emit_pass.specs.Blocks.{last_value}
+use Rattle.bl_emit_spec.specs.Blocks.{last_value}
 use Rattle.bl_emit_blocks.proofs.counters.last_value.Given as goal
 
 abbrev pub invariant-loop-slot : goal.invariant-loop-slot

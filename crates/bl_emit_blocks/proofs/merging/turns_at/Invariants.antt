@@ -3,7 +3,7 @@ use Rattle.std.specs.Prelude.{option_map}
 use Rattle.bl_emit_blocks.specs.Merging as merging
 use Rattle.bl_emit_blocks.specs.Numbered.{numbered_turn}
 use Rattle.bl_emit_blocks.specs.Views.{turn_in, view_in}
-use Rattle.bl_pass_listed.specs.Told.{rule_in}
+use Rattle.bl_machine_transitions.specs.Told.{rule_in}
 use Rattle.bl_emit_blocks.proofs.merging.turns_at.Given as goal
 
 abbrev pub invariant-loop-k : goal.invariant-loop-k

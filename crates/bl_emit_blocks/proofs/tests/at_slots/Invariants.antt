@@ -1,5 +1,5 @@
 use Rattle.std.proofs.Common.{◌≡◌, ◌++◌, map, drop}
-use Rattle.bl_emit_pass.specs.Blocks.{at_slot}
+use Rattle.bl_emit_spec.specs.Blocks.{at_slot}
 use Rattle.bl_emit_blocks.specs.Views.{view_in}
 use Rattle.bl_emit_blocks.proofs.tests.at_slots.Given as goal
 

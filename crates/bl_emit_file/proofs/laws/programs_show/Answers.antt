@@ -6,11 +6,11 @@ returns c machine known =
     shows_program c.args.program.now machine (record {
       built = c.activities_built.ensures;
       compile = c.programs_compile.ensures;
-      come = c.all_come.ensures;
+      come = c.compiled_simulate.ensures;
       rows = c.rows_suffice.ensures;
       runs = c.entry_runs.ensures;
       shows = c.written_shows.ensures;
-      formed = c.programs_formed.ensures;
+      formed = c.programs_well_formed.ensures;
       small = c.files_small.ensures;
       own = c.files_own.ensures;
       ifs = c.files_have_ifs.ensures;

@@ -9,7 +9,7 @@ use Rattle.bl_tree.specs.declared.scalar.Scalar.{Scalar}
 use Rattle.bl_tree.specs.declared.tree.StructDef.{StructDef}
 use Rattle.bl_tree.specs.declared.tree.Unit.{Unit as UnitDef}
 use Rattle.bl_tree.specs.Program.{parameters_of}
-use Rattle.bl_tree.specs.Typing.{Site, inputs_of, site_of}
+use Rattle.bl_tree.specs.Typing.{TypingContext, inputs_of, site_of}
 use Rattle.bl_emit_acts.specs.Sites.{site_in}
 use Rattle.bl_emit_acts.specs.Trees.{nowhere}
 use Rattle.bl_emit_acts.specs.Types.{c_scalar, unit_name}
@@ -19,7 +19,7 @@ use Rattle.bl_emit_functions.specs.Functions.{params_from, read_code, returns_la
 use Rattle.bl_emit_functions.specs.Reads.{reads_in_block}
 use Rattle.bl_emit_functions.proofs.functions.function.Goals as goal
 
-module _ (structs : List StructDef) (earlier : List UnitDef) (unit : UnitDef) (site : Site) (coded : Coded) (body whole : List CStmt)
+module _ (structs : List StructDef) (earlier : List UnitDef) (unit : UnitDef) (site : TypingContext) (coded : Coded) (body whole : List CStmt)
     (params : List CParam) (locals : List CLocal) (name : Text) (result : Option Scalar) where
   made_is : site ≡ site_of structs earlier unit → coded ≡ body_coded site unit →
       body ≡ copies_from site 0 (inputs_of unit) ++ (coded.code ++ end_code unit.result (returns_last false unit.body)) →
@@ -35,12 +35,12 @@ module _ (structs : List StructDef) (earlier : List UnitDef) (unit : UnitDef) (s
       let whole_is : whole ≡ whole_code (site_of structs earlier unit) unit =
       of_whole
       ∙ (ap (λ (body : List CStmt). read_code site (first_held site 0 unit.vars) (reads_in_block body) ++ body) body_is
-      ∙ ap (λ (site : Site). whole_code site unit) of_site) in
+      ∙ ap (λ (site : TypingContext). whole_code site unit) of_site) in
       let locals_are : locals ≡ memory_local unit.name (holds_any (site_of structs earlier unit) unit.vars)
       ++ flag_locals (body_coded (site_of structs earlier unit) unit).free.flags =
       of_locals
       ∙ (ap (λ (coded : Coded). memory_local unit.name (holds_any site unit.vars) ++ flag_locals coded.free.flags) of_coded
-      ∙ ap (λ (site : Site). memory_local unit.name (holds_any site unit.vars) ++ flag_locals (body_coded site unit).free.flags) of_site) in
+      ∙ ap (λ (site : TypingContext). memory_local unit.name (holds_any site unit.vars) ++ flag_locals (body_coded site unit).free.flags) of_site) in
       λ i. record {
         place = nowhere;
         fixed = true;

@@ -1,4 +1,4 @@
-use Rattle.bl_emit_pass.specs.Programs.{set_from}
+use Rattle.bl_emit_spec.specs.Programs.{set_from}
 use Rattle.bl_emit_tables.proofs.SetLemmas.{set_end, set_step}
 use Rattle.bl_emit_tables.proofs.bools.set_all.Goals as goal
 

@@ -1,5 +1,5 @@
 use Rattle.std.proofs.Common.{◌≡◌, drop}
-use Rattle.bl_emit_pass.specs.Programs.{set_from}
+use Rattle.bl_emit_spec.specs.Programs.{set_from}
 use Rattle.bl_emit_tables.proofs.bools.set_all.Given as goal
 
 abbrev pub invariant-loop-position : goal.invariant-loop-position

@@ -1,5 +1,5 @@
 use Rattle.std.proofs.Common.{◌≡◌}
-use Rattle.bl_emit_pass.specs.Programs.{needed_below, needed_units}
+use Rattle.bl_emit_spec.specs.Programs.{needed_below, needed_units}
 use Rattle.bl_emit_tables.proofs.needed.needed_units.Given as goal
 
 abbrev pub invariant-loop-k : goal.invariant-loop-k

@@ -1,6 +1,6 @@
 use Rattle.std.proofs.Common.{◌≡◌, ◌++◌, map, drop}
 use Rattle.bl_tree.specs.Reduce.{joined}
-use Rattle.bl_prevs.specs.Prevs.{prevs_in_expr, prevs_in_part}
+use Rattle.bl_machine_prevs.specs.Prevs.{prevs_in_expr, prevs_in_part}
 use Rattle.bl_emit_tables.proofs.prevs.+expressions.Given as goal
 
 abbrev pub invariant-in_exprs-loop-e : goal.invariant-in_exprs-loop-e

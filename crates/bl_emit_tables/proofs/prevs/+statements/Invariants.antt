@@ -1,6 +1,6 @@
 use Rattle.std.proofs.Common.{◌≡◌, ◌++◌, map, drop}
 use Rattle.bl_tree.specs.Reduce.{joined}
-use Rattle.bl_prevs.specs.Prevs.{prevs_in, prevs_in_arm, prevs_in_branch}
+use Rattle.bl_machine_prevs.specs.Prevs.{prevs_in, prevs_in_arm, prevs_in_branch}
 use Rattle.bl_emit_tables.proofs.prevs.+statements.Given as goal
 
 abbrev pub invariant-in_block-loop-s : goal.invariant-in_block-loop-s

@@ -1,6 +1,6 @@
 use Rattle.std.proofs.Common.{◌≡◌, ◌++◌, map, drop}
 use Rattle.bl_tree.specs.Reduce.{joined}
-use Rattle.bl_prevs.specs.Prevs.{prevs_in_path}
+use Rattle.bl_machine_prevs.specs.Prevs.{prevs_in_path}
 use Rattle.bl_emit_tables.proofs.prevs.in_paths.Given as goal
 
 abbrev pub invariant-loop-path : goal.invariant-loop-path

@@ -1,5 +1,5 @@
 use Rattle.std.proofs.Common.{◌≡◌, ℕ, false, ◌||◌, drop, map, slice_get, unwrap_or}
-use Rattle.bl_pass_listed.specs.Told.{rule_in}
+use Rattle.bl_machine_transitions.specs.Told.{rule_in}
 use Rattle.bl_emit_tables.specs.Told.{read_told}
 use Rattle.bl_emit_tables.proofs.read.read_by.Given as goal
 

@@ -1,10 +1,10 @@
 -- The program has one trace, and this is it.
 use Rattle.std.proofs.Common.{◌≡◌, ◌≤◌, ◌∙◌, ℕ, List, refl, subst, sym, arith}
-use Rattle.bl_ctree.specs.Means.{Means, shown}
+use Rattle.bl_ctree.specs.Means.{Means, shown_trace}
 use Rattle.bl_ctree_laws_traces.specs.Traces.OneTrace.{HasOneTrace}
 use Rattle.bl_gen.specs.Outputs.{input_rows}
 use Rattle.bl_gen.specs.Text.{most_stages, program_text}
-use Rattle.bl_gen_run.specs.Runs.{HasTrace, IsRun, run_text}
+use Rattle.bl_gen_run.specs.Runs.{HasTrace, IsGeneratedRun, run_text}
 use Rattle.bl_rules.specs.Accepted.{HasProgram}
 use Rattle.bl_tree.specs.declared.program.Program.{Program}
 use Rattle.bl_tree.specs.declared.row.Last.{Last}
@@ -13,20 +13,20 @@ use Rattle.bl_gen_run.proofs.walked.run_of.Goals as goal
 
 -- a trace that the meaning allows is the one
 the_trace : (stages : ℕ) (program : Program) (trace : Trace) → HasProgram (program_text stages) program →
-    HasOneTrace program.structs program.units program.entry → Means program.structs program.units program.entry input_rows (shown trace) →
+    HasOneTrace program.structs program.units program.entry → Means program.structs program.units program.entry input_rows (shown_trace trace) →
     HasTrace stages trace
 the_trace stages program trace has one means =
     let only = (one.each input_rows).only in record {
       program = program;
       has = has;
       one = λ shows. (
-        λ allowed. only shows allowed ∙ sym (only (shown trace) means),
+        λ allowed. only shows allowed ∙ sym (only (shown_trace trace) means),
         λ same. subst (λ s. Means program.structs program.units program.entry input_rows s) (sym same) means,
       );
     }
 
 is_run : (stages : ℕ) (trace : Trace) (text : List ℕ) (last : Last) → stages ≤ most_stages → HasTrace stages trace →
-    text ≡ run_text stages trace.rows trace.last → last ≡ trace.last → IsRun stages text last
+    text ≡ run_text stages trace.rows trace.last → last ≡ trace.last → IsGeneratedRun stages text last
 is_run stages trace text last within has text_is last_is =
     record { within = within; trace = trace; has = has; text_is = text_is; last_is = last_is }
 

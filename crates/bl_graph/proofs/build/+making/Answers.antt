@@ -1,6 +1,6 @@
 use Rattle.std.proofs.Common.{◌+◌, ◌-◌, ◌++◌, ◌||◌, not, nat_lt, length, take, drop, ap, ◌∙◌}
 use Rattle.bl_graph.specs.inner.Parts.{branch_links, joined_branch, links_each}
-use Rattle.bl_nodes.specs.Plain.{passed_one}
+use Rattle.bl_graph_nodes.specs.Plain.{passed_one}
 use Rattle.bl_graph.proofs.Branching.{
   assign_kind,
   await_kind,

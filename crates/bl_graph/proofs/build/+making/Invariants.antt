@@ -1,7 +1,7 @@
 use Rattle.std.proofs.Common.{◌≡◌, ◌+◌, List, nat_eq, take, drop, map, length}
 use Rattle.bl_tree.specs.declared.tree.Stmt.{Stmt}
-use Rattle.bl_nodes.specs.Laws.{plain_arm}
-use Rattle.bl_nodes.specs.Plain.{Label, else_at, plain_block}
+use Rattle.bl_graph_nodes.specs.Laws.{plain_arm}
+use Rattle.bl_graph_nodes.specs.Plain.{Label, else_at, plain_block}
 use Rattle.bl_graph.specs.declared.part.Links.{Links}
 use Rattle.bl_graph.specs.inner.Made.{BlockMade, BranchesMade, Naming, Open, Whole}
 use Rattle.bl_graph.proofs.build.+making.Given as goal

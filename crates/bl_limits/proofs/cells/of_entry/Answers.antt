@@ -2,7 +2,7 @@ use Rattle.std.proofs.Common.{ap, ◌∙◌, arith}
 use Rattle.std.specs.Prelude.{slice_get}
 use Rattle.bl_tree.specs.declared.rule.Rule.TheVariants as rule
 use Rattle.bl_tree.specs.Rules.{first_of}
-use Rattle.bl_measures.specs.Units.{cells_at}
+use Rattle.bl_limits_measures.specs.Units.{cells_at}
 use Rattle.bl_limits.specs.inner.Failures.{at_unit}
 use Rattle.bl_limits.proofs.Lists.{unit-saturated}
 use Rattle.bl_limits.proofs.cells.of_entry.Goals as goal

@@ -5,7 +5,7 @@ use Rattle.std.specs.Slice.Iter.{iter_rest}
 use Rattle.bl_tree.specs.declared.rule.Rule.TheVariants as rule
 use Rattle.bl_tree.specs.declared.tree.Unit.{Unit as UnitDef}
 use Rattle.bl_tree.specs.Rules.{first_of}
-use Rattle.bl_measures.specs.Units.{all_chains}
+use Rattle.bl_limits_measures.specs.Units.{all_chains}
 use Rattle.bl_limits.specs.inner.Failures.{numbered}
 use Rattle.bl_limits.proofs.Lists.{numbered-end, numbered-next, numbered-saturated}
 use Rattle.bl_limits.proofs.frames.of_chains.Goals as goal

@@ -2,7 +2,7 @@ use Rattle.std.proofs.Common.{◌≡◌, List, [], ◌++◌, ℕ, map, ap, sym, 
 use Rattle.std.specs.Prelude.{Contains, IsPermutation}
 use Rattle.bl_tree.specs.declared.tree.Stmt.{Stmt}
 use Rattle.bl_tree.specs.Reduce.{greatest}
-use Rattle.bl_nodes.specs.Plain.{plain_body}
+use Rattle.bl_graph_nodes.specs.Plain.{plain_body}
 use Rattle.bl_machine.specs.Blocks.{Ordered, up_to}
 use Rattle.bl_machine.specs.inner.Laid.{counters_from, laid, widths}
 use Rattle.bl_machine.proofs.ActivityLemmas.{counters_keep, laid_within, slots_are}

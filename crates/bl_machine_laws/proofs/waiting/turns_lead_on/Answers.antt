@@ -1,5 +1,5 @@
 use Rattle.std.specs.Prelude.{[], None}
-use Rattle.bl_nodes.specs.Plain.{plain_body}
+use Rattle.bl_graph_nodes.specs.Plain.{plain_body}
 use Rattle.bl_ctree_laws_traces.specs.Progress.Places.{whole}
 use Rattle.bl_machine_laws.proofs.OnWaiting.Fresh.{fresh}
 use Rattle.bl_machine_laws.proofs.waiting.turns_lead_on.Goals as goal

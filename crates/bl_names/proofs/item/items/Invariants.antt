@@ -1,6 +1,6 @@
 use Rattle.std.proofs.Common.{◌≡◌, ◌++◌, drop}
-use Rattle.bl_scopes.specs.Marks.{marks_of}
-use Rattle.bl_scopes.specs.Scopes.{after}
+use Rattle.bl_names_scopes.specs.Marks.{marks_of}
+use Rattle.bl_names_scopes.specs.Scopes.{after}
 use Rattle.bl_names.specs.Named.{along, constants_of, structs_of, units_of}
 use Rattle.bl_names.proofs.item.items.Given as goal
 

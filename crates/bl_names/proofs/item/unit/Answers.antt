@@ -1,6 +1,6 @@
 use Rattle.std.proofs.Common.{◌∙◌, ap}
-use Rattle.bl_scopes.specs.Marks.{declares}
-use Rattle.bl_scopes.specs.Scopes.{enter}
+use Rattle.bl_names_scopes.specs.Marks.{declares}
+use Rattle.bl_names_scopes.specs.Scopes.{enter}
 use Rattle.bl_names.proofs.ItemLemmas.{unit_past}
 use Rattle.bl_names.proofs.item.unit.Goals as goal
 

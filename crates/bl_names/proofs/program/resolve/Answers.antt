@@ -1,5 +1,5 @@
 use Rattle.std.proofs.Common.{subst, sym}
-use Rattle.bl_named.specs.Placed.{IsPlaced}
+use Rattle.bl_names_tree.specs.Placed.{IsPlaced}
 use Rattle.bl_names.proofs.PlacedProgram.{is_placed}
 use Rattle.bl_names.proofs.program.resolve.Goals as goal
 

@@ -19,7 +19,7 @@ use Rattle.bl_names.proofs.KindLemmas.{
   while_made,
   while_past,
 }
-use Rattle.bl_scopes.proofs.WalkLemmas.{on_ok}
+use Rattle.bl_names_scopes.proofs.WalkLemmas.{on_ok}
 use Rattle.bl_names.proofs.PastLemmas.{closed_past, loop_made, loop_past, sure}
 use Rattle.bl_names.proofs.stmt.+named_statements.Goals as goal
 

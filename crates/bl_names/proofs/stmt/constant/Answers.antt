@@ -2,7 +2,7 @@ use Rattle.std.proofs.Common.{◌≡◌, ◌∙◌}
 use Rattle.bl_names.specs.Named.{constant_piece}
 use Rattle.bl_names.specs.inner.Past.{past, with_constant}
 use Rattle.bl_names.proofs.KindLemmas.{constant_past}
-use Rattle.bl_scopes.proofs.WalkLemmas.{on_ok}
+use Rattle.bl_names_scopes.proofs.WalkLemmas.{on_ok}
 use Rattle.bl_names.proofs.stmt.constant.Goals as goal
 
 pub returns-clause-past : goal.returns-clause-past

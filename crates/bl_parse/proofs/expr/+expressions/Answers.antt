@@ -1,7 +1,7 @@
 use Rattle.std.proofs.Common.{Some, refl, ap, sym, arith, true, ◌∙◌, ◌∷◌, [], lit≤}
 use Rattle.bl_lex.specs.declared.word.TheConstants.{AS, NOT}
 use Rattle.bl_lex.specs.declared.sign.TheConstants.{OPEN_BRACKET, CLOSE_BRACKET, OPEN_PAREN, CLOSE_PAREN, COMMA, DOT, MINUS, TILDE}
-use Rattle.bl_syntax.specs.declared.grammar.Part.TheVariants.{
+use Rattle.bl_parse_syntax.specs.declared.grammar.Part.TheVariants.{
   Scalar,
   Accesses,
   Inputs,
@@ -14,9 +14,9 @@ use Rattle.bl_syntax.specs.declared.grammar.Part.TheVariants.{
   NameUse,
   NoOutputs,
 }
-use Rattle.bl_syntax.specs.Grammar.{name, number, word, sign, the, class_of}
+use Rattle.bl_parse_syntax.specs.Grammar.{name, number, word, sign, the, class_of}
 use Rattle.bl_tree.specs.declared.token.TokenKind.TheVariants.{Word, Sign}
-use Rattle.bl_raw.specs.declared.expr.RawExprKind as kind
+use Rattle.bl_parse_tree.specs.declared.expr.RawExprKind as kind
 use Rattle.bl_parse.specs.Expressions.{SpellsExpr, SpellsTarget, SpellsPart, SpellsParts, SpellsInputs, SpellsExprs}
 use Rattle.bl_parse.specs.Operators.{left_level, IsPrefix}
 use Rattle.bl_parse.specs.inner.Reading.{IsPlaceTail}

@@ -1,7 +1,7 @@
 use Rattle.std.proofs.Common.{ℕ, ◌+◌, ◌-◌, ◌*◌, ◌<◌, ◌≤◌, length, [], ◌∷◌}
 use Rattle.bl_parse.specs.Expressions.{SpellsExpr, SpellsParts, SpellsExprs}
-use Rattle.bl_syntax.specs.declared.grammar.Part.TheVariants.{Cast, CastRest, Expr, InputRest}
-use Rattle.bl_syntax.specs.Grammar.{the}
+use Rattle.bl_parse_syntax.specs.declared.grammar.Part.TheVariants.{Cast, CastRest, Expr, InputRest}
+use Rattle.bl_parse_syntax.specs.Grammar.{the}
 use Rattle.bl_parse.specs.inner.Reading.{operand, KeepsTail, Turns}
 use Rattle.bl_parse.proofs.OperatorLemmas.{below, tails}
 use Rattle.bl_parse.proofs.expr.+expressions.Given as goal

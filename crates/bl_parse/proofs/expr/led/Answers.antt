@@ -1,6 +1,6 @@
 use Rattle.std.proofs.Common.{[], ◌∷◌, refl}
 use Rattle.bl_lex.specs.declared.word.TheConstants.{FALSE}
-use Rattle.bl_syntax.specs.Grammar.{word}
+use Rattle.bl_parse_syntax.specs.Grammar.{word}
 use Rattle.bl_parse.specs.Expressions.{IsTruth}
 use Rattle.bl_parse.proofs.PartLemmas.{primary_false}
 use Rattle.bl_parse.proofs.ReadLemmas.{next_word, after, opened_last}

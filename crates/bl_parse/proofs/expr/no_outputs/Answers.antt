@@ -1,6 +1,6 @@
 use Rattle.std.proofs.Common.{refl, ◌∷◌, []}
 use Rattle.bl_lex.specs.declared.sign.TheConstants.{OPEN_PAREN, CLOSE_PAREN}
-use Rattle.bl_syntax.specs.Grammar.{sign}
+use Rattle.bl_parse_syntax.specs.Grammar.{sign}
 use Rattle.bl_parse.specs.Expressions.{SpellsNone}
 use Rattle.bl_parse.proofs.ReadLemmas.{next_sign, after, then, pass, opened, omit, no_sign}
 use Rattle.bl_parse.proofs.expr.no_outputs.Goals as goal

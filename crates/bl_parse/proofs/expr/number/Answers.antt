@@ -1,6 +1,6 @@
 use Rattle.std.proofs.Common.{refl, false, ◌∷◌, []}
-use Rattle.bl_syntax.specs.Grammar.{number}
-use Rattle.bl_raw.specs.declared.expr.RawExprKind as kind
+use Rattle.bl_parse_syntax.specs.Grammar.{number}
+use Rattle.bl_parse_tree.specs.declared.expr.RawExprKind as kind
 use Rattle.bl_parse.specs.Expressions.{SpellsExpr}
 use Rattle.bl_parse.proofs.ExprLemmas.{placed}
 use Rattle.bl_parse.proofs.ReadLemmas.{then, pass, opened}

@@ -1,5 +1,5 @@
 use Rattle.std.proofs.Common.{lit≤}
-use Rattle.bl_raw.specs.declared.expr.RawExprKind as kind
+use Rattle.bl_parse_tree.specs.declared.expr.RawExprKind as kind
 use Rattle.bl_parse.specs.Expressions.{SpellsExpr}
 use Rattle.bl_parse.proofs.ExprLemmas.{placed_by}
 use Rattle.bl_parse.proofs.expr.one_cast.Goals as goal

@@ -1,7 +1,7 @@
 use Rattle.std.proofs.Common.{refl, ◌∷◌, []}
 use Rattle.bl_lex.specs.declared.word.TheConstants.{PREV}
-use Rattle.bl_syntax.specs.Grammar.{name, word}
-use Rattle.bl_raw.specs.declared.expr.RawExprKind as kind
+use Rattle.bl_parse_syntax.specs.Grammar.{name, word}
+use Rattle.bl_parse_tree.specs.declared.expr.RawExprKind as kind
 use Rattle.bl_parse.specs.Expressions.{SpellsExpr}
 use Rattle.bl_parse.proofs.ExprLemmas.{placed}
 use Rattle.bl_parse.proofs.ReadLemmas.{next_name, after, then, pass, opened}

@@ -1,6 +1,6 @@
 use Rattle.std.proofs.Common.{refl, ◌∷◌, []}
-use Rattle.bl_syntax.specs.Grammar.{word}
-use Rattle.bl_raw.specs.declared.expr.RawExprKind as kind
+use Rattle.bl_parse_syntax.specs.Grammar.{word}
+use Rattle.bl_parse_tree.specs.declared.expr.RawExprKind as kind
 use Rattle.bl_tree.specs.declared.token.TokenKind.TheVariants.{Word}
 use Rattle.bl_parse.specs.Expressions.{SpellsExpr}
 use Rattle.bl_parse.proofs.ExprLemmas.{placed}

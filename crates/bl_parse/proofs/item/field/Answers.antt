@@ -1,8 +1,8 @@
 use Rattle.std.proofs.Common.{refl, ◌∷◌, []}
 use Rattle.bl_lex.specs.declared.word.TheConstants.{VAR}
 use Rattle.bl_lex.specs.declared.sign.TheConstants.{COLON}
-use Rattle.bl_syntax.specs.declared.grammar.Part.TheVariants.{Ty}
-use Rattle.bl_syntax.specs.Grammar.{name, word, sign, the}
+use Rattle.bl_parse_syntax.specs.declared.grammar.Part.TheVariants.{Ty}
+use Rattle.bl_parse_syntax.specs.Grammar.{name, word, sign, the}
 use Rattle.bl_parse.proofs.ReadLemmas.{next_word, next_name, after, then, read, pass, opened_one}
 use Rattle.bl_parse.proofs.item.field.Goals as goal
 

@@ -1,6 +1,6 @@
 use Rattle.std.proofs.Common.{refl, arith, ◌∷◌, []}
-use Rattle.bl_syntax.specs.declared.grammar.Part.TheVariants.{Field, Fields}
-use Rattle.bl_syntax.specs.Grammar.{the}
+use Rattle.bl_parse_syntax.specs.declared.grammar.Part.TheVariants.{Field, Fields}
+use Rattle.bl_parse_syntax.specs.Grammar.{the}
 use Rattle.bl_parse.specs.Programs.{SpellsFieldList}
 use Rattle.bl_parse.proofs.ExprLemmas.{pushed_first}
 use Rattle.bl_parse.proofs.ReadLemmas.{first, after, then, read, opened, omit, no_word}

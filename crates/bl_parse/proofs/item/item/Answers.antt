@@ -1,6 +1,6 @@
 use Rattle.std.proofs.Common.{refl, ◌∷◌, []}
-use Rattle.bl_syntax.specs.declared.grammar.Part.TheVariants.{Struct, Constant, Unit}
-use Rattle.bl_syntax.specs.Grammar.{the, class_of}
+use Rattle.bl_parse_syntax.specs.declared.grammar.Part.TheVariants.{Struct, Constant, Unit}
+use Rattle.bl_parse_syntax.specs.Grammar.{the, class_of}
 use Rattle.bl_parse.specs.Programs.{SpellsItem}
 use Rattle.bl_parse.proofs.PartLemmas.{off_at, item_unit}
 use Rattle.bl_parse.proofs.ReadLemmas.{after, then, opened, opened_rest, no_word}

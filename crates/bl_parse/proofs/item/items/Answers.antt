@@ -1,6 +1,6 @@
 use Rattle.std.proofs.Common.{refl, arith, subst, [], ◌∷◌}
-use Rattle.bl_syntax.specs.declared.grammar.Part.TheVariants.{Program}
-use Rattle.bl_syntax.specs.Grammar.{the}
+use Rattle.bl_parse_syntax.specs.declared.grammar.Part.TheVariants.{Program}
+use Rattle.bl_parse_syntax.specs.Grammar.{the}
 use Rattle.bl_parse.specs.Programs.{SpellsItems}
 use Rattle.bl_parse.proofs.ReadLemmas.{item_next}
 use Rattle.bl_parse.proofs.item.items.Goals as goal

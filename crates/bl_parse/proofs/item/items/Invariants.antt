@@ -1,6 +1,6 @@
 use Rattle.std.proofs.Common.{◌-◌, length, [], ◌∷◌}
-use Rattle.bl_syntax.specs.declared.grammar.Part.TheVariants.{Program}
-use Rattle.bl_syntax.specs.Grammar.{the}
+use Rattle.bl_parse_syntax.specs.declared.grammar.Part.TheVariants.{Program}
+use Rattle.bl_parse_syntax.specs.Grammar.{the}
 use Rattle.bl_parse.specs.Programs.{SpellsItems}
 use Rattle.bl_parse.specs.inner.Reading.{Here}
 use Rattle.bl_parse.proofs.item.items.Given as goal

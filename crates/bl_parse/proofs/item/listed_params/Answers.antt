@@ -1,7 +1,7 @@
 use Rattle.std.proofs.Common.{refl, arith, ◌∷◌, []}
 use Rattle.bl_lex.specs.declared.sign.TheConstants.{COMMA}
-use Rattle.bl_syntax.specs.declared.grammar.Part.TheVariants.{ParamRest, Param}
-use Rattle.bl_syntax.specs.Grammar.{sign, the}
+use Rattle.bl_parse_syntax.specs.declared.grammar.Part.TheVariants.{ParamRest, Param}
+use Rattle.bl_parse_syntax.specs.Grammar.{sign, the}
 use Rattle.bl_parse.specs.Programs.{SpellsParamList}
 use Rattle.bl_parse.proofs.ExprLemmas.{pushed_first}
 use Rattle.bl_parse.proofs.ReadLemmas.{first, after, then, read, pass, opened, omit, no_sign}

@@ -1,7 +1,7 @@
 use Rattle.std.proofs.Common.{refl, ◌∷◌, []}
 use Rattle.bl_lex.specs.declared.sign.TheConstants.{AT, OPEN_BRACKET, CLOSE_BRACKET}
-use Rattle.bl_syntax.specs.declared.grammar.Part.TheVariants.{PlainUnit}
-use Rattle.bl_syntax.specs.Grammar.{name, sign, the, class_of}
+use Rattle.bl_parse_syntax.specs.declared.grammar.Part.TheVariants.{PlainUnit}
+use Rattle.bl_parse_syntax.specs.Grammar.{name, sign, the, class_of}
 use Rattle.bl_parse.specs.Programs.{SpellsMark}
 use Rattle.bl_parse.proofs.PartLemmas.{off_at, unit_plain}
 use Rattle.bl_parse.proofs.ReadLemmas.{next_sign, next_name, after, then, pass, opened, opened_rest, no_sign}

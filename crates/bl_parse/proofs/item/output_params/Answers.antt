@@ -1,6 +1,6 @@
 use Rattle.std.proofs.Common.{refl, ◌∷◌, []}
-use Rattle.bl_syntax.specs.declared.grammar.Part.TheVariants.{Params}
-use Rattle.bl_syntax.specs.Grammar.{the}
+use Rattle.bl_parse_syntax.specs.declared.grammar.Part.TheVariants.{Params}
+use Rattle.bl_parse_syntax.specs.Grammar.{the}
 use Rattle.bl_parse.specs.Programs.{SpellsOutputParams}
 use Rattle.bl_parse.proofs.ReadLemmas.{after, then, opened, omit, no_sign}
 use Rattle.bl_parse.proofs.item.output_params.Goals as goal

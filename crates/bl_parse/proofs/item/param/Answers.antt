@@ -1,7 +1,7 @@
 use Rattle.std.proofs.Common.{refl, ◌∷◌, []}
 use Rattle.bl_lex.specs.declared.sign.TheConstants.{COLON}
-use Rattle.bl_syntax.specs.declared.grammar.Part.TheVariants.{Ty}
-use Rattle.bl_syntax.specs.Grammar.{name, sign, the}
+use Rattle.bl_parse_syntax.specs.declared.grammar.Part.TheVariants.{Ty}
+use Rattle.bl_parse_syntax.specs.Grammar.{name, sign, the}
 use Rattle.bl_parse.proofs.ReadLemmas.{next_name, after, then, read, opened_one}
 use Rattle.bl_parse.proofs.item.param.Goals as goal
 

@@ -1,7 +1,7 @@
 use Rattle.std.proofs.Common.{refl, ◌∷◌, []}
 use Rattle.bl_lex.specs.declared.word.TheConstants.{RETURNS}
-use Rattle.bl_syntax.specs.declared.grammar.Part.TheVariants.{Ty}
-use Rattle.bl_syntax.specs.Grammar.{word, the}
+use Rattle.bl_parse_syntax.specs.declared.grammar.Part.TheVariants.{Ty}
+use Rattle.bl_parse_syntax.specs.Grammar.{word, the}
 use Rattle.bl_parse.specs.Programs.{SpellsResult}
 use Rattle.bl_parse.proofs.ReadLemmas.{after, then, pass, opened, omit, no_word}
 use Rattle.bl_parse.proofs.item.result_type.Goals as goal

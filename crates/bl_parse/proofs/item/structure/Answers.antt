@@ -1,7 +1,7 @@
 use Rattle.std.proofs.Common.{refl, ◌∷◌, []}
 use Rattle.bl_lex.specs.declared.word.TheConstants.{STRUCT, END}
-use Rattle.bl_syntax.specs.declared.grammar.Part.TheVariants.{Field, Fields}
-use Rattle.bl_syntax.specs.Grammar.{name, word, the}
+use Rattle.bl_parse_syntax.specs.declared.grammar.Part.TheVariants.{Field, Fields}
+use Rattle.bl_parse_syntax.specs.Grammar.{name, word, the}
 use Rattle.bl_parse.proofs.ReadLemmas.{next_word, next_name, first_two, after, then, read, read_two, pass, opened_one}
 use Rattle.bl_parse.proofs.item.structure.Goals as goal
 

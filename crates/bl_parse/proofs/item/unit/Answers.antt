@@ -1,7 +1,7 @@
 use Rattle.std.proofs.Common.{refl, ◌∷◌, []}
 use Rattle.bl_lex.specs.declared.word.TheConstants.{END}
-use Rattle.bl_syntax.specs.declared.grammar.Part.TheVariants.{Params, SecondParams, Returns, Block}
-use Rattle.bl_syntax.specs.Grammar.{word, the}
+use Rattle.bl_parse_syntax.specs.declared.grammar.Part.TheVariants.{Params, SecondParams, Returns, Block}
+use Rattle.bl_parse_syntax.specs.Grammar.{word, the}
 use Rattle.bl_parse.proofs.ReadLemmas.{next_word, next_name, first, after, then, read, pass, opened_one}
 use Rattle.bl_parse.proofs.item.unit.Goals as goal
 

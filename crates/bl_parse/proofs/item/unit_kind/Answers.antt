@@ -1,7 +1,7 @@
 use Rattle.std.proofs.Common.{refl, ◌∷◌, []}
 use Rattle.bl_lex.specs.declared.word.TheConstants.{FUNCTION, ACTIVITY}
-use Rattle.bl_syntax.specs.declared.grammar.Part.TheVariants.{UnitTail}
-use Rattle.bl_syntax.specs.Grammar.{name, word, the, class_of}
+use Rattle.bl_parse_syntax.specs.declared.grammar.Part.TheVariants.{UnitTail}
+use Rattle.bl_parse_syntax.specs.Grammar.{name, word, the, class_of}
 use Rattle.bl_tree.specs.declared.token.TokenKind.TheVariants.{Word}
 use Rattle.bl_parse.specs.Programs.{IsUnit}
 use Rattle.bl_parse.proofs.PartLemmas.{off_at, plain_activity}

@@ -1,8 +1,8 @@
 use Rattle.std.proofs.Common.{refl, ◌∷◌, []}
 use Rattle.bl_lex.specs.declared.word.TheConstants.{CONST}
 use Rattle.bl_lex.specs.declared.sign.TheConstants.{ASSIGN}
-use Rattle.bl_syntax.specs.declared.grammar.Part.TheVariants.{TypeMark, Expr}
-use Rattle.bl_syntax.specs.Grammar.{name, word, sign, the}
+use Rattle.bl_parse_syntax.specs.declared.grammar.Part.TheVariants.{TypeMark, Expr}
+use Rattle.bl_parse_syntax.specs.Grammar.{name, word, sign, the}
 use Rattle.bl_parse.proofs.ReadLemmas.{next_word, next_name, first, after, then, read, pass, opened_one}
 use Rattle.bl_parse.proofs.parts.constant.Goals as goal
 

@@ -1,7 +1,7 @@
 use Rattle.std.proofs.Common.{refl, ◌∷◌, []}
 use Rattle.bl_lex.specs.declared.sign.TheConstants.{ASSIGN}
-use Rattle.bl_syntax.specs.declared.grammar.Part.TheVariants.{Expr}
-use Rattle.bl_syntax.specs.Grammar.{sign, the}
+use Rattle.bl_parse_syntax.specs.declared.grammar.Part.TheVariants.{Expr}
+use Rattle.bl_parse_syntax.specs.Grammar.{sign, the}
 use Rattle.bl_parse.specs.Statements.{SpellsInitial}
 use Rattle.bl_parse.proofs.ReadLemmas.{after, then, opened, omit, no_sign}
 use Rattle.bl_parse.proofs.parts.initial.Goals as goal

@@ -1,7 +1,7 @@
 use Rattle.std.proofs.Common.{refl, ◌∷◌, []}
 use Rattle.bl_lex.specs.declared.sign.TheConstants.{OPEN_PAREN, CLOSE_PAREN}
-use Rattle.bl_syntax.specs.declared.grammar.Part.TheVariants.{OutputList, OutputRest, Path}
-use Rattle.bl_syntax.specs.Grammar.{sign, the}
+use Rattle.bl_parse_syntax.specs.declared.grammar.Part.TheVariants.{OutputList, OutputRest, Path}
+use Rattle.bl_parse_syntax.specs.Grammar.{sign, the}
 use Rattle.bl_parse.specs.Statements.{SpellsOutputs}
 use Rattle.bl_parse.proofs.PartLemmas.{next_other}
 use Rattle.bl_parse.proofs.ReadLemmas.{next_sign, first_two, after, then, read_two, pass, opened_one, omit, filled, no_sign}

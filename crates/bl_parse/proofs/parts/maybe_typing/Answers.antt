@@ -1,7 +1,7 @@
 use Rattle.std.proofs.Common.{refl, ◌∷◌, []}
 use Rattle.bl_lex.specs.declared.sign.TheConstants.{COLON}
-use Rattle.bl_syntax.specs.declared.grammar.Part.TheVariants.{Ty}
-use Rattle.bl_syntax.specs.Grammar.{sign, the}
+use Rattle.bl_parse_syntax.specs.declared.grammar.Part.TheVariants.{Ty}
+use Rattle.bl_parse_syntax.specs.Grammar.{sign, the}
 use Rattle.bl_parse.specs.Statements.{SpellsMaybeTyping}
 use Rattle.bl_parse.proofs.ReadLemmas.{after, then, opened, omit, no_sign}
 use Rattle.bl_parse.proofs.parts.maybe_typing.Goals as goal

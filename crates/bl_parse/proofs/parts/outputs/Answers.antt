@@ -1,6 +1,6 @@
 use Rattle.std.proofs.Common.{refl, ◌∷◌, []}
-use Rattle.bl_syntax.specs.declared.grammar.Part.TheVariants.{Outputs}
-use Rattle.bl_syntax.specs.Grammar.{the}
+use Rattle.bl_parse_syntax.specs.declared.grammar.Part.TheVariants.{Outputs}
+use Rattle.bl_parse_syntax.specs.Grammar.{the}
 use Rattle.bl_parse.specs.Statements.{SpellsOutputs}
 use Rattle.bl_parse.proofs.ReadLemmas.{after, then, opened, omit, no_sign}
 use Rattle.bl_parse.proofs.parts.outputs.Goals as goal

@@ -1,6 +1,6 @@
 use Rattle.std.proofs.Common.{refl, ◌∷◌, []}
-use Rattle.bl_syntax.specs.declared.grammar.Part.TheVariants.{PathRest}
-use Rattle.bl_syntax.specs.Grammar.{name, the}
+use Rattle.bl_parse_syntax.specs.declared.grammar.Part.TheVariants.{PathRest}
+use Rattle.bl_parse_syntax.specs.Grammar.{name, the}
 use Rattle.bl_parse.specs.inner.Reading.{IsPathTail}
 use Rattle.bl_parse.proofs.ReadLemmas.{next_name, after, then, read, opened_one, omit}
 use Rattle.bl_parse.proofs.parts.path.Goals as goal

@@ -1,7 +1,7 @@
 use Rattle.std.proofs.Common.{◌-◌, ◌<◌, length, [], ◌∷◌}
 use Rattle.bl_parse.specs.Statements.{SpellsPaths}
-use Rattle.bl_syntax.specs.declared.grammar.Part.TheVariants.{Path, OutputRest}
-use Rattle.bl_syntax.specs.Grammar.{the}
+use Rattle.bl_parse_syntax.specs.declared.grammar.Part.TheVariants.{Path, OutputRest}
+use Rattle.bl_parse_syntax.specs.Grammar.{the}
 use Rattle.bl_parse.specs.inner.Reading.{Turns}
 use Rattle.bl_parse.proofs.parts.paths.Given as goal
 

@@ -1,7 +1,7 @@
 use Rattle.std.proofs.Common.{refl, ◌∷◌, []}
 use Rattle.bl_lex.specs.declared.sign.TheConstants.{ASSIGN}
-use Rattle.bl_syntax.specs.declared.grammar.Part.TheVariants.{CallTail, RunTarget}
-use Rattle.bl_syntax.specs.Grammar.{name, sign, the, class_of}
+use Rattle.bl_parse_syntax.specs.declared.grammar.Part.TheVariants.{CallTail, RunTarget}
+use Rattle.bl_parse_syntax.specs.Grammar.{name, sign, the, class_of}
 use Rattle.bl_parse.specs.Statements.{SpellsReceiver}
 use Rattle.bl_parse.specs.inner.Reading.{IsPathTail}
 use Rattle.bl_parse.proofs.PartLemmas.{off_at, run_target, target_assign}

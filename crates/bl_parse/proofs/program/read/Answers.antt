@@ -1,5 +1,5 @@
 use Rattle.std.proofs.Common.{refl}
-use Rattle.bl_syntax.proofs.Expecting.{expects_program}
+use Rattle.bl_parse_syntax.proofs.Expecting.{expects_program}
 use Rattle.bl_parse.proofs.program.read.Goals as goal
 
 pub items-requires : goal.items-requires

@@ -1,7 +1,7 @@
 use Rattle.std.proofs.Common.{Some, refl, ap, sym, arith, ◌∙◌, ◌∷◌, []}
 use Rattle.bl_lex.specs.declared.word.TheConstants.{END, COBEGIN, WHEN, REPEAT, WHILE, IF, THEN, WITH, UNTIL, ELSEIF, ELSE}
-use Rattle.bl_syntax.specs.declared.grammar.Part.TheVariants.{Block, Weak, Branches, Guard, Until, Elseifs, Else, Expr}
-use Rattle.bl_syntax.specs.Grammar.{word, the}
+use Rattle.bl_parse_syntax.specs.declared.grammar.Part.TheVariants.{Block, Weak, Branches, Guard, Until, Elseifs, Else, Expr}
+use Rattle.bl_parse_syntax.specs.Grammar.{word, the}
 use Rattle.bl_parse.specs.Statements.{SpellsBlock, SpellsStmt, SpellsKind, SpellsBranches, SpellsBranch, SpellsArms, SpellsArm, SpellsElse}
 use Rattle.bl_parse.proofs.ExprLemmas.{le_same, pushed_first}
 use Rattle.bl_parse.proofs.StmtLemmas.{placed_stmt, return_left}

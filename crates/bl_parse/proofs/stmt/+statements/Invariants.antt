@@ -1,7 +1,7 @@
 use Rattle.std.proofs.Common.{ℕ, ◌+◌, ◌-◌, ◌*◌, ◌<◌, ◌≤◌, length, [], ◌∷◌}
 use Rattle.bl_parse.specs.Statements.{SpellsBlock, SpellsBranches, SpellsArms}
-use Rattle.bl_syntax.specs.declared.grammar.Part.TheVariants.{Block, Weak, Branches, Expr, Elseifs}
-use Rattle.bl_syntax.specs.Grammar.{the, word}
+use Rattle.bl_parse_syntax.specs.declared.grammar.Part.TheVariants.{Block, Weak, Branches, Expr, Elseifs}
+use Rattle.bl_parse_syntax.specs.Grammar.{the, word}
 use Rattle.bl_parse.specs.inner.Reading.{Turns}
 use Rattle.bl_lex.specs.declared.word.TheConstants.{IF, THEN}
 use Rattle.bl_parse.proofs.stmt.+statements.Given as goal

@@ -1,8 +1,8 @@
 use Rattle.std.proofs.Common.{refl, ◌∷◌, []}
 use Rattle.bl_lex.specs.declared.word.TheConstants.{LET}
 use Rattle.bl_lex.specs.declared.sign.TheConstants.{ASSIGN}
-use Rattle.bl_syntax.specs.declared.grammar.Part.TheVariants.{TypeMark, Expr}
-use Rattle.bl_syntax.specs.Grammar.{name, word, sign, the}
+use Rattle.bl_parse_syntax.specs.declared.grammar.Part.TheVariants.{TypeMark, Expr}
+use Rattle.bl_parse_syntax.specs.Grammar.{name, word, sign, the}
 use Rattle.bl_parse.specs.Statements.{SpellsKind}
 use Rattle.bl_parse.proofs.ReadLemmas.{next_name, first, after, then, read, pass, opened}
 use Rattle.bl_parse.proofs.stmt.fixed.Goals as goal

@@ -1,6 +1,6 @@
 use Rattle.std.proofs.Common.{refl, ◌∷◌, []}
 use Rattle.bl_lex.specs.declared.word.TheConstants.{ABORT, RESET}
-use Rattle.bl_syntax.specs.Grammar.{word, class_of}
+use Rattle.bl_parse_syntax.specs.Grammar.{word, class_of}
 use Rattle.bl_tree.specs.declared.token.TokenKind.TheVariants.{Word}
 use Rattle.bl_parse.specs.Statements.{IsGuard}
 use Rattle.bl_parse.proofs.PartLemmas.{off_at, guard_reset}

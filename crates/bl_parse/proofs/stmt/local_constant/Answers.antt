@@ -1,6 +1,6 @@
 use Rattle.std.proofs.Common.{refl, ◌∷◌, []}
-use Rattle.bl_syntax.specs.declared.grammar.Part.TheVariants.{Constant}
-use Rattle.bl_syntax.specs.Grammar.{the}
+use Rattle.bl_parse_syntax.specs.declared.grammar.Part.TheVariants.{Constant}
+use Rattle.bl_parse_syntax.specs.Grammar.{the}
 use Rattle.bl_parse.specs.Statements.{SpellsKind}
 use Rattle.bl_parse.proofs.ReadLemmas.{after, then, opened}
 use Rattle.bl_parse.proofs.stmt.local_constant.Goals as goal

@@ -1,7 +1,7 @@
 use Rattle.std.proofs.Common.{refl, ◌∷◌, []}
 use Rattle.bl_lex.specs.declared.sign.TheConstants.{ASSIGN}
-use Rattle.bl_syntax.specs.declared.grammar.Part.TheVariants.{AfterName, CallTail, AssignTail, Inputs, SecondOutputs, Expr}
-use Rattle.bl_syntax.specs.Grammar.{name, sign, the, class_of}
+use Rattle.bl_parse_syntax.specs.declared.grammar.Part.TheVariants.{AfterName, CallTail, AssignTail, Inputs, SecondOutputs, Expr}
+use Rattle.bl_parse_syntax.specs.Grammar.{name, sign, the, class_of}
 use Rattle.bl_parse.specs.Statements.{SpellsKind}
 use Rattle.bl_parse.specs.inner.Reading.{IsPlaceTail}
 use Rattle.bl_parse.proofs.PartLemmas.{off_at, after_assign, assign_value}

@@ -1,7 +1,7 @@
 use Rattle.std.proofs.Common.{refl, sym, ◌∙◌, ◌∷◌, []}
 use Rattle.bl_lex.specs.declared.word.TheConstants.{RETURN}
-use Rattle.bl_syntax.specs.declared.grammar.Part.TheVariants.{AfterReturn}
-use Rattle.bl_syntax.specs.Grammar.{word, the}
+use Rattle.bl_parse_syntax.specs.declared.grammar.Part.TheVariants.{AfterReturn}
+use Rattle.bl_parse_syntax.specs.Grammar.{word, the}
 use Rattle.bl_parse.specs.Statements.{SpellsKind}
 use Rattle.bl_parse.proofs.ReturnLemmas.{returned, bare}
 use Rattle.bl_parse.proofs.ReadLemmas.{after, then, pass, opened}

@@ -1,7 +1,7 @@
 use Rattle.std.proofs.Common.{refl, ◌∷◌, []}
 use Rattle.bl_lex.specs.declared.word.TheConstants.{RUN}
-use Rattle.bl_syntax.specs.declared.grammar.Part.TheVariants.{RunTail, Inputs, SecondOutputs}
-use Rattle.bl_syntax.specs.Grammar.{name, word, the}
+use Rattle.bl_parse_syntax.specs.declared.grammar.Part.TheVariants.{RunTail, Inputs, SecondOutputs}
+use Rattle.bl_parse_syntax.specs.Grammar.{name, word, the}
 use Rattle.bl_parse.specs.Statements.{SpellsKind}
 use Rattle.bl_parse.proofs.ReadLemmas.{first, after, then, read, pass, opened, opened_one}
 use Rattle.bl_parse.proofs.stmt.run.Goals as goal

@@ -1,8 +1,8 @@
 use Rattle.std.proofs.Common.{refl, ◌∷◌, []}
 use Rattle.bl_lex.specs.declared.word.TheConstants.{VAR}
 use Rattle.bl_lex.specs.declared.sign.TheConstants.{COLON, ASSIGN}
-use Rattle.bl_syntax.specs.declared.grammar.Part.TheVariants.{Ty, VarTail, Initial, Expr}
-use Rattle.bl_syntax.specs.Grammar.{name, word, sign, the, class_of}
+use Rattle.bl_parse_syntax.specs.declared.grammar.Part.TheVariants.{Ty, VarTail, Initial, Expr}
+use Rattle.bl_parse_syntax.specs.Grammar.{name, word, sign, the, class_of}
 use Rattle.bl_parse.specs.Statements.{SpellsKind}
 use Rattle.bl_parse.proofs.PartLemmas.{off_at, var_value}
 use Rattle.bl_parse.proofs.ReadLemmas.{next_name, first_two, after, then, read, read_two, pass, opened, opened_rest, no_sign}

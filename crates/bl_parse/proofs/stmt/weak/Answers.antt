@@ -1,6 +1,6 @@
 use Rattle.std.proofs.Common.{refl, ◌∷◌, []}
 use Rattle.bl_lex.specs.declared.word.TheConstants.{WEAK}
-use Rattle.bl_syntax.specs.Grammar.{word}
+use Rattle.bl_parse_syntax.specs.Grammar.{word}
 use Rattle.bl_parse.specs.Statements.{SpellsWeak}
 use Rattle.bl_parse.proofs.ReadLemmas.{then, pass, opened, omit, no_word}
 use Rattle.bl_parse.proofs.stmt.weak.Goals as goal

@@ -1,8 +1,8 @@
 use Rattle.std.proofs.Common.{Some, refl, ap, sym, arith, ◌∙◌, ◌∷◌, []}
 use Rattle.bl_lex.specs.declared.sign.TheConstants.{OPEN_BRACKET, CLOSE_BRACKET}
-use Rattle.bl_syntax.specs.declared.grammar.Part.TheVariants.{Ty, Scalar, Length}
-use Rattle.bl_syntax.specs.Grammar.{name, sign, the}
-use Rattle.bl_raw.specs.declared.types.RawType as form
+use Rattle.bl_parse_syntax.specs.declared.grammar.Part.TheVariants.{Ty, Scalar, Length}
+use Rattle.bl_parse_syntax.specs.Grammar.{name, sign, the}
+use Rattle.bl_parse_tree.specs.declared.types.RawType as form
 use Rattle.bl_parse.specs.Types.{SpellsType}
 use Rattle.bl_parse.proofs.ReadLemmas.{next_sign, first, after, then, read, pass, opened, opened_last, never_ends, never}
 use Rattle.bl_parse.proofs.types.+types.Goals as goal

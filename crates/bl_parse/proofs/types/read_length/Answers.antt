@@ -1,9 +1,9 @@
 use Rattle.std.proofs.Common.{[], ap, refl, ◌∷◌}
-use Rattle.bl_syntax.specs.Grammar.{name, number, class_of}
-use Rattle.bl_raw.specs.declared.types.RawLength.{RawLength}
+use Rattle.bl_parse_syntax.specs.Grammar.{name, number, class_of}
+use Rattle.bl_parse_tree.specs.declared.types.RawLength.{RawLength}
 use Rattle.bl_parse.specs.Types.{SpellsLength}
 use Rattle.bl_parse.proofs.PartLemmas.{off_at, no_number, length_name}
-use Rattle.bl_syntax.specs.declared.grammar.Class.TheVariants.{AnyNumber}
+use Rattle.bl_parse_syntax.specs.declared.grammar.Class.TheVariants.{AnyNumber}
 use Rattle.bl_parse.proofs.ReadLemmas.{next_name, after, then, pass, opened, opened_rest}
 use Rattle.bl_parse.proofs.types.read_length.Goals as goal
 

@@ -1,5 +1,5 @@
 use Rattle.std.proofs.Common.{refl, sym, ◌∙◌}
-use Rattle.bl_syntax.specs.Grammar.{class_of}
+use Rattle.bl_parse_syntax.specs.Grammar.{class_of}
 use Rattle.bl_parse.proofs.PartLemmas.{scalar_never, scalar_word}
 use Rattle.bl_parse.proofs.ReadLemmas.{then, pass, opened, never_ends, never}
 use Rattle.bl_parse.proofs.types.read_scalar.Goals as goal

@@ -3,7 +3,7 @@ use Rattle.std.proofs.Common.{length, subst}
 use Rattle.bl_parse.specs.Programs.{Spells}
 use Rattle.bl_rules.proofs.Causes.{bytes_cause, is_short, parsed, program_of_text, tokens_cause, tree_cause}
 use Rattle.bl_rules.proofs.Layers.{text_passes}
-use Rattle.bl_syntax.specs.Rules.{Fails as TokensFail, Passes as TokensPass}
+use Rattle.bl_parse_syntax.specs.Rules.{Fails as TokensFail, Passes as TokensPass}
 use Rattle.bl_tree.specs.Rules.{IsCause}
 use Rattle.bl_rules.proofs.judge.accept.Goals as goal
 

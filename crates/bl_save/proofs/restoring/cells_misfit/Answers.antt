@@ -1,6 +1,6 @@
 use Rattle.std.proofs.Common.{arith, ◌≡◌, ◌∙◌, ap, sym, List, ℕ, ◌+◌, ◌<◌, drop, length, take, Some, None}
 use Rattle.std.proofs.lemmas.List.{take_rest}
-use Rattle.bl_cinterface.specs.Layout.{kinds_of}
+use Rattle.bl_crun_ports.specs.Layout.{kinds_of}
 use Rattle.bl_save.specs.Bytes.{size_of}
 use Rattle.bl_save.specs.inner.Shapes.{cell_shape, misfit}
 use Rattle.bl_save.proofs.Faults.{count-kinds}

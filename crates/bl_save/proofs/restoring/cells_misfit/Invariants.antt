@@ -1,5 +1,5 @@
 use Rattle.std.proofs.Common.{◌≡◌, ◌≤◌, drop, length}
-use Rattle.bl_cinterface.specs.Layout.{kinds_of}
+use Rattle.bl_crun_ports.specs.Layout.{kinds_of}
 use Rattle.bl_save.specs.inner.Shapes.{cells_shape, misfit}
 use Rattle.bl_save.proofs.Walks.{later, left_at}
 use Rattle.bl_save.proofs.restoring.cells_misfit.Given as goal

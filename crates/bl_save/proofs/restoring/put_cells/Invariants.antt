@@ -1,6 +1,6 @@
 use Rattle.std.proofs.Common.{◌≡◌, ◌≤◌, ◌++◌, length, drop, take, None}
-use Rattle.bl_cmeaning.specs.Cells.{cells_of}
-use Rattle.bl_cinterface.specs.Layout.{kinds_of}
+use Rattle.bl_ctext_semantics.specs.Cells.{cells_of}
+use Rattle.bl_crun_ports.specs.Layout.{kinds_of}
 use Rattle.bl_save.specs.States.{with_numbers}
 use Rattle.bl_save.proofs.States.{numbers_in}
 use Rattle.bl_save.proofs.Walks.{left_at}

@@ -1,5 +1,5 @@
 use Rattle.std.proofs.Common.{◌≡◌, sym, None}
-use Rattle.bl_cinterface.specs.Layout.{kinds_of}
+use Rattle.bl_crun_ports.specs.Layout.{kinds_of}
 use Rattle.bl_save.specs.inner.Shapes.{misfit, state_shape}
 use Rattle.bl_save.proofs.Faults.{bad-state, restored-state}
 use Rattle.bl_save.proofs.States.{are-state}

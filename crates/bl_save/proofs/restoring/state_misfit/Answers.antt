@@ -1,5 +1,5 @@
 use Rattle.std.proofs.Common.{◌∙◌, sym, Some, None}
-use Rattle.bl_cinterface.specs.Layout.{kinds_of}
+use Rattle.bl_crun_ports.specs.Layout.{kinds_of}
 use Rattle.bl_save.specs.inner.Shapes.{state_shape}
 use Rattle.bl_save.proofs.Faults.{state-place}
 use Rattle.bl_save.proofs.Shaped.{misfit-within}

@@ -1,6 +1,6 @@
 use Rattle.std.proofs.Common.{◌≡◌, ◌++◌, drop}
 use Rattle.bl_tree.specs.Ports.{in_ranges}
-use Rattle.bl_cinterface.specs.Layout.{kinds_of}
+use Rattle.bl_crun_ports.specs.Layout.{kinds_of}
 use Rattle.bl_save.specs.Bytes.{cells_bytes}
 use Rattle.bl_save.proofs.saving.push_cells.Given as goal
 

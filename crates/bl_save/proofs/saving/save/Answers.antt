@@ -1,5 +1,5 @@
 use Rattle.std.proofs.Common.{◌≡◌, ◌∙◌, ap, sym, ◌++◌, List, ℕ, length}
-use Rattle.bl_cinterface.specs.Layout.{kinds_of}
+use Rattle.bl_crun_ports.specs.Layout.{kinds_of}
 use Rattle.bl_save.specs.Bytes.{cells_bytes, state_header}
 use Rattle.bl_save.proofs.Faults.{count-kinds}
 use Rattle.bl_save.proofs.saving.save.Goals as goal

@@ -1,6 +1,6 @@
 use Rattle.std.proofs.Common.{◌≡◌, drop, map}
-use Rattle.bl_pass_listed.specs.Shared.{all_keep_off}
-use Rattle.bl_pass_listed.specs.Told.{rule_in}
+use Rattle.bl_machine_transitions.specs.Shared.{all_keep_off}
+use Rattle.bl_machine_transitions.specs.Told.{rule_in}
 use Rattle.bl_slots.proofs.share.all_keep_off.Given as goal
 
 abbrev pub invariant-loop-rule : goal.invariant-loop-rule

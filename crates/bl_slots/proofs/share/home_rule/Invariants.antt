@@ -1,6 +1,6 @@
 use Rattle.std.proofs.Common.{◌≡◌, drop, map}
-use Rattle.bl_pass_listed.specs.Shared.{home_rule}
-use Rattle.bl_pass_listed.specs.Told.{rule_in}
+use Rattle.bl_machine_transitions.specs.Shared.{home_rule}
+use Rattle.bl_machine_transitions.specs.Told.{rule_in}
 use Rattle.bl_slots.proofs.share.home_rule.Given as goal
 
 abbrev pub invariant-loop-rule : goal.invariant-loop-rule

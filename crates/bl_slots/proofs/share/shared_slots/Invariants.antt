@@ -1,5 +1,5 @@
 use Rattle.std.proofs.Common.{◌≡◌, ◌++◌, drop, map}
-use Rattle.bl_pass_listed.specs.Shared.{shared_slot}
+use Rattle.bl_machine_transitions.specs.Shared.{shared_slot}
 use Rattle.bl_slots.proofs.share.shared_slots.Given as goal
 
 abbrev pub invariant-loop-slot : goal.invariant-loop-slot

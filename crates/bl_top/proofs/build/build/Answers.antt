@@ -1,5 +1,5 @@
 -- How the command ends, and what is left of its file.
-use Rattle.bl_commands.specs.Reads.{source_file}
+use Rattle.bl_top_commands.specs.Reads.{source_file}
 use Rattle.bl_top.proofs.Cuts.{kept_same, reads_one}
 use Rattle.bl_top.proofs.Ends.{build_stopped, build_written}
 use Rattle.bl_top.proofs.Programs.{is_of_text}

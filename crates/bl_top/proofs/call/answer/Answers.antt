@@ -1,6 +1,6 @@
 -- Each command's end is that of the job; where there is none nothing is written.
 use Rattle.std.proofs.Common.{◌≡◌, Some, map, refl, rules, string_bytes}
-use Rattle.bl_words.specs.Jobs.{gen, job_of}
+use Rattle.bl_top_args.specs.Jobs.{gen, job_of}
 use Rattle.bl_top.proofs.Cuts.{kept_same}
 use Rattle.bl_top.proofs.Ends.{answers_alone, answers_bound, answers_build, answers_check, answers_count, answers_exec, answers_gen, answers_none}
 use Rattle.bl_top.proofs.Ends.{answers_resume}

@@ -1,5 +1,5 @@
 -- The job's end, and then that of its lines.
-use Rattle.bl_commands.specs.inner.Outcomes.{lines_in}
+use Rattle.bl_top_commands.specs.inner.Outcomes.{lines_in}
 use Rattle.bl_top.proofs.call.blechc.Goals as goal
 
 pub returns-clause-answered : goal.returns-clause-answered

@@ -1,7 +1,7 @@
 -- How the command ends, and what is left of its file.
 use Rattle.std.proofs.Common.{◌∙◌, ap, refl}
-use Rattle.bl_commands.specs.declared.outcome.Outcome.{Outcome}
-use Rattle.bl_commands.specs.Reads.{source_file}
+use Rattle.bl_top_commands.specs.declared.outcome.Outcome.{Outcome}
+use Rattle.bl_top_commands.specs.Reads.{source_file}
 use Rattle.bl_top.proofs.Cuts.{kept_same, reads_one}
 use Rattle.bl_top.proofs.Driven.{drive_drove, drive_short, drive_stopped}
 use Rattle.bl_top.proofs.Programs.{is_of_text}

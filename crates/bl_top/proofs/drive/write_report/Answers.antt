@@ -1,6 +1,6 @@
 -- Each end of the write makes the answer.
 use Rattle.std.proofs.Common.{ap, subst, ◌∙◌, rules, Err, refl}
-use Rattle.bl_commands.specs.declared.outcome.Outcome.{Outcome}
+use Rattle.bl_top_commands.specs.declared.outcome.Outcome.{Outcome}
 use Rattle.bl_io.specs.Held.{Appends, AppendsPart}
 use Rattle.bl_top.specs.inner.Driven.{failed, refused, wrote}
 use Rattle.bl_top.proofs.drive.write_report.Goals as goal

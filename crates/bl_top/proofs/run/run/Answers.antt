@@ -1,7 +1,7 @@
 -- How the command ends, and what is left of its files.
 use Rattle.std.proofs.Common.{[], ◌∷◌}
-use Rattle.bl_commands.specs.Reads.{rows_file, source_file}
-use Rattle.bl_stream.specs.Streams.{course_of}
+use Rattle.bl_top_commands.specs.Reads.{rows_file, source_file}
+use Rattle.bl_rows_stream.specs.Streams.{course_of}
 use Rattle.bl_top.proofs.Cuts.{kept_same, reads_both, reads_first}
 use Rattle.bl_top.proofs.Ends.{run_ran, run_stops, stops_short}
 use Rattle.bl_top.proofs.Programs.{is_of_text}

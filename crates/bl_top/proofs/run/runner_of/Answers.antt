@@ -1,5 +1,5 @@
 -- The file is loaded, unless memory is wanting, and has the program's trace.
-use Rattle.bl_cmeaning.specs.Parts.{parts_of}
+use Rattle.bl_ctext_semantics.specs.Parts.{parts_of}
 use Rattle.bl_top.proofs.Courses.{course_of_parts, loaded_fresh, loaded_parts, wants_memory}
 use Rattle.bl_top.proofs.Driven.{one_trace_of}
 use Rattle.bl_top.proofs.run.runner_of.Goals as goal

@@ -2,7 +2,7 @@ use Rattle.std.proofs.Common.{◌≡◌, ◌∙◌, ◌++◌, ◌+◌, ap, sym, 
 use Rattle.std.proofs.lemmas.List.{length-map}
 use Rattle.std.specs.Prelude.{option_and_then, option_map, slice_get}
 use Rattle.bl_tree.specs.declared.tree.Ty.{Ty}
-use Rattle.bl_named.specs.declared.expr.NamedExpr.{out-NamedExpr}
+use Rattle.bl_names_tree.specs.declared.expr.NamedExpr.{out-NamedExpr}
 use Rattle.bl_types.specs.Expressions.{
   all_failures,
   all_made,

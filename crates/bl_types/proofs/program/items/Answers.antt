@@ -1,7 +1,7 @@
 use Rattle.std.proofs.Common.{◌≡◌, ℕ, ◌∙◌, ◌+◌, ◌<◌, ◌∷◌, List, add-one, ap, drop, get_or, length, sym}
 use Rattle.std.proofs.Math.Seq.{drop-cons}
-use Rattle.bl_named.specs.declared.item.Item.{Item}
-use Rattle.bl_named.specs.declared.item.Item.TheVariants.{Struct}
+use Rattle.bl_names_tree.specs.declared.item.Item.{Item}
+use Rattle.bl_names_tree.specs.declared.item.Item.TheVariants.{Struct}
 use Rattle.bl_types.specs.Programs.{after_item, after_items}
 use Rattle.bl_types.specs.inner.States.{after}
 use Rattle.bl_types.proofs.StateLemmas.{state_next}

@@ -1,8 +1,8 @@
 use Rattle.std.proofs.Common.{◌∙◌, ◌++◌, ap, append_assoc, map, sym}
 use Rattle.std.specs.Prelude.{option_map}
 use Rattle.bl_tree.specs.declared.tree.StmtKind.TheVariants as what
-use Rattle.bl_named.specs.declared.stmt.NamedArm.{out-NamedArm}
-use Rattle.bl_named.specs.declared.stmt.NamedStmt.{out-NamedStmt}
+use Rattle.bl_names_tree.specs.declared.stmt.NamedArm.{out-NamedArm}
+use Rattle.bl_names_tree.specs.declared.stmt.NamedStmt.{out-NamedStmt}
 use Rattle.bl_types.specs.inner.States.{passed}
 use Rattle.bl_types.specs.Statements.{arm_walked, branch_walked, condition, in_order, misplaced, walked_block, walked_stmt}
 use Rattle.bl_types.proofs.JudgedLemmas.{next_of}

@@ -4,7 +4,7 @@ use Rattle.bl_types.specs.declared.environment.State.{State}
 use Rattle.bl_types.specs.Returns.{return_failures}
 use Rattle.bl_types.specs.inner.States.{passed}
 use Rattle.bl_types.specs.Statements.{Block, walked_block}
-use Rattle.bl_types.specs.Units.{after_head, left}
+use Rattle.bl_types.specs.Units.{after_head, environment_after}
 use Rattle.bl_types.proofs.NoteLemmas.{on_ok}
 use Rattle.bl_types.proofs.StateLemmas.{passed_then}
 use Rattle.bl_types.proofs.unit.unit.Goals as goal
@@ -24,13 +24,13 @@ returns c =
     passed_then old c.begin.new.state c.block.new.state head.env head.failures (λ env. (walked_block constants vars body env).env)
     (λ env. (walked_block constants vars body env).failures) c.in_ok-begin.ensures
     c.in_ok-body.ensures.state in
-    on_ok (c.end.new.state ≡ passed c.block.new.state (left unit c.in_ok-body.body c.block.new.state.env) returned) _ c.end.result
+    on_ok (c.end.new.state ≡ passed c.block.new.state (environment_after unit c.in_ok-body.body c.block.new.state.env) returned) _ c.end.result
     (λ h.
     passed_then old c.block.new.state c.end.new.state inside.env (head.failures ++ inside.failures)
-    (λ env. left unit c.in_ok-body.body env) (λ env. returned) within h
-    ∙ ap (λ l. passed old (left unit c.in_ok-body.body inside.env) l) (append_assoc head.failures inside.failures returned)
-    ∙ ap (λ b. passed old (left unit b inside.env) (head.failures ++ (inside.failures ++ returned))) made
+    (λ env. environment_after unit c.in_ok-body.body env) (λ env. returned) within h
+    ∙ ap (λ l. passed old (environment_after unit c.in_ok-body.body inside.env) l) (append_assoc head.failures inside.failures returned)
+    ∙ ap (λ b. passed old (environment_after unit b inside.env) (head.failures ++ (inside.failures ++ returned))) made
     ∙ (λ i.
     let there : Block Stmt = walked_block constants (c.deref.ensures i) (c.deref-2.ensures i) head.env in
-    passed old (left unit there.made there.env) (head.failures ++ (there.failures ++ returned))))
+    passed old (environment_after unit there.made there.env) (head.failures ++ (there.failures ++ returned))))
     c.end.ensures

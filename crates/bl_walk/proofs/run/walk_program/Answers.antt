@@ -1,6 +1,6 @@
 use Rattle.std.proofs.Common.{refl, sym, ◌∙◌, ◌+◌, subst, drop, arith}
 use Rattle.std.proofs.lemmas.List.{drop_all}
-use Rattle.bl_steps.specs.Running.{setting, state}
+use Rattle.bl_ctree_run.specs.Running.{setting, state}
 use Rattle.bl_walk.proofs.Walking.{Onward, between_first, next_row, onward_first, steady_at, walked_closed, walked_open, going_on}
 use Rattle.bl_walk.proofs.run.walk_program.Goals as goal
 

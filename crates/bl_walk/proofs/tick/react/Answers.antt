@@ -1,14 +1,14 @@
 use Rattle.std.proofs.Common.{refl, sym, ◌∙◌, subst, arith, ◌≡◌, length}
 use Rattle.bl_ctree.specs.Points.{points}
-use Rattle.bl_steps.specs.Running.{State, setting, state}
-use Rattle.bl_walk.specs.inner.Ticks.{Stands, rests}
+use Rattle.bl_ctree_run.specs.Running.{RunState, setting, state}
+use Rattle.bl_walk.specs.inner.Ticks.{StepsTo, rests}
 use Rattle.bl_walk.proofs.Ticking.{few_steps, left_by, longer_by, none_of, reacted_by, settled_there, stands_by, stands_first}
 use Rattle.bl_walk.proofs.tick.react.Goals as goal
 
 pub steps-init : goal.steps-init
 steps-init c = record {
   same = c.count.ensures.setting;
-  stands = subst (λ (s : State). Stands (setting c.args.tree.now) c.args.choice.now (state c.args.tree.now) c.args.choice.now s c.args.places.now)
+  stands = subst (λ (s : RunState). StepsTo (setting c.args.tree.now) c.args.choice.now (state c.args.tree.now) c.args.choice.now s c.args.places.now)
       (sym c.count.ensures.state)
       (stands_first (setting c.args.tree.now) (state c.args.tree.now) c.args.choice.now c.args.places.now c.requires.none);
   left = left_by (setting c.args.tree.now) (setting c.count.new.self) (state c.args.tree.now) (state c.count.new.self)
@@ -36,7 +36,7 @@ steps-smaller c =
 pub steps-preserved : goal.steps-preserved
 steps-preserved c = record {
   same = c.count-in-steps.ensures.setting ∙ c.step.ensures.setting ∙ c.steps.invariant.same;
-  stands = subst (λ (s : State). Stands (setting c.args.tree.now) c.args.choice.now (state c.args.tree.now) c.step.new.choice s c.step.new.places)
+  stands = subst (λ (s : RunState). StepsTo (setting c.args.tree.now) c.args.choice.now (state c.args.tree.now) c.step.new.choice s c.step.new.places)
       (sym c.count-in-steps.ensures.state)
       (stands_by (setting c.args.tree.now) (setting c.steps.tree) c.steps.invariant.same c.args.choice.now (state c.args.tree.now) c.steps.choice
       c.step.new.choice c.in_ok-did.ensures.choice (state c.steps.tree) (state c.step.new.tree) c.steps.places c.step.new.places

@@ -1,5 +1,5 @@
 use Rattle.std.specs.Prelude.{Ok}
-use Rattle.bl_steps.specs.Running.{setting, state}
+use Rattle.bl_ctree_run.specs.Running.{setting, state}
 use Rattle.bl_walk.proofs.Ticking.{took_by}
 use Rattle.bl_walk.proofs.tick.step.Goals as goal
 

@@ -1,6 +1,6 @@
 use Rattle.std.proofs.Common.{sym, ◌∙◌, ap, subst}
 use Rattle.bl_ctree.specs.Store.{outputs_row}
-use Rattle.bl_steps.specs.Running.{setting, state}
+use Rattle.bl_ctree_run.specs.Running.{setting, state}
 use Rattle.bl_walk.specs.inner.Ticks.{Begun}
 use Rattle.bl_walk.proofs.Ticking.{begins, row_by, trap_by}
 use Rattle.bl_walk.proofs.tick.tick.Goals as goal

@@ -1,6 +1,6 @@
 use Rattle.std.proofs.Common.{◌≡◌, subst, ◌∙◌, [], get_or, arith}
 use Rattle.std.proofs.lemmas.List.{append-nil}
-use Rattle.bl_cause.specs.inner.Orders.{Keeps, state_of}
+use Rattle.bl_cause.specs.inner.Orders.{SearchInvariant, state_of}
 use Rattle.bl_cause.proofs.RowLemmas.{row_read}
 use Rattle.bl_cause.proofs.OrderLemmas.{frame_within, going_first, going_less, going_next, popped}
 use Rattle.bl_cause.proofs.finishing.Search.finish.Goals as goal
@@ -32,5 +32,5 @@ loop-frame-preserved c =
 
 pub returns-clause-keeps : goal.returns-clause-keeps
 returns-clause-keeps c = λ edges rows keep.
-    subst (λ stack. Keeps edges c.args.rows.now (popped (state_of c.loop-frame.self) stack)) (c.in_default.ensures.items ∙ append-nil c.pop.new.self.items)
+    subst (λ stack. SearchInvariant edges c.args.rows.now (popped (state_of c.loop-frame.self) stack)) (c.in_default.ensures.items ∙ append-nil c.pop.new.self.items)
     (c.loop-frame.invariant.keeps edges rows keep)

@@ -3,7 +3,7 @@ use Rattle.std.specs.Prelude.{codes, List}
 use Rattle.bl_ctext.specs.Spelling.{with_commas, arg_tokens}
 use Rattle.bl_cparse.specs.inner.Partial.{on_stack, called_front, args_before, partial_tokens}
 use Rattle.bl_cparse.proofs.PartialLemmas.{go_on, argument_on, before_any}
-use Rattle.bl_csyntax.specs.Expects.{Expects}
+use Rattle.bl_cparse_syntax.specs.Expects.{Expects}
 use Rattle.bl_ctext.specs.Token.{Token}
 use Rattle.bl_cparse.proofs.ExprOpening.{arg_more, args_end}
 use Rattle.bl_cparse.specs.inner.Awaiting.{behind}

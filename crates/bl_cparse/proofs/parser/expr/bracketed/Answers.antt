@@ -1,6 +1,6 @@
-use Rattle.bl_csyntax.specs.Expects.{Expects}
+use Rattle.bl_cparse_syntax.specs.Expects.{Expects}
 use Rattle.bl_cparse.specs.declared.parser.expr.Held.{Held}
-use Rattle.bl_csyntax.specs.declared.grammar.Part.TheVariants.{Inside}
+use Rattle.bl_cparse_syntax.specs.declared.grammar.Part.TheVariants.{Inside}
 use Rattle.std.specs.Prelude.{List}
 use Rattle.bl_cparse.specs.inner.Awaiting.{behind}
 use Rattle.bl_cparse.specs.inner.Reading.{part}

@@ -1,5 +1,5 @@
-use Rattle.bl_csyntax.specs.declared.grammar.Part.TheVariants.{Arg, ArgRest}
-use Rattle.bl_csyntax.specs.Expects.{Expects}
+use Rattle.bl_cparse_syntax.specs.declared.grammar.Part.TheVariants.{Arg, ArgRest}
+use Rattle.bl_cparse_syntax.specs.Expects.{Expects}
 use Rattle.std.specs.Prelude.{List, codes}
 use Rattle.bl_ctext.specs.Token.{Token}
 use Rattle.bl_cparse.proofs.ExprOpening.{args_none, args_some}

@@ -2,9 +2,9 @@ use Rattle.std.proofs.Common.{◌∙◌, rules, subst, ◌++◌}
 use Rattle.bl_cparse.specs.inner.Partial.{held_tokens, spells_held}
 use Rattle.bl_cparse.proofs.NestLemmas.{all_but}
 use Rattle.bl_cparse.proofs.PartialLemmas.{taken_off}
-use Rattle.bl_csyntax.specs.Expects.{Expects}
+use Rattle.bl_cparse_syntax.specs.Expects.{Expects}
 use Rattle.std.specs.Prelude.{List}
-use Rattle.bl_csyntax.specs.Grammar.{Wanted}
+use Rattle.bl_cparse_syntax.specs.Grammar.{Wanted}
 use Rattle.bl_cparse.specs.inner.Awaiting.{held_wanted}
 use Rattle.bl_cparse.proofs.AwaitLemmas.{unwound_off}
 use Rattle.bl_cparse.proofs.parser.expr.closed.Goals as goal

@@ -1,4 +1,4 @@
-use Rattle.bl_csyntax.specs.Expects.{Expects}
+use Rattle.bl_cparse_syntax.specs.Expects.{Expects}
 use Rattle.bl_cparse.specs.declared.parser.expr.Held.{Held}
 use Rattle.bl_cparse.specs.inner.Awaiting.{behind, held_wanted}
 use Rattle.std.proofs.Common.{rules, subst, ◌++◌}

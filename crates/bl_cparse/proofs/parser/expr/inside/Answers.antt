@@ -1,8 +1,8 @@
 use Rattle.std.proofs.Common.{[], ◌∷◌, ◌++◌, List, refl, sym, subst}
 use Rattle.bl_ctext.proofs.Bytes.{both}
-use Rattle.bl_csyntax.specs.declared.grammar.Part.TheVariants.{Expr}
-use Rattle.bl_csyntax.specs.Grammar.{Wanted}
-use Rattle.bl_csyntax.specs.Expects.{Expects}
+use Rattle.bl_cparse_syntax.specs.declared.grammar.Part.TheVariants.{Expr}
+use Rattle.bl_cparse_syntax.specs.Grammar.{Wanted}
+use Rattle.bl_cparse_syntax.specs.Expects.{Expects}
 use Rattle.bl_cparse.specs.inner.Reading.{part}
 use Rattle.bl_cparse.specs.inner.Partial.{held_tokens, spells_held}
 use Rattle.bl_cparse.specs.inner.Awaiting.{held_wanted}

@@ -1,4 +1,4 @@
-use Rattle.bl_csyntax.specs.Expects.{Expects}
+use Rattle.bl_cparse_syntax.specs.Expects.{Expects}
 use Rattle.std.specs.Prelude.{List}
 use Rattle.bl_ctext.specs.Token.{Token}
 use Rattle.bl_cparse.specs.inner.Awaiting.{behind, use_wanted}

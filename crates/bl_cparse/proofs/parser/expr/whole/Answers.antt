@@ -1,6 +1,6 @@
 use Rattle.std.proofs.Common.{rules, List, ◌++◌, subst}
-use Rattle.bl_csyntax.specs.Grammar.{Wanted}
-use Rattle.bl_csyntax.specs.Expects.{Expects}
+use Rattle.bl_cparse_syntax.specs.Grammar.{Wanted}
+use Rattle.bl_cparse_syntax.specs.Expects.{Expects}
 use Rattle.bl_cparse.proofs.parser.expr.whole.Goals as goal
 
 pub loop-r-init : goal.loop-r-init

@@ -1,6 +1,6 @@
 use Rattle.std.proofs.Common.{◌≡◌, ◌+◌, ◌*◌, List, ◌++◌, IsTrue, length}
-use Rattle.bl_csyntax.specs.Grammar.{Wanted}
-use Rattle.bl_csyntax.specs.Expects.{Expects}
+use Rattle.bl_cparse_syntax.specs.Grammar.{Wanted}
+use Rattle.bl_cparse_syntax.specs.Expects.{Expects}
 use Rattle.bl_cparse.specs.inner.Partial.{partial_tokens, spells_partial, work_left}
 use Rattle.bl_cparse.specs.inner.Awaiting.{partial_wanted}
 use Rattle.bl_cparse.proofs.parser.expr.whole.Given as goal

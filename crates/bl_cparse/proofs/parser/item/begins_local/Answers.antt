@@ -1,4 +1,4 @@
-use Rattle.bl_csyntax.specs.Pieces.{first_of}
+use Rattle.bl_cparse_syntax.specs.Pieces.{first_of}
 use Rattle.std.proofs.Common.{refl, sym, ◌∙◌}
 use Rattle.bl_cparse.proofs.WordLemmas.{scalar_stands}
 use Rattle.bl_cparse.proofs.parser.item.begins_local.Goals as goal

@@ -2,9 +2,9 @@ use Rattle.std.proofs.Common.{◌≡◌, [], ◌∷◌, ◌++◌, IsTrue, length
 use Rattle.bl_tree.specs.Reduce.{all_of, joined}
 use Rattle.bl_ctext.specs.Spelling.{func_tokens}
 use Rattle.bl_ctext.specs.Spellable.{has_any, spells_func}
-use Rattle.bl_csyntax.specs.declared.grammar.Part.TheVariants.{Func, Funcs}
-use Rattle.bl_csyntax.specs.Grammar.{most_open}
-use Rattle.bl_csyntax.specs.Expects.{Expects}
+use Rattle.bl_cparse_syntax.specs.declared.grammar.Part.TheVariants.{Func, Funcs}
+use Rattle.bl_cparse_syntax.specs.Grammar.{most_open}
+use Rattle.bl_cparse_syntax.specs.Expects.{Expects}
 use Rattle.bl_cparse.specs.inner.Reading.{part}
 use Rattle.bl_cparse.proofs.parser.item.funcs.Given as goal
 

@@ -3,9 +3,9 @@ use Rattle.bl_tree.specs.Reduce.{all_of, joined}
 use Rattle.bl_ctext.specs.Spelling.{member_tokens}
 use Rattle.bl_ctext.specs.Spellable.{has_any, spells_member}
 use Rattle.std.specs.Prelude.{codes}
-use Rattle.bl_csyntax.specs.declared.grammar.Part.TheVariants.{Member, Members}
-use Rattle.bl_csyntax.specs.Grammar.{Wanted}
-use Rattle.bl_csyntax.specs.Expects.{Expects}
+use Rattle.bl_cparse_syntax.specs.declared.grammar.Part.TheVariants.{Member, Members}
+use Rattle.bl_cparse_syntax.specs.Grammar.{Wanted}
+use Rattle.bl_cparse_syntax.specs.Expects.{Expects}
 use Rattle.bl_cparse.specs.inner.Reading.{sign, part}
 use Rattle.bl_cparse.proofs.parser.item.members.Given as goal
 

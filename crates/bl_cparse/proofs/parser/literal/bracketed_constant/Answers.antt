@@ -1,4 +1,4 @@
-use Rattle.bl_csyntax.specs.declared.grammar.Digits.TheVariants.{Int, Unsigned}
+use Rattle.bl_cparse_syntax.specs.declared.grammar.Digits.TheVariants.{Int, Unsigned}
 use Rattle.std.proofs.Common.{refl, sym, ◌∙◌}
 use Rattle.bl_cparse.proofs.ExprOpening.{signed_constant, unsigned_constant}
 use Rattle.bl_cparse.proofs.NumberLemmas.{up_to}

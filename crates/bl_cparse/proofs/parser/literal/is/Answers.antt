@@ -1,6 +1,6 @@
 use Rattle.std.proofs.Common.{◌∙◌, sym, refl}
-use Rattle.bl_csyntax.specs.Pieces.{is_same}
-use Rattle.bl_csyntax.specs.Classes.{matches}
+use Rattle.bl_cparse_syntax.specs.Pieces.{is_same}
+use Rattle.bl_cparse_syntax.specs.Classes.{matches}
 use Rattle.bl_cparse.proofs.TokenLemmas.{bytes_same}
 use Rattle.bl_cparse.proofs.parser.literal.is.Goals as goal
 

@@ -1,16 +1,16 @@
-use Rattle.bl_csyntax.specs.Expects.{Expects}
+use Rattle.bl_cparse_syntax.specs.Expects.{Expects}
 use Rattle.std.specs.Prelude.{List, codes}
-use Rattle.bl_csyntax.specs.declared.grammar.Part.TheVariants.{Simple}
+use Rattle.bl_cparse_syntax.specs.declared.grammar.Part.TheVariants.{Simple}
 use Rattle.bl_ctext.specs.Token.{Token}
 use Rattle.std.proofs.Common.{ap, refl, subst, sym, ◌∙◌, ◌∷◌, ◌≡◌}
-use Rattle.bl_csyntax.specs.Follow.{constant_starts}
-use Rattle.bl_csyntax.specs.Classes.Class.{exactly}
+use Rattle.bl_cparse_syntax.specs.Follow.{constant_starts}
+use Rattle.bl_cparse_syntax.specs.Classes.Class.{exactly}
 use Rattle.bl_cparse.proofs.ExprOpening.{false_passed, least_passed, true_passed}
-use Rattle.bl_csyntax.specs.Pieces.{first_of}
-use Rattle.bl_csyntax.specs.Tables.{has}
+use Rattle.bl_cparse_syntax.specs.Pieces.{first_of}
+use Rattle.bl_cparse_syntax.specs.Tables.{has}
 use Rattle.bl_cparse.specs.inner.Reading.{least_starts, part}
 use Rattle.bl_cparse.specs.Places.{WantsMemory}
-use Rattle.bl_csyntax.specs.Classes.{matches}
+use Rattle.bl_cparse_syntax.specs.Classes.{matches}
 use Rattle.bl_cparse.proofs.WordLemmas.{no_literal, no_plain}
 use Rattle.bl_cparse.proofs.ReadLemmas.{widened}
 use Rattle.bl_tree.specs.declared.c.CExprKind.{CExprKind}

@@ -1,5 +1,5 @@
 use Rattle.std.proofs.Common.{sym, refl, ◌∙◌}
-use Rattle.bl_csyntax.specs.declared.grammar.Digits.TheVariants.{Negated}
+use Rattle.bl_cparse_syntax.specs.declared.grammar.Digits.TheVariants.{Negated}
 use Rattle.bl_cparse.proofs.NumberLemmas.{up_to}
 use Rattle.bl_cparse.proofs.ReadLemmas.{wanting}
 use Rattle.bl_cparse.proofs.ExprOpening.{negative_constant, negative_stands}

@@ -1,5 +1,5 @@
 use Rattle.std.proofs.Common.{sym, ◌∙◌, arith}
-use Rattle.bl_csyntax.specs.Pieces.{first_of}
+use Rattle.bl_cparse_syntax.specs.Pieces.{first_of}
 use Rattle.bl_cparse.proofs.ReadLemmas.{next}
 use Rattle.bl_cparse.proofs.NumberLemmas.{in_range}
 use Rattle.bl_cparse.proofs.parser.literal.number.Goals as goal

@@ -1,4 +1,4 @@
-use Rattle.bl_csyntax.proofs.ClassLemmas.{not_true}
+use Rattle.bl_cparse_syntax.proofs.ClassLemmas.{not_true}
 use Rattle.bl_cparse.proofs.NumberLemmas.{numeral}
 use Rattle.bl_cparse.proofs.parser.literal.number_of.Goals as goal
 

@@ -1,6 +1,6 @@
 use Rattle.std.proofs.Common.{sym, ◌∙◌}
 use Rattle.bl_grammar.proofs.Predictive.{not_both}
-use Rattle.bl_csyntax_laws.proofs.Pieces.{callee_is}
+use Rattle.bl_cparse_syntax_laws.proofs.Pieces.{callee_is}
 use Rattle.bl_cparse.proofs.ReadLemmas.{next}
 use Rattle.bl_cparse.proofs.parser.name.callee.Goals as goal
 

@@ -2,9 +2,9 @@ use Rattle.std.proofs.Common.{◌≡◌, List, ◌∷◌, ◌++◌, IsTrue, leng
 use Rattle.bl_tree.specs.Reduce.{all_of, joined}
 use Rattle.bl_ctext.specs.Spelling.{step_tokens}
 use Rattle.bl_ctext.specs.Spellable.{spells_step}
-use Rattle.bl_csyntax.specs.declared.grammar.Part.{Part}
-use Rattle.bl_csyntax.specs.Grammar.{Wanted}
-use Rattle.bl_csyntax.specs.Expects.{Expects}
+use Rattle.bl_cparse_syntax.specs.declared.grammar.Part.{Part}
+use Rattle.bl_cparse_syntax.specs.Grammar.{Wanted}
+use Rattle.bl_cparse_syntax.specs.Expects.{Expects}
 use Rattle.bl_cparse.specs.inner.Reading.{part, GoesOnAPlace}
 use Rattle.bl_cparse.proofs.parser.place.place.Given as goal
 

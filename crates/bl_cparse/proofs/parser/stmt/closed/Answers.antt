@@ -4,9 +4,9 @@ use Rattle.bl_ctext.specs.Spelling.{stmt_tokens}
 use Rattle.bl_ctext.proofs.Bytes.{and-fst}
 use Rattle.bl_cparse.specs.inner.Nest.{frame_tokens, spells_frame}
 use Rattle.bl_cparse.proofs.NestLemmas.{all_but, one_more, read_close}
-use Rattle.bl_csyntax.specs.Expects.{Expects}
+use Rattle.bl_cparse_syntax.specs.Expects.{Expects}
 use Rattle.std.specs.Prelude.{List, codes}
-use Rattle.bl_csyntax.specs.Grammar.{Wanted}
+use Rattle.bl_cparse_syntax.specs.Grammar.{Wanted}
 use Rattle.bl_cparse.specs.inner.Awaiting.{frame_wanted}
 use Rattle.bl_cparse.specs.inner.Reading.{sign}
 use Rattle.bl_cparse.proofs.AwaitLemmas.{unwound_off}

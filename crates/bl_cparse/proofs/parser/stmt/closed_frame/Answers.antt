@@ -1,6 +1,6 @@
-use Rattle.bl_csyntax.specs.Expects.{Expects}
+use Rattle.bl_cparse_syntax.specs.Expects.{Expects}
 use Rattle.bl_cparse.specs.declared.parser.stmt.Opened.{Opened}
-use Rattle.bl_csyntax.specs.declared.grammar.Part.TheVariants.{Stmts}
+use Rattle.bl_cparse_syntax.specs.declared.grammar.Part.TheVariants.{Stmts}
 use Rattle.std.proofs.Common.{[], rules, subst, ◌++◌, ◌∷◌}
 use Rattle.bl_cparse.specs.inner.Awaiting.{closed_wanted, outside}
 use Rattle.std.specs.Prelude.{codes}

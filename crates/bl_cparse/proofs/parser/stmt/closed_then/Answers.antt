@@ -5,8 +5,8 @@ use Rattle.bl_ctext.specs.Spelling.{stmt_tokens, stmt_kind_tokens, condition_tok
 use Rattle.bl_cparse.specs.declared.parser.stmt.Opened.TheVariants.{Then, Else}
 use Rattle.bl_cparse.specs.inner.Nest.{frame_tokens, opened_tokens, nest_tokens}
 use Rattle.bl_cparse.proofs.NestLemmas.{whole, reopened, then_whole, else_open}
-use Rattle.bl_csyntax.specs.Expects.{Expects}
-use Rattle.bl_csyntax.specs.declared.grammar.Part.TheVariants.{Stmts}
+use Rattle.bl_cparse_syntax.specs.Expects.{Expects}
+use Rattle.bl_cparse_syntax.specs.declared.grammar.Part.TheVariants.{Stmts}
 use Rattle.bl_ctext.specs.Token.{Token}
 use Rattle.bl_cparse.proofs.StmtOpening.{else_absent, else_stands}
 use Rattle.bl_cparse.specs.inner.Awaiting.{outside}

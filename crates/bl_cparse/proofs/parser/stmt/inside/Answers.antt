@@ -3,9 +3,9 @@ use Rattle.bl_tree.specs.Reduce.{all_of, joined}
 use Rattle.bl_ctext.specs.Spellable.{spells_stmt}
 use Rattle.bl_ctext.proofs.Bytes.{both}
 use Rattle.std.proofs.Common.{List, ◌∷◌, ◌++◌, codes, ap, sym, subst, map}
-use Rattle.bl_csyntax.specs.declared.grammar.Part.TheVariants.{Stmts}
-use Rattle.bl_csyntax.specs.Grammar.{Wanted}
-use Rattle.bl_csyntax.specs.Expects.{Expects}
+use Rattle.bl_cparse_syntax.specs.declared.grammar.Part.TheVariants.{Stmts}
+use Rattle.bl_cparse_syntax.specs.Grammar.{Wanted}
+use Rattle.bl_cparse_syntax.specs.Expects.{Expects}
 use Rattle.bl_cparse.specs.inner.Nest.{frame_tokens, spells_frame}
 use Rattle.bl_cparse.specs.inner.Reading.{sign, part}
 use Rattle.bl_cparse.specs.inner.Awaiting.{frame_wanted}

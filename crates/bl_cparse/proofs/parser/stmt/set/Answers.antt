@@ -1,4 +1,4 @@
-use Rattle.bl_csyntax.specs.declared.grammar.Part.TheVariants.{AssignTail}
+use Rattle.bl_cparse_syntax.specs.declared.grammar.Part.TheVariants.{AssignTail}
 use Rattle.bl_cparse.specs.inner.Reading.{GoesOnAPlace}
 use Rattle.bl_cparse.proofs.ReadLemmas.{wanting}
 use Rattle.bl_cparse.proofs.parser.stmt.set.Goals as goal

@@ -1,6 +1,6 @@
-use Rattle.bl_csyntax.specs.Expects.{Expects}
+use Rattle.bl_cparse_syntax.specs.Expects.{Expects}
 use Rattle.std.specs.Prelude.{List, codes}
-use Rattle.bl_csyntax.specs.declared.grammar.Part.TheVariants.{Stmt}
+use Rattle.bl_cparse_syntax.specs.declared.grammar.Part.TheVariants.{Stmt}
 use Rattle.bl_ctext.specs.Token.{Token}
 use Rattle.bl_cparse.proofs.ReadLemmas.{at_same, passed}
 use Rattle.bl_cparse.proofs.StmtOpening.{none_starts, stmt_break, stmt_return}

@@ -1,6 +1,6 @@
 use Rattle.std.proofs.Common.{rules, List, ◌∷◌, ◌++◌, codes, subst}
-use Rattle.bl_csyntax.specs.declared.grammar.Part.TheVariants.{Stmts}
-use Rattle.bl_csyntax.specs.Expects.{Expects}
+use Rattle.bl_cparse_syntax.specs.declared.grammar.Part.TheVariants.{Stmts}
+use Rattle.bl_cparse_syntax.specs.Expects.{Expects}
 use Rattle.bl_cparse.specs.declared.parser.stmt.Frame.{Frame}
 use Rattle.bl_cparse.specs.inner.Reading.{sign, part}
 use Rattle.bl_cparse.specs.inner.Awaiting.{outside}

@@ -1,7 +1,7 @@
 use Rattle.std.proofs.Common.{◌≡◌, List, ◌∷◌, ◌++◌, codes, IsTrue, length}
-use Rattle.bl_csyntax.specs.declared.grammar.Part.TheVariants.{Stmts}
-use Rattle.bl_csyntax.specs.Grammar.{Wanted}
-use Rattle.bl_csyntax.specs.Expects.{Expects}
+use Rattle.bl_cparse_syntax.specs.declared.grammar.Part.TheVariants.{Stmts}
+use Rattle.bl_cparse_syntax.specs.Grammar.{Wanted}
+use Rattle.bl_cparse_syntax.specs.Expects.{Expects}
 use Rattle.bl_cparse.specs.inner.Nest.{nest_tokens, spells_nest}
 use Rattle.bl_cparse.specs.inner.Reading.{sign, part}
 use Rattle.bl_cparse.specs.inner.Awaiting.{nest_wanted}

@@ -1,5 +1,5 @@
-use Rattle.bl_csyntax.specs.Expects.{Expects}
-use Rattle.bl_csyntax.specs.declared.grammar.Part.TheVariants.{Stmts}
+use Rattle.bl_cparse_syntax.specs.Expects.{Expects}
+use Rattle.bl_cparse_syntax.specs.declared.grammar.Part.TheVariants.{Stmts}
 use Rattle.bl_ctext.specs.Token.{Token}
 use Rattle.std.specs.Prelude.{codes}
 use Rattle.bl_cparse.specs.inner.Reading.{part, sign, turn_wanted}

@@ -1,5 +1,5 @@
 use Rattle.std.proofs.Common.{sym, ap, ◌∙◌, ◌∷◌}
-use Rattle.bl_csyntax.proofs.SameLemmas.{seen}
+use Rattle.bl_cparse_syntax.proofs.SameLemmas.{seen}
 use Rattle.bl_cparse.proofs.reader.Reader.eat.Goals as goal
 
 pub returns-then-seen-clause-yes : goal.returns-then-seen-clause-yes

@@ -1,5 +1,5 @@
 use Rattle.std.proofs.Common.{sym, ap, ◌∙◌, drop}
-use Rattle.bl_csyntax.proofs.PieceLemmas.{behind_left}
+use Rattle.bl_cparse_syntax.proofs.PieceLemmas.{behind_left}
 use Rattle.bl_cparse.proofs.reader.Reader.pass.Goals as goal
 
 pub returns : goal.returns

@@ -1,6 +1,6 @@
 use Rattle.std.proofs.Common.{◌∙◌, refl}
-use Rattle.bl_csyntax.specs.Pieces.{is_same, first_of}
-use Rattle.bl_csyntax.specs.Classes.{matches}
+use Rattle.bl_cparse_syntax.specs.Pieces.{is_same, first_of}
+use Rattle.bl_cparse_syntax.specs.Classes.{matches}
 use Rattle.bl_cparse.proofs.TokenLemmas.{same_other}
 use Rattle.bl_cparse.proofs.reader.Reader.sees.Goals as goal
 

@@ -1,7 +1,7 @@
 use Rattle.std.proofs.Common.{◌∙◌, rules}
 use Rattle.std.proofs.lemmas.Int.{to_z-of_z}
 use Rattle.std.specs.Int.{w128}
-use Rattle.bl_cmeaning.specs.Parts.{parts_of}
+use Rattle.bl_ctext_semantics.specs.Parts.{parts_of}
 use Rattle.bl_crun.proofs.Puts.{shown-number, shown-range}
 use Rattle.bl_crun.proofs.runner.Runner.cell.Goals as goal
 

@@ -1,4 +1,4 @@
-use Rattle.bl_cmeaning.specs.Parts.{parts_of}
+use Rattle.bl_ctext_semantics.specs.Parts.{parts_of}
 use Rattle.bl_crun.proofs.Puts.{shown-cells}
 use Rattle.bl_crun.proofs.runner.Runner.cells.Goals as goal
 

@@ -2,8 +2,8 @@ use Rattle.std.proofs.Common.{ap, ◌∙◌, rules}
 use Rattle.std.specs.Int.{w128}
 use Rattle.std.specs.Prelude.{slice_set}
 use Rattle.std.proofs.lemmas.Int.{to_z-of_z}
-use Rattle.bl_bytecode_machine.specs.Steps.{holding}
-use Rattle.bl_cmeaning.specs.Parts.{parts_of}
+use Rattle.bl_crun_bytecode_vm.specs.Steps.{holding}
+use Rattle.bl_ctext_semantics.specs.Parts.{parts_of}
 use Rattle.bl_crun.proofs.Puts.{shown-keeps, shown-put}
 use Rattle.bl_crun.proofs.runner.Runner.put.Goals as goal
 

@@ -1,5 +1,5 @@
 use Rattle.std.proofs.Common.{ap, sym, ◌∙◌, append-nil, ◌++◌}
-use Rattle.bl_rows.specs.Reading.{Told, fault_at_end}
+use Rattle.bl_rows.specs.Reading.{RowsRead, fault_at_end}
 use Rattle.bl_rows.proofs.Pieces.{ended_clean, ended_rows, ended_fault, handed_by}
 use Rattle.bl_rows.proofs.Scans.{map_ok, both_ok}
 use Rattle.bl_rows.proofs.rows.Rows.take_rest.Goals as goal
@@ -7,11 +7,11 @@ use Rattle.bl_rows.proofs.rows.Rows.take_rest.Goals as goal
 pub returns-then-not-has_begun_line-clause-stop : goal.returns-then-not-has_begun_line-clause-stop
 returns-then-not-has_begun_line-clause-stop c =
     ap (λ stop. fault_at_end c.args.self.now.at stop) c.requires
-    ∙ sym (ap (λ (t : Told). t.fault) (ended_clean c.args.self.now c.requires (c.has_begun_line.ensures.none c.if-not-has_begun_line.true)))
+    ∙ sym (ap (λ (t : RowsRead). t.fault) (ended_clean c.args.self.now c.requires (c.has_begun_line.ensures.none c.if-not-has_begun_line.true)))
 
 pub returns-then-not-has_begun_line-clause-rows : goal.returns-then-not-has_begun_line-clause-rows
 returns-then-not-has_begun_line-clause-rows c =
-    sym (append-nil c.args.into.now.items) ∙ ap (λ (t : Told). c.args.into.now.items ++ t.rows)
+    sym (append-nil c.args.into.now.items) ∙ ap (λ (t : RowsRead). c.args.into.now.items ++ t.rows)
     (sym (ended_clean c.args.self.now c.requires (c.has_begun_line.ensures.none c.if-not-has_begun_line.true)))
 
 pub returns-clause-stop : goal.returns-clause-stop

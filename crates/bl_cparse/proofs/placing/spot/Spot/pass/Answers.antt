@@ -1,6 +1,6 @@
 use Rattle.std.proofs.Common.{ap, ◌+◌, ◌∙◌, arith}
 use Rattle.bl_cparse.specs.HasPlaces.{start_of, end_of, next}
-use Rattle.bl_csyntax.specs.Pieces.{pieces, first_of}
+use Rattle.bl_cparse_syntax.specs.Pieces.{pieces, first_of}
 use Rattle.std.proofs.Common.{length, drop}
 use Rattle.bl_cparse.proofs.SpotLemmas.{starts, ends}
 use Rattle.bl_cparse.proofs.placing.spot.Spot.pass.Goals as goal

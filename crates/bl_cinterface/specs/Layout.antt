@@ -1,9 +1,0 @@
--- The types of the cells of structs.
-use Rattle.std.specs.Prelude.{List, map}
-use Rattle.bl_tree.specs.declared.scalar.Scalar.{Scalar}
-use Rattle.bl_cmeaning.specs.Parts.{Parts}
-use Rattle.bl_cmeaning.specs.Cells.{cells_of}
-
--- the types of the cells of a file
-abbrev pub kinds_of : Parts → List Scalar
-kinds_of file = map (λ cell. cell.kind) (cells_of file)

@@ -1,9 +1,0 @@
-use Rattle.std.proofs.Common.{◌≡◌, drop, map}
-use Rattle.bl_cmeaning.specs.inner.Checked.{context_of}
-use Rattle.bl_cmeaning.specs.Faults.{block_faults, earlier_of, faults_in_stmt, first_place}
-use Rattle.bl_cmeaning.proofs.check.stmt.+statements.Given as goal
-
-abbrev pub invariant-judge_block-loop-stmt : goal.invariant-judge_block-loop-stmt
-invariant-judge_block-loop-stmt l =
-    earlier_of l.first (first_place (block_faults (map faults_in_stmt (drop l.stmt-index l.block)) (context_of l.context) l.looped))
-    ≡ first_place (block_faults (map faults_in_stmt l.block) (context_of l.context) l.looped)

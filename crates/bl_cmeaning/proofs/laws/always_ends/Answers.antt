@@ -1,6 +1,0 @@
-use Rattle.bl_cmeaning.specs.Parts.{parts_of}
-use Rattle.bl_cmeaning.proofs.EndLemmas.{always-ends}
-use Rattle.bl_cmeaning.proofs.laws.always_ends.Goals as goal
-
-pub returns : goal.returns
-returns c = always-ends (parts_of c.args._file.now)

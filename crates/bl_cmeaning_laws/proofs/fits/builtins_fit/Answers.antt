@@ -1,5 +1,0 @@
-use Rattle.bl_cmeaning_laws.proofs.Results.{builtins-fit}
-use Rattle.bl_cmeaning_laws.proofs.fits.builtins_fit.Goals as goal
-
-pub returns : goal.returns
-returns c = builtins-fit

@@ -1,6 +1,0 @@
-use Rattle.bl_cmeaning.specs.Parts.{parts_of}
-use Rattle.bl_cmeaning_laws.proofs.Entry.{starts-agree}
-use Rattle.bl_cmeaning_laws.proofs.flat.starts_agree.Goals as goal
-
-pub returns : goal.returns
-returns c = starts-agree (parts_of c.args._file.now) c.args._file.now.spellable

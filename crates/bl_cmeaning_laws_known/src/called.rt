@@ -1,9 +1,0 @@
-//! A law of what fails in C. The function does nothing: the contract is the law. What fails in a block depends on the functions that
-//! are called in it alone (`specs/Called.antt`, `FaultsFollow`).
-
-ghost use Rattle.bl_cmeaning_laws_known.specs.Called.{FaultsFollow};
-
-/// What fails in a block depends on the functions that are called in it.
-pub fn faults_follow()
-    ensures { FaultsFollow }
-{}

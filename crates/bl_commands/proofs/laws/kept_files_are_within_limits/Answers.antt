@@ -1,5 +1,0 @@
-use Rattle.bl_commands.proofs.Cuts.{reads_nothing}
-use Rattle.bl_commands.proofs.laws.kept_files_are_within_limits.Goals as goal
-
-pub returns : goal.returns
-returns c = reads_nothing

@@ -1,0 +1,39 @@
+-- Where a text stops beginning one of the subset.
+use Rattle.std.specs.Prelude.{◌≡◌, ℕ, ◌<◌, ◌⊎◌, false, List, [], ◌∷◌, ◌++◌, length, drop, slice_index}
+use Rattle.bl_ctext.specs.Token.{Token, is_blank}
+use Rattle.bl_cparse_syntax.specs.Pieces.{pieces}
+use Rattle.bl_cparse_syntax.specs.Grammar.{SpellText}
+
+-- some pieces can follow these so that all of them spell a text
+abbrev pub BeginsText : List Token → Type 0
+BeginsText front = (more : List Token) × SpellText (front ++ more)
+
+-- what stands in the text from an offset on spells a text of the subset
+abbrev pub Passes : List ℕ → ℕ → Type 0
+Passes text start = SpellText (pieces (drop start text))
+
+-- the first of these pieces begins at the offset
+pub record StandAt (text : List ℕ) (at : ℕ) (left : List Token) : Type 0 where
+  pub inside : at < length text
+  pub no_blank : is_blank (slice_index text at) ≡ false
+  pub left_there : pieces (drop at text) ≡ left
+
+-- from an offset on, the text fails where a piece begins: those before it begin a text, and with it they don't
+pub record FailsAtPiece (text : List ℕ) (start at : ℕ) : Type 0 where
+  pub before : List Token
+  pub piece : Token
+  pub after : List Token
+  pub stands : pieces (drop start text) ≡ before ++ piece ∷ after
+  pub begins : BeginsText before
+  pub ends : ¬ BeginsText (before ++ piece ∷ [])
+  pub there : StandAt text at (piece ∷ after)
+
+-- it fails at its end: its pieces begin a text and spell none
+pub record FailsAtEnd (text : List ℕ) (start at : ℕ) : Type 0 where
+  pub begins : BeginsText (pieces (drop start text))
+  pub no_text : ¬ Passes text start
+  pub at_end : at ≡ length text
+
+-- from an offset on, the text fails at the other
+abbrev pub FailsFirst : List ℕ → ℕ → ℕ → Type 0
+FailsFirst text start at = FailsAtPiece text start at ⊎ FailsAtEnd text start at

@@ -1,0 +1,13 @@
+//! Laws of the code of C texts. None of these functions does anything: the contract is the law.
+
+ghost use Rattle.std.specs.Prelude.{List};
+ghost use Rattle.bl_tree.specs.declared.c.CFunc.{CFunc};
+ghost use Rattle.bl_tree.specs.declared.c.CStruct.{CStruct};
+ghost use Rattle.bl_crun_bytecode.specs.Laws.{FunctionsRun, NamedFunctionsRun};
+
+/// In the code of a file the machine does what each function's routine does, well formed or not. So it ends there, and
+/// takes no more room than the code tells.
+pub fn functions_run()
+    ensures each { (structs : List CStruct) (functions : List CFunc) → FunctionsRun structs functions }
+    ensures named { (structs : List CStruct) (functions : List CFunc) → NamedFunctionsRun structs functions }
+{}

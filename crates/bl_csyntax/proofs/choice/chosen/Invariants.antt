@@ -1,7 +1,0 @@
-use Rattle.std.proofs.Common.{◌≡◌, map, drop}
-use Rattle.bl_csyntax.specs.Tables.{chosen}
-use Rattle.bl_csyntax.specs.inner.Rows.{choice_shown}
-use Rattle.bl_csyntax.proofs.choice.chosen.Given as goal
-
-abbrev pub invariant-loop-choice : goal.invariant-loop-choice
-invariant-loop-choice l = chosen (map choice_shown (drop l.choice-index l.choices)) l.piece ≡ chosen (map choice_shown l.choices) l.piece

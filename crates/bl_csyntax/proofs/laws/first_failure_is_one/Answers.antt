@@ -1,8 +1,0 @@
-use Rattle.bl_csyntax.proofs.Once.{one_failure, no_failure}
-use Rattle.bl_csyntax.proofs.laws.first_failure_is_one.Goals as goal
-
-pub returns-clause-one : goal.returns-clause-one
-returns-clause-one c = one_failure
-
-pub returns-clause-none : goal.returns-clause-none
-returns-clause-none c = no_failure

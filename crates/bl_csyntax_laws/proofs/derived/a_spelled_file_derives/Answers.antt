@@ -1,5 +1,0 @@
-use Rattle.bl_csyntax_laws.proofs.Files.{file_derives}
-use Rattle.bl_csyntax_laws.proofs.derived.a_spelled_file_derives.Goals as goal
-
-pub returns : goal.returns
-returns c = file_derives

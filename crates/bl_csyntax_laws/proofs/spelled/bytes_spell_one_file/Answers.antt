@@ -1,5 +1,0 @@
-use Rattle.bl_csyntax_laws.proofs.OnlyFile.{one_file}
-use Rattle.bl_csyntax_laws.proofs.spelled.bytes_spell_one_file.Goals as goal
-
-pub returns : goal.returns
-returns c = one_file

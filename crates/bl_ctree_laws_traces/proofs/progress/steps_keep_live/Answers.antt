@@ -1,5 +1,0 @@
-use Rattle.bl_ctree_laws_traces.proofs.OnProgress.Keeping.{steps_keep_live}
-use Rattle.bl_ctree_laws_traces.proofs.progress.steps_keep_live.Goals as goal
-
-pub returns : goal.returns
-returns c = steps_keep_live c.instants_pass.ensures c.steps_shrink.ensures.ends

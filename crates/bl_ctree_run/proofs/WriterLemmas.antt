@@ -1,0 +1,280 @@
+-- What is noted of branches tells what those beside one of them may still write.
+use Rattle.std.proofs.Common.{
+  ◌≡◌,
+  ◌≢◌,
+  ℕ,
+  zero,
+  suc,
+  ◌+◌,
+  ◌<◌,
+  ◌≤◌,
+  Bool,
+  true,
+  false,
+  not,
+  cond,
+  ◌&&◌,
+  ◌||◌,
+  List,
+  [],
+  ◌∷◌,
+  ◌++◌,
+  map,
+  filter,
+  take,
+  drop,
+  length,
+  Some,
+  None,
+  refl,
+  sym,
+  ap,
+  ◌∙◌,
+  arith,
+  append_assoc,
+  append-nil,
+  nat_cmp,
+  nat_eq,
+  eq-eqb,
+}
+use Rattle.std.specs.Prelude.{unwrap_or}
+use Rattle.std.specs.BTreeMap.{is_at}
+use Rattle.std.specs.Cmp.{unsigned_tied}
+use Rattle.std.specs.List.{list_any}
+use Rattle.std.specs.Map.{lookup}
+use Rattle.std.proofs.lemmas.List.Elements.{filter-append}
+use Rattle.std.proofs.lemmas.List.Folds.{list_any-append}
+use Rattle.bl_tree.specs.Static.{is_front, overlaps}
+use Rattle.bl_ctree.specs.Instances.{Setting}
+use Rattle.bl_ctree.specs.Nodes.{Seen}
+use Rattle.bl_ctree.specs.Store.{Location, overlap}
+use Rattle.bl_ctree_store.specs.declared.home.Home.{Home}
+use Rattle.bl_ctree_store.specs.Seen.{location_of}
+use Rattle.bl_ctree_store.proofs.KeyLemmas.{both_equal, both_true, nat_same}
+use Rattle.bl_ctree_run.specs.declared.writers.Write.{Write as WriteNode}
+use Rattle.bl_ctree_enabled.specs.Spots.{Spot, homes_seen, is_free_of, meets_one, taken}
+use Rattle.bl_ctree_run.specs.inner.Writers.{
+  Write,
+  all_writes,
+  is_beside,
+  is_free,
+  is_met,
+  kept,
+  key_at,
+  key_cmp,
+  of_variable,
+  same_variable,
+  write_of,
+  writes_by,
+  writes_from,
+}
+use Rattle.bl_ctree_enabled.proofs.BranchLemmas.{any_or, any_same, map-append, not_or}
+use Rattle.bl_ctree_run.proofs.BranchLemmas.{drop_all, none_left}
+
+-- ---- as it is kept
+
+-- a key is that of a home where it is a part of the same variable
+same_key : (home at : Location) → is_at (key_cmp (key_at home)) (key_at at) ≡ same_variable home at
+same_key home at =
+    both_equal (nat_cmp home.instance at.instance) (nat_cmp home.path.root at.path.root)
+    ∙ (λ i. unsigned_tied home.instance at.instance i && unsigned_tied home.path.root at.path.root i)
+
+abbrev Entries : Type 0
+Entries = List ((ℕ × ℕ) × List WriteNode)
+
+kept_same : (entries : Entries) (home at : Location) → same_variable home at ≡ true → kept entries home ≡ kept entries at
+kept_same entries home at is =
+    let both = both_true (nat_eq home.instance at.instance) (nat_eq home.path.root at.path.root) is in
+    λ i. map write_of (unwrap_or (lookup (is_at (key_cmp
+    (nat_same home.instance at.instance both.0 i, nat_same home.path.root at.path.root both.1 i))) entries) [])
+
+-- one more home
+pub noted_one : (old between new : Entries) (k : ℕ) (home : Home) (writes : List WriteNode) (at : Location)
+    → lookup (is_at (key_cmp (key_at at))) between ≡ cond (is_at (key_cmp (key_at (location_of home))) (key_at at)) None
+    (lookup (is_at (key_cmp (key_at at))) old)
+    → lookup (is_at (key_cmp (key_at at))) new ≡ cond (is_at (key_cmp (key_at (location_of home))) (key_at at)) (Some writes)
+    (lookup (is_at (key_cmp (key_at at))) between)
+    → writes ≡ unwrap_or (lookup (is_at (key_cmp (key_at (location_of home)))) old) [] ++ record { branch = k; home = home } ∷ []
+    → kept new at ≡ kept old at ++ of_variable at (writes_by k (location_of home ∷ []))
+noted_one old between new k home writes at is_between is_new is_writes =
+    ap (λ found. map write_of (unwrap_or found [])) (is_new
+    ∙ ap (λ found. cond (is_at (key_cmp (key_at (location_of home))) (key_at at)) (Some writes) found) is_between)
+    ∙ ap (λ b. map write_of (unwrap_or (cond b (Some writes) (cond b None (lookup (is_at (key_cmp (key_at at))) old))) [])) (same_key (location_of home) at)
+    ∙ by (same_variable (location_of home) at) refl
+  where
+    one : Write
+    one = record { branch = k; home = location_of home }
+
+    by : (b : Bool) → same_variable (location_of home) at ≡ b
+        → map write_of (unwrap_or (cond b (Some writes) (cond b None (lookup (is_at (key_cmp (key_at at))) old))) []) ≡ kept old at
+        ++ cond b (one ∷ []) []
+    by true same =
+        ap (map write_of) is_writes
+        ∙ map-append write_of (unwrap_or (lookup (is_at (key_cmp (key_at (location_of home)))) old) []) (record { branch = k; home = home } ∷ [])
+        ∙ ap (λ before. before ++ one ∷ []) (kept_same old (location_of home) at same)
+    by false same = sym (append-nil (kept old at))
+
+by-append : (k : ℕ) (xs ys : List Location) → writes_by k (xs ++ ys) ≡ writes_by k xs ++ writes_by k ys
+by-append k [] ys = refl
+by-append k (x ∷ xs) ys = ap (λ rest. record { branch = k; home = x } ∷ rest) (by-append k xs ys)
+
+near-append : (at : Location) (xs ys : List Write) → of_variable at (xs ++ ys) ≡ of_variable at xs ++ of_variable at ys
+near-append at xs ys = filter-append (λ write. same_variable write.home at) xs ys
+
+-- one more home of a branch
+pub noted_more : (at : Location) (k : ℕ) (done : List Home) (home : Home) (old between new : List Write)
+    → between ≡ old ++ of_variable at (writes_by k (map location_of done)) → new ≡ between ++ of_variable at (writes_by k (location_of home ∷ []))
+    → new ≡ old ++ of_variable at (writes_by k (map location_of (done ++ home ∷ [])))
+noted_more at k done home old between new is_between is_new =
+    let front = writes_by k (map location_of done) in
+    let one = writes_by k (location_of home ∷ []) in
+    is_new ∙ ap (λ xs. xs ++ of_variable at one) is_between ∙ append_assoc old (of_variable at front) (of_variable at one)
+    ∙ ap (λ xs. old ++ xs) (sym (near-append at front one))
+    ∙ ap (λ xs. old ++ of_variable at xs) (sym (by-append k (map location_of done) (location_of home ∷ [])))
+    ∙ ap (λ xs. old ++ of_variable at (writes_by k xs)) (sym (map-append location_of done (home ∷ [])))
+
+-- before the loop over the branches
+pub branches_start : (at : Location) (w : Setting) (i : ℕ) (all : List Seen) →
+    of_variable at (writes_from 0 (map (homes_seen w i) (drop 0 all))) ≡ of_variable at (all_writes (map (homes_seen w i) all))
+branches_start at w i all = ap (λ all. of_variable at (writes_from 0 (map (homes_seen w i) all))) (drop_all all)
+
+-- one more branch
+pub branch_noted : (at : Location) (w : Setting) (i : ℕ) (all : List Seen) (k next : ℕ) (b : Seen) (old new whole : List Write) →
+    next ≡ suc k → drop k all ≡ b ∷ drop (suc k) all
+    → new ≡ old ++ of_variable at (writes_by k (homes_seen w i b))
+    → old ++ of_variable at (writes_from k (map (homes_seen w i) (drop k all))) ≡ whole
+    → new ++ of_variable at (writes_from next (map (homes_seen w i) (drop next all))) ≡ whole
+branch_noted at w i all k next b old new whole is_next here is_new before =
+    let one = writes_by k (homes_seen w i b) in
+    let rest = writes_from (suc k) (map (homes_seen w i) (drop (suc k) all)) in
+    ap (λ n. new ++ of_variable at (writes_from n (map (homes_seen w i) (drop n all)))) is_next
+    ∙ ap (λ new. new ++ of_variable at rest) is_new
+    ∙ append_assoc old (of_variable at one) (of_variable at rest)
+    ∙ ap (λ xs. old ++ xs) (sym (near-append at one rest))
+    ∙ ap (λ all. old ++ of_variable at (writes_from k (map (homes_seen w i) all))) (sym here)
+    ∙ before
+
+-- behind the last branch
+pub branches_end : (at : Location) (w : Setting) (i : ℕ) (all : List Seen) (k : ℕ) (done whole : List Write) → length all ≤ k
+    → done ++ of_variable at (writes_from k (map (homes_seen w i) (drop k all))) ≡ whole → done ≡ whole
+branches_end at w i all k done whole past before =
+    sym (ap (λ rest. done ++ of_variable at (writes_from k (map (homes_seen w i) rest))) (none_left all k past) ∙ append-nil done) ∙ before
+
+-- ---- what is met
+
+flip : (m n : ℕ) → nat_eq m n ≡ true → nat_eq n m ≡ true
+flip m n is = eq-eqb n m (sym (nat_same m n is))
+
+overlap_same : (home at : Location) → overlap at home ≡ true → same_variable home at ≡ true
+overlap_same home at is =
+    let both = both_true (nat_eq at.instance home.instance) (overlaps at.path home.path) is in
+    let roots = both_true (nat_eq at.path.root home.path.root) (is_front at.path.fields home.path.fields || is_front home.path.fields at.path.fields) both.1 in
+    λ i. flip at.instance home.instance both.0 i && flip at.path.root home.path.root roots.0 i
+
+apart : (home at : Location) → same_variable home at ≡ false → (b : Bool) → overlap at home ≡ b → b ≡ false
+apart home at is true met = let same = overlap_same home at met in absurd cc
+apart home at is false met = refl
+
+and_false : (a : Bool) → (a && false) ≡ false
+and_false true = refl
+and_false false = refl
+
+and_or : (a b c : Bool) → ((a && b) || (a && c)) ≡ (a && (b || c))
+and_or true b c = refl
+and_or false b c = refl
+
+or_assoc : (a b c : Bool) → (a || (b || c)) ≡ ((a || b) || c)
+or_assoc true b c = refl
+or_assoc false b c = refl
+
+unequal : (m n : ℕ) → m ≢ n → nat_eq m n ≡ false
+unequal m n other = by (nat_eq m n) refl
+  where
+    by : (b : Bool) → nat_eq m n ≡ b → b ≡ false
+    by true is = absurd (other (nat_same m n is))
+    by false is = refl
+
+-- writes to other variables don't count
+all_near : (k : ℕ) (at : Location) (writes : List Write) → list_any (is_beside k at) (of_variable at writes) ≡ list_any (is_beside k at) writes
+all_near k at [] = refl
+all_near k at (write ∷ writes) = by (same_variable write.home at) refl (all_near k at writes)
+  where
+    by : (b : Bool) → same_variable write.home at ≡ b → list_any (is_beside k at) (of_variable at writes) ≡ list_any (is_beside k at) writes
+        → list_any (is_beside k at) (cond b (write ∷ of_variable at writes) (of_variable at writes))
+        ≡ (is_beside k at write || list_any (is_beside k at) writes)
+    by true same rest = ap (λ b. is_beside k at write || b) rest
+    by false same rest =
+        rest
+        ∙ sym (ap (λ b. (not (nat_eq write.branch k) && b) || list_any (is_beside k at) writes) (apart write.home at same (overlap at write.home) refl)
+        ∙ ap (λ b. b || list_any (is_beside k at) writes) (and_false (not (nat_eq write.branch k))))
+
+any_by : (k j : ℕ) (at : Location) (homes : List Location) →
+    list_any (is_beside k at) (writes_by j homes) ≡ (not (nat_eq j k) && list_any (overlap at) homes)
+any_by k j at [] = sym (and_false (not (nat_eq j k)))
+any_by k j at (home ∷ homes) =
+    ap (λ b. (not (nat_eq j k) && overlap at home) || b) (any_by k j at homes) ∙ and_or (not (nat_eq j k)) (overlap at home) (list_any (overlap at) homes)
+
+-- another branch, and those behind it
+any_other : (k j : ℕ) (at : Location) (homes : List Location) (rest : List Write) → j ≢ k
+    → list_any (is_beside k at) (writes_by j homes ++ rest) ≡ (list_any (overlap at) homes || list_any (is_beside k at) rest)
+any_other k j at homes rest other =
+    list_any-append (is_beside k at) (writes_by j homes) rest
+    ∙ ap (λ b. b || list_any (is_beside k at) rest) (any_by k j at homes ∙ ap (λ b. not b && list_any (overlap at) homes) (unequal j k other))
+
+-- the branch itself, and those behind it
+any_self : (k j : ℕ) (at : Location) (homes : List Location) (rest : List Write) → j ≡ k →
+    list_any (is_beside k at) (writes_by j homes ++ rest) ≡ list_any (is_beside k at) rest
+any_self k j at homes rest same =
+    list_any-append (is_beside k at) (writes_by j homes) rest
+    ∙ ap (λ b. b || list_any (is_beside k at) rest) (any_by k j at homes ∙ ap (λ b. not b && list_any (overlap at) homes) (eq-eqb j k same))
+
+all_others : (k j : ℕ) (at : Location) (all : List (List Location)) → k < j → list_any (is_beside k at) (writes_from j all) ≡ meets_one all at
+all_others k j at [] behind = refl
+all_others k j at (homes ∷ all) behind =
+    any_other k j at homes (writes_from (suc j) all) (λ same. omega arith)
+    ∙ ap (λ b. list_any (overlap at) homes || b) (all_others k (suc j) at all (omega arith))
+
+-- those in front of the branch, and those behind it
+met_from : (k j : ℕ) (at : Location) (all : List (List Location))
+    → list_any (is_beside (j + k) at) (writes_from j all) ≡ (meets_one (take k all) at || meets_one (drop (suc k) all) at)
+met_from zero j at [] = refl
+met_from (suc k) j at [] = refl
+met_from zero j at (homes ∷ all) =
+    let same : j ≡ j + 0 = omega arith in
+    any_self (j + 0) j at homes (writes_from (suc j) all) same
+    ∙ all_others (j + 0) (suc j) at all (omega arith)
+    ∙ ap (λ all. meets_one all at) (sym (drop_all all))
+met_from (suc k) j at (homes ∷ all) =
+    let same : j + suc k ≡ suc j + k = omega arith in
+    any_other (j + suc k) j at homes (writes_from (suc j) all) (λ same. omega arith)
+    ∙ ap (λ n. list_any (overlap at) homes || list_any (is_beside n at) (writes_from (suc j) all)) same
+    ∙ ap (λ b. list_any (overlap at) homes || b) (met_from k (suc j) at all)
+    ∙ or_assoc (list_any (overlap at) homes) (meets_one (take k all) at) (meets_one (drop (suc k) all) at)
+
+met_beside : (entries : Entries) (all : List (List Location)) (k : ℕ) (at : Location) → kept entries at ≡ of_variable at (all_writes all)
+    → is_met entries k at ≡ (meets_one (take k all) at || meets_one (drop (k + 1) all) at)
+met_beside entries all k at is =
+    let start : k ≡ 0 + k = omega arith in
+    let next : suc k ≡ k + 1 = omega arith in
+    ap (list_any (is_beside k at)) is ∙ all_near k at (all_writes all) ∙ ap (λ n. list_any (is_beside n at) (all_writes all)) start
+    ∙ met_from k 0 at all ∙ ap (λ n. meets_one (take k all) at || meets_one (drop n all) at) next
+
+-- a point is free by what is kept where it is free by what the branches may write
+free_same : (entries : Entries) (all : List (List Location)) (k : ℕ) (spot : Spot) →
+    ((at : Location) → kept entries at ≡ of_variable at (all_writes all))
+    → is_free entries k spot ≡ is_free_of all k spot
+free_same entries all k spot is =
+    ap not (any_same (is_met entries k) (λ at. meets_one (take k all) at || meets_one (drop (k + 1) all) at) spot.reads
+    (λ at. met_beside entries all k at (is at))
+    ∙ any_or (meets_one (take k all)) (meets_one (drop (k + 1) all)) spot.reads)
+    ∙ not_or (taken (take k all) spot.reads) (taken (drop (k + 1) all) spot.reads)
+
+filter_same : {A : Type 0} (f g : A → Bool) (xs : List A) → ((x : A) → f x ≡ g x) → filter f xs ≡ filter g xs
+filter_same f g [] same = refl
+filter_same f g (x ∷ xs) same = λ i. cond (same x i) (x ∷ filter_same f g xs same i) (filter_same f g xs same i)
+
+-- the free points
+pub all_free : (entries : Entries) (all : List (List Location)) (k : ℕ) (spots : List Spot) →
+    ((at : Location) → kept entries at ≡ of_variable at (all_writes all))
+    → filter (is_free entries k) spots ≡ filter (is_free_of all k) spots
+all_free entries all k spots is = filter_same (is_free entries k) (is_free_of all k) spots (λ spot. free_same entries all k spot is)

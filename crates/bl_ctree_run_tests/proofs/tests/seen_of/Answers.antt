@@ -1,0 +1,10 @@
+-- An accepted program has few instances.
+use Rattle.std.proofs.Common.{◌<◌, ◌^◌, length, arith, subst, sym}
+use Rattle.bl_tree.specs.declared.program.Program.{Program}
+use Rattle.bl_ctree.specs.Instances.{instances_of}
+use Rattle.bl_ctree_run_tests.proofs.tests.seen_of.Goals as goal
+
+pub run-requires : goal.run-requires
+run-requires c =
+    let few = c.accepted_texts_have_few_instances.ensures _ c.in-Ok.accepted.program c.in-Ok.ensures.program in
+    subst (λ (it : Program). length (instances_of it.units it.entry) < 2 ^ 32) (sym c.program.ensures) (omega (arith, few))

@@ -1,5 +1,0 @@
-use Rattle.bl_emit_acts_laws_formed.proofs.OnFormed.WholeActs.{acts}
-use Rattle.bl_emit_acts_laws_formed.proofs.formed.acts_formed.Goals as goal
-
-pub returns : goal.returns
-returns c = acts c.args._program.now.structs c.args._program.now.units c.args._program.now.entry

@@ -1,5 +1,0 @@
-use Rattle.bl_emit_acts_laws_formed.proofs.OnSpelled.Whole.{expressions}
-use Rattle.bl_emit_acts_laws_formed.proofs.spelled.expressions_fit.Goals as goal
-
-pub returns : goal.returns
-returns c = expressions c.args._program.now.structs c.args._program.now.units c.args._program.now.entry

@@ -1,0 +1,151 @@
+-- The numbers that calls of the prelude's functions, comparisons, `&&` and `||` give.
+use Rattle.std.proofs.Common.{◌≡◌, ℕ, ◌+◌, ℤ, pos, Bool, true, false, List, [], ◌∷◌, map, Option, Some, None, refl, ap, ap₂}
+use Rattle.std.proofs.Common.{◌∙◌}
+use Rattle.std.specs.Prelude.{option_and_then, option_map, if◌then◌else◌}
+use Rattle.bl_tree.specs.declared.text.Text.{Text}
+use Rattle.bl_tree.specs.declared.scalar.Op.{Op}
+use Rattle.bl_tree.specs.declared.scalar.Op.TheVariants.{And, Or, Not}
+use Rattle.bl_tree.specs.declared.scalar.Scalar.TheVariants.{Bool as OfBool}
+use Rattle.bl_tree.specs.declared.c.CArg.TheVariants.{Value}
+use Rattle.bl_tree.specs.declared.c.CExpr.{CExpr}
+use Rattle.bl_tree.specs.Numbers.{checked_of, checked_one_of, is_one}
+use Rattle.bl_ctext.specs.declared.builtin.Builtin.{Builtin}
+use Rattle.bl_ctext_semantics.specs.Builtin.{builtin_of, builtin_value}
+use Rattle.bl_ctext_semantics.specs.Memory.{CValue, Memory, scalar, number_in}
+use Rattle.bl_ctext_semantics.specs.Meaning.{ArgumentValue, Counted, Evaluates, Scope, at_once, by_value, called_after, called_as, given, next, number_of_passed, result_of}
+use Rattle.bl_ctext_semantics.specs.Meaning.{two_values, value_c}
+use Rattle.bl_emit_acts.specs.Trees.{c_called, c_not, c_two}
+use Rattle.bl_emit_acts_laws_simulation.proofs.Evaluated.{called-value, not-value, passes, two-value, value-arg}
+
+-- the number of an answer
+abbrev pub num : Option CValue → Option ℤ
+num = option_map number_in
+
+pub num-scalar : (o : Option ℤ) → num (option_map scalar o) ≡ o
+num-scalar None = refl
+num-scalar (Some n) = refl
+
+module _ (scope : Scope) (memory : Memory) where
+  -- the number that an expression gives
+  abbrev pub gives : CExpr → Option ℤ
+  gives e = num (value_c e scope memory).answer
+
+  -- ---- calls of the prelude's functions
+
+  abbrev valued : Counted CValue → Counted ArgumentValue
+  valued c = next c (λ v. given (Some (by_value v)))
+
+  abbrev one_more : Counted ArgumentValue → Counted (List ArgumentValue) → Counted (List ArgumentValue)
+  one_more first rest = next first (λ a. next rest (λ others. given (Some (a ∷ others))))
+
+  abbrev answer_of : Text → Counted (List ArgumentValue) → Option ℤ
+  answer_of name passed = num (result_of (called_after scope memory name passed.count passed.answer)).answer
+
+  module _ (name : Text) (b : Builtin) (is : builtin_of name ≡ Some b) where
+    built : (numbers : List ArgumentValue) →
+        num (option_map scalar (called_as (builtin_of name) (scope.known name) (scope.depth + 1) numbers memory).result)
+        ≡ builtin_value b (map number_of_passed numbers)
+    built numbers =
+        ap (λ (o : Option Builtin). num (option_map scalar (called_as o (scope.known name) (scope.depth + 1) numbers memory).result)) is
+        ∙ num-scalar (builtin_value b (map number_of_passed numbers))
+
+    one_by : (n : ℕ) (o : Option CValue) → answer_of name (one_more (valued (record { count = n; answer = o })) (given (Some [])))
+        ≡ option_and_then (λ m. builtin_value b (m ∷ [])) (num o)
+    one_by n None = refl
+    one_by n (Some v) = built (by_value v ∷ [])
+
+    one_passed : (first : Counted ArgumentValue) (c : Counted CValue) → first ≡ valued c →
+        answer_of name (one_more first (given (Some []))) ≡ option_and_then (λ m. builtin_value b (m ∷ [])) (num c.answer)
+    one_passed first c h = ap (λ first. answer_of name (one_more first (given (Some [])))) h ∙ one_by c.count c.answer
+
+    -- a function of one number
+    pub one-number : (e : CExpr) → gives (c_called name (Value e ∷ [])) ≡ option_and_then (λ m. builtin_value b (m ∷ [])) (gives e)
+    one-number e =
+        ap (λ (c : Counted CValue). num c.answer) (called-value scope memory name (Value e ∷ []))
+        ∙ one_passed (passes (Value e) scope memory) (value_c e scope memory) (value-arg scope memory e)
+
+    two_by : (m n : ℕ) (o p : Option CValue) →
+        answer_of name (one_more (valued (record { count = m; answer = o })) (one_more (valued (record { count = n; answer = p })) (given (Some []))))
+        ≡ option_and_then (λ x. option_and_then (λ y. builtin_value b (x ∷ y ∷ [])) (num p)) (num o)
+    two_by m n None p = refl
+    two_by m n (Some v) None = refl
+    two_by m n (Some v) (Some w) = built (by_value v ∷ by_value w ∷ [])
+
+    two_passed : (first second : Counted ArgumentValue) (c d : Counted CValue) → first ≡ valued c → second ≡ valued d →
+        answer_of name (one_more first (one_more second (given (Some []))))
+        ≡ option_and_then (λ x. option_and_then (λ y. builtin_value b (x ∷ y ∷ [])) (num d.answer)) (num c.answer)
+    two_passed first second c d h i =
+        ap₂ (λ first second. answer_of name (one_more first (one_more second (given (Some []))))) h i ∙ two_by c.count d.count c.answer d.answer
+
+    -- a function of two numbers
+    pub two-number : (e f : CExpr) → gives (c_called name (Value e ∷ Value f ∷ []))
+        ≡ option_and_then (λ x. option_and_then (λ y. builtin_value b (x ∷ y ∷ [])) (gives f)) (gives e)
+    two-number e f =
+        ap (λ (c : Counted CValue). num c.answer) (called-value scope memory name (Value e ∷ Value f ∷ []))
+        ∙ two_passed (passes (Value e) scope memory) (passes (Value f) scope memory) (value_c e scope memory) (value_c f scope memory)
+        (value-arg scope memory e) (value-arg scope memory f)
+
+  -- ---- C's own operators
+
+  not_by : (n : ℕ) (o : Option CValue) →
+      num (next (record { count = n; answer = o }) (λ a. given (option_map scalar (checked_one_of Not OfBool (number_in a))))).answer
+      ≡ option_and_then (checked_one_of Not OfBool) (num o)
+  not_by n None = refl
+  not_by n (Some v) = refl
+
+  pub not-number : (e : CExpr) → gives (c_not e) ≡ option_and_then (checked_one_of Not OfBool) (gives e)
+  not-number e = ap (λ (c : Counted CValue). num c.answer) (not-value scope memory e) ∙ not_by (value_c e scope memory).count (value_c e scope memory).answer
+
+  both_by : (f : ℤ → ℤ → Option ℤ) (m n : ℕ) (o p : Option CValue) →
+      num (next (record { count = m; answer = o }) (λ a. next (record { count = n; answer = p }) (λ b. given (option_map scalar (f (number_in a) (number_in
+      b)))))).answer
+      ≡ option_and_then (λ x. option_and_then (f x) (num p)) (num o)
+  both_by f m n None p = refl
+  both_by f m n (Some v) None = refl
+  both_by f m n (Some v) (Some w) = num-scalar (f (number_in v) (number_in w))
+
+  -- a comparison
+  pub compare-number : (op : Op) (e f : CExpr) →
+      ((left right : Evaluates CValue) → two_values op left right scope memory
+      ≡ next (left scope memory) (λ a. next (right scope memory) (λ b. given (option_map scalar (checked_of op OfBool (number_in a) (number_in b)))))) →
+      gives (c_two op e f) ≡ option_and_then (λ x. option_and_then (checked_of op OfBool x) (gives f)) (gives e)
+  compare-number op e f is =
+      ap (λ (c : Counted CValue). num c.answer) (two-value scope memory op e f ∙ is (value_c e) (value_c f))
+      ∙ both_by (checked_of op OfBool) (value_c e scope memory).count (value_c f scope memory).count (value_c e scope memory).answer
+      (value_c f scope memory).answer
+
+  and_if : (holds : Bool) (n : ℕ) (right : Evaluates CValue) →
+      num (next (record { count = n; answer = Some (scalar (pos 0)) }) (λ a. (if holds then right else at_once (pos 0)) scope memory)).answer
+      ≡ (if holds then num (right scope memory).answer else Some (pos 0))
+  and_if true n right = refl
+  and_if false n right = refl
+
+  and_by : (n : ℕ) (o : Option CValue) (right : Evaluates CValue) →
+      num (next (record { count = n; answer = o }) (λ a. (if is_one (number_in a) then right else at_once (pos 0)) scope memory)).answer
+      ≡ option_and_then (λ x. if is_one x then num (right scope memory).answer else Some (pos 0)) (num o)
+  and_by n None right = refl
+  and_by n (Some v) right = and_if (is_one (number_in v)) n right
+
+  -- `&&`
+  pub and-number : (e f : CExpr) → gives (c_two And e f) ≡ option_and_then (λ x. if is_one x then gives f else Some (pos 0)) (gives e)
+  and-number e f =
+      ap (λ (c : Counted CValue). num c.answer) (two-value scope memory And e f) ∙ and_by (value_c e scope memory).count
+      (value_c e scope memory).answer (value_c f)
+
+  or_if : (holds : Bool) (n : ℕ) (right : Evaluates CValue) →
+      num (next (record { count = n; answer = Some (scalar (pos 0)) }) (λ a. (if holds then at_once (pos 1) else right) scope memory)).answer
+      ≡ (if holds then Some (pos 1) else num (right scope memory).answer)
+  or_if true n right = refl
+  or_if false n right = refl
+
+  or_by : (n : ℕ) (o : Option CValue) (right : Evaluates CValue) →
+      num (next (record { count = n; answer = o }) (λ a. (if is_one (number_in a) then at_once (pos 1) else right) scope memory)).answer
+      ≡ option_and_then (λ x. if is_one x then Some (pos 1) else num (right scope memory).answer) (num o)
+  or_by n None right = refl
+  or_by n (Some v) right = or_if (is_one (number_in v)) n right
+
+  -- `||`
+  pub or-number : (e f : CExpr) → gives (c_two Or e f) ≡ option_and_then (λ x. if is_one x then Some (pos 1) else gives f) (gives e)
+  or-number e f =
+      ap (λ (c : Counted CValue). num c.answer) (two-value scope memory Or e f) ∙ or_by (value_c e scope memory).count
+      (value_c e scope memory).answer (value_c f)

@@ -1,0 +1,42 @@
+-- Where the variables and copies of a running unit stand, from where its pointers lead.
+use Rattle.std.specs.Prelude.{◌≡◌, ℕ, ◌≤◌, ◌^◌, Bool, true, false, nat_eq, nat_lt, Some, codes, length}
+use Rattle.bl_tree.specs.declared.tree.Var.{Var}
+use Rattle.bl_tree.specs.Program.{is_input}
+use Rattle.bl_tree.specs.Typing.{TypingContext, is_activity, var_at}
+use Rattle.bl_ctext_semantics.specs.Meaning.{Scope, start_of}
+use Rattle.bl_ctext_semantics.specs.Memory.{Location, Root, variable}
+use Rattle.bl_emit_acts.specs.declared.home.Home.TheVariants.{Held, Lent}
+use Rattle.bl_emit_acts.specs.Types.{variable_name}
+use Rattle.bl_emit_acts_laws_simulation.specs.Acts.{CopiesApart}
+use Rattle.bl_emit_acts_laws_simulation.specs.Encodes.{VariablesAllocated, VariablesApart, are_apart, home_at}
+
+-- whether a root was there before the function at this depth began: an object, or a variable of a function that called it
+abbrev pub is_older : ℕ → Root → Bool
+is_older depth (variable d name) = nat_lt d depth
+is_older depth _ = true
+
+-- where the pointer for a variable leads
+abbrev pub lent_at : Scope → ℕ → Location
+lent_at scope k = start_of scope true (variable_name k)
+
+-- where the pointer to what an activity remembers leads
+abbrev pub remembered_at : Scope → Location
+remembered_at scope = start_of scope true (codes "m")
+
+-- The pointers of a unit lead to what was there before it began; of these the one to what an activity remembers matters only where it remembers a
+-- variable. Where one leads that is written through has nothing in common with where any other leads
+pub record PointersAreValid (site : TypingContext) (scope : Scope) : Type 0 where
+  pub few : length site.vars ≤ 2 ^ 64
+  pub lent_older : (k : ℕ) (var : Var) → var_at site k ≡ Some var → home_at site k ≡ Lent → is_older scope.depth (lent_at scope k).root ≡ true
+  pub held_older : (k : ℕ) (var : Var) → var_at site k ≡ Some var → home_at site k ≡ Held → is_activity site.kind ≡ true →
+      is_older scope.depth (remembered_at scope).root ≡ true
+  pub lent_apart : (j k : ℕ) (a b : Var) → var_at site j ≡ Some a → var_at site k ≡ Some b → home_at site j ≡ Lent → home_at site k ≡ Lent →
+      is_input a.role ≡ false → nat_eq j k ≡ false → are_apart (lent_at scope j) (lent_at scope k) ≡ true
+  pub held_apart : is_activity site.kind ≡ true → (k : ℕ) (var : Var) → var_at site k ≡ Some var → home_at site k ≡ Lent →
+      are_apart (remembered_at scope) (lent_at scope k) ≡ true
+
+-- so what may be written keeps apart from other variables and from copies, and all of it is there
+pub record FrameApart (site : TypingContext) (copied : ℕ → Bool) (scope : Scope) : Type 0 where
+  pub variables : VariablesApart site scope
+  pub copies : CopiesApart site copied scope
+  pub live : VariablesAllocated site scope

@@ -1,5 +1,0 @@
-use Rattle.bl_emit_functions_laws.proofs.OnCalls.Frame.{begin_all}
-use Rattle.bl_emit_functions_laws.proofs.calls.frames_begin.Goals as goal
-
-pub returns : goal.returns
-returns c = begin_all c.args._program.now.structs c.args._program.now.units c.args._program.now.entry

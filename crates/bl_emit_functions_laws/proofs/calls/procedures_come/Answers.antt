@@ -1,6 +1,0 @@
-use Rattle.bl_emit_functions_laws.proofs.OnCalls.Procedure.{procedures_come_all}
-use Rattle.bl_emit_functions_laws.proofs.calls.procedures_come.Goals as goal
-
-pub returns : goal.returns
-returns c =
-    procedures_come_all c.args.program.now.structs c.args.program.now.units c.args.program.now.entry c.statements_come.ensures

@@ -1,5 +1,0 @@
-use Rattle.bl_emit_functions_laws_formed.proofs.OnCells.Growing.{grow}
-use Rattle.bl_emit_functions_laws_formed.proofs.cells.cells_grow.Goals as goal
-
-pub returns : goal.returns
-returns c = grow c.args._program.now.structs c.args._program.now.units c.args._program.now.entry

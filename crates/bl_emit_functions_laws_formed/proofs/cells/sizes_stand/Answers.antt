@@ -1,5 +1,0 @@
-use Rattle.bl_emit_functions_laws_formed.proofs.OnCells.Sizes.{stand}
-use Rattle.bl_emit_functions_laws_formed.proofs.cells.sizes_stand.Goals as goal
-
-pub returns : goal.returns
-returns c = stand c.args.program.now.structs c.args.program.now.units c.args.program.now.entry c.types_apart.ensures

@@ -1,5 +1,0 @@
-use Rattle.bl_emit_functions_laws_formed.proofs.OnFiles.Chains.{follow}
-use Rattle.bl_emit_functions_laws_formed.proofs.files.chains_follow.Goals as goal
-
-pub returns : goal.returns
-returns c = follow c.args._program.now.structs c.args._program.now.units

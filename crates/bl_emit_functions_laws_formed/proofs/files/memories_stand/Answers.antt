@@ -1,5 +1,0 @@
-use Rattle.bl_emit_functions_laws_formed.proofs.OnFiles.Memories.{memories}
-use Rattle.bl_emit_functions_laws_formed.proofs.files.memories_stand.Goals as goal
-
-pub returns : goal.returns
-returns c = memories c.args.program.now.structs c.args.program.now.units c.args.program.now.entry c.memories_hold.ensures

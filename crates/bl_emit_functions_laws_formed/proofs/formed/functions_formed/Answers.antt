@@ -1,5 +1,0 @@
-use Rattle.bl_emit_functions_laws_formed.proofs.OnFormed.Whole.{functions}
-use Rattle.bl_emit_functions_laws_formed.proofs.formed.functions_formed.Goals as goal
-
-pub returns : goal.returns
-returns c = functions c.args._program.now.structs c.args._program.now.units c.args._program.now.entry

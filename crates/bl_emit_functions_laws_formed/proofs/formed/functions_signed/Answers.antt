@@ -1,5 +1,0 @@
-use Rattle.bl_emit_functions_laws_formed.proofs.OnFormed.Whole.{signed}
-use Rattle.bl_emit_functions_laws_formed.proofs.formed.functions_signed.Goals as goal
-
-pub returns : goal.returns
-returns c = signed

@@ -1,5 +1,0 @@
-use Rattle.bl_emit_functions_laws_formed.proofs.OnFormed.Counters.{turns}
-use Rattle.bl_emit_functions_laws_formed.proofs.formed.turns_differ.Goals as goal
-
-pub returns : goal.returns
-returns c = turns c.args._program.now.structs c.args._program.now.units

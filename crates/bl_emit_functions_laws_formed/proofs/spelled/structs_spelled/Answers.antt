@@ -1,5 +1,0 @@
-use Rattle.bl_emit_functions_laws_formed.proofs.OnSpelled.Whole.{structs_all}
-use Rattle.bl_emit_functions_laws_formed.proofs.spelled.structs_spelled.Goals as goal
-
-pub returns : goal.returns
-returns c = structs_all c.args._program.now.structs c.args._program.now.units c.args._program.now.entry

@@ -1,5 +1,0 @@
-use Rattle.bl_emit_functions_laws_formed.proofs.OnSpelled.Whole.{types}
-use Rattle.bl_emit_functions_laws_formed.proofs.spelled.types_spelled.Goals as goal
-
-pub returns : goal.returns
-returns c = types c.args._program.now.structs c.args._program.now.units c.args._program.now.entry

@@ -1,0 +1,42 @@
+//! Laws of calls of C functions, which are made of the functions of a typed program. None of these functions does anything:
+//! the contract is the law. A call of the C function of a function without a result traps exactly where the function does;
+//! else it leaves the function's outputs at their places, and all else as it was that was there before (`specs/Calls.antt`,
+//! `ProceduresSimulate`). The law asks that the earlier functions do in C what they do in the program, that no arguments of the
+//! function's calls overlap, and that it has no more variables and flags than there are names (`MayRun`). The same of
+//! functions with a result is in `results`.
+
+ghost use Rattle.bl_emit_functions_laws_simulation.specs.Calls.{BodiesEnd, CallsKeepFrame, FramesBegin, HandsOver, ProceduresSimulate};
+
+use crate::bodies::statements_simulate;
+use bl_tree::Program;
+
+/// The body of a function with a result never goes on to its end: it traps, or returns a result. That of a function without
+/// one returns none.
+pub fn bodies_end(_program: &Program)
+    ensures { BodiesEnd _program.now.structs _program.now.units _program.now.entry }
+{}
+
+/// A call reaches what was there before it by its body alone: where the body begins that is as the caller has it, and after
+/// the call it is as the body left it.
+pub fn calls_keep()
+    ensures { CallsKeepFrame }
+{}
+
+/// A call hands over what the parameters of the called function want: an argument for each, which has the value of its input
+/// or output. The place of an output was there before the call, and has nothing in common with those of other arguments.
+pub fn hands_over(_program: &Program)
+    ensures { HandsOver _program.now.structs _program.now.units _program.now.entry }
+{}
+
+/// Where a function is called with arguments that have values, the variables of its C function begin with these values, or
+/// with zero, its pointers lead to what keeps apart, and an input that it copies first stands where its pointer leads.
+pub fn frames_begin(_program: &Program)
+    ensures { FramesBegin _program.now.structs _program.now.units _program.now.entry }
+{}
+
+/// A call of the C function of a function without a result does what the function does, where the earlier functions do.
+pub fn procedures_simulate(program: &Program)
+    ensures { ProceduresSimulate program.now.structs program.now.units program.now.entry }
+{
+    statements_simulate(program);
+}

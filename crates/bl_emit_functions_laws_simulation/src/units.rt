@@ -1,0 +1,31 @@
+//! Laws of the C functions of all functions of a typed program. None of these functions does anything: the contract is the
+//! law. In a table of C functions that knows the C function of each function up to a position, under its name and over the
+//! functions before it (`specs/Units.antt`, `KnownUpTo`), each returns what the function returns, or leaves what the function
+//! leaves, or traps where it does (`FunctionsSimulate`). The law asks that rule Alias doesn't fail, as in every accepted
+//! program, and that no function has more than 2 ^ 64 variables or flags, each of which takes a byte of the source at least
+//! (`AllNamesSuffice`). A table goes on to know what it knows as others join it (`TablesGrow`), and the C functions of a
+//! program's functions, one behind the other, make one that knows all of them (`TablesKnow`).
+
+ghost use Rattle.bl_emit_functions_laws_simulation.specs.Units.{FunctionsSimulate, TablesGrow, TablesKnow};
+
+use crate::calls::procedures_simulate;
+use crate::results::results_simulate;
+use bl_tree::Program;
+
+/// The C functions that a table knows do what the functions of the program do.
+pub fn functions_simulate(program: &Program)
+    ensures { FunctionsSimulate program.now.structs program.now.units program.now.entry }
+{
+    results_simulate(program);
+    procedures_simulate(program);
+}
+
+/// A table knows what it knew and what joins it.
+pub fn tables_grow(_program: &Program)
+    ensures { TablesGrow _program.now.structs _program.now.units }
+{}
+
+/// The table of the C functions of a program's functions, one behind the other, knows all of them.
+pub fn tables_know(_program: &Program)
+    ensures { TablesKnow _program.now.structs _program.now.units _program.now.entry }
+{}

@@ -1,0 +1,359 @@
+-- No clause fails in the head of the C function of a function.
+use Rattle.std.proofs.Common.{◌≡◌, ℕ, zero, suc, ◌+◌, ◌<◌, ◌≤◌, ◌^◌, Bool, true, false, not, ◌&&◌, ◌||◌, List, []}
+use Rattle.std.proofs.Common.{◌∷◌, ◌++◌, map, take, length, Option, Some}
+use Rattle.std.proofs.Common.{None, refl, sym, ap, ◌∙◌, subst, arith, codes}
+use Rattle.std.proofs.lemmas.Bool.Decides.{nat_tests}
+use Rattle.std.proofs.lemmas.List.{map-append}
+use Rattle.std.proofs.lemmas.List.Folds.{list_all-append, list_any-append}
+use Rattle.std.proofs.lemmas.Slice.Eq.{bytes_eq-Decides}
+use Rattle.std.specs.Prelude.{bytes_eq, is_none, is_some, nat_le, option_map, slice_get}
+use Rattle.std.specs.List.{list_all, list_any}
+use Rattle.bl_tree.specs.declared.text.Text.{Text}
+use Rattle.bl_tree.specs.declared.c.CExpr.{CExpr}
+use Rattle.bl_tree.specs.declared.c.CFunc.{CFunc}
+use Rattle.bl_tree.specs.declared.c.CLocal.{CLocal}
+use Rattle.bl_tree.specs.declared.c.CMember.{CMember}
+use Rattle.bl_tree.specs.declared.c.CParam.{CParam}
+use Rattle.bl_tree.specs.declared.c.CStmt.{CStmt, fold-roll-CStmt, roll-CStmt}
+use Rattle.bl_tree.specs.declared.c.CStmtKind.{CStmtKind, CStmtKind-F, fold-roll-CStmtKind, roll-CStmtKind}
+use Rattle.bl_tree.specs.declared.c.CStmtKind.TheVariants as statement
+use Rattle.bl_tree.specs.declared.scalar.Scalar.{Scalar as ScalarType}
+use Rattle.bl_tree.specs.declared.place.Place.{Place}
+use Rattle.bl_tree.specs.declared.tree.Stmt.{Stmt, fold-roll-Stmt, out-Stmt, roll-Stmt, roll-out-Stmt}
+use Rattle.bl_tree.specs.declared.tree.StmtKind.{StmtKind, fold-roll-StmtKind, out-StmtKind, roll-out-StmtKind}
+use Rattle.bl_tree.specs.declared.tree.StmtKind.TheOpen.{StmtKind-F}
+use Rattle.bl_tree.specs.declared.tree.Arm.{Arm}
+use Rattle.bl_tree.specs.declared.tree.Branch.{Branch}
+use Rattle.bl_tree.specs.declared.tree.StructDef.{StructDef}
+use Rattle.bl_tree.specs.declared.tree.Ty.{Ty}
+use Rattle.bl_tree.specs.declared.tree.Unit.{Unit as UnitDef}
+use Rattle.bl_tree.specs.declared.tree.Var.{Var}
+use Rattle.bl_tree.specs.Program.{IsWellTyped, is_output, parameters_of}
+use Rattle.bl_tree.specs.Returns.{is_return, is_return_kind}
+use Rattle.bl_tree.specs.Types.{scalar_in, type_stands}
+use Rattle.bl_tree.specs.Typing.{TypingContext, inputs_of, is_activity, var_at}
+use Rattle.bl_tree.specs.Words.{are_distinct, is_among}
+use Rattle.bl_tree.proofs.StmtInduction.{stmt}
+use Rattle.bl_eval.proofs.PassLemmas.{and_left, and_right, both}
+use Rattle.bl_ctext_semantics.specs.Faults.{Context, Signature, all_distinct, declared_before, depth_of_function, distinct_names, faults_in_head, is_declared, is_scalar, last_or, last_returns, returns_result, scalar_parameter, short_chain, surely_returns, variable_names}
+use Rattle.bl_ctext_semantics.specs.Tables.{Table, no_entries}
+use Rattle.bl_emit_acts.specs.Acts.{code_made}
+use Rattle.bl_emit_acts.specs.Places.{home_of}
+use Rattle.bl_emit_acts.specs.Trees.{nowhere}
+use Rattle.bl_emit_acts.specs.Types.{c_scalar, c_type, variable_name}
+use Rattle.bl_emit_structs.specs.Structs.{arrays_of}
+use Rattle.bl_emit_functions.specs.declared.coded.Free.{Free}
+use Rattle.bl_emit_functions.specs.Functions.{body_code, body_coded, copies_from, end_code, flag_local, flag_locals, function_code, holds_any, is_held, member_of, members_from, memory_local, memory_name, none_taken, param_of, params_from, returns_last, struct_of}
+use Rattle.bl_emit_functions.specs.Functions.{first_held, read_code}
+use Rattle.bl_emit_functions.specs.Statements.{block_codes, codes_of}
+use Rattle.bl_emit_functions.specs.Trees.{c_return, flag_name}
+use Rattle.bl_emit_functions.specs.Reads.{reads_in_block}
+use Rattle.bl_emit_acts_laws_wellformed.specs.Formed.Declared.{AreDeclared}
+use Rattle.bl_emit_acts_laws_wellformed.proofs.OnFormed.Judged.{kept}
+use Rattle.bl_emit_acts_laws_wellformed.proofs.OnFormed.Parts.{c_scalar_type}
+use Rattle.bl_emit_acts_laws_wellformed.proofs.OnFormed.TypeNames.{type_declared, whole_type}
+use Rattle.bl_emit_acts_laws_wellformed.proofs.OnFormed.Units.{taken_there}
+use Rattle.bl_emit_structs_laws_wellformed.proofs.OnFormed.Faultless.{all_differ}
+use Rattle.bl_emit_functions_laws_wellformed.specs.Formed.{IsNumbered, StandsBefore}
+use Rattle.bl_emit_functions_laws_wellformed.proofs.OnFormed.Lookups.{numbers_differ}
+use Rattle.bl_emit_functions_laws_wellformed.proofs.OnFormed.Variables.{declared_here, my_context, my_site, typed_here}
+
+-- ---- names of parameters and locals differ
+
+abbrev local_names : List CLocal → List Text
+local_names locals = map (λ (l : CLocal). l.name) locals
+
+abbrev param_names : List StructDef → ℕ → List Var → List Text
+param_names structs base vars = map (λ (p : CParam). p.name) (params_from structs base vars)
+
+swapped : (a b : Text) → bytes_eq a b ≡ false → bytes_eq b a ≡ false
+swapped a b other = by (bytes_eq b a) refl
+  where
+    by : (y : Bool) → bytes_eq b a ≡ y → y ≡ false
+    by false is = refl
+    by true is = absurd (let no : true ≡ false = sym ((bytes_eq-Decides a b).1 (sym ((bytes_eq-Decides b a).0 is))) ∙ other in cc)
+
+-- what is among neither is not among both
+among_neither : (x : Text) (xs ys : List Text) → is_among x xs ≡ false → is_among x ys ≡ false → is_among x (xs ++ ys) ≡ false
+among_neither x xs ys one other = list_any-append (bytes_eq x) xs ys ∙ (λ i. one i || other i)
+
+false_both : (a b : Bool) → a ≡ false → b ≡ false → (a || b) ≡ false
+false_both false b one other = other
+false_both true b one other = absurd (cc)
+
+false_first : (a b : Bool) → (a || b) ≡ false → a ≡ false
+false_first false b h = refl
+false_first true b h = absurd (cc)
+
+false_second : (a b : Bool) → (a || b) ≡ false → b ≡ false
+false_second false b h = h
+false_second true b h = absurd (cc)
+
+not_false : (b : Bool) → not b ≡ true → b ≡ false
+not_false false h = refl
+not_false true h = absurd (let no : false ≡ true = h in cc)
+
+distinct_push : (xs : List Text) (x : Text) → are_distinct xs ≡ true → is_among x xs ≡ false → are_distinct (xs ++ x ∷ []) ≡ true
+distinct_push [] x differ new = refl
+distinct_push (y ∷ xs) x differ new =
+    both (not (is_among y (xs ++ x ∷ []))) (are_distinct (xs ++ x ∷ []))
+    (ap not (among_neither y xs (x ∷ []) (not_false (is_among y xs) (and_left (not (is_among y xs)) (are_distinct xs) differ))
+    (false_both (bytes_eq y x) false (swapped x y (false_first (bytes_eq x y) (is_among x xs) new)) refl)))
+    (distinct_push xs x (and_right (not (is_among y xs)) (are_distinct xs) differ) (false_second (bytes_eq x y) (is_among x xs) new))
+
+names_append : (xs ys : List CLocal) → local_names (xs ++ ys) ≡ local_names xs ++ local_names ys
+names_append xs ys = map-append (λ (l : CLocal). l.name) xs ys
+
+-- a name that no flag has
+flags_other : (x : Text) (n : ℕ) → ((k : ℕ) → k < n → bytes_eq x (flag_name k) ≡ false) → is_among x (local_names (flag_locals n)) ≡ false
+flags_other x zero other = refl
+flags_other x (suc n) other =
+    ap (is_among x) (names_append (flag_locals n) (flag_local n ∷ []))
+    ∙ among_neither x (local_names (flag_locals n)) (local_names (flag_local n ∷ []))
+    (flags_other x n (λ k less. let more : k < suc n = omega (arith, less) in other k more))
+    (false_both (bytes_eq x (flag_name n)) false (let last : n < suc n = omega arith in other n last) refl)
+
+flags_differ : (n : ℕ) → n ≤ 2 ^ 64 → are_distinct (local_names (flag_locals n)) ≡ true
+flags_differ zero few = refl
+flags_differ (suc n) few =
+    ap are_distinct (names_append (flag_locals n) (flag_local n ∷ []))
+    ∙ distinct_push (local_names (flag_locals n)) (flag_name n) (flags_differ n (let le : n ≤ 2 ^ 64 = omega (arith, few) in le))
+    (flags_other (flag_name n) n (λ k less. let small : n < 2 ^ 64 = omega (arith, few) in swapped (flag_name k)
+    (flag_name n) (numbers_differ 113 k n less small)))
+
+locals_differ : (name : Text) (holds : Bool) (n : ℕ) → n ≤ 2 ^ 64 → are_distinct (local_names (memory_local name holds ++ flag_locals n)) ≡ true
+locals_differ name false n few = flags_differ n few
+locals_differ name true n few =
+    both (not (is_among (codes "m") (local_names (flag_locals n)))) (are_distinct (local_names (flag_locals n)))
+    (ap not (flags_other (codes "m") n (λ k less. refl))) (flags_differ n few)
+
+no_local : (name : Text) (holds : Bool) (n k : ℕ) → is_among (variable_name k) (local_names (memory_local name holds ++ flag_locals n)) ≡ false
+no_local name false n k = flags_other (variable_name k) n (λ j less. refl)
+no_local name true n k = flags_other (variable_name k) n (λ j less. refl)
+
+module _ (structs : List StructDef) where
+  later_params : (j base : ℕ) (vars : List Var) → j < base → base + length vars ≤ 2 ^ 64 → is_among
+      (variable_name j) (param_names structs base vars) ≡ false
+  later_params j base [] less few = refl
+  later_params j base (v ∷ vars) less few =
+      let small : base < 2 ^ 64 = omega (arith, few) in
+      let more : j < base + 1 = omega (arith, less) in
+      let room : (base + 1) + length vars ≤ 2 ^ 64 = omega (arith, few) in
+      false_both (bytes_eq (variable_name j) (variable_name base)) (is_among (variable_name j) (param_names structs (base + 1) vars))
+      (numbers_differ 118 j base less small) (later_params j (base + 1) vars more room)
+
+  params_differ : (base : ℕ) (vars : List Var) (others : List Text) → base + length vars ≤ 2 ^ 64 → are_distinct others ≡ true →
+      ((k : ℕ) → is_among (variable_name k) others ≡ false) → are_distinct (param_names structs base vars ++ others) ≡ true
+  params_differ base [] others few differ new = differ
+  params_differ base (v ∷ vars) others few differ new =
+      let own : base < base + 1 = omega arith in
+      let room : (base + 1) + length vars ≤ 2 ^ 64 = omega (arith, few) in
+      both (not (is_among (variable_name base) (param_names structs (base + 1) vars ++ others)))
+      (are_distinct (param_names structs (base + 1) vars ++ others))
+      (ap not (among_neither (variable_name base) (param_names structs (base + 1) vars) others (later_params base (base + 1) vars own room) (new base)))
+      (params_differ (base + 1) vars others room differ new)
+
+  -- ---- what holds of each parameter
+
+  params_all : (test : CParam → Bool) (base : ℕ) (vars : List Var) →
+      ((k j : ℕ) (var : Var) → slice_get vars j ≡ Some var → test (param_of structs k var) ≡ true)
+      → list_all test (params_from structs base vars) ≡ true
+  params_all test base [] each = refl
+  params_all test base (v ∷ vars) each =
+      both (test (param_of structs base v)) (list_all test (params_from structs (base + 1) vars)) (each base 0 v refl)
+      (params_all test (base + 1) vars (λ k j var found. each k (suc j) var found))
+
+  -- a parameter that is no pointer is a scalar
+  scalar_or_pointer : (var : Var) (s : Option ScalarType) → scalar_in var.ty ≡ s →
+      ((is_output var.role || is_none s) || is_scalar (c_type structs var.ty)) ≡ true
+  scalar_or_pointer var None is = by (is_output var.role)
+    where
+      by : (b : Bool) → ((b || true) || is_scalar (c_type structs var.ty)) ≡ true
+      by true = refl
+      by false = refl
+  scalar_or_pointer var (Some s) is = by (is_output var.role)
+    where
+      by : (b : Bool) → ((b || false) || is_scalar (c_type structs var.ty)) ≡ true
+      by true = refl
+      by false = ap is_scalar (c_scalar_type structs var.ty s is)
+
+-- ---- returns
+
+return-returns : (value : Option CExpr) → surely_returns (c_return value) ≡ true
+return-returns value =
+    subst (λ (k : CStmtKind). surely_returns (roll-CStmt (record { place = nowhere; what = k })) ≡ true) (statement.rolls-Return value) (form value)
+  where
+    form : (value : Option CExpr) → surely_returns (roll-CStmt (record { place = nowhere; what = roll-CStmtKind (CStmtKind-F.Return value) })) ≡ true
+    form value = rw (fold-roll-CStmt, fold-roll-CStmtKind) refl
+
+-- the last of a list behind another
+last_append : (other : Bool) (xs ys : List CStmt) → last_or other (map surely_returns (xs ++ ys)) ≡ last_or
+    (last_or other (map surely_returns xs)) (map surely_returns ys)
+last_append other [] ys = refl
+last_append other (x ∷ xs) ys = last_append (surely_returns x) xs ys
+
+module _ (site : TypingContext) where
+  layer_returns : (place : Place) (layer : StmtKind-F StmtKind Arm Branch Stmt) → is_return_kind layer ≡ true → (free : Free) (x : Bool) →
+      last_or x (map surely_returns (codes_of site (stmt place layer) free).code) ≡ true
+  layer_returns place (StmtKind-F.Return e) is free x = rw (fold-roll-Stmt, fold-roll-StmtKind) (return-returns (option_map (code_made site) e))
+  layer_returns place _ is free x = absurd (cc)
+
+  return_last : (s : Stmt) → is_return s ≡ true → (free : Free) (x : Bool) → last_or x (map surely_returns (codes_of site s free).code) ≡ true
+  return_last s is free x =
+      let place : Place = (out-Stmt s).place in
+      let whole : stmt place (out-StmtKind (out-Stmt s).what) ≡ s =
+      ap (λ (what : StmtKind). roll-Stmt (record { place = place; what = what })) (roll-out-StmtKind (out-Stmt s).what) ∙ roll-out-Stmt s in
+      subst (λ s. last_or x (map surely_returns (codes_of site s free).code) ≡ true) whole (layer_returns place (out-StmtKind (out-Stmt s).what) is free x)
+
+  -- C that is made of a body whose last statement is a `return` ends with one
+  body_returns : (body : List Stmt) (free : Free) (b x : Bool) → returns_last b body ≡ true → (b ≡ true → x ≡ true) →
+      last_or x (map surely_returns (block_codes (map (codes_of site) body) free).code) ≡ true
+  body_returns [] free b x returns own = own returns
+  body_returns (s ∷ rest) free b x returns own =
+      last_append x (codes_of site s free).code (block_codes (map (codes_of site) rest) (codes_of site s free).free).code
+      ∙ body_returns rest (codes_of site s free).free (is_return s) (last_or x (map surely_returns (codes_of site s free).code)) returns
+      (λ is. return_last s is free x)
+
+  whole_returns : (x : Bool) (unit : UnitDef) (s : ScalarType) (b : Bool) → returns_last false unit.body ≡ b →
+      last_or x (map surely_returns (copies_from site 0 (inputs_of unit) ++ ((body_coded site unit).code ++ end_code (Some s) b))) ≡ true
+  whole_returns x unit s b is =
+      last_append x (copies_from site 0 (inputs_of unit)) ((body_coded site unit).code ++ end_code (Some s) b)
+      ∙ last_append _ (body_coded site unit).code (end_code (Some s) b) ∙ by b is
+    where
+      by : (b : Bool) → returns_last false unit.body ≡ b →
+          last_or (last_or (last_or x (map surely_returns (copies_from site 0 (inputs_of unit)))) (map surely_returns (body_coded site unit).code))
+          (map surely_returns (end_code (Some s) b))
+          ≡ true
+      by true is =
+          body_returns unit.body none_taken false (last_or x (map surely_returns (copies_from site 0 (inputs_of unit)))) is
+          (λ no. absurd (cc))
+      by false is = return-returns _
+
+  pub surely : (read : List CStmt) (unit : UnitDef) (r : Option ScalarType) →
+      (is_none (option_map c_scalar r) || last_returns (map surely_returns (read ++ (copies_from site 0 (inputs_of unit)
+      ++ ((body_coded site unit).code ++ end_code r (returns_last false unit.body))))))
+      ≡ true
+  surely read unit None = refl
+  surely read unit (Some s) =
+      last_append false read (copies_from site 0 (inputs_of unit) ++ ((body_coded site unit).code ++ end_code (Some s) (returns_last false unit.body)))
+      ∙ whole_returns (last_or false (map surely_returns read)) unit s (returns_last false unit.body) refl
+
+-- ---- the head
+
+module _ (structs : List StructDef) (units : List UnitDef) (entry k : ℕ) (unit : UnitDef) (keeps : IsWellTyped structs units entry)
+    (there : slice_get units k ≡ Some unit)
+    (function : is_activity unit.kind ≡ false) (table : Table (Table CMember)) (functions : Table Signature)
+    (before : StandsBefore structs units k unit table functions) (numbers : IsNumbered structs (take k units) unit) where
+  abbrev site : TypingContext
+  site = my_site structs units entry k unit keeps there function table functions before numbers
+
+  abbrev context : Context
+  context = my_context structs units entry k unit keeps there function table functions before numbers
+
+  abbrev f : CFunc
+  f = function_code structs (take k units) unit
+
+  -- ---- names
+
+  few_params : 0 + length (parameters_of unit) ≤ 2 ^ 64
+  few_params =
+      let all = numbers.variables in
+      let some : length (parameters_of unit) ≤ length unit.vars = shorter (unit.inputs + unit.outputs) unit.vars in
+      omega (arith, all, some)
+    where
+      shorter : {A : Type 0} (n : ℕ) (xs : List A) → length (take n xs) ≤ length xs
+      shorter zero xs = omega arith
+      shorter (suc n) [] = omega arith
+      shorter (suc n) (x ∷ xs) = let rest : length (take n xs) ≤ length xs = shorter n xs in omega (arith, rest)
+
+  names_differ : all_distinct no_entries (variable_names f) ≡ true
+  names_differ =
+      all_differ (variable_names f)
+      (params_differ structs 0 (parameters_of unit) (local_names f.locals) few_params
+      (locals_differ unit.name (holds_any site unit.vars) (body_coded site unit).free.flags numbers.flags)
+      (no_local unit.name (holds_any site unit.vars) (body_coded site unit).free.flags))
+
+  -- ---- types
+
+  declared_level : (ty : Ty) (s : Option ScalarType) → scalar_in ty ≡ s → type_stands
+      (length structs) ty ≡ true → AreDeclared table (arrays_of structs ty) →
+      is_declared table (c_type structs ty) ≡ true
+  declared_level ty (Some s) is stands arrays = ap (is_declared table) (c_scalar_type structs ty s is)
+  declared_level ty None is stands arrays =
+      ap (is_declared table) (whole_type structs ty is)
+      ∙ type_declared structs context (declared_here structs units entry k unit keeps there function table functions before numbers).types.definitions
+      ty stands is arrays
+
+  var_declared : (j : ℕ) (var : Var) → var_at site j ≡ Some var → is_declared table (c_type structs var.ty) ≡ true
+  var_declared j var found =
+      declared_level var.ty (scalar_in var.ty) refl (typed_here structs units entry k unit keeps there function table functions before numbers j var found)
+      ((declared_here structs units entry k unit keeps there function table functions before numbers).types.variables j var found)
+
+  params_declared : list_all (λ (p : CParam). is_declared table p.ty) f.params ≡ true
+  params_declared =
+      params_all structs (λ (p : CParam). is_declared table p.ty) 0 (parameters_of unit)
+      (λ i j var found. var_declared j var (taken_there unit.vars (unit.inputs + unit.outputs) j var found))
+
+  params_scalar : list_all (λ (p : CParam). p.pointer || is_scalar p.ty) f.params ≡ true
+  params_scalar =
+      params_all structs (λ (p : CParam). p.pointer || is_scalar p.ty) 0 (parameters_of unit)
+      (λ i j var found. scalar_or_pointer structs var (scalar_in var.ty) refl)
+
+  -- a unit that holds a variable has a struct
+  members_some : (base : ℕ) (vars : List Var) → list_any (λ (var : Var). is_held (home_of site (Some var))) vars ≡ true → (m : CMember) ×
+      ((rest : List CMember) × (members_from site base vars ≡ m ∷ rest))
+  members_some base [] h = absurd (cc)
+  members_some base (v ∷ vars) h = by (is_held (home_of site (Some v))) h (members_some (base + 1) vars)
+    where
+      by : (b : Bool) → (b || list_any (λ (var : Var). is_held (home_of site (Some var))) vars) ≡ true →
+          (list_any (λ (var : Var). is_held (home_of site (Some var))) vars ≡ true → (m : CMember) × ((rest : List CMember)
+          × (members_from site (base + 1) vars ≡ m ∷ rest))) →
+          (m : CMember) × ((rest : List CMember) × (member_of b structs base v ++ members_from site (base + 1) vars ≡ m ∷ rest))
+      by true h later = (_, (_, refl))
+      by false h later = later h
+
+  memory_there : (members : List CMember) (m : CMember) (rest : List CMember) → members ≡ m ∷ rest → AreDeclared table (struct_of unit.name members) →
+      is_some (table (memory_name unit.name)) ≡ true
+  memory_there [] m rest is declared = absurd (cc)
+  memory_there (first ∷ more) m rest is declared = ap is_some (declared _ (0, omega arith, refl))
+
+  flags_declared : (n : ℕ) → list_all (λ (l : CLocal). is_declared table l.ty) (flag_locals n) ≡ true
+  flags_declared zero = refl
+  flags_declared (suc n) =
+      list_all-append (λ (l : CLocal). is_declared table l.ty) (flag_locals n) (flag_local n ∷ [])
+      ∙ both (list_all (λ (l : CLocal). is_declared table l.ty) (flag_locals n)) true (flags_declared n) refl
+
+  locals_declared : list_all (λ (l : CLocal). is_declared table l.ty) f.locals ≡ true
+  locals_declared = by (holds_any site unit.vars) refl
+    where
+      by : (b : Bool) → holds_any site unit.vars ≡ b →
+          list_all (λ (l : CLocal). is_declared table l.ty) (memory_local unit.name b ++ flag_locals (body_coded site unit).free.flags) ≡ true
+      by false is = flags_declared (body_coded site unit).free.flags
+      by true is =
+          let some = members_some 0 unit.vars is in
+          both (is_some (table (memory_name unit.name))) (list_all (λ (l : CLocal). is_declared table l.ty) (flag_locals (body_coded site unit).free.flags))
+          (memory_there (members_from site 0 unit.vars) some.0 some.1.0 some.1.1 before.memory) (flags_declared (body_coded site unit).free.flags)
+
+  at_most : (n : ℕ) → n ≤ 300 → nat_le n 300 ≡ true
+  at_most n le = grind (arith, nat_tests)
+
+  absent : {A : Type 0} (o : Option A) → o ≡ None → is_none o ≡ true
+  absent None is = refl
+  absent (Some x) is = absurd (cc)
+
+  -- nothing fails before the statements
+  pub head_is : (depths : Table ℕ) → functions f.name ≡ None → depth_of_function depths f ≤ 300
+      → faults_in_head table functions depths false f ≡ []
+  head_is depths new short =
+      let one = kept (is_none (functions f.name)) distinct_names f.place (absent (functions f.name) new) in
+      let two = kept (all_distinct no_entries (variable_names f)) distinct_names f.place names_differ in
+      let three = kept (list_all (λ (p : CParam). is_declared table p.ty) f.params && list_all (λ (l : CLocal). is_declared table l.ty) f.locals)
+      declared_before
+      f.place
+      (both (list_all (λ (p : CParam). is_declared table p.ty) f.params) (list_all (λ (l : CLocal). is_declared table l.ty) f.locals) params_declared
+      locals_declared) in
+      let four = kept (list_all (λ (p : CParam). p.pointer || is_scalar p.ty) f.params) scalar_parameter f.place params_scalar in
+      let six = kept (nat_le (depth_of_function depths f) 300) short_chain f.place (at_most (depth_of_function depths f) short) in
+      let seven = kept (is_none f.result || last_returns (map surely_returns f.body)) returns_result f.place
+      (surely site (read_code site (first_held site 0 unit.vars) (reads_in_block (body_code site unit))) unit unit.result) in
+      (λ i. one i ++ (two i ++ (three i ++ (four i ++ ([] ++ (six i ++ seven i))))))

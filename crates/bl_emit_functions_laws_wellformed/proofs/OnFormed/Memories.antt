@@ -1,0 +1,111 @@
+-- The struct of a function's variables has variables of the program as its members.
+use Rattle.std.proofs.Common.{◌≡◌, ℕ, zero, suc, ◌+◌, ◌<◌, ◌≤◌, ◌^◌, Bool, true, false, not, ◌||◌, List, [], ◌∷◌}
+use Rattle.std.proofs.Common.{◌++◌, map, take, length, Some}
+use Rattle.std.proofs.Common.{refl, sym, ap, subst, arith, ⊎_elim}
+use Rattle.std.proofs.lemmas.List.Elements.{Contains-append_cases}
+use Rattle.std.specs.Prelude.{Contains, bytes_eq, get_or, slice_get}
+use Rattle.bl_tree.specs.declared.text.Text.{Text}
+use Rattle.bl_tree.specs.declared.c.CMember.{CMember}
+use Rattle.bl_tree.specs.declared.c.CStruct.{CStruct}
+use Rattle.bl_tree.specs.declared.tree.StructDef.{StructDef}
+use Rattle.bl_tree.specs.declared.tree.Unit.{Unit as UnitDef}
+use Rattle.bl_tree.specs.declared.tree.Var.{Var}
+use Rattle.bl_tree.specs.Typing.{TypingContext, site_of}
+use Rattle.bl_tree.specs.Words.{are_distinct, is_among}
+use Rattle.bl_eval.proofs.PassLemmas.{both}
+use Rattle.bl_emit_acts.specs.Places.{home_of}
+use Rattle.bl_emit_acts.specs.Types.{c_type, variable_name}
+use Rattle.bl_emit_functions.specs.Functions.{held_member, is_held, member_of, members_from, members_of, memory_struct, struct_of}
+use Rattle.bl_emit_structs_laws_wellformed.specs.Formed.{IsMemory, OfVariable}
+use Rattle.bl_emit_functions_laws_wellformed.specs.Formed.{MemoriesHold}
+use Rattle.bl_emit_functions_laws_wellformed.proofs.OnFormed.Lookups.{numbers_differ}
+
+abbrev names : List CMember → List Text
+names members = map (λ (m : CMember). m.name) members
+
+alone : {X : Type 0} (x y : X) → Contains (x ∷ []) y → x ≡ y
+alone x y has = by has.0 has.1 has.2
+  where
+    by : (k : ℕ) → k < 1 → get_or (x ∷ []) k y ≡ y → x ≡ y
+    by zero lt is = is
+    by (suc k) lt is = absurd (omega arith)
+
+none_has : {X : Type 0} (x : X) → Contains [] x → ⊥
+none_has x has = let lt = has.1 in omega arith
+
+-- a member is that of a variable of a list
+record OfList (structs : List StructDef) (vars : List Var) (m : CMember) : Type 0 where
+  j : ℕ
+  var : Var
+  there : slice_get vars j ≡ Some var
+  is : m.ty ≡ c_type structs var.ty
+
+module _ (site : TypingContext) where
+  later_members : (j base : ℕ) (vars : List Var) → j < base → base + length vars ≤ 2 ^ 64 →
+      is_among (variable_name j) (names (members_from site base vars)) ≡ false
+  later_members j base [] less few = refl
+  later_members j base (v ∷ vars) less few =
+      let small : base < 2 ^ 64 = omega (arith, few) in
+      let more : j < base + 1 = omega (arith, less) in
+      let room : (base + 1) + length vars ≤ 2 ^ 64 = omega (arith, few) in
+      by (is_held (home_of site (Some v))) (numbers_differ 118 j base less small) (later_members j (base + 1) vars more room)
+    where
+      false_both : (a b : Bool) → a ≡ false → b ≡ false → (a || b) ≡ false
+      false_both false b one other = other
+      false_both true b one other = absurd (cc)
+
+      by : (b : Bool) → bytes_eq (variable_name j) (variable_name base) ≡ false → is_among (variable_name j)
+          (names (members_from site (base + 1) vars)) ≡ false →
+          is_among (variable_name j) (names (member_of b site.structs base v ++ members_from site (base + 1) vars)) ≡ false
+      by true one rest = false_both (bytes_eq (variable_name j) (variable_name base))
+          (is_among (variable_name j) (names (members_from site (base + 1) vars))) one rest
+      by false one rest = rest
+
+  members_differ : (base : ℕ) (vars : List Var) → base + length vars ≤ 2 ^ 64 → are_distinct (names (members_from site base vars)) ≡ true
+  members_differ base [] few = refl
+  members_differ base (v ∷ vars) few =
+      let own : base < base + 1 = omega arith in
+      let room : (base + 1) + length vars ≤ 2 ^ 64 = omega (arith, few) in
+      by (is_held (home_of site (Some v))) (later_members base (base + 1) vars own room) (members_differ (base + 1) vars room)
+    where
+      by : (b : Bool) → is_among (variable_name base) (names (members_from site (base + 1) vars)) ≡ false
+          → are_distinct (names (members_from site (base + 1) vars)) ≡ true →
+          are_distinct (names (member_of b site.structs base v ++ members_from site (base + 1) vars)) ≡ true
+      by true new rest =
+          both (not (is_among (variable_name base) (names (members_from site (base + 1) vars)))) (are_distinct (names (members_from site (base + 1) vars)))
+          (ap not new) rest
+      by false new rest = rest
+
+  members_are : (base : ℕ) (vars : List Var) (m : CMember) → Contains (members_from site base vars) m → OfList site.structs vars m
+  members_are base [] m has = absurd (none_has m has)
+  members_are base (v ∷ vars) m has =
+      ⊎_elim (own (is_held (home_of site (Some v)))) (λ later. further (members_are (base + 1) vars m later))
+      (Contains-append_cases (member_of (is_held (home_of site (Some v))) site.structs base v) (members_from site (base + 1) vars) m has)
+    where
+      own : (b : Bool) → Contains (member_of b site.structs base v) m → OfList site.structs (v ∷ vars) m
+      own true here = record { j = 0; var = v; there = refl; is = ap (λ (m : CMember). m.ty) (sym (alone (held_member site.structs base v) m here)) }
+      own false here = absurd (none_has m here)
+
+      further : OfList site.structs vars m → OfList site.structs (v ∷ vars) m
+      further found = record { j = suc found.j; var = found.var; there = found.there; is = found.is }
+
+module _ (structs : List StructDef) (units : List UnitDef) (k : ℕ) (unit : UnitDef) (there : slice_get units k ≡ Some unit)
+    (few : length unit.vars ≤ 2 ^ 64) where
+  abbrev site : TypingContext
+  site = site_of structs (take k units) unit
+
+  memory_by : (members : List CMember) → are_distinct (names members) ≡ true → ((m : CMember) → Contains members m → OfVariable structs units m) →
+      (s : CStruct) → Contains (struct_of unit.name members) s → IsMemory structs units s
+  memory_by [] differ each s has = absurd (none_has s has)
+  memory_by (m ∷ rest) differ each s has =
+      subst (IsMemory structs units) (alone _ s has) (record { rest = unit.name; named = refl; distinct = differ; members = each })
+
+  pub memory_is : (s : CStruct) → Contains (memory_struct structs (take k units) unit) s → IsMemory structs units s
+  memory_is =
+      let room : 0 + length unit.vars ≤ 2 ^ 64 = omega (arith, few) in
+      memory_by (members_of structs (take k units) unit) (members_differ site 0 unit.vars room)
+      (λ m has. let found = members_are site 0 unit.vars m has in
+      record { k = k; j = found.j; unit = unit; var = found.var; unit_there = there; var_there = found.there; is = found.is })
+
+pub memories : (structs : List StructDef) (units : List UnitDef) → MemoriesHold structs units
+memories structs units k unit there few = memory_is structs units k unit there few

@@ -1,0 +1,31 @@
+//! Laws of the cells that C structs and functions need: rule Cells counts no fewer for them. None of these functions does anything: the
+//! contract is the law. A C struct of a type has no more scalars than a value of the type, and that of a function's variables no more than
+//! they have together, whatever stands between them in a file (`specs/Cells.antt`, `SizesStand`). So the deepest chain of calls that the C
+//! function of a function heads has no more cells than rule Cells counts for the function (`CellsFollow`), where the chains of earlier units
+//! are known, as they still are once it joins them (`CellsGrow`).
+
+ghost use Rattle.bl_emit_functions_laws_wellformed.specs.Cells.{CellsFollow, CellsGrow, SizesStand};
+
+use crate::numbered::{types_have_scalars, units_counted};
+use bl_emit_structs_laws_wellformed::names::types_apart;
+use bl_tree::Program;
+
+/// A table of the scalars of C structs tells no more than the types and variables have, whichever struct joins it.
+pub fn sizes_stand(program: &Program)
+    ensures { SizesStand program.now.structs program.now.units program.now.entry }
+{
+    types_apart(program);
+}
+
+/// The deepest chain that the C function of a function heads has no more cells than the function.
+pub fn cells_follow(program: &Program)
+    ensures { CellsFollow program.now.structs program.now.units program.now.entry }
+{
+    types_have_scalars(program);
+    units_counted(program);
+}
+
+/// A table of the cells of chains still tells no more once a C function joins it that has no more cells than its unit.
+pub fn cells_grow(_program: &Program)
+    ensures { CellsGrow _program.now.structs _program.now.units _program.now.entry }
+{}

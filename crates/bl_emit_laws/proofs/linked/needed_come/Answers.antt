@@ -1,6 +1,0 @@
-use Rattle.bl_emit_laws.proofs.OnLinked.Coming.{all_come}
-use Rattle.bl_emit_laws.proofs.linked.needed_come.Goals as goal
-
-pub returns : goal.returns
-returns c =
-    all_come c.args.program.now.structs c.args.program.now.units c.args.program.now.entry c.needed_are_known.ensures c.tables_know_all.ensures

@@ -1,5 +1,0 @@
-use Rattle.bl_emit_pass_laws.proofs.OnFits.{turns_fit}
-use Rattle.bl_emit_pass_laws.proofs.fits.turns_fit_compiled.Goals as goal
-
-pub returns : goal.returns
-returns c = turns_fit c.turns_fit.ensures

@@ -1,6 +1,0 @@
-use Rattle.bl_emit_pass_laws.proofs.OnOwn.Programs.{unit_asks}
-use Rattle.bl_emit_pass_laws.proofs.own.asked_are_own.Goals as goal
-
-pub returns : goal.returns
-returns c structs units machine activities k unit rule at few there =
-    unit_asks c.spots_differ.ensures c.rules_are_listed.ensures structs units machine activities k unit at few rule there

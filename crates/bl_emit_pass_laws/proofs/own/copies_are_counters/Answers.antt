@@ -1,6 +1,0 @@
-use Rattle.bl_emit_pass_laws.proofs.OnOwn.Programs.{unit_copies}
-use Rattle.bl_emit_pass_laws.proofs.own.copies_are_counters.Goals as goal
-
-pub returns : goal.returns
-returns c structs units machine activities k unit counter at reads =
-    unit_copies c.spots_differ.ensures c.rules_are_listed.ensures structs units machine activities k unit at counter reads

@@ -1,5 +1,0 @@
-use Rattle.std.proofs.Common.{refl}
-use Rattle.bl_emit_pass_laws.proofs.own.copies_are_read.Goals as goal
-
-pub returns : goal.returns
-returns c a k = refl

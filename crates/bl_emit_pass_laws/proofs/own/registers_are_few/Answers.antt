@@ -1,6 +1,0 @@
-use Rattle.bl_emit_pass_laws.proofs.OnOwn.Programs.{unit_few}
-use Rattle.bl_emit_pass_laws.proofs.own.registers_are_few.Goals as goal
-
-pub returns : goal.returns
-returns c structs units machine activities k unit at ordered sized =
-    unit_few c.spots_differ.ensures c.rules_are_listed.ensures structs units machine activities k unit at c.trees_stay_placed.ensures ordered sized

@@ -1,5 +1,0 @@
-use Rattle.bl_emit_pass_laws.proofs.OnTables.Known.{know_all}
-use Rattle.bl_emit_pass_laws.proofs.tables.tables_know_all.Goals as goal
-
-pub returns : goal.returns
-returns c = know_all

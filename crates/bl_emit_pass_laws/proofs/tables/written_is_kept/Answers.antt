@@ -1,5 +1,0 @@
-use Rattle.bl_emit_pass_laws.proofs.OnTables.Kept.{all_kept}
-use Rattle.bl_emit_pass_laws.proofs.tables.written_is_kept.Goals as goal
-
-pub returns : goal.returns
-returns c = all_kept

@@ -1,5 +1,0 @@
-pub mod Built
-pub mod Calls
-pub mod Laws
-pub mod Memories
-pub mod Standing

@@ -1,5 +1,0 @@
-use Rattle.bl_emit_pass_laws_bodies.proofs.OnCells.Running.{bodies}
-use Rattle.bl_emit_pass_laws_bodies.proofs.cells.bodies_run.Goals as goal
-
-pub returns : goal.returns
-returns c = bodies c.trees_stay_placed.ensures.nodes c.args._program.now.structs c.args._program.now.units c.args._program.now.entry

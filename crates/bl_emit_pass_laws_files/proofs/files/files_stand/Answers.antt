@@ -1,5 +1,0 @@
-use Rattle.bl_emit_pass_laws_files.proofs.OnFiles.Standing.{files_stand}
-use Rattle.bl_emit_pass_laws_files.proofs.files.files_stand.Goals as goal
-
-pub returns : goal.returns
-returns c = files_stand

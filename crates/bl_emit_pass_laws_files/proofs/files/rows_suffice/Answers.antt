@@ -1,5 +1,0 @@
-use Rattle.bl_emit_pass_laws_files.proofs.OnFiles.Rows.{rows_suffice}
-use Rattle.bl_emit_pass_laws_files.proofs.files.rows_suffice.Goals as goal
-
-pub returns : goal.returns
-returns c = rows_suffice

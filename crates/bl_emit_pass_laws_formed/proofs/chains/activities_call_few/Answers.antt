@@ -1,5 +1,0 @@
-use Rattle.bl_emit_pass_laws_formed.proofs.OnChains.Chains.{call_few}
-use Rattle.bl_emit_pass_laws_formed.proofs.chains.activities_call_few.Goals as goal
-
-pub returns : goal.returns
-returns c = call_few c.trees_stay_placed.ensures.nodes

@@ -1,5 +1,0 @@
-use Rattle.bl_emit_pass_laws_formed.proofs.OnCounts.Whole.{counted}
-use Rattle.bl_emit_pass_laws_formed.proofs.counts.nodes_counted.Goals as goal
-
-pub returns : goal.returns
-returns c = counted c.args._program.now.structs c.args._program.now.units c.args._program.now.entry

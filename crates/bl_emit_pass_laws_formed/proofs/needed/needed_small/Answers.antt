@@ -1,6 +1,0 @@
-use Rattle.bl_emit_pass_laws_formed.proofs.OnNeeded.Whole.{small}
-use Rattle.bl_emit_pass_laws_formed.proofs.needed.needed_small.Goals as goal
-
-pub returns : goal.returns
-returns c =
-    small c.args.program.now.structs c.args.program.now.units c.args.program.now.entry c.needed_cells.ensures

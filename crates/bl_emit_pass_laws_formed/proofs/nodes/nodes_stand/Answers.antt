@@ -1,5 +1,0 @@
-use Rattle.bl_emit_pass_laws_formed.proofs.OnNodes.Whole.{stand}
-use Rattle.bl_emit_pass_laws_formed.proofs.nodes.nodes_stand.Goals as goal
-
-pub returns : goal.returns
-returns c = stand c.args._program.now.structs c.args._program.now.units c.args._program.now.entry

@@ -1,6 +1,0 @@
-use Rattle.bl_emit_pass_laws_formed.proofs.OnSpelled.Whole.{frames}
-use Rattle.bl_emit_pass_laws_formed.proofs.spelled.frames_spelled.Goals as goal
-
-pub returns : goal.returns
-returns c =
-    frames c.args._program.now.structs c.args._program.now.units c.args._program.now.entry

@@ -1,6 +1,0 @@
-use Rattle.bl_emit_pass_laws_formed.proofs.OnSpelled.Whole.{memories}
-use Rattle.bl_emit_pass_laws_formed.proofs.spelled.remembered_spelled.Goals as goal
-
-pub returns : goal.returns
-returns c =
-    memories c.args.program.now.structs c.args.program.now.units c.args.program.now.entry c.members_spelled.ensures

@@ -1,5 +1,0 @@
-use Rattle.bl_emit_pass_laws_points.proofs.OnFitting.Whole.{nodes_fit}
-use Rattle.bl_emit_pass_laws_points.proofs.fitting.nodes_fit.Goals as goal
-
-pub returns : goal.returns
-returns c = nodes_fit c.args._program.now.structs c.args._program.now.units c.args._program.now.entry

@@ -1,5 +1,0 @@
-use Rattle.bl_emit_pass_laws_points.proofs.OnPoints.Choices.{guards_choose}
-use Rattle.bl_emit_pass_laws_points.proofs.points.guards_choose.Goals as goal
-
-pub returns : goal.returns
-returns c = guards_choose c.guards_show.ensures

@@ -1,5 +1,0 @@
-use Rattle.bl_emit_pass_laws_points.proofs.OnViews.Leaving.{acts_leave_so}
-use Rattle.bl_emit_pass_laws_points.proofs.views.acts_leave.Goals as goal
-
-pub returns : goal.returns
-returns c = acts_leave_so c.instances_nest.ensures c.declarations_keep_others.ensures c.puts_commute.ensures.others

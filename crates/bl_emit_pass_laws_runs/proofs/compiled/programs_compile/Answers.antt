@@ -1,7 +1,0 @@
-use Rattle.bl_emit_pass_laws_runs.proofs.OnCompiled.Compiling.{programs_compile}
-use Rattle.bl_emit_pass_laws_runs.proofs.compiled.programs_compile.Goals as goal
-
-pub returns : goal.returns
-returns c =
-    programs_compile c.args.program.now.structs c.args.program.now.units c.args.program.now.entry c.units_counted.ensures c.nodes_counted.ensures
-    c.registers_are_few.ensures

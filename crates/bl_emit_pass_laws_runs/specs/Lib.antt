@@ -1,4 +1,0 @@
-pub mod Come
-pub mod Compiled
-pub mod Gives
-pub mod Leaves

@@ -1,0 +1,281 @@
+-- The C of an activity: its structs, and its function, one pass over it.
+use Rattle.std.specs.Prelude.{ℕ, Bool, true, false, List, [], ◌∷◌, ◌++◌, map, Option, Some, None, if◌then◌else◌}
+use Rattle.std.specs.Prelude.{codes, length, nat_eq, nat_lt, filter, option_and_then, option_to_list, slice_get, unwrap_or}
+use Rattle.std.specs.List.{list_any}
+use Rattle.bl_tree.specs.declared.text.Text.{Text}
+use Rattle.bl_tree.specs.declared.c.CFunc.{CFunc}
+use Rattle.bl_tree.specs.declared.c.CLocal.{CLocal}
+use Rattle.bl_tree.specs.declared.c.CMember.{CMember}
+use Rattle.bl_tree.specs.declared.c.CParam.{CParam}
+use Rattle.bl_tree.specs.declared.c.CStmt.{CStmt}
+use Rattle.bl_tree.specs.declared.c.CStruct.{CStruct}
+use Rattle.bl_tree.specs.declared.c.CType.TheVariants.{Scalar as OfScalar, Struct as OfStruct}
+use Rattle.bl_tree.specs.declared.scalar.Op.TheVariants.{Eq}
+use Rattle.bl_tree.specs.declared.scalar.Scalar.{Scalar}
+use Rattle.bl_tree.specs.declared.scalar.Scalar.TheVariants.{Bool as OfBool}
+use Rattle.bl_tree.specs.declared.tree.StructDef.{StructDef}
+use Rattle.bl_tree.specs.declared.tree.Unit.{Unit as UnitDef}
+use Rattle.bl_tree.specs.Program.{parameters_of}
+use Rattle.bl_tree.specs.Typing.{site_of}
+use Rattle.bl_graph_nodes.specs.Nodes.{EnterAt, Node, entry}
+use Rattle.bl_graph_nodes.specs.Plain.{Block, Done, Then, plain_body}
+use Rattle.bl_machine.specs.Blocks.{up_to}
+use Rattle.bl_machine.specs.Uses.{Slots}
+use Rattle.bl_tree.specs.Reduce.{joined}
+use Rattle.bl_emit_acts.specs.Acts.{c_copied, c_set, is_copied}
+use Rattle.bl_emit_acts.specs.Trees.{c_read, c_two, nowhere}
+use Rattle.bl_emit_acts.specs.Types.{c_scalar, copy_name, unit_name}
+use Rattle.bl_emit_acts.specs.Expressions.{scalar_at}
+use Rattle.bl_emit_functions.specs.Functions.{members_of, memory_name, params_from, struct_of}
+use Rattle.bl_machine_pass.specs.Transitions.{Asked, Change, Transition}
+use Rattle.bl_machine_pass.specs.Transitions.{Ended, Flagged, Rested, RestedIn, SetsMark, rules}
+pub use Rattle.bl_machine_transitions.specs.Callees.{callees_in, number_in}
+use Rattle.bl_emit_spec.specs.Blocks.{ActivityView, NodeCode, Sizes, counter_type, counter_value, merged_code, name_in, turns_of}
+use Rattle.bl_emit_spec.specs.Names.{callee_name, counter_name, counter_place, ended_name, flag_name, flag_place, frame_name}
+use Rattle.bl_emit_spec.specs.Names.{given_name, mark_name, rested_name, rested_place}
+use Rattle.bl_machine_prevs.specs.Prevs.{prevs_of}
+
+-- ---- runs
+
+-- a `run` of an activity: the number of the node at which it begins, and the activity's position
+pub record RunAt : Type 0 where
+  pub number : ℕ
+  pub unit : ℕ
+
+-- ---- an activity
+
+-- what C is made of: a unit with the structs and units before it, the order of its nodes and their blocks, and the numbers of its resting places
+pub record Activity : Type 0 where
+  pub structs : List StructDef
+  pub earlier : List UnitDef
+  pub unit : UnitDef
+  pub order : List ℕ
+  pub blocks : List (List ℕ)
+  pub slots : Slots
+  -- how many values each counter has
+  pub sizes : Sizes
+  -- which of the units before it remember variables
+  pub remember : List Bool
+
+-- its body
+abbrev pub body_of : Activity → Block
+body_of a = plain_body a.unit.body
+
+-- the rules of its nodes, in source order
+abbrev pub rules_at : Activity → List Transition
+rules_at a = rules a.slots (body_of a)
+
+-- which of its variables have a copy of what they were when the tick began, in order
+abbrev pub copies_of : UnitDef → List Bool
+copies_of unit = map (λ k. list_any (nat_eq k) (prevs_of unit)) (up_to (length unit.vars))
+
+-- whether a rule asks what the counter held when the tick began
+abbrev pub reads_counter : ℕ → Asked → Bool
+reads_counter k Flagged = false
+reads_counter k (Rested slot) = nat_eq k slot.counter
+reads_counter k (RestedIn slots) = list_any (λ slot. nat_eq k slot.counter) slots
+reads_counter k (Ended age needed) = false
+
+-- whether the rule asks for a flag
+abbrev pub is_flagged : Asked → Bool
+is_flagged Flagged = true
+is_flagged (Rested slot) = false
+is_flagged (RestedIn slots) = false
+is_flagged (Ended age needed) = false
+
+-- whether some rule asks what the counter held
+abbrev pub is_read_by : List Transition → ℕ → Bool
+is_read_by rules k = list_any (λ rule. reads_counter k rule.asked) rules
+
+-- the activity as its blocks see it
+abbrev pub view_of : Activity → ActivityView
+view_of a = record {
+  site = site_of a.structs a.earlier a.unit;
+  copies = copies_of a.unit;
+  number = number_in a.order (body_of a);
+  sizes = a.sizes;
+  is_read = is_read_by (rules_at a);
+  remembers = λ k. unwrap_or (slice_get a.remember k) false;
+}
+
+-- ---- runs
+
+-- a `run`, where a node begins one of the activity
+abbrev pub run_at : (Node → ℕ) → ℕ → Node → List RunAt
+run_at number unit (EnterAt l at arguments) = record { number = number (EnterAt l at arguments); unit = unit } ∷ []
+run_at number unit n = []
+
+-- the `run`s of nodes, each with the activity that it calls
+abbrev pub runs_at : (Node → ℕ) → List ℕ → List Transition → List RunAt
+runs_at number [] rules = []
+runs_at number callees [] = []
+runs_at number (unit ∷ callees) (rule ∷ rules) = run_at number unit rule.node ++ runs_at number callees rules
+
+-- the `run`s of an activity, in source order
+abbrev pub runs_in_body : Activity → List RunAt
+runs_in_body a = runs_at (view_of a).number (callees_in (body_of a)) (rules_at a)
+
+-- ---- structs
+
+-- a member that is a struct
+abbrev pub struct_member : Text → Text → CMember
+struct_member name of = record { ty = OfStruct of; name = name; length = None }
+
+-- the member for a counter
+abbrev pub counter_member : Sizes → ℕ → CMember
+counter_member sizes k = record { ty = OfScalar (counter_type sizes k); name = counter_name k; length = None }
+
+-- where the activity that a `run` calls rests
+abbrev pub frame_member : Activity → RunAt → CMember
+frame_member a run = struct_member (callee_name run.number) (frame_name (name_in (slice_get a.earlier run.unit)))
+
+-- where an activity rests: its counters, and where what it runs rests
+abbrev pub frame_struct : Activity → CStruct
+frame_struct a = record {
+  place = nowhere;
+  name = frame_name a.unit.name;
+  members = map (counter_member a.sizes) (up_to (length a.sizes)) ++ map (frame_member a) (runs_in_body a);
+}
+
+-- what the activity that a `run` calls remembers, where that is anything
+abbrev pub memory_member : Activity → RunAt → List CMember
+memory_member a run =
+    if (view_of a).remembers run.unit
+    then struct_member (callee_name run.number) (memory_name (name_in (slice_get a.earlier run.unit))) ∷ []
+    else []
+
+-- what an activity remembers: its variables, and what the activities that it runs remember
+abbrev pub remembered : Activity → List CMember
+remembered a = members_of a.structs a.earlier a.unit ++ joined (map (memory_member a) (runs_in_body a))
+
+-- the struct of that, where it is anything
+abbrev pub remembered_struct : Activity → List CStruct
+remembered_struct a = struct_of a.unit.name (remembered a)
+
+-- whether it is
+abbrev pub remembers_any : Activity → Bool
+remembers_any a = nat_lt 0 (length (remembered a))
+
+-- ---- the function
+
+-- a pointer to a struct
+abbrev pub pointer_param : Text → Text → CParam
+pointer_param name of = record { ty = OfStruct of; pointer = true; name = name }
+
+-- where the activity puts its result, where it has one
+abbrev pub result_params : Option Scalar → List CParam
+result_params (Some s) = record { ty = OfScalar (c_scalar s); pointer = true; name = codes "r" } ∷ []
+result_params None = []
+
+-- where it tells that its body has ended
+abbrev pub over_param : CParam
+over_param = record { ty = OfScalar OfBool; pointer = true; name = codes "e" }
+
+-- what it remembers
+abbrev pub memory_params : Activity → Bool → List CParam
+memory_params a true = pointer_param (codes "m") (memory_name a.unit.name) ∷ []
+memory_params a false = []
+
+-- where it rests, what it remembers, its inputs and outputs, its result, and whether it has ended
+abbrev pub activity_params : Activity → List CParam
+activity_params a =
+    pointer_param (codes "f") (frame_name a.unit.name)
+    ∷ (memory_params a (remembers_any a)
+    ++ (params_from a.structs 0 (parameters_of a.unit) ++ (result_params a.unit.result ++ over_param ∷ [])))
+
+-- a local that is a number or a bool
+abbrev pub scalar_local : Scalar → Text → CLocal
+scalar_local s name = record { ty = OfScalar s; name = name }
+
+-- the counters of which some rule asks what they held, in order
+abbrev pub counters_read : Activity → List ℕ
+counters_read a = filter (view_of a).is_read (up_to (length a.sizes))
+
+-- the local of what a counter held when the tick began
+abbrev pub rested_local : Sizes → ℕ → CLocal
+rested_local sizes k = scalar_local (counter_type sizes k) (rested_name k)
+
+-- the local for the flag of a node that waits by one
+abbrev pub flag_local : (Node → ℕ) → Transition → List CLocal
+flag_local number rule = if is_flagged rule.asked then scalar_local OfBool (flag_name (number rule.node)) ∷ [] else []
+
+-- the local for a mark that a change sets
+abbrev pub mark_local : (Node → ℕ) → Change → List CLocal
+mark_local number (SetsMark n) = scalar_local OfBool (mark_name (number n)) ∷ []
+mark_local number change = []
+
+-- the locals for the marks that a rule sets
+abbrev pub mark_locals : (Node → ℕ) → Transition → List CLocal
+mark_locals number rule = joined (map (mark_local number) rule.so)
+
+-- the local for the copy of a variable
+abbrev pub copy_local : Activity → ℕ → CLocal
+copy_local a k = scalar_local (c_scalar (scalar_at (slice_get a.unit.vars k))) (copy_name k)
+
+-- the positions of the variables that are copied
+abbrev pub copied_in : Activity → List ℕ
+copied_in a = filter (is_copied (copies_of a.unit)) (up_to (length a.unit.vars))
+
+-- the local for the result of a unit, where it has one
+abbrev pub given_local : ℕ → Option Scalar → List CLocal
+given_local k (Some s) = scalar_local (c_scalar s) (given_name k) ∷ []
+given_local k None = []
+
+-- the locals for a `run`: whether what it calls has ended, and its result
+abbrev pub run_locals : Activity → RunAt → List CLocal
+run_locals a run =
+    scalar_local OfBool (ended_name run.number) ∷ given_local run.number (option_and_then (λ unit. unit.result) (slice_get a.earlier run.unit))
+
+-- the locals: what counters held, flags, marks, copies, and those of each `run`
+abbrev pub activity_locals : Activity → List CLocal
+activity_locals a =
+    map (rested_local a.sizes) (counters_read a)
+    ++ (joined (map (flag_local (view_of a).number) (rules_at a))
+    ++ (joined (map (mark_locals (view_of a).number) (rules_at a))
+    ++ (map (copy_local a) (copied_in a) ++ joined (map (run_locals a) (runs_in_body a)))))
+
+-- what a counter holds as the tick begins is copied
+abbrev pub rested_code : ℕ → CStmt
+rested_code k = c_set (rested_place k) (c_read (counter_place k))
+
+-- the entry waits where the first counter holds 0: the instance is begun, or rests where it goes home
+abbrev pub entry_code : ActivityView → Block → List CStmt
+entry_code view Done = []
+entry_code view (Then s rest) =
+    c_set (flag_place (view.number (entry s))) (c_two Eq (c_read (counter_place 0)) (counter_value view.sizes 0 0)) ∷ []
+
+-- some of these, by their positions
+abbrev pub picked : {X : Type 0} → List X → List ℕ → List X
+picked all [] = []
+picked all (k ∷ rest) = option_to_list (slice_get all k) ++ picked all rest
+
+-- the turns of nodes in source order
+abbrev pub turns_in_source : Activity → List NodeCode
+turns_in_source a = turns_of (view_of a) (callees_in (body_of a)) (rules_at a)
+
+-- the `if`s of blocks, which have nodes by their positions
+abbrev pub blocks_code : List NodeCode → List (List ℕ) → List CStmt
+blocks_code turns [] = []
+blocks_code turns (block ∷ rest) = merged_code (picked turns block) ++ blocks_code turns rest
+
+-- those of the activity
+abbrev pub blocks_in_order : Activity → List CStmt
+blocks_in_order a = blocks_code (turns_in_source a) a.blocks
+
+-- the body: copies of what held when the tick began, and the blocks in their order
+abbrev pub activity_code : Activity → List CStmt
+activity_code a =
+    map rested_code (counters_read a)
+    ++ (entry_code (view_of a) (body_of a) ++ (map (c_copied (view_of a).site) (copied_in a) ++ blocks_in_order a))
+
+-- the C function of an activity
+abbrev pub activity_function : Activity → CFunc
+activity_function a = record {
+  place = nowhere;
+  fixed = true;
+  result = None;
+  name = unit_name a.unit.name;
+  params = activity_params a;
+  locals = activity_locals a;
+  body = activity_code a;
+}

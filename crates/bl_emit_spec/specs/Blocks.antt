@@ -1,0 +1,275 @@
+-- The C of the blocks of a pass: one `if` for each block, with what its nodes do and what changes then, and in it one for each further node.
+use Rattle.std.specs.Prelude.{ℕ, zero, suc, pos, Bool, true, false, List, [], ◌∷◌, ◌++◌, map, Option, Some, None, if◌then◌else◌}
+use Rattle.std.specs.Prelude.{◌&&◌, length, is_some, nat_eq, nat_le, slice_get, unwrap_or}
+use Rattle.bl_tree.specs.declared.text.Text.{Text}
+use Rattle.bl_tree.specs.declared.c.CArg.{CArg}
+use Rattle.bl_tree.specs.declared.c.CArg.TheVariants.{Address}
+use Rattle.bl_tree.specs.declared.c.CExpr.{CExpr}
+use Rattle.bl_tree.specs.declared.c.CStmt.{CStmt}
+use Rattle.bl_tree.specs.declared.scalar.Op.{Op}
+use Rattle.bl_tree.specs.declared.scalar.Op.TheVariants.{And, Eq, Ge, Le, Ne, Or}
+use Rattle.bl_tree.specs.declared.scalar.Scalar.{Scalar}
+use Rattle.bl_tree.specs.declared.scalar.Scalar.TheVariants.{Nat}
+use Rattle.bl_tree.specs.declared.scalar.Width.TheVariants.{W8, W16, W32}
+use Rattle.bl_tree.specs.declared.tree.Path.{Path}
+use Rattle.bl_tree.specs.declared.tree.Stmt.{Stmt, out-Stmt}
+use Rattle.bl_tree.specs.declared.tree.StmtKind.{out-StmtKind}
+use Rattle.bl_tree.specs.declared.tree.StmtKind.TheOpen.{StmtKind-F}
+use Rattle.bl_tree.specs.declared.tree.Unit.{Unit as UnitDef}
+use Rattle.bl_tree.specs.Typing.{TypingContext}
+use Rattle.bl_graph_nodes.specs.Nodes.{ActAt, Arguments, CheckAt, EnterAt, Node, ResumeAt, TestAt}
+use Rattle.bl_machine.specs.declared.slots.Slot.{Slot}
+use Rattle.bl_emit_acts.specs.Acts.{act_code, c_calling, c_clear, c_set, call_args, code_made, name_of_callee}
+use Rattle.bl_emit_acts.specs.Expressions.{c_compare, stands}
+use Rattle.bl_emit_acts.specs.Trees.{c_call, c_literal, c_not, c_read, c_two}
+use Rattle.bl_emit_functions.specs.Statements.{else_code}
+use Rattle.bl_emit_functions.specs.Trees.{c_if, c_truth}
+use Rattle.bl_machine_pass.specs.Transitions.{Age, Asked, Change, Needed, Transition}
+use Rattle.bl_machine_pass.specs.Transitions.{ClearsBoth, ClearsCounter, Ended, EndsWhen, Finishes, Flagged, IsAny, IsNew, IsOld, Rested, RestedIn, SetsCounter, SetsFlag, SetsMark}
+use Rattle.bl_emit_spec.specs.Names.{callee_frame, callee_memory, counter_place, ended_place, flag_place, frame_name, given_place}
+use Rattle.bl_emit_spec.specs.Names.{mark_place, over_place, rested_place, result_place}
+
+-- ---- numbers of counters
+
+-- the narrowest unsigned type for a counter of so many values beside 0
+abbrev pub type_for : ℕ → Scalar
+type_for n = if nat_le n 255 then Nat W8 else if nat_le n 65535 then Nat W16 else Nat W32
+
+-- how many values each counter has, in the order of counters
+abbrev pub Sizes : Type 0
+Sizes = List ℕ
+
+-- the type of a counter
+abbrev pub counter_type : Sizes → ℕ → Scalar
+counter_type sizes k = type_for (unwrap_or (slice_get sizes k) 0)
+
+-- a value of a counter
+abbrev pub counter_value : Sizes → ℕ → ℕ → CExpr
+counter_value sizes k v = c_literal (counter_type sizes k) (pos v)
+
+-- ---- what the C of a block needs to know
+
+-- an activity as its blocks see it
+pub record ActivityView : Type 0 where
+  -- its variables, and the units before it
+  pub site : TypingContext
+  -- which of its variables have a copy of what they were when the tick began
+  pub copies : List Bool
+  -- the numbers of its nodes in C names
+  pub number : Node → ℕ
+  -- how many values its counters have
+  pub sizes : Sizes
+  -- which counters have a copy of what they held when the tick began
+  pub is_read : ℕ → Bool
+  -- whether a unit before it, an activity, remembers variables
+  pub remembers : ℕ → Bool
+
+-- ---- guards
+
+-- the answers of many tests, two by two
+abbrev pub in_pairs : Op → List CExpr → List CExpr
+in_pairs op [] = []
+in_pairs op (a ∷ []) = a ∷ []
+in_pairs op (a ∷ b ∷ rest) = c_two op a b ∷ in_pairs op rest
+
+-- as often as there are tests at most, until one answer is left: a tree whose depth grows slowly. Without tests it is the first argument
+abbrev pub in_tree : CExpr → Op → ℕ → List CExpr → CExpr
+in_tree none op fuel [] = none
+in_tree none op fuel (a ∷ []) = a
+in_tree none op zero (a ∷ b ∷ rest) = a
+in_tree none op (suc fuel) (a ∷ b ∷ rest) = in_tree none op fuel (in_pairs op (a ∷ b ∷ rest))
+
+-- all of the tests, or some one
+abbrev pub all_tests : List CExpr → CExpr
+all_tests tests = in_tree (c_truth true) And (length tests) tests
+
+abbrev pub some_test : List CExpr → CExpr
+some_test tests = in_tree (c_truth false) Or (length tests) tests
+
+-- whether the instance is at the number
+abbrev pub at_slot : ActivityView → Slot → CExpr
+at_slot view slot = c_two Eq (c_read (counter_place slot.counter)) (counter_value view.sizes slot.counter slot.value)
+
+-- the greatest value that a counter can hold, which is how many values it has beside 0
+abbrev pub greatest_value : Sizes → ℕ → ℕ
+greatest_value sizes k = unwrap_or (slice_get sizes k) 0
+
+-- whether the value is the only one beside 0 that its counter has
+abbrev pub is_only : Sizes → Slot → Bool
+is_only sizes slot = nat_eq slot.value 1 && nat_le (greatest_value sizes slot.counter) 1
+
+-- whether what the counter held when the tick began isn't 0, where only that is to be asked, and else whether it was the value
+abbrev pub rested_by : ActivityView → Slot → Bool → CExpr
+rested_by view slot true = c_two Ne (c_read (rested_place slot.counter)) (counter_value view.sizes slot.counter 0)
+rested_by view slot false = c_two Eq (c_read (rested_place slot.counter)) (counter_value view.sizes slot.counter slot.value)
+
+-- whether it rested at the number when the tick began. Of the one value beside 0 of a counter it is asked whether it wasn't 0: a C compiler sees then
+-- that there is no third case
+abbrev pub rested_at : ActivityView → Slot → CExpr
+rested_at view slot = rested_by view slot (is_only view.sizes slot)
+
+-- whether the counter held one of the values from the first to the last
+abbrev pub rested_between : ActivityView → ℕ → ℕ → ℕ → CExpr
+rested_between view k least greatest =
+    let s = counter_type view.sizes k in
+    c_two And (c_compare Ge s (c_read (rested_place k)) (counter_value view.sizes k least))
+    (c_compare Le s (c_read (rested_place k)) (counter_value view.sizes k greatest))
+
+-- the last of some values
+abbrev pub last_value : ℕ → List Slot → ℕ
+last_value v [] = v
+last_value v (slot ∷ rest) = last_value slot.value rest
+
+-- whether it rested at one of these numbers, which have one counter and values that follow one another
+abbrev pub rested_in : ActivityView → List Slot → CExpr
+rested_in view [] = c_truth false
+rested_in view (slot ∷ []) = rested_at view slot
+rested_in view (slot ∷ more ∷ rest) = rested_between view slot.counter slot.value (last_value more.value rest)
+
+-- whether as many branches have ended as are needed
+abbrev pub ends_test : ActivityView → Needed → CExpr
+ends_test view needed =
+    if needed.all then all_tests (map (at_slot view) needed.slots) else some_test (map (at_slot view) needed.slots)
+
+-- the same, of a `cobegin` of that age
+abbrev pub aged_test : ActivityView → Age → CExpr → CExpr
+aged_test view (IsNew n) ends = c_two And (c_read (mark_place (view.number n))) ends
+aged_test view (IsOld n) ends = c_two And (c_not (c_read (mark_place (view.number n)))) ends
+aged_test view IsAny ends = ends
+
+-- what is asked before the node acts
+abbrev pub guard_of : ActivityView → Node → Asked → CExpr
+guard_of view n Flagged = c_read (flag_place (view.number n))
+guard_of view n (Rested slot) = rested_at view slot
+guard_of view n (RestedIn slots) = rested_in view slots
+guard_of view n (Ended age needed) = aged_test view age (ends_test view needed)
+
+-- ---- changes
+
+-- a counter gets 0
+abbrev pub freed : ActivityView → ℕ → CStmt
+freed view k = c_set (counter_place k) (counter_value view.sizes k 0)
+
+-- so does its copy, where it has one
+abbrev pub forgotten : ActivityView → ℕ → Bool → List CStmt
+forgotten view k true = freed view k ∷ c_set (rested_place k) (counter_value view.sizes k 0) ∷ []
+forgotten view k false = freed view k ∷ []
+
+-- a flag or a mark is set
+abbrev pub flagged_now : ActivityView → Node → CStmt
+flagged_now view n = c_set (flag_place (view.number n)) (c_truth true)
+
+-- the C of a change
+abbrev pub change_code : ActivityView → Change → List CStmt
+change_code view (SetsFlag n) = flagged_now view n ∷ []
+change_code view (SetsCounter slot) = c_set (counter_place slot.counter) (counter_value view.sizes slot.counter slot.value) ∷ []
+change_code view (ClearsCounter k) = freed view k ∷ []
+change_code view (ClearsBoth k) = forgotten view k (view.is_read k)
+change_code view (SetsMark n) = c_set (mark_place (view.number n)) (c_truth true) ∷ []
+change_code view (EndsWhen start surface depth) =
+    c_if (c_read (mark_place (view.number start))) (flagged_now view surface ∷ []) (Some (flagged_now view depth ∷ [])) ∷ []
+change_code view Finishes = c_set over_place (c_truth true) ∷ []
+
+-- of changes one after another
+abbrev pub changes_code : ActivityView → List Change → List CStmt
+changes_code view [] = []
+changes_code view (change ∷ rest) = change_code view change ++ changes_code view rest
+
+-- ---- runs
+
+-- whether a unit has a result
+abbrev pub has_result : Option UnitDef → Bool
+has_result (Some unit) = is_some unit.result
+has_result None = false
+
+-- the name that a unit has in the program
+abbrev pub name_in : Option UnitDef → Text
+name_in (Some unit) = unit.name
+name_in None = []
+
+-- an argument, where the test is true
+abbrev pub arg_where : Bool → CArg → List CArg
+arg_where true arg = arg ∷ []
+arg_where false arg = []
+
+-- the arguments of the call of an activity: where it rests, what it remembers, its inputs and outputs, its result, and whether it has ended
+abbrev pub run_args : ActivityView → ℕ → ℕ → Arguments → List CArg
+run_args view k a arguments =
+    Address (callee_frame k)
+    ∷ (arg_where (view.remembers a) (Address (callee_memory k))
+    ++ (call_args view.site arguments.inputs arguments.outputs
+    ++ (arg_where (has_result (slice_get view.site.earlier a)) (Address (given_place k)) ++ Address (ended_place k) ∷ [])))
+
+-- the call: the activity hasn't ended before it
+abbrev pub run_code : ActivityView → ℕ → ℕ → Arguments → List CStmt
+run_code view k a arguments =
+    c_set (ended_place k) (c_truth false)
+    ∷ c_calling (c_call (name_of_callee (slice_get view.site.earlier a)) (run_args view k a arguments)) ∷ []
+
+-- the target gets the result
+abbrev pub target_code : ActivityView → ℕ → Option Path → List CStmt
+target_code view k (Some path) = c_set (stands view.site path).place (c_read (given_place k)) ∷ []
+target_code view k None = []
+
+-- ---- blocks
+
+-- an act; a `return` sets the result, where it has one
+abbrev pub layer_acted : {A B C D : Type 0} → ActivityView → Stmt → StmtKind-F A B C D → List CStmt
+layer_acted view s (StmtKind-F.Return (Some e)) = c_set result_place (code_made view.site e) ∷ []
+layer_acted view s (StmtKind-F.Return None) = []
+layer_acted view s _ = act_code view.site view.copies s
+
+abbrev pub acted : ActivityView → Stmt → List CStmt
+acted view s = layer_acted view s (out-StmtKind (out-Stmt s).what)
+
+-- a test: changes where it is true, and others where it is false
+abbrev pub tested : ActivityView → CExpr → Transition → List CStmt
+tested view test rule = c_if test (changes_code view rule.so) (else_code (changes_code view rule.otherwise)) ∷ []
+
+-- what a `run` at a node does where it begins, and where it goes on; the number is that of the node at which it begins
+abbrev pub begun_code : ActivityView → ℕ → ℕ → Arguments → Transition → List CStmt
+begun_code view k a arguments rule =
+    c_clear (callee_frame k) (frame_name (name_in (slice_get view.site.earlier a)))
+    ∷ (run_code view k a arguments ++ changes_code view rule.so)
+
+abbrev pub resumed_code : ActivityView → ℕ → ℕ → Arguments → Transition → List CStmt
+resumed_code view k a arguments rule =
+    run_code view k a arguments
+    ++ c_if (c_read (ended_place k)) (target_code view k arguments.target ++ changes_code view rule.so) None ∷ []
+
+-- what a node does in its turn, by its rule; of a `run` the number tells the activity that it calls
+abbrev pub node_code : ActivityView → ℕ → Transition → Node → List CStmt
+node_code view a rule (ActAt l s) = acted view s ++ changes_code view rule.so
+node_code view a rule (TestAt l at e) = tested view (code_made view.site e) rule
+node_code view a rule (CheckAt l at e) = tested view (code_made view.site e) rule
+node_code view a rule (EnterAt l at arguments) = begun_code view (view.number (EnterAt l at arguments)) a arguments rule
+node_code view a rule (ResumeAt l at arguments) = resumed_code view (view.number (EnterAt l at arguments)) a arguments rule
+node_code view a rule n = changes_code view rule.so
+
+-- the turn of a node in C: what is asked before it, and what it does then
+pub record NodeCode : Type 0 where
+  pub test : CExpr
+  pub code : List CStmt
+
+-- the `if` of one turn
+abbrev pub turn_code : NodeCode → CStmt
+turn_code turn = c_if turn.test turn.code None
+
+-- the `if` of a block: the turn of its first node, and in it the `if`s of its other nodes
+abbrev pub merged_code : List NodeCode → List CStmt
+merged_code [] = []
+merged_code (first ∷ rest) = c_if first.test (first.code ++ map turn_code rest) None ∷ []
+
+-- the turn of a rule's node; of a `run` the number tells the activity that it calls
+abbrev pub turn_of : ActivityView → ℕ → Transition → NodeCode
+turn_of view a rule = record { test = guard_of view rule.node rule.asked; code = node_code view a rule rule.node }
+
+-- its `if`
+abbrev pub block_code : ActivityView → ℕ → Transition → CStmt
+block_code view a rule = turn_code (turn_of view a rule)
+
+-- the turns of nodes that have these rules, each with the activity that it calls
+abbrev pub turns_of : ActivityView → List ℕ → List Transition → List NodeCode
+turns_of view [] rules = []
+turns_of view callees [] = []
+turns_of view (a ∷ callees) (rule ∷ rules) = turn_of view a rule ∷ turns_of view callees rules

@@ -1,0 +1,189 @@
+-- Roles of the variables of a typed unit, and where its outputs stand among them.
+use Rattle.std.proofs.Common.{◌≡◌, ◌⊎◌, inl, inr, ⊎_elim, ℕ, zero, suc, ◌+◌, ◌<◌, ◌≤◌, Bool, true, false, ◌&&◌, ◌||◌}
+use Rattle.std.proofs.Common.{List, [], ◌∷◌, ◌++◌, length, take, drop, Some}
+use Rattle.std.proofs.Common.{refl, sym, ap, ◌∙◌, subst, arith}
+use Rattle.std.proofs.lemmas.Option.{same_Some}
+use Rattle.std.specs.List.{list_all}
+use Rattle.std.specs.Prelude.{is_some, nat_le, slice_get}
+use Rattle.bl_tree.specs.declared.tree.Role.{Role}
+use Rattle.bl_tree.specs.declared.tree.Role.TheVariants.{Input, Output, Variable, Fixed}
+use Rattle.bl_tree.specs.declared.tree.StructDef.{StructDef}
+use Rattle.bl_tree.specs.declared.tree.Unit.{Unit as UnitDef}
+use Rattle.bl_tree.specs.declared.tree.Var.{Var}
+use Rattle.bl_tree.specs.Depths.{is_shallow}
+use Rattle.bl_tree.specs.Apart.{is_apart}
+use Rattle.bl_tree.specs.Program.{IsWellTyped, is_input, is_output, locals_of, names_of, parameters_of, roles_stand, unit_stands, units_stand_after}
+use Rattle.bl_tree.specs.Returns.{unit_returns}
+use Rattle.bl_tree.specs.Types.{scalar_in, type_stands}
+use Rattle.bl_tree.specs.Typing.{TypingContext, fits, inputs_of, is_fixed, is_variable, outputs_of, site_of, var_at}
+use Rattle.bl_tree.specs.Words.{are_distinct, is_name}
+use Rattle.bl_emit_acts.specs.Places.{copies_inputs, home_of, home_of_role}
+use Rattle.bl_emit_acts.specs.declared.home.Home.TheVariants.{Held, Lent}
+use Rattle.bl_emit_acts_laws_simulation.specs.Encodes.{home_at}
+use Rattle.bl_emit_spec_laws.proofs.OnActivities.Lists.{get_drop, get_take}
+
+and_left : (a b : Bool) → (a && b) ≡ true → a ≡ true
+and_left true b _ = refl
+and_left false b all = all
+
+and_right : (a b : Bool) → (a && b) ≡ true → b ≡ true
+and_right true b all = all
+and_right false b all = absurd (cc)
+
+-- ---- roles stand
+
+stands_at : (structs : List StructDef) (earlier units : List UnitDef) (k : ℕ) (unit : UnitDef) → units_stand_after structs earlier units ≡ true →
+    slice_get units k ≡ Some unit → (before : List UnitDef) × (unit_stands structs before unit ≡ true)
+stands_at structs earlier [] k unit stand there = absurd (cc)
+stands_at structs earlier (first ∷ units) zero unit stand there = (
+  earlier,
+  subst (λ (u : UnitDef). unit_stands structs earlier u ≡ true) (same_Some first unit there)
+      (and_left (unit_stands structs earlier first) (units_stand_after structs (earlier ++ first ∷ []) units) stand),
+)
+stands_at structs earlier (first ∷ units) (suc k) unit stand there =
+    stands_at structs (earlier ++ first ∷ []) units k unit
+    (and_right (unit_stands structs earlier first) (units_stand_after structs (earlier ++ first ∷ []) units) stand) there
+
+-- what `roles_stand` says, one by one
+pub record Roles (unit : UnitDef) : Type 0 where
+  pub fits : nat_le (unit.inputs + unit.outputs) (length unit.vars) ≡ true
+  pub inputs : list_all (λ var. is_input var.role) (inputs_of unit) ≡ true
+  pub outputs : list_all (λ var. is_output var.role) (outputs_of unit) ≡ true
+  pub locals : list_all (λ var. is_variable var.role || is_fixed var.role) (locals_of unit) ≡ true
+
+roles_of : (unit : UnitDef) → roles_stand unit ≡ true → Roles unit
+roles_of unit all =
+    let ins : Bool = list_all (λ var. is_input var.role) (inputs_of unit) in
+    let outs : Bool = list_all (λ var. is_output var.role) (outputs_of unit) in
+    let own : Bool = list_all (λ var. is_variable var.role || is_fixed var.role) (locals_of unit) in
+    let few : Bool = nat_le (unit.inputs + unit.outputs) (length unit.vars) in
+    let whole : (few && (ins && (outs && own))) ≡ true = all in
+    let rest = and_right few (ins && (outs && own)) whole in
+    let last = and_right ins (outs && own) rest in
+    record {
+      fits = and_left few (ins && (outs && own)) whole;
+      inputs = and_left ins (outs && own) rest;
+      outputs = and_left outs own last;
+      locals = and_right outs own last;
+    }
+
+pub unit_roles : (structs : List StructDef) (units : List UnitDef) (entry k : ℕ) (unit : UnitDef) → IsWellTyped structs units entry →
+    slice_get units k ≡ Some unit → Roles unit
+unit_roles structs units entry k unit keeps there =
+    let found = stands_at structs [] units k unit keeps.units_stand there in
+    let before = found.0 in
+    let named : Bool = list_all is_name (names_of unit.vars) && are_distinct (names_of (parameters_of unit)) in
+    let types : Bool = list_all (λ var. type_stands (length structs) var.ty) unit.vars in
+    let fit : Bool = list_all (fits (site_of structs before unit)) unit.body in
+    let rest : Bool = types && (fit && (unit_returns unit && (is_shallow 200 unit.body && list_all is_apart unit.body))) in
+    let all : ((roles_stand unit && named) && rest) ≡ true = found.1 in
+    roles_of unit (and_left (roles_stand unit) named (and_left (roles_stand unit && named) rest all))
+
+-- ---- by position
+
+all_at : {A : Type 0} (p : A → Bool) (xs : List A) (k : ℕ) (x : A) → list_all p xs ≡ true → slice_get xs k ≡ Some x → p x ≡ true
+all_at p [] k x all there = absurd (cc)
+all_at p (y ∷ xs) zero x all there = ap p (sym (same_Some y x there)) ∙ and_left (p y) (list_all p xs) all
+all_at p (y ∷ xs) (suc k) x all there = all_at p xs k x (and_right (p y) (list_all p xs) all) there
+
+put_take : {A : Type 0} (n : ℕ) (xs : List A) (k : ℕ) (x : A) → slice_get xs k ≡ Some x → k < n → slice_get (take n xs) k ≡ Some x
+put_take zero xs k x there less = absurd (omega (arith, less))
+put_take (suc n) [] k x there less = absurd (cc)
+put_take (suc n) (y ∷ xs) zero x there less = there
+put_take (suc n) (y ∷ xs) (suc k) x there less = put_take n xs k x there (omega (arith, less))
+
+put_drop : {A : Type 0} (m : ℕ) (xs : List A) (k : ℕ) (x : A) → slice_get xs (m + k) ≡ Some x → slice_get (drop m xs) k ≡ Some x
+put_drop zero [] k x there = absurd (cc)
+put_drop {A = A} zero (y ∷ xs) k x there =
+    let same : 0 + k ≡ k = omega arith in subst (λ (n : ℕ). slice_get {X = A} (y ∷ xs) n ≡ Some x) same there
+put_drop (suc m) [] k x there = absurd (cc)
+put_drop {A = A} (suc m) (y ∷ xs) k x there =
+    let same : suc m + k ≡ suc (m + k) = omega arith in
+    put_drop m xs k x (subst (λ (n : ℕ). slice_get {X = A} (y ∷ xs) n ≡ Some x) same there)
+
+-- an output of an activity is lent
+pub output_lent : (site : TypingContext) (x : ℕ) (var : Var) → var_at site x ≡ Some var → is_output var.role ≡ true → home_at site x ≡ Lent
+output_lent site x var there output = ap (home_of site) there ∙ by var.role output
+  where
+    by : (role : Role) → is_output role ≡ true → home_of_role role (is_some (scalar_in var.ty)) (copies_inputs site) ≡ Lent
+    by Input is = absurd (cc)
+    by Output is = refl
+    by Variable is = absurd (cc)
+    by Fixed is = absurd (cc)
+
+-- and so stands at no local
+local_held : (site : TypingContext) (x : ℕ) (var : Var) → var_at site x ≡ Some var → (is_variable var.role || is_fixed var.role) ≡ true →
+    home_at site x ≡ Held
+local_held site x var there local = ap (home_of site) there ∙ by var.role local
+  where
+    by : (role : Role) → (is_variable role || is_fixed role) ≡ true → home_of_role role (is_some (scalar_in var.ty)) (copies_inputs site) ≡ Held
+    by Input is = absurd (cc)
+    by Output is = absurd (cc)
+    by Variable is = refl
+    by Fixed is = refl
+
+no_such : true ≡ false → ⊥
+no_such h = cc
+
+within : (k n : ℕ) → (k < n) ⊎ (n ≤ k)
+within k zero = inr (omega arith)
+within zero (suc n) = inl (omega arith)
+within (suc k) (suc n) = ⊎_elim (λ less. inl (omega (arith, less))) (λ more. inr (omega (arith, more))) (within k n)
+
+further_by : (m x : ℕ) → m ≤ x → (k : ℕ) × (x ≡ m + k)
+further_by zero x least = let same : x ≡ 0 + x = omega arith in (x, same)
+further_by (suc m) zero least = absurd (omega (arith, least))
+further_by (suc m) (suc x) least =
+    let rest = further_by m x (omega (arith, least)) in
+    let is = rest.1 in
+    (rest.0, omega (arith, is))
+
+-- where an output stands
+pub record OutputAt (unit : UnitDef) (x : ℕ) (var : Var) : Type 0 where
+  pub position : ℕ
+  pub is : x ≡ unit.inputs + position
+  pub there : slice_get (outputs_of unit) position ≡ Some var
+
+held_lent : Held ≡ Lent → ⊥
+held_lent is = cc
+
+-- what is lent and no input is an output
+pub lent_output : (site : TypingContext) (unit : UnitDef) (x : ℕ) (var : Var) → Roles unit → site.vars ≡ unit.vars → var_at site x ≡ Some var →
+    home_at site x ≡ Lent → is_input var.role ≡ false → OutputAt unit x var
+lent_output site unit x var roles same there lent input = by (within x unit.inputs) (within x (unit.inputs + unit.outputs))
+  where
+    is_there : slice_get unit.vars x ≡ Some var
+    is_there = ap (λ (vars : List Var). slice_get vars x) (sym same) ∙ there
+
+    by : (x < unit.inputs) ⊎ (unit.inputs ≤ x) → (x < unit.inputs + unit.outputs) ⊎ (unit.inputs + unit.outputs ≤ x) → OutputAt unit x var
+    by (inl less) more =
+        let one = all_at (λ (v : Var). is_input v.role) (inputs_of unit) x var roles.inputs (put_take unit.inputs unit.vars x var is_there less) in
+        absurd (no_such (sym one ∙ input))
+    by (inr least) (inl less) =
+        let behind = further_by unit.inputs x least in
+        let k = behind.0 in
+        let is : x ≡ unit.inputs + k = behind.1 in
+        let near : k < unit.outputs = omega (arith, less, is) in
+        record {
+          position = k;
+          is = is;
+          there = put_take unit.outputs (drop unit.inputs unit.vars) k var
+              (put_drop unit.inputs unit.vars k var (subst (λ (n : ℕ). slice_get unit.vars n ≡ Some var) is is_there)) near;
+        }
+    by (inr least) (inr more) =
+        let behind = further_by (unit.inputs + unit.outputs) x more in
+        let k = behind.0 in
+        let is : x ≡ unit.inputs + unit.outputs + k = behind.1 in
+        let one = all_at (λ (v : Var). is_variable v.role || is_fixed v.role) (locals_of unit) k var roles.locals
+        (put_drop (unit.inputs + unit.outputs) unit.vars k var (subst (λ (n : ℕ). slice_get unit.vars n ≡ Some var) is is_there)) in
+        absurd (held_lent (sym (local_held site x var there one) ∙ lent))
+
+-- an output at a position among the outputs stands so much further on
+pub output_at : (site : TypingContext) (unit : UnitDef) (k : ℕ) (var : Var) → Roles unit → site.vars ≡ unit.vars → slice_get (outputs_of unit) k
+    ≡ Some var →
+    (var_at site (unit.inputs + k) ≡ Some var) × (is_output var.role ≡ true)
+output_at site unit k var roles same there = (
+  ap (λ (vars : List Var). slice_get vars (unit.inputs + k)) same
+      ∙ get_drop unit.inputs unit.vars k var (get_take unit.outputs (drop unit.inputs unit.vars) k var there),
+  all_at (λ (v : Var). is_output v.role) (outputs_of unit) k var roles.outputs there,
+)

@@ -1,0 +1,98 @@
+-- The numbers of an activity's registers are below those of its nodes and of its counters.
+use Rattle.std.proofs.Common.{◌≡◌, ℕ, ◌<◌, ◌≤◌, ◌^◌, true, List, Contains}
+use Rattle.std.proofs.Common.{length, nat_eq, refl, sym, ap, subst}
+use Rattle.std.proofs.Common.{◌∙◌, arith, eq-eqb, eqb-true}
+use Rattle.std.proofs.lemmas.Bool.{ltb-true}
+use Rattle.std.proofs.lemmas.List.Sorted.{Contains-permutation}
+use Rattle.std.proofs.lemmas.Slice.Eq.{bytes_eq-Decides}
+use Rattle.std.specs.List.{list_any}
+use Rattle.std.specs.Prelude.{IsPermutation, bytes_eq}
+use Rattle.bl_graph_nodes.specs.Nodes.{Node, label_of, nodes_in}
+use Rattle.bl_graph_nodes.specs.Plain.{Label, plain_body}
+use Rattle.bl_machine.specs.declared.slots.Slot.{Slot}
+use Rattle.bl_machine.specs.Blocks.{up_to}
+use Rattle.bl_machine_pass.specs.Numbered.{position_where, same_label, same_node, slots_of, sort}
+use Rattle.bl_machine_pass.specs.Transitions.{Change, Transition}
+use Rattle.bl_machine_pass.specs.Transitions.{ClearsBoth, ClearsCounter, EndsWhen, Finishes, SetsCounter, SetsFlag, SetsMark}
+use Rattle.bl_machine_pass_laws.specs.Turns.Laws.{StaysPlaced}
+use Rattle.bl_machine_pass_laws.specs.Spots.{SpotsDiffer}
+use Rattle.bl_emit_spec.specs.Activities.{Activity, is_flagged, rules_at, view_of}
+use Rattle.bl_emit_spec_laws.specs.Registers.Registers.{FewRegisters}
+use Rattle.bl_emit_spec_laws.specs.Calls.Built.{asks_flag, registered, sets_mark}
+use Rattle.bl_emit_spec_laws.proofs.OnOwn.Counting.{get_up_to}
+use Rattle.bl_emit_spec_laws.proofs.OnOwn.Fitting.{ChangeFits}
+use Rattle.bl_emit_spec_laws.proofs.OnOwn.Listing.{Listing}
+use Rattle.bl_emit_spec_laws.proofs.OnOwn.Members.{any_found, both_second, both_true, contains_at, contains_mapped, every_at, where_within}
+use Rattle.bl_emit_spec_laws.proofs.OnOwn.Owning.{Listed, copied_below, rule_fits}
+
+label_itself : (l : Label) → same_label l l ≡ true
+label_itself l =
+    both_true (bytes_eq l.position l.position) (nat_eq l.passed l.passed) ((bytes_eq-Decides l.position l.position).1 refl)
+    (eq-eqb l.passed l.passed refl)
+
+node_itself : (n : Node) → same_node n n ≡ true
+node_itself n =
+    both_true (same_label (label_of n) (label_of n)) (nat_eq (sort n) (sort n)) (label_itself (label_of n)) (eq-eqb (sort n) (sort n) refl)
+
+module _ (a : Activity) (list : List Slot) (spots : SpotsDiffer) (slots_are : a.slots ≡ slots_of (plain_body a.unit.body) list)
+    (listing : Listing a.sizes a.slots (plain_body a.unit.body) list) (placed : StaysPlaced)
+    (order : IsPermutation (up_to (length (nodes_in (plain_body a.unit.body)))) a.order)
+  where
+    abbrev nodes : List Node
+    nodes = nodes_in (plain_body a.unit.body)
+
+    abbrev number : Node → ℕ
+    number = (view_of a).number
+
+    -- the number of a node is one of its order
+    number_below : (n : Node) → Contains nodes n → number n < length a.order
+    number_below n there =
+        let below : position_where (same_node n) nodes < length nodes = where_within (same_node n) nodes n there (node_itself n) in
+        where_within (nat_eq (position_where (same_node n) nodes)) a.order (position_where (same_node n) nodes)
+        (Contains-permutation (up_to (length nodes)) a.order (position_where (same_node n) nodes) order
+        (contains_at (up_to (length nodes)) (position_where (same_node n) nodes) (position_where (same_node n) nodes)
+        (get_up_to (length nodes) (position_where (same_node n) nodes) below)))
+        (eq-eqb (position_where (same_node n) nodes) (position_where (same_node n) nodes) refl)
+
+    rule_below : (rule : Transition) → Contains (rules_at a) rule → number rule.node < length a.order
+    rule_below rule there =
+        number_below rule.node
+        (subst (λ ns. Contains ns rule.node) (placed.nodes a.slots (plain_body a.unit.body))
+        (contains_mapped (λ (one : Transition). one.node) (rules_at a) rule there))
+
+    flag_below : (k : ℕ) → (registered a).flags k ≡ true → k < length a.order
+    flag_below k on =
+        let found = any_found (asks_flag number k) (rules_at a) on in
+        let same : k ≡ number found.one.node =
+        eqb-true k (number found.one.node) (both_second (is_flagged found.one.asked) (nat_eq k (number found.one.node)) found.on) in
+        subst (λ n. n < length a.order) (sym same) (rule_below found.one found.there)
+
+    change_below : (k : ℕ) (change : Change) →
+        ChangeFits a.slots (rules_at a) (Listed a list spots slots_are listing) change → sets_mark number k change ≡ true →
+        k < length a.order
+    change_below k (SetsFlag n) fits on = absurd (cc)
+    change_below k (SetsCounter slot) fits on = absurd (cc)
+    change_below k (ClearsCounter j) fits on = absurd (cc)
+    change_below k (ClearsBoth j) fits on = absurd (cc)
+    change_below k (SetsMark n) fits on =
+        let same : k ≡ number fits.rule.node = eqb-true k (number n) on ∙ ap number (sym fits.is) in
+        subst (λ m. m < length a.order) (sym same) (rule_below fits.rule fits.there)
+    change_below k (EndsWhen start surface depth) fits on = absurd (cc)
+    change_below k Finishes fits on = absurd (cc)
+
+    mark_below : (k : ℕ) → (registered a).marks k ≡ true → k < length a.order
+    mark_below k on =
+        let found = any_found (λ (rule : Transition). list_any (sets_mark number k) rule.so) (rules_at a) on in
+        let change = any_found (sets_mark number k) found.one.so found.on in
+        change_below k change.one
+        (every_at (ChangeFits a.slots (rules_at a) (Listed a list spots slots_are listing)) found.one.so change.one
+        (rule_fits a list spots slots_are listing found.one found.there).so change.there)
+        change.on
+
+    pub registers_few : length a.order ≤ 2 ^ 64 → length a.sizes ≤ 2 ^ 64 → FewRegisters (registered a)
+    registers_few ordered sized = record {
+      counters = λ k on. (let below = ltb-true k (length a.sizes) on in omega (arith, below, sized));
+      copied = λ k on. (let below = copied_below a list spots slots_are listing k on in omega (arith, below, sized));
+      flags = λ k on. (let below = flag_below k on in omega (arith, below, ordered));
+      marks = λ k on. (let below = mark_below k on in omega (arith, below, ordered));
+    }

@@ -1,0 +1,231 @@
+-- What fits is told by registers of the activity.
+use Rattle.std.proofs.Common.{◌≡◌, ℕ, ◌<◌, ◌≤◌, ◌^◌, Bool, true, false, ◌&&◌, List, []}
+use Rattle.std.proofs.Common.{Contains, Some, nat_eq, refl, sym, ap}
+use Rattle.std.proofs.Common.{subst, ◌∙◌, arith, length, pos, unwrap_or, eq-eqb, eqb-true, lt-ltb, if◌then◌else◌}
+use Rattle.std.proofs.lemmas.Bool.{le-leb, leb-true}
+use Rattle.std.proofs.lemmas.Option.{slice_get_within}
+use Rattle.std.specs.List.{list_all, list_any}
+use Rattle.std.specs.Prelude.{nat_le, slice_get}
+use Rattle.bl_tree.specs.declared.scalar.Scalar.{Scalar}
+use Rattle.bl_tree.specs.declared.scalar.Scalar.TheVariants.{Nat}
+use Rattle.bl_tree.specs.declared.scalar.Width.TheVariants.{W8, W16, W32}
+use Rattle.bl_tree.specs.Scalar.{in_range}
+use Rattle.bl_graph_nodes.specs.Nodes.{Node}
+use Rattle.bl_graph_nodes.specs.Plain.{Block, plain_body}
+use Rattle.bl_machine.specs.declared.slots.Slot.{Slot}
+use Rattle.bl_machine.specs.Layout.{places_in}
+use Rattle.bl_machine_pass.specs.SlotLayout.{EndOf, RestOf, Spot, slot_at, spots_in}
+use Rattle.bl_machine_pass.specs.Numbered.{no_slot, slots_of}
+use Rattle.bl_machine_pass.specs.Transitions.{Age, Asked, Change, Transition}
+use Rattle.bl_machine_pass.specs.Transitions.{ClearsBoth, ClearsCounter, Ended, EndsWhen, Finishes, Flagged, IsAny, IsNew, IsOld, Rested, RestedIn, SetsCounter, SetsFlag, SetsMark}
+use Rattle.bl_machine_pass_laws.specs.Spots.{SpotsDiffer}
+use Rattle.bl_machine_pass_laws.proofs.OnSlots.Finding.{number_at}
+use Rattle.bl_emit_spec.specs.Activities.{Activity, is_flagged, reads_counter, rules_at, view_of}
+use Rattle.bl_emit_spec.specs.Blocks.{type_for}
+use Rattle.bl_emit_spec_laws.specs.Registers.Laws.{are_in_a_row, asks_its_own, changes_its_own, fits_counter, has_age}
+use Rattle.bl_emit_spec_laws.specs.Calls.Built.{asks_flag, registered, sets_mark}
+use Rattle.bl_emit_spec_laws.specs.Own.{PlaceCounts}
+use Rattle.bl_emit_spec_laws.proofs.OnOwn.Listing.{Listing}
+use Rattle.bl_emit_spec_laws.proofs.OnOwn.Fitting.{AgeFits, AskedFits, ChangeFits, HasFlag, HasMark, IsCounter, RuleFits, rules_in_fit}
+use Rattle.bl_emit_spec_laws.proofs.OnOwn.InRow.{spots_in_many, there_at}
+use Rattle.bl_emit_spec_laws.proofs.OnOwn.Members.{Every, all_true, any_found, any_true, both_true, contains_at, every_at, every_from}
+use Rattle.bl_emit_spec_laws.proofs.OnOwn.Members.{stands_at}
+use Rattle.bl_emit_spec_laws.proofs.OnWithin.Changing.{ChangeWithin}
+
+-- ---- numbers of types
+
+small : (b : Bool) (v n : ℕ) → (b ≡ true → v ≤ n) → (t u : Scalar) → (v ≤ n → in_range t (pos v) ≡ true) →
+    in_range u (pos v) ≡ true →
+    in_range (if b then t else u) (pos v) ≡ true
+small true v n less t u first second = first (less refl)
+small false v n less t u first second = second
+
+in_w8 : (v : ℕ) → v ≤ 255 → in_range (Nat W8) (pos v) ≡ true
+in_w8 v less = both_true (nat_le 0 v) (nat_le v 255) (le-leb 0 v (omega arith)) (le-leb v 255 less)
+
+in_w16 : (v : ℕ) → v ≤ 65_535 → in_range (Nat W16) (pos v) ≡ true
+in_w16 v less = both_true (nat_le 0 v) (nat_le v 65_535) (le-leb 0 v (omega arith)) (le-leb v 65_535 less)
+
+in_w32 : (v : ℕ) → v < 2 ^ 32 → in_range (Nat W32) (pos v) ≡ true
+in_w32 v less = both_true (nat_le 0 v) (nat_le v 4_294_967_295) (le-leb 0 v (omega arith)) (le-leb v 4_294_967_295 (omega (arith, less)))
+
+-- a value of a counter is a number of its type
+in_type : (size v : ℕ) → v ≤ size → v < 2 ^ 32 → in_range (type_for size) (pos v) ≡ true
+in_type size v within few =
+    small (nat_le size 255) v 255 (λ e. (let most = leb-true size 255 e in omega (arith, most, within))) (Nat W8)
+    (if nat_le size 65_535 then Nat W16 else Nat W32) (in_w8 v)
+    (small (nat_le size 65_535) v 65_535 (λ e. (let most = leb-true size 65_535 e in omega (arith, most, within))) (Nat W16) (Nat W32) (in_w16 v)
+    (in_w32 v few))
+
+-- ---- an activity whose numbers stand in a list
+
+module _ (a : Activity) (list : List Slot) (spots : SpotsDiffer) (slots_are : a.slots ≡ slots_of (plain_body a.unit.body) list)
+    (listing : Listing a.sizes a.slots (plain_body a.unit.body) list)
+  where
+    abbrev body : Block
+    body = plain_body a.unit.body
+
+    -- a number of the list
+    abbrev pub Listed : Slot → Type 0
+    Listed slot = Contains list slot
+
+    by_labels : (p : Spot) (i : ℕ) → slice_get (spots_in body) i ≡ Some p → slot_at (slots_of body list) p
+        ≡ unwrap_or (slice_get list i) no_slot
+    by_labels (RestOf l) i is = number_at list (spots_in body) i (RestOf l) (spots a.unit.body []) is
+    by_labels (EndOf l k) i is = number_at list (spots_in body) i (EndOf l k) (spots a.unit.body []) is
+
+    spot_within : (i : ℕ) (p : Spot) → slice_get (spots_in body) i ≡ Some p → i < length list
+    spot_within i p is =
+        let below = slice_get_within (spots_in body) i p is in
+        let many = spots_in_many body in let each = listing.one_each in omega arith
+
+    by_slots : (p : Spot) (i : ℕ) → slice_get (spots_in body) i ≡ Some p → slot_at a.slots p ≡ unwrap_or (slice_get list i) no_slot
+    by_slots p i is = ap (λ slots. slot_at slots p) slots_are ∙ by_labels p i is
+
+    spot_listed : (p : Spot) → Contains (spots_in body) p → Listed (slot_at a.slots p)
+    spot_listed p there =
+        let at = stands_at (spots_in body) p there in
+        contains_at list at.0 (slot_at a.slots p)
+        (there_at list at.0 (spot_within at.0 p at.1) ∙ ap Some (sym (by_slots p at.0 at.1)))
+
+    -- ---- counters and values
+
+    listed_counts : (slot : Slot) → Listed slot → PlaceCounts a.sizes slot
+    listed_counts = listing.counts
+
+    pub place_counts : (p : Spot) → Contains (spots_in body) p → PlaceCounts a.sizes (slot_at a.slots p)
+    place_counts p there = listed_counts (slot_at a.slots p) (spot_listed p there)
+
+    listed_fits : places_in body < 2 ^ 32 → (slot : Slot) → Listed slot → fits_counter a.sizes slot ≡ true
+    listed_fits few slot there =
+        let counts = listed_counts slot there in
+        let most : unwrap_or (slice_get a.sizes slot.counter) 0 ≤ length list = listing.few slot there in
+        let each = listing.one_each in
+        let high = counts.high in
+        in_type (unwrap_or (slice_get a.sizes slot.counter) 0) slot.value high (omega (arith, few, most, high, each))
+
+    -- ---- rules
+
+    abbrev all : List Transition
+    all = rules_at a
+
+    rules_fit : Every (RuleFits a.slots all Listed) all
+    rules_fit =
+        rules_in_fit a.slots all Listed body Finishes (every_from (Contains all) all (λ rule there. there))
+        (every_from (λ p. Listed (slot_at a.slots p)) (spots_in body) spot_listed) listing.rows tt
+
+    pub rule_fits : (rule : Transition) → Contains all rule → RuleFits a.slots all Listed rule
+    rule_fits rule there = every_at (RuleFits a.slots all Listed) all rule rules_fit there
+
+    -- ---- registers
+
+    abbrev number : Node → ℕ
+    number = (view_of a).number
+
+    flag_on : (n : Node) → HasFlag a.slots all Listed n → (registered a).flags (number n) ≡ true
+    flag_on n flag =
+        any_true (asks_flag number (number n)) all flag.rule flag.there
+        (both_true (is_flagged flag.rule.asked) (nat_eq (number n) (number flag.rule.node)) (ap is_flagged flag.asked)
+        (eq-eqb (number n) (number flag.rule.node) (ap number (sym flag.is))))
+
+    mark_on : (n : Node) → HasMark a.slots all Listed n → (registered a).marks (number n) ≡ true
+    mark_on n mark =
+        any_true (λ (rule : Transition). list_any (sets_mark number (number n)) rule.so) all mark.rule mark.there
+        (any_true (sets_mark number (number n)) mark.rule.so (SetsMark n) mark.marks (eq-eqb (number n) (number n) refl))
+
+    slot_on : (slot : Slot) → Listed slot → (registered a).counters slot.counter ≡ true
+    slot_on slot there = lt-ltb slot.counter (length a.sizes) (listed_counts slot there).counter
+
+    counter_on : (k : ℕ) → IsCounter a.slots all Listed k → (registered a).counters k ≡ true
+    counter_on k counter = subst (λ c. (registered a).counters c ≡ true) counter.is (slot_on counter.slot counter.there)
+
+    change_on : (change : Change) → ChangeFits a.slots all Listed change → changes_its_own number (registered a) change ≡ true
+    change_on (SetsFlag n) fits = flag_on n fits
+    change_on (SetsCounter slot) fits = slot_on slot fits
+    change_on (ClearsCounter k) fits = counter_on k fits
+    change_on (ClearsBoth k) fits = counter_on k fits
+    change_on (SetsMark n) fits = mark_on n fits
+    change_on (EndsWhen start surface depth) fits =
+        both_true ((registered a).marks (number start)) ((registered a).flags (number surface) && (registered a).flags (number depth))
+        (mark_on start fits.0)
+        (both_true ((registered a).flags (number surface)) ((registered a).flags (number depth)) (flag_on surface fits.1) (flag_on depth fits.2))
+    change_on Finishes fits = refl
+
+    pub changes_on : (rule : Transition) → Contains all rule → (list_all (changes_its_own number (registered a)) rule.so ≡ true)
+        × (list_all (changes_its_own number (registered a)) rule.otherwise ≡ true)
+    changes_on rule there =
+        let fits = rule_fits rule there in (
+          all_true (ChangeFits a.slots all Listed) (changes_its_own number (registered a)) rule.so change_on fits.so,
+          all_true (ChangeFits a.slots all Listed) (changes_its_own number (registered a)) rule.otherwise change_on fits.otherwise,
+        )
+
+    -- ---- values that counters come to hold
+
+    change_within : (change : Change) → ChangeFits a.slots all Listed change → ChangeWithin a.sizes change
+    change_within (SetsFlag n) fits = tt
+    change_within (SetsCounter slot) fits = (listed_counts slot fits).high
+    change_within (ClearsCounter k) fits = tt
+    change_within (ClearsBoth k) fits = tt
+    change_within (SetsMark n) fits = tt
+    change_within (EndsWhen start surface depth) fits = tt
+    change_within Finishes fits = tt
+
+    each_within : (changes : List Change) → Every (ChangeFits a.slots all Listed) changes → Every (ChangeWithin a.sizes) changes
+    each_within changes fits =
+        every_from (ChangeWithin a.sizes) changes
+        (λ change there. change_within change (every_at (ChangeFits a.slots all Listed) changes change fits there))
+
+    pub changes_stay : (rule : Transition) → Contains all rule → Every (ChangeWithin a.sizes) rule.so × Every (ChangeWithin a.sizes) rule.otherwise
+    changes_stay rule there =
+        let fits = rule_fits rule there in (each_within rule.so fits.so, each_within rule.otherwise fits.otherwise)
+
+    -- ---- what rules ask
+
+    age_on : (age : Age) → AgeFits a.slots all Listed age → has_age number (registered a) age ≡ true
+    age_on (IsNew n) fits = mark_on n fits
+    age_on (IsOld n) fits = mark_on n fits
+    age_on IsAny fits = refl
+
+    -- a counter of which the rule asks what it held is copied
+    copied_on : (rule : Transition) (k : ℕ) → Contains all rule → reads_counter k rule.asked ≡ true → (registered a).copied k ≡ true
+    copied_on rule k there reads = any_true (λ (other : Transition). reads_counter k other.asked) all rule there reads
+
+    asked_on : places_in body < 2 ^ 32 → (rule : Transition) (asked : Asked) → Contains all rule → rule.asked ≡ asked →
+        AskedFits a.slots all Listed asked → asks_its_own (view_of a) (registered a) rule.node asked ≡ true
+    asked_on few rule Flagged there is fits = flag_on rule.node (record { rule = rule; there = there; asked = is; is = refl })
+    asked_on few rule (Rested slot) there is fits =
+        copied_on rule slot.counter there (ap (reads_counter slot.counter) is ∙ eq-eqb slot.counter slot.counter refl)
+    asked_on few rule (RestedIn some) there is fits =
+        both_true (list_all (λ (slot : Slot). (registered a).copied slot.counter) some)
+        (list_all (fits_counter a.sizes) some && are_in_a_row some)
+        (all_true (Contains some) (λ (slot : Slot). (registered a).copied slot.counter) some
+        (λ slot inside. copied_on rule slot.counter there
+        (ap (reads_counter slot.counter) is
+        ∙ any_true (λ (other : Slot). nat_eq slot.counter other.counter) some slot inside (eq-eqb slot.counter slot.counter refl)))
+        (every_from (Contains some) some (λ slot inside. inside)))
+        (both_true (list_all (fits_counter a.sizes) some) (are_in_a_row some)
+        (all_true Listed (fits_counter a.sizes) some (listed_fits few) fits.0) fits.1)
+    asked_on few rule (Ended age needed) there is fits =
+        both_true (has_age number (registered a) age) (list_all (λ (slot : Slot). (registered a).counters slot.counter) needed.slots)
+        (age_on age fits.0) (all_true Listed (λ (slot : Slot). (registered a).counters slot.counter) needed.slots slot_on fits.1)
+
+    pub asks_on : places_in body < 2 ^ 32 → (rule : Transition) → Contains all rule →
+        asks_its_own (view_of a) (registered a) rule.node rule.asked ≡ true
+    asks_on few rule there = asked_on few rule rule.asked there refl (rule_fits rule there).asked
+
+    -- ---- copies
+
+    read_below : (k : ℕ) (asked : Asked) → AskedFits a.slots all Listed asked → reads_counter k asked ≡ true → k < length a.sizes
+    read_below k Flagged fits reads = absurd (cc)
+    read_below k (Rested slot) fits reads =
+        subst (λ c. c < length a.sizes) (sym (eqb-true k slot.counter reads)) (listed_counts slot fits).counter
+    read_below k (RestedIn some) fits reads =
+        let found = any_found (λ (slot : Slot). nat_eq k slot.counter) some reads in
+        subst (λ c. c < length a.sizes) (sym (eqb-true k found.one.counter found.on))
+        (listed_counts found.one (every_at Listed some found.one fits.0 found.there)).counter
+    read_below k (Ended age needed) fits reads = absurd (cc)
+
+    pub copied_below : (k : ℕ) → (view_of a).is_read k ≡ true → k < length a.sizes
+    copied_below k reads =
+        let found = any_found (λ (rule : Transition). reads_counter k rule.asked) all reads in
+        read_below k found.one.asked (rule_fits found.one found.there).asked found.on

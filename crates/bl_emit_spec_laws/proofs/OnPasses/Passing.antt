@@ -1,0 +1,605 @@
+-- The blocks of a function do what a pass by rules does.
+use Rattle.std.proofs.Common.{◌≡◌, ◌⊎◌, inl, inr, ℕ, zero, suc, ◌+◌, ◌<◌, ◌≤◌, Bool, true, false, List, []}
+use Rattle.std.proofs.Common.{◌∷◌, ◌++◌, Contains, length, map, drop, Some, refl, sym, ap, subst}
+use Rattle.std.proofs.Common.{◌∙◌, arith, ⊎_elim, if◌then◌else◌}
+use Rattle.std.proofs.lemmas.Option.{same_Some}
+use Rattle.std.specs.Prelude.{slice_get}
+use Rattle.bl_tree.specs.declared.c.CStmt.{CStmt}
+use Rattle.bl_tree.specs.declared.tree.StructDef.{StructDef}
+use Rattle.bl_tree.specs.declared.tree.Unit.{Unit as UnitDef}
+use Rattle.bl_tree.specs.declared.value.Value.{Value}
+use Rattle.bl_tree.specs.Reduce.{joined}
+use Rattle.bl_graph_nodes.specs.Nodes.{
+  ActAt,
+  CheckAt,
+  DepthEndAt,
+  DepthJoinAt,
+  EnterAt,
+  ForkAt,
+  HeadAt,
+  Node,
+  PauseAt,
+  ResumeAt,
+  StartAt,
+  SurfaceEndAt,
+  SurfaceJoinAt,
+  TestAt,
+}
+use Rattle.bl_graph_nodes.specs.Plain.{plain_body}
+use Rattle.bl_ctext_semantics.specs.Course.{Outcome, goes_on, traps}
+use Rattle.bl_ctext_semantics.specs.Meaning.{Scope, block_c}
+use Rattle.bl_ctext_semantics.specs.Memory.{Memory}
+use Rattle.bl_ctree.specs.Instances.{Setting, setting_of, unit_at}
+use Rattle.bl_ctree.specs.Store.{Store}
+use Rattle.bl_machine.specs.declared.machine.Activity.{Activity as InMachine}
+use Rattle.bl_machine.specs.Uses.{Slots}
+use Rattle.bl_machine_pass.specs.Registers.{Registers, after_rule, due_by, is_due}
+use Rattle.bl_machine_pass.specs.Transitions.{Asked, Change, Transition}
+use Rattle.bl_machine_pass_laws_execution.specs.Executes as executes
+use Rattle.bl_machine_pass_laws_execution.specs.Executes.{CopiesMatch, Executes, HasRule, IsPoint, NodeTraps, PassTraps, Performs, recopied}
+use Rattle.bl_machine_pass_laws.specs.Flags.{MayFlag}
+use Rattle.bl_machine_pass_laws_execution.specs.Frames.{Frames}
+use Rattle.bl_emit_spec.specs.Activities.{Activity, blocks_in_order, remembers_any, turns_in_source, view_of}
+use Rattle.bl_emit_spec.specs.Blocks.{NodeCode, merged_code, turn_code, turn_of}
+use Rattle.bl_emit_spec_laws.specs.Calls.Built.{Activities, activity_at, cleared, rank_by, slots_by}
+use Rattle.bl_emit_spec_laws.specs.Calls.Calls.{PassStarts}
+use Rattle.bl_emit_spec_laws.specs.Calls.Laws.{BlocksSimulate, CalledAt, GuardsChoose, Midway, PartSimulates, PassKeepsFrame, block_done, guarded}
+use Rattle.bl_emit_spec_laws.specs.Calls.Invariant.{PassRepresents}
+use Rattle.bl_emit_spec_laws.specs.Passes.{BlockAt, BlocksPass, BlocksPlaced, IsBehind, TurnsFit, behind_firsts, turns_in_blocks}
+use Rattle.bl_emit_spec_laws.specs.Within.{PassesStayWithin}
+use Rattle.bl_emit_spec_laws.proofs.OnPasses.Blocks.{Alike, drop_all, drop_at, drop_next, drop_none, drop_past, first_done, get_behind, get_first}
+use Rattle.bl_emit_spec_laws.proofs.OnPasses.Blocks.{more_traps, opened, then_traps}
+use Rattle.bl_emit_spec_laws.proofs.OnPasses.Turns.{Head, flags_kept, head_of, leads, merged, merged_is, nothing, text, text_alone}
+
+-- a node is one of a `run`, or none
+point_or_run : (n : Node) → IsPoint n ⊎ (IsPoint n → ⊥)
+point_or_run (ActAt l s) = inl tt
+point_or_run (TestAt l at e) = inl tt
+point_or_run (PauseAt l at) = inl tt
+point_or_run (EnterAt l at arguments) = inr (λ x. x)
+point_or_run (ResumeAt l at arguments) = inr (λ x. x)
+point_or_run (HeadAt l at) = inl tt
+point_or_run (StartAt l at) = inl tt
+point_or_run (CheckAt l at e) = inl tt
+point_or_run (SurfaceEndAt l at) = inl tt
+point_or_run (DepthEndAt l at) = inl tt
+point_or_run (ForkAt l at) = inl tt
+point_or_run (SurfaceJoinAt l at) = inl tt
+point_or_run (DepthJoinAt l at) = inl tt
+
+-- whether a number is within
+within_or_not : (k n : ℕ) → (k < n) ⊎ (n ≤ k)
+within_or_not k zero = inr (omega arith)
+within_or_not zero (suc n) = inl (omega arith)
+within_or_not (suc k) (suc n) = ⊎_elim (λ less. inl (omega (arith, less))) (λ more. inr (omega (arith, more))) (within_or_not k n)
+
+module _ (structs : List StructDef) (units : List UnitDef) (entry : ℕ) (machine : List InMachine) (activities : Activities)
+    (placed : BlocksPlaced structs units entry machine activities) (fit : TurnsFit structs units entry machine activities)
+    (stay : PassesStayWithin structs units entry machine activities)
+    (points : BlocksSimulate structs units entry machine activities IsPoint)
+    (runs : BlocksSimulate structs units entry machine activities (λ n. IsPoint n → ⊥))
+    (choose : GuardsChoose structs units entry machine activities) where
+  abbrev W : Setting
+  W = setting_of structs units entry
+
+  abbrev R : ℕ → Node → ℕ
+  R = rank_by W activities
+
+  abbrev S : ℕ → Slots
+  S = slots_by W activities
+
+  abbrev C : ℕ → Frames → Frames
+  C = cleared W
+
+  abbrev A : ℕ → Activity
+  A = activity_at W activities
+
+  abbrev Mid : ℕ → UnitDef → Scope → Frames → Store → List Value → Registers → Memory → Type 0
+  Mid = Midway structs units entry machine activities
+
+  -- the turns of the nodes, in the order of their numbers
+  abbrev all : ℕ → List NodeCode
+  all i = joined (turns_in_blocks (A i))
+
+  -- ---- where a pass stands
+
+  -- these are the turns from a number on: the rest of a block that has begun, and the blocks behind it
+  pub record Place (i k : ℕ) (others : List NodeCode) (rest : List (List NodeCode)) : Type 0 where
+    pub turns : drop k (all i) ≡ others ++ joined rest
+    pub behind : drop k (behind_firsts (turns_in_blocks (A i))) ≡ map (λ (t : NodeCode). true) others ++ behind_firsts rest
+
+  -- no rule of so many nodes from a number on is due
+  abbrev NoneDue : ℕ → UnitDef → ℕ → ℕ → Registers → Type 0
+  NoneDue i unit k n r =
+      (rule : Transition) → HasRule S i unit rule → k ≤ R i rule.node → R i rule.node < k + n → is_due (R i) rule r ≡ false
+
+  -- a block that wasn't entered has no rule that is due
+  abbrev Asleep : Bool → ℕ → UnitDef → ℕ → List NodeCode → Registers → Type 0
+  Asleep entered i unit k others r = entered ≡ false → NoneDue i unit k (length others) r
+
+  -- no node behind the number waits that stands behind another one in its block
+  abbrev Unflagged : ℕ → ℕ → Registers → Type 0
+  Unflagged i k r = (p : ℕ) → k < p → IsBehind (A i) p → r.flags p ≡ false
+
+  -- ---- flags
+
+  -- as a pass starts
+  unflagged_first : (i : ℕ) (unit : UnitDef) (scope : Scope) (frames : Frames) (store : Store) (copies : List Value) (r : Registers) (here : Memory) →
+      Mid i unit scope frames store copies r here → PassStarts W activities i unit frames r → Unflagged i 0 r
+  unflagged_first i unit scope frames store copies r here mid (executes.begins zeros) p less behind =
+      placed.begins i unit p mid.compiled mid.is_there behind
+  unflagged_first i unit scope frames store copies r here mid (executes.goes_on some) p less behind = refl
+
+  -- behind a rule's turn
+  unflagged_next : (i : ℕ) (unit : UnitDef) (scope : Scope) (frames : Frames) (store : Store) (copies : List Value) (r : Registers) (here : Memory) →
+      Mid i unit scope frames store copies r here → (k : ℕ) (rule : Transition) (answer : Bool) → HasRule S i unit rule → R i rule.node ≡ k →
+      Unflagged i k r → Unflagged i (suc k) (after_rule (R i) rule answer r)
+  unflagged_next i unit scope frames store copies r here mid k rule answer has at unflagged p less behind =
+      flags_kept (R i) p (if answer then rule.so else rule.otherwise) r (by answer) (unflagged p (omega (arith, less)) behind)
+    where
+      none : (change : Change) (m : Node) → Contains rule.so change ⊎ Contains rule.otherwise change → MayFlag change m → R i m ≡ p → ⊥
+      none change m there may is =
+          let number = placed.before i unit rule change m mid.compiled mid.is_there has there may
+          (subst (λ (n : ℕ). IsBehind (A i) n) (sym is) behind) in
+          omega (arith, number, is, at, less)
+
+      by : (b : Bool) (change : Change) (m : Node) → Contains (if b then rule.so else rule.otherwise) change → MayFlag change m → R i m ≡ p → ⊥
+      by true change m there = none change m (inl there)
+      by false change m there = none change m (inr there)
+
+  -- a node behind another one in its block isn't due where it isn't flagged
+  not_due : (i : ℕ) (unit : UnitDef) (scope : Scope) (frames : Frames) (store : Store) (copies : List Value) (r : Registers) (here : Memory) →
+      Mid i unit scope frames store copies r here → (rule : Transition) → HasRule S i unit rule → IsBehind (A i) (R i rule.node) →
+      r.flags (R i rule.node) ≡ false → is_due (R i) rule r ≡ false
+  not_due i unit scope frames store copies r here mid rule has behind unset =
+      ap (λ (asked : Asked). due_by (R i) r rule.node asked) (placed.waits i unit rule mid.compiled mid.is_there has behind) ∙ unset
+
+  -- ---- turns
+
+  -- the turn at a number is that of a rule with the number
+  turn_there : (i k : ℕ) (unit : UnitDef) (rule : Transition) → R i rule.node ≡ k → (block : BlockAt (A i) unit (R i rule.node) rule) →
+      slice_get (all i) k ≡ Some (turn_of (view_of (A i)) block.u rule)
+  turn_there i k unit rule is block =
+      subst (λ (n : ℕ). slice_get (all i) n ≡ Some (turn_of (view_of (A i)) block.u rule)) is block.turn
+
+  -- a number with a turn is within
+  within : (i k : ℕ) (t : NodeCode) (ts : List NodeCode) → drop k (all i) ≡ t ∷ ts → k < length (all i)
+  within i k t ts is = by (within_or_not k (length (all i)))
+    where
+      by : (k < length (all i)) ⊎ (length (all i) ≤ k) → k < length (all i)
+      by (inl less) = less
+      by (inr past) = let none : t ∷ ts ≡ [] = sym is ∙ drop_all (all i) k past in absurd (cc)
+
+  -- the rule whose node has a number, and its turn
+  record Due (i k : ℕ) (unit : UnitDef) (t : NodeCode) : Type 0 where
+    rule : Transition
+    there : HasRule S i unit rule
+    numbered : R i rule.node ≡ k
+    u : ℕ
+    turn : t ≡ turn_of (view_of (A i)) u rule
+
+  rule_there : (i k : ℕ) (unit : UnitDef) (scope : Scope) (frames : Frames) (store : Store) (copies : List Value) (r : Registers) (here : Memory) →
+      Mid i unit scope frames store copies r here → (t : NodeCode) (ts : List NodeCode) → drop k (all i) ≡ t ∷ ts → Due i k unit t
+  rule_there i k unit scope frames store copies r here mid t ts is =
+      let at = placed.of_number i unit k mid.compiled mid.is_there (within i k t ts is) in
+      let block = placed.of_rule i unit at.rule mid.compiled mid.is_there at.there in
+      record {
+        rule = at.rule;
+        there = at.there;
+        numbered = at.numbered;
+        u = block.u;
+        turn = same_Some t (turn_of (view_of (A i)) block.u at.rule)
+            (sym (get_first (all i) k t ts is) ∙ turn_there i k unit at.rule at.numbered block);
+      }
+
+  -- nothing is left where all rules have lesser numbers
+  none_left : (i k : ℕ) (unit : UnitDef) (scope : Scope) (frames : Frames) (store : Store) (copies : List Value) (r : Registers) (here : Memory) →
+      Mid i unit scope frames store copies r here → ((rule : Transition) → HasRule S i unit rule → R i rule.node < k) → (xs : List NodeCode) →
+      drop k (all i) ≡ xs → xs ≡ []
+  none_left i k unit scope frames store copies r here mid below [] is = refl
+  none_left i k unit scope frames store copies r here mid below (t ∷ ts) is =
+      let last = rule_there i k unit scope frames store copies r here mid t ts is in
+      let less = below last.rule last.there in
+      let at = last.numbered in
+      absurd (omega (arith, less, at))
+
+  no_text : (entered : Bool) (others : List NodeCode) (rest : List (List NodeCode)) → others ++ joined rest ≡ [] → text entered others rest ≡ []
+  no_text entered (t ∷ ts) rest is = absurd (cc)
+  no_text entered [] rest is = text_alone entered rest ∙ by (head_of rest)
+    where
+      by : Head rest → merged rest ≡ []
+      by (nothing turns code behind) = code
+      by (leads t ts more turns code behind) = let none : t ∷ (ts ++ joined more) ≡ [] = sym turns ∙ is in absurd (cc)
+
+  -- ---- steps
+
+  module _ (i k : ℕ) (unit : UnitDef) (scope : Scope) (frames : Frames) (store : Store) (copies : List Value) (r : Registers) (here : Memory)
+      (mid : Mid i unit scope frames store copies r here) where
+    -- what is left to do behind a turn, and the text of it
+    pub record Left (entered : Bool) (others : List NodeCode) (rest : List (List NodeCode)) (middle : Memory) (after : Registers) : Type 0 where
+      pub enters : Bool
+      pub turns : List NodeCode
+      pub blocks : List (List NodeCode)
+      pub place : Place i (suc k) turns blocks
+      pub asleep : Asleep enters i unit (suc k) turns after
+      pub alike : Alike (block_c (text entered others rest) scope here) (block_c (text enters turns blocks) scope middle)
+
+    -- a turn that isn't due
+    module _ (none : (rule : Transition) → HasRule S i unit rule → R i rule.node ≡ k → is_due (R i) rule r ≡ false) (unflagged : Unflagged i k r) where
+      -- in a block that was entered
+      skip_open : (t : NodeCode) (ts : List NodeCode) (rest : List (List NodeCode)) → Place i k (t ∷ ts) rest → Left true (t ∷ ts) rest here r
+      skip_open t ts rest place =
+          let due = rule_there i k unit scope frames store copies r here mid t (ts ++ joined rest) place.turns in
+          let done = choose.skips i unit scope frames store copies r due.rule (turn_of (view_of (A i)) due.u due.rule).code here mid due.there
+          (none due.rule due.there due.numbered) in
+          record {
+            enters = true;
+            turns = ts;
+            blocks = rest;
+            place = record {
+              turns = drop_next (all i) k t (ts ++ joined rest) place.turns;
+              behind = drop_next (behind_firsts (turns_in_blocks (A i))) k true (map (λ (t : NodeCode). true) ts ++ behind_firsts rest) place.behind;
+            };
+            asleep = λ is. absurd (cc);
+            alike = subst (λ (x : NodeCode). Alike (block_c (turn_code x ∷ (map turn_code ts ++ merged rest)) scope here)
+                (block_c (map turn_code ts ++ merged rest) scope here)) (sym due.turn)
+                (first_done (turn_code (turn_of (view_of (A i)) due.u due.rule)) (map turn_code ts ++ merged rest) scope here here done.0 done.1);
+          }
+
+      -- in one that wasn't
+      skip_asleep : (t : NodeCode) (ts : List NodeCode) (rest : List (List NodeCode)) → Place i k (t ∷ ts) rest → NoneDue i unit k (suc (length ts)) r →
+          Left false (t ∷ ts) rest here r
+      skip_asleep t ts rest place asleep = record {
+        enters = false;
+        turns = ts;
+        blocks = rest;
+        place = record {
+          turns = drop_next (all i) k t (ts ++ joined rest) place.turns;
+          behind = drop_next (behind_firsts (turns_in_blocks (A i))) k true (map (λ (t : NodeCode). true) ts ++ behind_firsts rest) place.behind;
+        };
+        asleep = λ is rule has from below. asleep rule has (omega (arith, from)) (omega (arith, below));
+        alike = (refl, refl);
+      }
+
+      -- the first one of a block
+      skip_first : (t : NodeCode) (ts : List NodeCode) (rest more : List (List NodeCode)) → Place i k [] rest → joined rest ≡ t ∷ (ts ++ joined more) →
+          merged rest ≡ merged_code (t ∷ ts) ++ merged more →
+          behind_firsts rest ≡ false ∷ (map (λ (t : NodeCode). true) ts ++ behind_firsts more) → Left false [] rest here r
+      skip_first t ts rest more place turns code behind =
+          let due = rule_there i k unit scope frames store copies r here mid t (ts ++ joined more) (place.turns ∙ turns) in
+          let inside = t.code ++ map turn_code ts in
+          let done = choose.skips i unit scope frames store copies r due.rule ((turn_of (view_of (A i)) due.u due.rule).code ++ map turn_code ts) here mid
+          due.there (none due.rule due.there due.numbered) in
+          let marks = drop_next (behind_firsts (turns_in_blocks (A i))) k false (map (λ (t : NodeCode). true) ts ++ behind_firsts more)
+          (place.behind ∙ behind) in
+          record {
+            enters = false;
+            turns = ts;
+            blocks = more;
+            place = record { turns = drop_next (all i) k t (ts ++ joined more) (place.turns ∙ turns); behind = marks };
+            asleep = λ is rule has from below.
+                (let stands = get_behind (behind_firsts (turns_in_blocks (A i))) (suc k) (R i rule.node) ts (behind_firsts more) marks from below in
+                not_due i unit scope frames store copies r here mid rule has stands (unflagged (R i rule.node) from stands));
+            alike = subst (λ (b : List CStmt). Alike (block_c b scope here) (block_c (merged more) scope here)) (sym code)
+                (subst (λ (x : NodeCode). Alike (block_c (merged_code (x ∷ ts) ++ merged more) scope here) (block_c (merged more) scope here)) (sym due.turn)
+                (first_done (guarded (view_of (A i)) due.rule ((turn_of (view_of (A i)) due.u due.rule).code ++ map turn_code ts)) (merged more) scope here
+                here done.0 done.1));
+          }
+
+      -- behind all
+      skip_none : (rest : List (List NodeCode)) → Place i k [] rest → joined rest ≡ [] → merged rest ≡ [] → behind_firsts rest ≡ [] →
+          Left false [] rest here r
+      skip_none rest place turns code behind = record {
+        enters = false;
+        turns = [];
+        blocks = [];
+        place = record {
+          turns = drop_past (all i) k (place.turns ∙ turns);
+          behind = drop_past (behind_firsts (turns_in_blocks (A i))) k (place.behind ∙ behind);
+        };
+        asleep = λ is rule has from below. absurd (omega (arith, from, below));
+        alike = subst (λ (b : List CStmt). Alike (block_c b scope here) (block_c [] scope here)) (sym code) (refl, refl);
+      }
+
+      -- between blocks
+      skip_between : (entered : Bool) (rest : List (List NodeCode)) → Left false [] rest here r → Left entered [] rest here r
+      skip_between entered rest left = record {
+        enters = left.enters;
+        turns = left.turns;
+        blocks = left.blocks;
+        place = left.place;
+        asleep = left.asleep;
+        alike = subst (λ (b : List CStmt). Alike (block_c b scope here) (block_c (text left.enters left.turns left.blocks) scope here))
+            (sym (text_alone entered rest)) left.alike;
+      }
+
+      pub skipped : (entered : Bool) (others : List NodeCode) (rest : List (List NodeCode)) → Place i k others rest → Asleep entered i unit k others r →
+          Left entered others rest here r
+      skipped true (t ∷ ts) rest place asleep = skip_open t ts rest place
+      skipped false (t ∷ ts) rest place asleep = skip_asleep t ts rest place (asleep refl)
+      skipped entered [] rest place asleep = skip_between entered rest (by (head_of rest))
+        where
+          by : Head rest → Left false [] rest here r
+          by (nothing turns code behind) = skip_none rest place turns code behind
+          by (leads t ts more turns code behind) = skip_first t ts rest more place turns code behind
+
+    -- a turn that is due
+    module _ (rule : Transition) (has : HasRule S i unit rule) (at : R i rule.node ≡ k) (due : is_due (R i) rule r ≡ true)
+        (block : BlockAt (A i) unit (R i rule.node) rule) where
+      abbrev turn : NodeCode
+      turn = turn_of (view_of (A i)) block.u rule
+
+      abbrev done : Outcome Memory
+      done = block_done W activities i block.u rule scope here
+
+      same_turn : (t : NodeCode) (ts : List NodeCode) → drop k (all i) ≡ t ∷ ts → turn ≡ t
+      same_turn t ts is = same_Some turn t (sym (turn_there i k unit rule at block) ∙ get_first (all i) k t ts is)
+
+      -- a block that wasn't entered has none
+      awake : (t : NodeCode) (ts : List NodeCode) → NoneDue i unit k (suc (length ts)) r → ⊥
+      awake t ts asleep =
+          let none = asleep rule has (omega (arith, at)) (omega (arith, at)) in let both : true ≡ false = sym due ∙ none in absurd (cc)
+
+      -- what the `if` of a block does whose first turn it is
+      entered_so : (ts : List NodeCode) →
+          Alike (block_c (guarded (view_of (A i)) rule (turn.code ++ map turn_code ts) ∷ []) scope here)
+          (block_c (turn.code ++ map turn_code ts) scope here)
+      entered_so ts = choose.enters i unit scope frames store copies r rule (turn.code ++ map turn_code ts) here mid has due
+
+      done_so : Alike done (block_c turn.code scope here)
+      done_so = choose.enters i unit scope frames store copies r rule turn.code here mid has due
+
+      module _ (after : Registers) (ends : done.end ≡ goes_on) where
+        act_open : (t : NodeCode) (ts : List NodeCode) (rest : List (List NodeCode)) → Place i k (t ∷ ts) rest → Left true (t ∷ ts) rest done.memory after
+        act_open t ts rest place = record {
+          enters = true;
+          turns = ts;
+          blocks = rest;
+          place = record {
+            turns = drop_next (all i) k t (ts ++ joined rest) place.turns;
+            behind = drop_next (behind_firsts (turns_in_blocks (A i))) k true (map (λ (t : NodeCode). true) ts ++ behind_firsts rest) place.behind;
+          };
+          asleep = λ is. absurd (cc);
+          alike = subst (λ (x : NodeCode). Alike (block_c (turn_code x ∷ (map turn_code ts ++ merged rest)) scope here)
+              (block_c (map turn_code ts ++ merged rest) scope done.memory)) (same_turn t (ts ++ joined rest) place.turns)
+              (first_done (turn_code turn) (map turn_code ts ++ merged rest) scope here done.memory ends refl);
+        }
+
+        act_first : (t : NodeCode) (ts : List NodeCode) (rest more : List (List NodeCode)) → Place i k [] rest → joined rest ≡ t ∷ (ts ++ joined more) →
+            merged rest ≡ merged_code (t ∷ ts) ++ merged more →
+            behind_firsts rest ≡ false ∷ (map (λ (t : NodeCode). true) ts ++ behind_firsts more) → Left false [] rest done.memory after
+        act_first t ts rest more place turns code behind = record {
+          enters = true;
+          turns = ts;
+          blocks = more;
+          place = record {
+            turns = drop_next (all i) k t (ts ++ joined more) (place.turns ∙ turns);
+            behind = drop_next (behind_firsts (turns_in_blocks (A i))) k false (map (λ (t : NodeCode). true) ts ++ behind_firsts more)
+                (place.behind ∙ behind);
+          };
+          asleep = λ is. absurd (cc);
+          alike = subst (λ (b : List CStmt). Alike (block_c b scope here) (block_c (map turn_code ts ++ merged more) scope done.memory)) (sym code)
+              (subst (λ (x : NodeCode). Alike (block_c (merged_code (x ∷ ts) ++ merged more) scope here)
+              (block_c (map turn_code ts ++ merged more) scope done.memory)) (same_turn t (ts ++ joined more) (place.turns ∙ turns))
+              (subst (λ (m : Memory). Alike (block_c (merged_code (turn ∷ ts) ++ merged more) scope here)
+              (block_c (map turn_code ts ++ merged more) scope m)) (sym done_so.1)
+              (opened (guarded (view_of (A i)) rule (turn.code ++ map turn_code ts)) turn.code (map turn_code ts) (merged more) scope here
+              (entered_so ts) (sym done_so.0 ∙ ends))));
+        }
+
+        act_between : (entered : Bool) (rest : List (List NodeCode)) → Left false [] rest done.memory after → Left entered [] rest done.memory after
+        act_between entered rest left = record {
+          enters = left.enters;
+          turns = left.turns;
+          blocks = left.blocks;
+          place = left.place;
+          asleep = left.asleep;
+          alike = subst (λ (b : List CStmt). Alike (block_c b scope here) (block_c (text left.enters left.turns left.blocks) scope done.memory))
+              (sym (text_alone entered rest)) left.alike;
+        }
+
+        pub acted_so : (entered : Bool) (others : List NodeCode) (rest : List (List NodeCode)) → Place i k others rest → Asleep entered i unit k others r →
+            Left entered others rest done.memory after
+        acted_so true (t ∷ ts) rest place asleep = act_open t ts rest place
+        acted_so false (t ∷ ts) rest place asleep = absurd (awake t ts (asleep refl))
+        acted_so entered [] rest place asleep = act_between entered rest (by (head_of rest))
+          where
+            by : Head rest → Left false [] rest done.memory after
+            by (nothing turns code behind) =
+                let some = drop_at (all i) k turn (turn_there i k unit rule at block) in
+                let none : turn ∷ drop (suc k) (all i) ≡ [] = sym some ∙ place.turns ∙ turns in absurd (cc)
+            by (leads t ts more turns code behind) = act_first t ts rest more place turns code behind
+
+      -- it traps
+      module _ (ends : done.end ≡ traps) where
+        trap_first : (t : NodeCode) (ts : List NodeCode) (rest more : List (List NodeCode)) → Place i k [] rest → joined rest ≡ t ∷ (ts ++ joined more) →
+            merged rest ≡ merged_code (t ∷ ts) ++ merged more → (block_c (merged rest) scope here).end ≡ traps
+        trap_first t ts rest more place turns code =
+            ap (λ (b : List CStmt). (block_c b scope here).end) code
+            ∙ ap (λ (x : NodeCode). (block_c (merged_code (x ∷ ts) ++ merged more) scope here).end)
+            (sym (same_turn t (ts ++ joined more) (place.turns ∙ turns)))
+            ∙ more_traps (guarded (view_of (A i)) rule (turn.code ++ map turn_code ts)) (merged more) scope here
+            ((entered_so ts).0 ∙ then_traps turn.code (map turn_code ts) scope here (sym done_so.0 ∙ ends))
+
+        pub trapped : (entered : Bool) (others : List NodeCode) (rest : List (List NodeCode)) → Place i k others rest → Asleep entered i unit k others r →
+            (block_c (text entered others rest) scope here).end ≡ traps
+        trapped true (t ∷ ts) rest place asleep =
+            ap (λ (x : NodeCode). (block_c (turn_code x ∷ (map turn_code ts ++ merged rest)) scope here).end)
+            (sym (same_turn t (ts ++ joined rest) place.turns))
+            ∙ more_traps (turn_code turn) (map turn_code ts ++ merged rest) scope here ends
+        trapped false (t ∷ ts) rest place asleep = absurd (awake t ts (asleep refl))
+        trapped entered [] rest place asleep =
+            ap (λ (b : List CStmt). (block_c b scope here).end) (text_alone entered rest) ∙ by (head_of rest)
+          where
+            by : Head rest → (block_c (merged rest) scope here).end ≡ traps
+            by (nothing turns code behind) =
+                let some = drop_at (all i) k turn (turn_there i k unit rule at block) in
+                let none : turn ∷ drop (suc k) (all i) ≡ [] = sym some ∙ place.turns ∙ turns in absurd (cc)
+            by (leads t ts more turns code behind) = trap_first t ts rest more place turns code
+
+  -- ---- passes
+
+  pub record Came (i : ℕ) (unit : UnitDef) (scope : Scope) (code : List CStmt) (frames : Frames) (store : Store) (r : Registers) (here : Memory) : Type 0
+    where
+      pub copies : List Value
+      pub part : PartSimulates W activities i unit scope frames store copies r here (block_c code scope here)
+
+  -- code that does what other code does behind a part of it
+  behind : (i : ℕ) (unit : UnitDef) (scope : Scope) (code later : List CStmt) (here middle : Memory) (frames : Frames) (store : Store) (r : Registers) →
+      Alike (block_c code scope here) (block_c later scope middle) →
+      PassKeepsFrame (view_of (A i)).site unit (remembers_any (A i)) scope here middle → Came i unit scope later frames store r middle →
+      Came i unit scope code frames store r here
+  behind i unit scope code later here middle frames store r alike kept rest = record {
+    copies = rest.copies;
+    part = record {
+      ends = alike.0 ∙ rest.part.ends;
+      stands = subst (λ (m : Memory). PassRepresents W activities i unit scope frames store rest.copies r m) (sym alike.1) rest.part.stands;
+      kept = λ root way older outside.
+          ap (λ (m : Memory). m root way) alike.1 ∙ rest.part.kept root way older outside ∙ kept root way older outside;
+    };
+  }
+
+  -- nothing
+  done_already : (i : ℕ) (unit : UnitDef) (scope : Scope) (code : List CStmt) (frames : Frames) (store : Store) (copies : List Value) (r : Registers)
+      (here : Memory) → Mid i unit scope frames store copies r here → code ≡ [] → Came i unit scope code frames store r here
+  done_already i unit scope code frames store copies r here mid none = record {
+    copies = copies;
+    part = subst (λ (b : List CStmt). PartSimulates W activities i unit scope frames store copies r here (block_c b scope here)) (sym none)
+        (record { ends = refl; stands = mid.stands; kept = λ root way older outside. refl });
+  }
+
+  -- a block that is due
+  acted : (i : ℕ) (unit : UnitDef) (scope : Scope) (frames : Frames) (store : Store) (copies : List Value) (r : Registers) (rule : Transition) (u : ℕ)
+      (answer : Bool) (frames' : Frames) (left : Store) (here : Memory) → Mid i unit scope frames store copies r here → HasRule S i unit rule →
+      CalledAt (plain_body unit.body) rule.node u → is_due (R i) rule r ≡ true → CopiesMatch W i rule.node store copies →
+      Performs W R S C i rule.node frames store answer frames' left →
+      PartSimulates W activities i unit scope frames' left (recopied W i rule.node left copies) (after_rule (R i) rule answer r) here
+      (block_done W activities i u rule scope here)
+  acted i unit scope frames store copies r rule u answer frames' left here mid there called due sees performs = ⊎_elim
+      (λ point. points.acts i unit scope frames store copies r rule u answer frames' left here mid there point called due sees performs)
+      (λ run. runs.acts i unit scope frames store copies r rule u answer frames' left here mid there run called due sees performs)
+      (point_or_run rule.node)
+
+  stopped : (i : ℕ) (unit : UnitDef) (scope : Scope) (frames : Frames) (store : Store) (copies : List Value) (r : Registers) (rule : Transition) (u : ℕ)
+      (here : Memory) → Mid i unit scope frames store copies r here → HasRule S i unit rule → CalledAt (plain_body unit.body) rule.node u →
+      is_due (R i) rule r ≡ true → CopiesMatch W i rule.node store copies → NodeTraps W R S C i rule.node frames store →
+      (block_done W activities i u rule scope here).end ≡ traps
+  stopped i unit scope frames store copies r rule u here mid there called due sees stops = ⊎_elim
+      (λ point. points.stops i unit scope frames store copies r rule u here mid there point called due sees stops)
+      (λ run. runs.stops i unit scope frames store copies r rule u here mid there run called due sees stops) (point_or_run rule.node)
+
+  -- what holds behind such a block
+  next : (i : ℕ) (unit : UnitDef) (scope : Scope) (frames : Frames) (store : Store) (copies : List Value) (r : Registers) (rule : Transition) (u : ℕ)
+      (answer : Bool) (frames' : Frames) (left : Store) (here : Memory) → Mid i unit scope frames store copies r here → HasRule S i unit rule →
+      Performs W R S C i rule.node frames store answer frames' left →
+      PartSimulates W activities i unit scope frames' left (recopied W i rule.node left copies) (after_rule (R i) rule answer r) here
+      (block_done W activities i u rule scope here) →
+      Mid i unit scope frames' left (recopied W i rule.node left copies) (after_rule (R i) rule answer r)
+      (block_done W activities i u rule scope here).memory
+  next i unit scope frames store copies r rule u answer frames' left here mid there performs part =
+      let now = fit.performs i unit rule frames store answer frames' left mid.compiled mid.is_there there mid.fits performs in record {
+        compiled = mid.compiled;
+        is_there = mid.is_there;
+        function = mid.function;
+        stands = part.stands;
+        fits = now;
+        copies_fit = fit.copies i unit rule.node left copies mid.compiled mid.is_there now mid.copies_fit;
+        frames_within = stay.performs i rule.node frames store answer frames' left mid.compiled mid.frames_within performs;
+        within = stay.changes i unit rule answer r mid.compiled mid.is_there there mid.within;
+      }
+
+  own_rule : (i : ℕ) (unit other : UnitDef) (rule : Transition) → unit_at W i ≡ Some unit → unit_at W i ≡ Some other → HasRule S i other rule →
+      HasRule S i unit rule
+  own_rule i unit other rule is there has = subst (λ (x : UnitDef). HasRule S i x rule) (same_Some other unit (sym there ∙ is)) has
+
+  other_rule : (i : ℕ) (unit other : UnitDef) (rule : Transition) → unit_at W i ≡ Some unit → unit_at W i ≡ Some other → HasRule S i unit rule →
+      HasRule S i other rule
+  other_rule i unit other rule is there has = subst (λ (x : UnitDef). HasRule S i x rule) (same_Some unit other (sym is ∙ there)) has
+
+  pub pass : {i k : ℕ} {frames : Frames} {store : Store} {copies : List Value} {r : Registers} {frames' : Frames} {left : Store} {r' : Registers} →
+      Executes W R S C i k frames store copies r frames' left r' → (unit : UnitDef) (scope : Scope) (here : Memory) →
+      Mid i unit scope frames store copies r here → Unflagged i k r → (entered : Bool) (others : List NodeCode) (rest : List (List NodeCode)) →
+      Place i k others rest → Asleep entered i unit k others r → Came i unit scope (text entered others rest) frames' left r' here
+  pass {i} {k} {frames} {store} {copies} {r} (executes.ends {unit = other} there below) unit scope here mid unflagged entered others rest place asleep =
+      done_already i unit scope (text entered others rest) frames store copies r here mid
+      (no_text entered others rest
+      (none_left i k unit scope frames store copies r here mid (λ rule has. below rule (other_rule i unit other rule mid.is_there there has))
+      (others ++ joined rest) place.turns))
+  pass {i} {k} {frames} {store} {copies} {r} {frames'} {left} {r'} (executes.skips {unit = other} there none more) unit scope here mid unflagged entered
+      others rest place asleep =
+      let to = skipped i k unit scope frames store copies r here mid
+      (λ rule has at. none rule (other_rule i unit other rule mid.is_there there has) at) unflagged entered others rest place asleep in
+      behind i unit scope (text entered others rest) (text to.enters to.turns to.blocks) here here frames' left r' to.alike
+      (λ root way older outside. refl)
+      (pass more unit scope here mid (λ p less. unflagged p (omega (arith, less))) to.enters to.turns to.blocks to.place to.asleep)
+  pass {i} {k} {frames} {store} {copies} {r} {frames'} {left} {r'}
+      (executes.acts {answer = answer} {inner = inner} {between = between} {unit = other} there rule has at due sees performs more) unit scope here mid
+      unflagged entered others rest place asleep =
+      let own = own_rule i unit other rule mid.is_there there has in
+      let block = placed.of_rule i unit rule mid.compiled mid.is_there own in
+      let part = acted i unit scope frames store copies r rule block.u answer inner between here mid own block.called due sees performs in
+      let now = next i unit scope frames store copies r rule block.u answer inner between here mid own performs part in
+      let to = acted_so i k unit scope frames store copies r here mid rule own at due block (after_rule (R i) rule answer r) part.ends entered others rest
+      place asleep in
+      behind i unit scope (text entered others rest) (text to.enters to.turns to.blocks) here (block_done W activities i block.u rule scope here).memory
+      frames' left r' to.alike part.kept
+      (pass more unit scope (block_done W activities i block.u rule scope here).memory now
+      (unflagged_next i unit scope frames store copies r here mid k rule answer own at unflagged) to.enters to.turns to.blocks to.place to.asleep)
+
+  pub cut : {i k : ℕ} {frames : Frames} {store : Store} {copies : List Value} {r : Registers} → PassTraps W R S C i k frames store copies r →
+      (unit : UnitDef) (scope : Scope) (here : Memory) → Mid i unit scope frames store copies r here → Unflagged i k r → (entered : Bool)
+      (others : List NodeCode) (rest : List (List NodeCode)) → Place i k others rest → Asleep entered i unit k others r →
+      (block_c (text entered others rest) scope here).end ≡ traps
+  cut {i} {k} {frames} {store} {copies} {r} (executes.skips_on {unit = other} there none more) unit scope here mid unflagged entered others rest place
+      asleep =
+      let to = skipped i k unit scope frames store copies r here mid
+      (λ rule has at. none rule (other_rule i unit other rule mid.is_there there has) at) unflagged entered others rest place asleep in
+      to.alike.0 ∙ cut more unit scope here mid (λ p less. unflagged p (omega (arith, less))) to.enters to.turns to.blocks to.place to.asleep
+  cut {i} {k} {frames} {store} {copies} {r}
+      (executes.goes_on {answer = answer} {inner = inner} {between = between} {unit = other} there rule has at due sees performs more) unit scope here
+      mid unflagged entered others rest place asleep =
+      let own = own_rule i unit other rule mid.is_there there has in
+      let block = placed.of_rule i unit rule mid.compiled mid.is_there own in
+      let part = acted i unit scope frames store copies r rule block.u answer inner between here mid own block.called due sees performs in
+      let now = next i unit scope frames store copies r rule block.u answer inner between here mid own performs part in
+      let to = acted_so i k unit scope frames store copies r here mid rule own at due block (after_rule (R i) rule answer r) part.ends entered others rest
+      place asleep in
+      to.alike.0
+      ∙ cut more unit scope (block_done W activities i block.u rule scope here).memory now
+      (unflagged_next i unit scope frames store copies r here mid k rule answer own at unflagged) to.enters to.turns to.blocks to.place to.asleep
+  cut {i} {k} {frames} {store} {copies} {r} (executes.traps {unit = other} there rule has at due sees stops) unit scope here mid unflagged entered others
+      rest place asleep =
+      let own = own_rule i unit other rule mid.is_there there has in
+      let block = placed.of_rule i unit rule mid.compiled mid.is_there own in
+      trapped i k unit scope frames store copies r here mid rule own at due block
+      (stopped i unit scope frames store copies r rule block.u here mid own block.called due sees stops) entered others rest place asleep
+
+  -- all blocks
+  first_place : (i : ℕ) → Place i 0 [] (turns_in_blocks (A i))
+  first_place i = record { turns = drop_none (all i); behind = drop_none (behind_firsts (turns_in_blocks (A i))) }
+
+  first_text : (i : ℕ) → blocks_in_order (A i) ≡ text true [] (turns_in_blocks (A i))
+  first_text i = merged_is (turns_in_source (A i)) (A i).blocks
+
+pub blocks_pass : BlocksPass
+blocks_pass structs units entry machine activities placed fit stay points runs choose = record {
+  executes = λ i unit scope frames store copies r frames' left r' here mid starts way.
+      (let w = setting_of structs units entry in
+      let a = activity_at w activities i in
+      let unflagged = unflagged_first structs units entry machine activities placed fit stay points runs choose i unit scope frames store copies r here
+      mid starts in
+      let came = pass structs units entry machine activities placed fit stay points runs choose way unit scope here mid unflagged true [] (turns_in_blocks a)
+      (first_place structs units entry machine activities placed fit stay points runs choose i) (λ is. absurd (cc)) in (
+        came.copies,
+        subst (λ (b : List CStmt). PartSimulates w activities i unit scope frames' left came.copies r' here (block_c b scope here))
+            (sym (first_text structs units entry machine activities placed fit stay points runs choose i)) came.part,
+      ));
+  cut = λ i unit scope frames store copies r here mid starts way.
+      (let w = setting_of structs units entry in
+      let a = activity_at w activities i in
+      let unflagged = unflagged_first structs units entry machine activities placed fit stay points runs choose i unit scope frames store copies r here
+      mid starts in
+      ap (λ (b : List CStmt). (block_c b scope here).end) (first_text structs units entry machine activities placed fit stay points runs choose i)
+      ∙ cut structs units entry machine activities placed fit stay points runs choose way unit scope here mid unflagged true [] (turns_in_blocks a)
+      (first_place structs units entry machine activities placed fit stay points runs choose i) (λ is. absurd (cc)));
+}

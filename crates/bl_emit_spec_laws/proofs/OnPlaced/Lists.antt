@@ -1,0 +1,251 @@
+-- Lists by the positions of their elements, and orders of the numbers below one.
+use Rattle.std.proofs.Common.{◌≡◌, ◌⊎◌, inl, inr, ⊎_elim, ℕ, zero, suc, ◌+◌, ◌<◌, ◌≤◌, Bool, true, false}
+use Rattle.std.proofs.Common.{List, [], ◌∷◌, ◌++◌, Contains, Some, None}
+use Rattle.std.proofs.Common.{cond, nat_eq, refl, sym, ap, subst, ◌∙◌, arith, length, map, eq-eqb, eqb-true, if◌then◌else◌}
+use Rattle.std.specs.Prelude.{IsPermutation, option_to_list, slice_get}
+use Rattle.std.proofs.lemmas.List.{length-append}
+use Rattle.std.proofs.lemmas.List.Sorted.{Contains-permutation, sum_by-IsPermutation}
+use Rattle.std.proofs.lemmas.List.Sums.{sum_by-cons, sum_by_push}
+use Rattle.bl_machine.specs.Blocks.{up_to}
+use Rattle.bl_machine.specs.Slots.{times}
+use Rattle.bl_machine_pass.specs.Numbered.{position_where}
+use Rattle.bl_emit_spec.specs.Activities.{picked}
+
+-- ---- positions
+
+pub some_is : {X : Type 0} (a b : X) → Some a ≡ Some b → a ≡ b
+some_is a b is = cc
+
+pub none_is : {X A : Type 0} (x : X) → None ≡ Some x → A
+none_is x is = absurd (cc)
+
+pub here : {X : Type 0} (x : X) (xs : List X) → Contains (x ∷ xs) x
+here x xs = (zero, omega arith, refl)
+
+pub further : {X : Type 0} (y : X) (xs : List X) (x : X) → Contains xs x → Contains (y ∷ xs) x
+further y xs x h = let below = h.1 in (suc h.0, omega arith, h.2)
+
+pub contains_at : {X : Type 0} (xs : List X) (k : ℕ) (x : X) → slice_get xs k ≡ Some x → Contains xs x
+contains_at [] k x e = none_is x e
+contains_at (y ∷ xs) zero x e = subst (λ z. Contains (z ∷ xs) x) (sym (some_is y x e)) (here x xs)
+contains_at (y ∷ xs) (suc k) x e = further y xs x (contains_at xs k x e)
+
+-- a member stands somewhere
+pub stands_at : {X : Type 0} (xs : List X) (x : X) → Contains xs x → (k : ℕ) × (slice_get xs k ≡ Some x)
+stands_at [] x there = let below = there.1 in absurd (omega arith)
+stands_at (y ∷ xs) x (zero, within, is) = (0, ap Some is)
+stands_at (y ∷ xs) x (suc k, within, is) = let rest = stands_at xs x (k, omega arith, is) in (suc rest.0, rest.1)
+
+-- something stands at each position
+pub there_at : {X : Type 0} (xs : List X) (k : ℕ) → k < length xs → (x : X) × (slice_get xs k ≡ Some x)
+there_at [] k below = absurd (omega (arith, below))
+there_at (x ∷ xs) zero below = (x, refl)
+there_at (x ∷ xs) (suc k) below = there_at xs k (omega (arith, below))
+
+pub within_at : {X : Type 0} (xs : List X) (k : ℕ) (x : X) → slice_get xs k ≡ Some x → k < length xs
+within_at [] k x is = none_is x is
+within_at (y ∷ xs) zero x is = omega arith
+within_at (y ∷ xs) (suc k) x is = let rest = within_at xs k x is in omega arith
+
+pub mapped_at : {X Y : Type 0} (f : X → Y) (xs : List X) (k : ℕ) (x : X) → slice_get xs k ≡ Some x → slice_get (map f xs) k ≡ Some (f x)
+mapped_at f [] k x is = none_is x is
+mapped_at f (y ∷ xs) zero x is = ap (λ z. Some (f z)) (some_is y x is)
+mapped_at f (y ∷ xs) (suc k) x is = mapped_at f xs k x is
+
+pub mapped_many : {X Y : Type 0} (f : X → Y) (xs : List X) → length (map f xs) ≡ length xs
+mapped_many f [] = refl
+mapped_many f (x ∷ xs) = ap suc (mapped_many f xs)
+
+-- ---- the first that passes
+
+first_where : (b : Bool) (k : ℕ) → b ≡ true → (if b then 0 else suc k) ≡ 0
+first_where true k e = refl
+first_where false k e = absurd cc
+
+past_where : (b : Bool) (k : ℕ) → (b ≡ true → ⊥) → (if b then 0 else suc k) ≡ suc k
+past_where true k none = absurd (none refl)
+past_where false k none = refl
+
+-- where one alone passes it is found
+pub found_at : (p : ℕ) (xs : List ℕ) (k : ℕ) → slice_get xs k ≡ Some p → ((j : ℕ) → slice_get xs j ≡ Some p → j ≡ k) →
+    position_where (nat_eq p) xs ≡ k
+found_at p [] k is alone = none_is p is
+found_at p (x ∷ xs) zero is alone = first_where (nat_eq p x) (position_where (nat_eq p) xs) (eq-eqb p x (sym (some_is x p is)))
+found_at p (x ∷ xs) (suc k) is alone =
+    past_where (nat_eq p x) (position_where (nat_eq p) xs)
+    (λ e. (let zero_is : 0 ≡ suc k = alone 0 (ap Some (sym (eqb-true p x e))) in omega (arith, zero_is)))
+    ∙ ap suc (found_at p xs k is (λ j there. (let next : suc j ≡ suc k = alone (suc j) there in omega (arith, next))))
+
+-- ---- orders
+
+-- a test as 1 or 0
+abbrev as_one : Bool → ℕ
+as_one b = cond b 1 0
+
+-- how often the number stands among the first ones
+abbrev in_front : ℕ → ℕ → List ℕ → ℕ
+in_front p zero xs = 0
+in_front p (suc k) [] = 0
+in_front p (suc k) (x ∷ xs) = as_one (nat_eq x p) + in_front p k xs
+
+one_itself : (p : ℕ) → as_one (nat_eq p p) ≡ 1
+one_itself p = ap as_one (eq-eqb p p refl)
+
+front_more : (p : ℕ) (xs : List ℕ) (i : ℕ) → slice_get xs i ≡ Some p → in_front p (suc i) xs ≡ suc (in_front p i xs)
+front_more p [] i is = none_is p is
+front_more p (y ∷ xs) zero is =
+    let one = one_itself p in
+    let same : as_one (nat_eq y p) ≡ as_one (nat_eq p p) = ap (λ n. as_one (nat_eq n p)) (some_is y p is) in omega arith
+front_more p (y ∷ xs) (suc i) is = let rest = front_more p xs i is in omega arith
+
+front_rises : (p : ℕ) (xs : List ℕ) (i j : ℕ) → i ≤ j → in_front p i xs ≤ in_front p j xs
+front_rises p xs zero j less = omega arith
+front_rises p xs (suc i) zero less = absurd (omega (arith, less))
+front_rises p [] (suc i) (suc j) less = omega arith
+front_rises p (x ∷ xs) (suc i) (suc j) less = let rest = front_rises p xs i j (omega (arith, less)) in omega arith
+
+front_within : (p : ℕ) (xs : List ℕ) (i : ℕ) → in_front p i xs ≤ in_front p (length xs) xs
+front_within p xs zero = omega arith
+front_within p [] (suc i) = omega arith
+front_within p (x ∷ xs) (suc i) = let rest = front_within p xs i in omega arith
+
+times_front : (p : ℕ) (xs : List ℕ) → times p xs ≡ in_front p (length xs) xs
+times_front p [] = refl
+times_front p (x ∷ xs) =
+    let sum : times p (x ∷ xs) ≡ as_one (nat_eq x p) + times p xs = sum_by-cons (λ other. as_one (nat_eq other p)) x xs in
+    let rest = times_front p xs in omega arith
+
+less_or_more : (i j : ℕ) → (i < j) ⊎ (j ≤ i)
+less_or_more i zero = inr (omega arith)
+less_or_more zero (suc j) = inl (omega arith)
+less_or_more (suc i) (suc j) = ⊎_elim (λ less. inl (omega (arith, less))) (λ more. inr (omega (arith, more))) (less_or_more i j)
+
+-- a number that stands at two positions stands there twice
+twice : (p : ℕ) (xs : List ℕ) (i j : ℕ) → i < j → slice_get xs i ≡ Some p → slice_get xs j ≡ Some p → times p xs ≤ 1 → ⊥
+twice p xs i j less one two most =
+    let first = front_more p xs i one in
+    let rises = front_rises p xs (suc i) j (omega (arith, less)) in
+    let second = front_more p xs j two in
+    let within = front_within p xs (suc j) in
+    let all = times_front p xs in omega (arith, most)
+
+one_place : (p : ℕ) (xs : List ℕ) (i j : ℕ) → slice_get xs i ≡ Some p → slice_get xs j ≡ Some p → times p xs ≤ 1 → i ≡ j
+one_place p xs i j one two most =
+    ⊎_elim (λ less. absurd (twice p xs i j less one two most))
+    (λ more.
+    ⊎_elim (λ less. absurd (twice p xs j i less two one most)) (λ back. (let same : i ≡ j = omega (arith, more, back) in same))
+    (less_or_more j i))
+    (less_or_more i j)
+
+-- a bound on the numbers of an order
+times_last : (p n : ℕ) (xs : List ℕ) → times p (xs ++ n ∷ []) ≡ times p xs + as_one (nat_eq n p)
+times_last p n xs = sum_by_push (λ other. as_one (nat_eq other p)) xs n
+
+no_times : (p n : ℕ) → n ≤ p → times p (up_to n) ≡ 0
+no_times p zero less = refl
+no_times p (suc n) less =
+    let rest = no_times p n (omega (arith, less)) in
+    let last = times_last p n (up_to n) in
+    let none : as_one (nat_eq n p) ≡ 0 = by_test (nat_eq n p) refl in omega arith
+  where
+    by_test : (b : Bool) → nat_eq n p ≡ b → as_one b ≡ 0
+    by_test true e = let same = eqb-true n p e in absurd (omega (arith, less, same))
+    by_test false e = refl
+
+one_most : (b : Bool) → as_one b ≤ 1
+one_most true = omega arith
+one_most false = omega arith
+
+few_below : (p n : ℕ) → p < n → times p (up_to n) ≤ 1 → times p (up_to (suc n)) ≤ 1
+few_below p n less rest =
+    let last = times_last p n (up_to n) in let none : as_one (nat_eq n p) ≡ 0 = by_test (nat_eq n p) refl in omega (arith, rest)
+  where
+    by_test : (b : Bool) → nat_eq n p ≡ b → as_one b ≡ 0
+    by_test true e = let same = eqb-true n p e in absurd (omega (arith, less, same))
+    by_test false e = refl
+
+few_above : (p n : ℕ) → n ≤ p → times p (up_to (suc n)) ≤ 1
+few_above p n more =
+    let rest = no_times p n more in let last = times_last p n (up_to n) in let one = one_most (nat_eq n p) in omega arith
+
+few_times : (p n : ℕ) → times p (up_to n) ≤ 1
+few_times p zero = let none : times p [] ≡ 0 = refl in omega arith
+few_times p (suc n) = ⊎_elim (λ less. few_below p n less (few_times p n)) (λ more. few_above p n more) (less_or_more p n)
+
+get_left : (xs ys : List ℕ) (k x : ℕ) → slice_get xs k ≡ Some x → slice_get (xs ++ ys) k ≡ Some x
+get_left [] ys k x is = none_is x is
+get_left (y ∷ xs) ys zero x is = is
+get_left (y ∷ xs) ys (suc k) x is = get_left xs ys k x is
+
+get_last : (xs : List ℕ) (x k : ℕ) → k ≡ length xs → slice_get (xs ++ x ∷ []) k ≡ Some x
+get_last [] x zero is = refl
+get_last [] x (suc k) is = absurd (omega (arith, is))
+get_last (y ∷ xs) x zero is = absurd (omega (arith, is))
+get_last (y ∷ xs) x (suc k) is = get_last xs x k (omega (arith, is))
+
+many_up_to : (n : ℕ) → length (up_to n) ≡ n
+many_up_to zero = refl
+many_up_to (suc n) = let all = length-append (up_to n) (n ∷ []) in let rest = many_up_to n in omega arith
+
+get_up_to : (n k : ℕ) → k < n → slice_get (up_to n) k ≡ Some k
+get_up_to zero k below = absurd (omega (arith, below))
+get_up_to (suc n) k below =
+    ⊎_elim (λ less. get_left (up_to n) (n ∷ []) k k (get_up_to n k less))
+    (λ more.
+    (let is : k ≡ n = omega (arith, below, more) in
+    subst (λ m. slice_get (up_to n ++ n ∷ []) k ≡ Some m) (sym is) (get_last (up_to n) n k (is ∙ sym (many_up_to n)))))
+    (less_or_more k n)
+
+-- an order of the numbers below n
+module _ (n : ℕ) (order : List ℕ) (is : IsPermutation (up_to n) order) where
+  -- each stands somewhere
+  pub number_there : (p : ℕ) → p < n → (k : ℕ) × (slice_get order k ≡ Some p)
+  number_there p below =
+      stands_at order p (Contains-permutation (up_to n) order p is (contains_at (up_to n) p p (get_up_to n p below)))
+
+  -- and once
+  pub number_once : (p i j : ℕ) → slice_get order i ≡ Some p → slice_get order j ≡ Some p → i ≡ j
+  number_once p i j one two =
+      let few = few_times p n in
+      let same : times p (up_to n) ≡ times p order = sym (sum_by-IsPermutation (λ other. as_one (nat_eq other p)) (up_to n) order is) in
+      one_place p order i j one two (let most : times p order ≤ 1 = omega arith in most)
+
+  -- no other does
+  pub number_below : (p k : ℕ) → slice_get order k ≡ Some p → p < n
+  number_below p k at =
+      ⊎_elim (λ less. less) (λ more. absurd (by_times more)) (less_or_more p n)
+    where
+      by_times : n ≤ p → ⊥
+      by_times more =
+          let none = no_times p n more in
+          let same : times p (up_to n) ≡ times p order = sym (sum_by-IsPermutation (λ other. as_one (nat_eq other p)) (up_to n) order is) in
+          let front = times_front p order in
+          let next = front_more p order k at in let within = front_within p order (suc k) in omega arith
+
+-- ---- some elements by their positions
+
+module _ {X : Type 0} (all : List X) where
+  -- all of these are positions
+  abbrev pub Within : List ℕ → Type 0
+  Within order = (k p : ℕ) → slice_get order k ≡ Some p → p < length all
+
+  pub picked_first : (q : ℕ) (order : List ℕ) (x : X) → slice_get all q ≡ Some x → picked all (q ∷ order) ≡ x ∷ picked all order
+  picked_first q order x is = ap (λ found. option_to_list found ++ picked all order) is
+
+  pub picked_at : (order : List ℕ) → Within order → (k p : ℕ) (x : X) → slice_get order k ≡ Some p → slice_get all p ≡ Some x →
+      slice_get (picked all order) k ≡ Some x
+  picked_at [] within k p x at is = none_is p at
+  picked_at (q ∷ order) within zero p x at is =
+      let there : slice_get all q ≡ Some x = ap (slice_get all) (some_is q p at) ∙ is in
+      ap (λ (found : List X). slice_get found 0) (picked_first q order x there)
+  picked_at (q ∷ order) within (suc k) p x at is =
+      let first = there_at all q (within 0 q refl) in
+      ap (λ (found : List X). slice_get found (suc k)) (picked_first q order first.0 first.1)
+      ∙ picked_at order (λ j r there. within (suc j) r there) k p x at is
+
+  pub picked_many : (order : List ℕ) → Within order → length (picked all order) ≡ length order
+  picked_many [] within = refl
+  picked_many (q ∷ order) within =
+      let first = there_at all q (within 0 q refl) in
+      ap (λ (found : List X). length found) (picked_first q order first.0 first.1)
+      ∙ ap suc (picked_many order (λ j r there. within (suc j) r there))

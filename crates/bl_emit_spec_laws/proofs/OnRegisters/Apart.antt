@@ -1,0 +1,221 @@
+-- The places of registers keep apart from one another, from variables and from copies.
+use Rattle.std.proofs.Common.{◌≡◌, ℕ, ◌<◌, ◌^◌, arith, Bool, true, false, not, ◌&&◌, ◌||◌, List, [], ◌∷◌, ◌++◌}
+use Rattle.std.proofs.Common.{drop, Some, refl, sym, ap, ◌∙◌}
+use Rattle.std.proofs.lemmas.Bool.{eq-eqb, eqb-true, le-leb, ltb-true}
+use Rattle.std.proofs.lemmas.Fmt.{decimal_injective}
+use Rattle.std.proofs.lemmas.Slice.Eq.{bytes_eq-Decides}
+use Rattle.std.specs.Prelude.{bytes_eq, codes, nat_eq, ◌==◌}
+use Rattle.std.specs.Fmt.{decimal}
+use Rattle.bl_tree.specs.declared.text.Text.{Text}
+use Rattle.bl_tree.specs.declared.tree.Var.{Var}
+use Rattle.bl_tree.specs.Typing.{TypingContext, is_activity, var_at}
+use Rattle.bl_ctext_semantics.specs.Meaning.{Scope, further, start_of}
+use Rattle.bl_ctext_semantics.specs.Memory.{Location, Projection, Root, input_object, member, output_object, same_root, state_object, variable}
+use Rattle.bl_emit_acts.specs.declared.home.Home.{Home}
+use Rattle.bl_emit_acts.specs.declared.home.Home.TheVariants.{Held, Given, Lent}
+use Rattle.bl_emit_acts.specs.Types.{copy_name, variable_name}
+use Rattle.bl_emit_acts_laws_simulation.specs.Acts.{copy_location}
+use Rattle.bl_emit_acts_laws_simulation.specs.Frames.{is_older, lent_at, remembered_at}
+use Rattle.bl_emit_acts_laws_simulation.specs.Encodes.{are_apart, home_at, is_live, lead_in, start_in, ways_part}
+use Rattle.bl_emit_spec.specs.Names.{counter_name, flag_name, mark_name, rested_name}
+use Rattle.bl_emit_spec_laws.specs.Registers.Registers.{ApartFromPointers, FewRegisters, FramePointersAreValid, PointersOlder, Registered, RegistersApart}
+use Rattle.bl_emit_spec_laws.specs.Registers.Registers.{RegistersBeside}
+use Rattle.bl_emit_spec_laws.specs.Registers.Registers.{Before, Counter, Flag, Mark, Over, Register, frame_at, has_register, over_at, register_at}
+use Rattle.bl_emit_spec_laws.specs.Registers.Registers.{same_register}
+use Rattle.bl_emit_spec_laws.proofs.OnRegisters.Cells.{apart_flip, behind_front, further_both, number_itself, or_last}
+
+-- ---- names and roots
+
+no_such : true ≡ false → ⊥
+no_such h = cc
+
+-- names of one letter with different numbers differ
+names_differ : (letter : ℕ) (j k : ℕ) → j < 2 ^ 64 → k < 2 ^ 64 → nat_eq j k ≡ false
+    → bytes_eq (letter ∷ decimal j) (letter ∷ decimal k) ≡ false
+names_differ letter j k less most differ = by (bytes_eq (letter ∷ decimal j) (letter ∷ decimal k)) refl
+  where
+    by : (same : Bool) → bytes_eq (letter ∷ decimal j) (letter ∷ decimal k) ≡ same → same ≡ false
+    by false is = refl
+    by true is =
+        let text : letter ∷ decimal j ≡ letter ∷ decimal k = (bytes_eq-Decides (letter ∷ decimal j) (letter ∷ decimal k)).0 is in
+        absurd (no_such (sym (eq-eqb j k (decimal_injective j k less most (ap (drop 1) text))) ∙ differ))
+
+and_false : (b : Bool) → (b && false) ≡ false
+and_false true = refl
+and_false false = refl
+
+roots_differ : (p q : Location) → same_root p.root q.root ≡ false → are_apart p q ≡ true
+roots_differ p q h = ap (λ same. not same || ways_part p.parts q.parts) h
+
+own_differ : (depth : ℕ) (m n : List ℕ) → bytes_eq m n ≡ false → same_root (variable depth m) (variable depth n) ≡ false
+own_differ depth m n h = ap (λ b. (depth == depth) && b) h ∙ and_false (depth == depth)
+
+older_differs : (depth : ℕ) (name : List ℕ) (root : Root) → is_older depth root ≡ true → same_root (variable depth name) root ≡ false
+older_differs depth name state_object h = refl
+older_differs depth name input_object h = refl
+older_differs depth name output_object h = refl
+older_differs depth name (variable d other) h = by (depth == d) refl
+  where
+    by : (same : Bool) → (depth == d) ≡ same → (same && bytes_eq name other) ≡ false
+    by false is = refl
+    by true is =
+        let less : d < depth = ltb-true d depth h in
+        let equal : depth ≡ d = eqb-true depth d is in
+        absurd (omega arith)
+
+older_live : (depth : ℕ) (root : Root) → is_older depth root ≡ true → is_live depth root ≡ true
+older_live depth state_object h = refl
+older_live depth input_object h = refl
+older_live depth output_object h = refl
+older_live depth (variable d name) h = let less : d < depth = ltb-true d depth h in le-leb d depth (omega arith)
+
+further_split : (same a b : Bool) → (a ≡ true → b ≡ true) → (not same || a) ≡ true → (not same || b) ≡ true
+further_split true a b next h = next h
+further_split false a b next h = refl
+
+-- what lies further on keeps apart too
+further_apart : (p q : Location) (xs ys : List Projection) → are_apart p q ≡ true → are_apart (further p xs) (further q ys) ≡ true
+further_apart p q xs ys h =
+    further_split (same_root p.root q.root) (ways_part p.parts q.parts) (ways_part (p.parts ++ xs) (q.parts ++ ys))
+    (further_both p.parts q.parts xs ys) h
+
+-- ---- where registers stand
+
+module _ (scope : Scope) (frame : FramePointersAreValid scope) where
+  abbrev local_at : Text → Location
+  local_at name = start_of scope false name
+
+  local_older : (name : Text) (place : Location) → is_older scope.depth place.root ≡ true → are_apart (local_at name) place ≡ true
+  local_older name place older = roots_differ (local_at name) place (older_differs scope.depth name place.root older)
+
+  local_local : (m n : Text) → bytes_eq m n ≡ false → are_apart (local_at m) (local_at n) ≡ true
+  local_local m n differ = roots_differ (local_at m) (local_at n) (own_differ scope.depth m n differ)
+
+  older_local : (place : Location) (name : Text) → is_older scope.depth place.root ≡ true → are_apart place (local_at name) ≡ true
+  older_local place name older = apart_flip (local_at name) place (local_older name place older)
+
+  module _ (has : Registered) (few : FewRegisters has) where
+    abbrev Differ : Register → Register → Type 0
+    Differ x y = are_apart (register_at scope x) (register_at scope y) ≡ true
+
+    counters_differ : (j k : ℕ) → has.counters j ≡ true → has.counters k ≡ true → nat_eq j k ≡ false → Differ (Counter j) (Counter k)
+    counters_differ j k its other differ =
+        let start = frame_at scope in
+        or_last (not (same_root start.root start.root))
+        (ways_part (start.parts ++ member (counter_name j) ∷ []) (start.parts ++ member (counter_name k) ∷ []))
+        (behind_front start.parts (member (counter_name j) ∷ []) (member (counter_name k) ∷ [])
+        ∙ ap (λ b. not b || false) (names_differ 99 j k (few.counters j its) (few.counters k other) differ))
+
+    counter_local : (k : ℕ) (name : Text) → are_apart (register_at scope (Counter k)) (local_at name) ≡ true
+    counter_local k name = older_local (register_at scope (Counter k)) name frame.frame_older
+
+    local_counter : (name : Text) (k : ℕ) → are_apart (local_at name) (register_at scope (Counter k)) ≡ true
+    local_counter name k = local_older name (register_at scope (Counter k)) frame.frame_older
+
+    over_local : (name : Text) → are_apart (register_at scope Over) (local_at name) ≡ true
+    over_local name = older_local (register_at scope Over) name frame.over_older
+
+    local_over : (name : Text) → are_apart (local_at name) (register_at scope Over) ≡ true
+    local_over name = local_older name (register_at scope Over) frame.over_older
+
+    counter_over : (k : ℕ) → Differ (Counter k) Over
+    counter_over k = further_apart (frame_at scope) (over_at scope) (member (counter_name k) ∷ []) [] frame.apart
+
+    registers_differ : (x y : Register) → has_register has x ≡ true → has_register has y ≡ true → same_register x y ≡ false → Differ x y
+    registers_differ (Counter j) (Counter k) its other differ = counters_differ j k its other differ
+    registers_differ (Counter j) (Before k) its other differ = counter_local j (rested_name k)
+    registers_differ (Counter j) (Flag k) its other differ = counter_local j (flag_name k)
+    registers_differ (Counter j) (Mark k) its other differ = counter_local j (mark_name k)
+    registers_differ (Counter j) Over its other differ = counter_over j
+    registers_differ (Before j) (Counter k) its other differ = local_counter (rested_name j) k
+    registers_differ (Before j) (Before k) its other differ =
+        local_local (rested_name j) (rested_name k) (names_differ 119 j k (few.copied j its) (few.copied k other) differ)
+    registers_differ (Before j) (Flag k) its other differ = local_local (rested_name j) (flag_name k) refl
+    registers_differ (Before j) (Mark k) its other differ = local_local (rested_name j) (mark_name k) refl
+    registers_differ (Before j) Over its other differ = local_over (rested_name j)
+    registers_differ (Flag j) (Counter k) its other differ = local_counter (flag_name j) k
+    registers_differ (Flag j) (Before k) its other differ = local_local (flag_name j) (rested_name k) refl
+    registers_differ (Flag j) (Flag k) its other differ =
+        local_local (flag_name j) (flag_name k) (names_differ 103 j k (few.flags j its) (few.flags k other) differ)
+    registers_differ (Flag j) (Mark k) its other differ = local_local (flag_name j) (mark_name k) refl
+    registers_differ (Flag j) Over its other differ = local_over (flag_name j)
+    registers_differ (Mark j) (Counter k) its other differ = local_counter (mark_name j) k
+    registers_differ (Mark j) (Before k) its other differ = local_local (mark_name j) (rested_name k) refl
+    registers_differ (Mark j) (Flag k) its other differ = local_local (mark_name j) (flag_name k) refl
+    registers_differ (Mark j) (Mark k) its other differ =
+        local_local (mark_name j) (mark_name k) (names_differ 117 j k (few.marks j its) (few.marks k other) differ)
+    registers_differ (Mark j) Over its other differ = local_over (mark_name j)
+    registers_differ Over (Counter k) its other differ =
+        apart_flip (register_at scope (Counter k)) (register_at scope Over) (counter_over k)
+    registers_differ Over (Before k) its other differ = over_local (rested_name k)
+    registers_differ Over (Flag k) its other differ = over_local (flag_name k)
+    registers_differ Over (Mark k) its other differ = over_local (mark_name k)
+    registers_differ Over Over its other differ = absurd (no_such differ)
+
+    registers_live : (x : Register) → is_live scope.depth (register_at scope x).root ≡ true
+    registers_live (Counter k) = older_live scope.depth (frame_at scope).root frame.frame_older
+    registers_live (Before k) = number_itself scope.depth
+    registers_live (Flag k) = number_itself scope.depth
+    registers_live (Mark k) = number_itself scope.depth
+    registers_live Over = older_live scope.depth (over_at scope).root frame.over_older
+
+  -- ---- beside variables
+
+  module _ (site : TypingContext) (older : PointersOlder site scope) (from_frame : ApartFromPointers site scope (frame_at scope))
+      (from_over : ApartFromPointers site scope (over_at scope)) where
+    -- where a variable of a home stands
+    abbrev place_of : Bool → Home → ℕ → Location
+    place_of activity home k = further (start_in scope activity home k) (lead_in home k ++ [])
+
+    -- a local of another name keeps apart from a variable
+    local_by : (name : Text) (k : ℕ) (var : Var) → var_at site k ≡ Some var → bytes_eq name (codes "m") ≡ false →
+        bytes_eq name (variable_name k) ≡ false → (activity : Bool) (x : Home) → is_activity site.kind ≡ activity → home_at site k ≡ x →
+        are_apart (local_at name) (place_of activity x k) ≡ true
+    local_by name k var there no_m no_v false Held kind is =
+        roots_differ (local_at name) (place_of false Held k) (own_differ scope.depth name (codes "m") no_m)
+    local_by name k var there no_m no_v true Held kind is = local_older name (place_of true Held k) (older.remembered k var there is kind)
+    local_by name k var there no_m no_v activity Given kind is =
+        roots_differ (local_at name) (place_of activity Given k) (own_differ scope.depth name (variable_name k) no_v)
+    local_by name k var there no_m no_v activity Lent kind is = local_older name (place_of activity Lent k) (older.lent k var there is)
+
+    -- so does what lies behind a pointer that leads elsewhere
+    behind_by : (place : Location) (more : List Projection) → is_older scope.depth place.root ≡ true → ApartFromPointers site scope place →
+        (k : ℕ) (var : Var) → var_at site k ≡ Some var → (activity : Bool) (x : Home)
+        → is_activity site.kind ≡ activity → home_at site k ≡ x →
+        are_apart (further place more) (place_of activity x k) ≡ true
+    behind_by place more old from k var there false Held kind is =
+        apart_flip (place_of false Held k) (further place more)
+        (roots_differ (place_of false Held k) (further place more) (older_differs scope.depth (codes "m") place.root old))
+    behind_by place more old from k var there true Held kind is =
+        further_apart place (remembered_at scope) more (lead_in Held k ++ []) (from.remembered k var there is kind)
+    behind_by place more old from k var there activity Given kind is =
+        apart_flip (place_of activity Given k) (further place more)
+        (roots_differ (place_of activity Given k) (further place more) (older_differs scope.depth (variable_name k) place.root old))
+    behind_by place more old from k var there activity Lent kind is =
+        further_apart place (lent_at scope k) more (lead_in Lent k ++ []) (from.lent k var there is)
+
+    variables_apart : (x : Register) (k : ℕ) (var : Var) → var_at site k ≡ Some var →
+        are_apart (register_at scope x) (place_of (is_activity site.kind) (home_at site k) k) ≡ true
+    variables_apart (Counter j) k var there =
+        behind_by (frame_at scope) (member (counter_name j) ∷ []) frame.frame_older from_frame k var there (is_activity site.kind) (home_at site k)
+        refl refl
+    variables_apart (Before j) k var there = local_by (rested_name j) k var there refl refl (is_activity site.kind) (home_at site k) refl refl
+    variables_apart (Flag j) k var there = local_by (flag_name j) k var there refl refl (is_activity site.kind) (home_at site k) refl refl
+    variables_apart (Mark j) k var there = local_by (mark_name j) k var there refl refl (is_activity site.kind) (home_at site k) refl refl
+    variables_apart Over k var there =
+        behind_by (over_at scope) [] frame.over_older from_over k var there (is_activity site.kind) (home_at site k) refl refl
+
+  copies_apart : (x : Register) (k : ℕ) → are_apart (register_at scope x) (copy_location scope k) ≡ true
+  copies_apart (Counter j) k = older_local (register_at scope (Counter j)) (copy_name k) frame.frame_older
+  copies_apart (Before j) k = local_local (rested_name j) (copy_name k) refl
+  copies_apart (Flag j) k = local_local (flag_name j) (copy_name k) refl
+  copies_apart (Mark j) k = local_local (mark_name j) (copy_name k) refl
+  copies_apart Over k = older_local (register_at scope Over) (copy_name k) frame.over_older
+
+pub keep_apart : (site : TypingContext) (has : Registered) (scope : Scope) → FewRegisters has → FramePointersAreValid scope → PointersOlder site scope →
+    ApartFromPointers site scope (frame_at scope) → ApartFromPointers site scope (over_at scope) →
+    RegistersApart has scope × RegistersBeside site scope
+keep_apart site has scope few frame older from_frame from_over = (
+  record { each = registers_differ scope frame has few; live = registers_live scope frame has few },
+  record { variables = variables_apart scope frame site older from_frame from_over; copies = copies_apart scope frame },
+)

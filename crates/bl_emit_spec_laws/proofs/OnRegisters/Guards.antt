@@ -1,0 +1,268 @@
+-- The C of a guard has the value of what is asked: flags, numbers, and the ends of branches.
+use Rattle.std.proofs.Common.{◌≡◌, ℕ, zero, suc, ◌≤◌, ℤ, pos, Bool, true, false, not, ◌&&◌, ◌||◌, List, [], ◌∷◌, map}
+use Rattle.std.proofs.Common.{Option, Some, refl, sym, ap, ap₂, subst}
+use Rattle.std.proofs.Common.{◌∙◌, arith}
+use Rattle.std.proofs.lemmas.Bool.{eq-eqb, eqb-true, leb-true}
+use Rattle.std.proofs.lemmas.Bool.Decides.{Decides-int_eq}
+use Rattle.std.specs.Cmp.{int_eq_equiv}
+use Rattle.std.specs.Ordering.{int_eq}
+use Rattle.std.specs.List.{list_all, list_any}
+use Rattle.std.specs.Prelude.{length, nat_eq, nat_le, option_and_then, option_map, if◌then◌else◌}
+use Rattle.bl_tree.specs.Numbers.{checked_of, checked_one_of, is_one, number_of}
+use Rattle.bl_tree.specs.declared.c.CExpr.{CExpr}
+use Rattle.bl_tree.specs.declared.scalar.Op.{Op}
+use Rattle.bl_tree.specs.declared.scalar.Op.TheVariants.{And, Eq, Ne, Not, Or}
+use Rattle.bl_tree.specs.declared.scalar.Scalar.{Scalar}
+use Rattle.bl_tree.specs.declared.scalar.Scalar.TheVariants.{Bool as OfBool}
+use Rattle.bl_machine.specs.declared.slots.Slot.{Slot}
+use Rattle.bl_ctext_semantics.specs.Memory.{CValue, Memory, number_in}
+use Rattle.bl_ctext_semantics.specs.Meaning.{Counted, Scope}
+use Rattle.bl_emit_acts.specs.Trees.{c_literal, c_not, c_read, c_two}
+use Rattle.bl_emit_functions.specs.Trees.{c_truth}
+use Rattle.bl_machine_pass.specs.Registers.{Registers, are_ended, is_aged, is_at}
+use Rattle.bl_machine_pass.specs.Transitions.{Age, Needed}
+use Rattle.bl_machine_pass.specs.Transitions.{IsAny, IsNew, IsOld}
+use Rattle.bl_emit_spec.specs.Blocks.{ActivityView, aged_test, at_slot, counter_value, ends_test, greatest_value, in_pairs, in_tree, is_only, rested_at, rested_by}
+use Rattle.bl_emit_spec.specs.Names.{counter_place, flag_name, flag_place, mark_name, mark_place, rested_name, rested_place}
+use Rattle.bl_emit_spec_laws.specs.Registers.Laws.{RestsWithin, has_age}
+use Rattle.bl_emit_spec_laws.specs.Registers.Registers.{Before, Counter, Flag, Mark, Registered, RegistersEncoded, register_at}
+use Rattle.bl_emit_spec_laws.proofs.OnRegisters.Cells.{and_both}
+use Rattle.bl_emit_spec_laws.proofs.OnRegisters.Evaluated.{literal-value}
+use Rattle.bl_emit_spec_laws.proofs.OnRegisters.Numbers.{and-number, compare-number, gives, not-number, or-number}
+use Rattle.bl_emit_spec_laws.proofs.OnRegisters.Setting.{counter_answer, local_answer, read_answer}
+
+-- ---- truths, two by two
+
+-- all truths in one
+abbrev pub reduced : (Bool → Bool → Bool) → Bool → List Bool → Bool
+reduced f u [] = u
+reduced f u (a ∷ rest) = f a (reduced f u rest)
+
+abbrev paired : (Bool → Bool → Bool) → List Bool → List Bool
+paired f [] = []
+paired f (a ∷ []) = a ∷ []
+paired f (a ∷ b ∷ rest) = f a b ∷ paired f rest
+
+paired_same : (f : Bool → Bool → Bool) (u : Bool) → ((a b c : Bool) → f a (f b c) ≡ f (f a b) c) → (bs : List Bool) →
+    reduced f u (paired f bs) ≡ reduced f u bs
+paired_same f u assoc [] = refl
+paired_same f u assoc (a ∷ []) = refl
+paired_same f u assoc (a ∷ b ∷ rest) = ap (f (f a b)) (paired_same f u assoc rest) ∙ sym (assoc a b (reduced f u rest))
+
+pairs_shorter : (op : Op) (es : List CExpr) → length (in_pairs op es) ≤ length es
+pairs_shorter op [] = omega arith
+pairs_shorter op (a ∷ []) = omega arith
+pairs_shorter op (a ∷ b ∷ rest) = let more : length (in_pairs op rest) ≤ length rest = pairs_shorter op rest in omega arith
+
+and_assoc : (a b c : Bool) → (a && (b && c)) ≡ ((a && b) && c)
+and_assoc true b c = refl
+and_assoc false b c = refl
+
+or_assoc : (a b c : Bool) → (a || (b || c)) ≡ ((a || b) || c)
+or_assoc true b c = refl
+or_assoc false b c = refl
+
+and_true : (a : Bool) → (a && true) ≡ a
+and_true true = refl
+and_true false = refl
+
+pub or_false : (a : Bool) → (a || false) ≡ a
+or_false true = refl
+or_false false = refl
+
+all_reduced : (test : Slot → Bool) (slots : List Slot) → reduced (λ a b. a && b) true (map test slots) ≡ list_all test slots
+all_reduced test [] = refl
+all_reduced test (slot ∷ rest) = ap (λ b. test slot && b) (all_reduced test rest)
+
+any_reduced : (test : Slot → Bool) (slots : List Slot) → reduced (λ a b. a || b) false (map test slots) ≡ list_any test slots
+any_reduced test [] = refl
+any_reduced test (slot ∷ rest) = ap (λ b. test slot || b) (any_reduced test rest)
+
+-- ---- the test of two numbers
+
+no_such : true ≡ false → ⊥
+no_such h = cc
+
+pos-inj : (k l : ℕ) → pos k ≡ pos l → k ≡ l
+pos-inj k l h = cc
+
+same_test : (k l : ℕ) → int_eq (pos k) (pos l) ≡ nat_eq k l
+same_test k l = by (int_eq (pos k) (pos l)) (nat_eq k l) refl refl
+  where
+    by : (a b : Bool) → int_eq (pos k) (pos l) ≡ a → nat_eq k l ≡ b → a ≡ b
+    by true true h i = refl
+    by false false h i = refl
+    by true false h i = absurd (no_such (sym (eq-eqb k l (pos-inj k l ((Decides-int_eq (pos k) (pos l)).0 h))) ∙ i))
+    by false true h i =
+        absurd (no_such (sym (int_eq_equiv.refl (pos k)) ∙ (ap (λ n. int_eq (pos k) (pos n)) (eqb-true k l i) ∙ h)))
+
+-- what is at most 1 is 1 where it isn't 0
+one_value : (w v most : ℕ) → v ≡ 1 → most ≤ 1 → w ≤ most → not (nat_eq w 0) ≡ nat_eq w v
+one_value w v most is few within = subst (λ v. not (nat_eq w 0) ≡ nat_eq w v) (sym is) (by w (omega (arith, few, within)))
+  where
+    by : (w : ℕ) → w ≤ 1 → not (nat_eq w 0) ≡ nat_eq w 1
+    by zero small = refl
+    by (suc zero) small = refl
+    by (suc (suc w)) small = absurd (omega (arith, small))
+
+module _ (scope : Scope) (here : Memory) where
+  -- an expression has the number of a truth
+  abbrev pub Shows : CExpr → Bool → Type 0
+  Shows e b = gives scope here e ≡ Some (number_of b)
+
+  pub literal_gives : (ty : Scalar) (n : ℤ) → gives scope here (c_literal ty n) ≡ Some n
+  literal_gives ty n = ap (λ (c : Counted CValue). option_map number_in c.answer) (literal-value scope here ty n)
+
+  pub truth_shows : (b : Bool) → Shows (c_truth b) b
+  truth_shows true = literal_gives OfBool (pos 1)
+  truth_shows false = literal_gives OfBool (pos 0)
+
+  pub and_shows : (e f : CExpr) (a b : Bool) → Shows e a → Shows f b → Shows (c_two And e f) (a && b)
+  and_shows e f a b first second =
+      and-number scope here e f
+      ∙ (ap₂ (λ (x y : Option ℤ). option_and_then (λ x. if is_one x then y else Some (pos 0)) x) first second ∙ by a)
+    where
+      by : (a : Bool) → (if is_one (number_of a) then Some (number_of b) else Some (pos 0)) ≡ Some (number_of (a && b))
+      by true = refl
+      by false = refl
+
+  or_shows : (e f : CExpr) (a b : Bool) → Shows e a → Shows f b → Shows (c_two Or e f) (a || b)
+  or_shows e f a b first second =
+      or-number scope here e f
+      ∙ (ap₂ (λ (x y : Option ℤ). option_and_then (λ x. if is_one x then Some (pos 1) else y) x) first second ∙ by a)
+    where
+      by : (a : Bool) → (if is_one (number_of a) then Some (pos 1) else Some (number_of b)) ≡ Some (number_of (a || b))
+      by true = refl
+      by false = refl
+
+  not_shows : (e : CExpr) (a : Bool) → Shows e a → Shows (c_not e) (not a)
+  not_shows e a first = not-number scope here e ∙ (ap (option_and_then (checked_one_of Not OfBool)) first ∙ by a)
+    where
+      by : (a : Bool) → Some (number_of (not (is_one (number_of a)))) ≡ Some (number_of (not a))
+      by true = refl
+      by false = refl
+
+  eq_shows : (e f : CExpr) (k l : ℕ) → gives scope here e ≡ Some (pos k) → gives scope here f ≡ Some (pos l) → Shows (c_two Eq e f) (nat_eq k l)
+  eq_shows e f k l first second =
+      compare-number scope here Eq e f (λ l r. refl)
+      ∙ (ap₂ (λ (x y : Option ℤ). option_and_then (λ x. option_and_then (checked_of Eq OfBool x) y) x) first second
+      ∙ ap (λ b. Some (number_of b)) (same_test k l))
+
+  differs_shows : (e f : CExpr) (k l : ℕ) → gives scope here e ≡ Some (pos k) → gives scope here f ≡ Some (pos l) →
+      Shows (c_two Ne e f) (not (nat_eq k l))
+  differs_shows e f k l first second =
+      compare-number scope here Ne e f (λ l r. refl)
+      ∙ (ap₂ (λ (x y : Option ℤ). option_and_then (λ x. option_and_then (checked_of Ne OfBool x) y) x) first second
+      ∙ ap (λ b. Some (number_of (not b))) (same_test k l))
+
+  -- ---- trees of tests
+
+  -- each test has its truth
+  abbrev pub AllShow : List CExpr → List Bool → Type 0
+  AllShow [] [] = Unit {0}
+  AllShow (e ∷ es) (b ∷ bs) = Shows e b × AllShow es bs
+  AllShow _ _ = ⊥
+
+  module _ (op : Op) (f : Bool → Bool → Bool) (u : Bool) (assoc : (a b c : Bool) → f a (f b c) ≡ f (f a b) c) (unit : (a : Bool) → f a u ≡ a)
+      (two : (d e : CExpr) (a b : Bool) → Shows d a → Shows e b → Shows (c_two op d e) (f a b)) (none : CExpr)
+      (empty : Shows none u) where
+    pairs_show : (es : List CExpr) (bs : List Bool) → AllShow es bs → AllShow (in_pairs op es) (paired f bs)
+    pairs_show [] [] h = tt
+    pairs_show (d ∷ []) (a ∷ []) h = h
+    pairs_show (d ∷ e ∷ es) (a ∷ b ∷ bs) h = (two d e a b h.0 h.1.0, pairs_show es bs h.1.1)
+    pairs_show [] (a ∷ bs) h = absurd h
+    pairs_show (d ∷ es) [] h = absurd h
+    pairs_show (d ∷ []) (a ∷ b ∷ bs) h = absurd (h.1)
+    pairs_show (d ∷ e ∷ es) (a ∷ []) h = absurd (h.1)
+
+    tree_shows : (fuel : ℕ) (es : List CExpr) (bs : List Bool) → length es ≤ suc fuel
+        → AllShow es bs → Shows (in_tree none op fuel es) (reduced f u bs)
+    tree_shows zero [] [] few h = empty
+    tree_shows (suc fuel) [] [] few h = empty
+    tree_shows zero (d ∷ []) (a ∷ []) few h = h.0 ∙ ap (λ b. Some (number_of b)) (sym (unit a))
+    tree_shows (suc fuel) (d ∷ []) (a ∷ []) few h = h.0 ∙ ap (λ b. Some (number_of b)) (sym (unit a))
+    tree_shows zero (d ∷ e ∷ es) (a ∷ b ∷ bs) few h = absurd (omega (arith, few))
+    tree_shows (suc fuel) (d ∷ e ∷ es) (a ∷ b ∷ bs) few h =
+        let shorter : length (in_pairs op es) ≤ length es = pairs_shorter op es in
+        tree_shows fuel (in_pairs op (d ∷ e ∷ es)) (paired f (a ∷ b ∷ bs))
+        (omega (arith, few, shorter)) (pairs_show (d ∷ e ∷ es) (a ∷ b ∷ bs) h)
+        ∙ ap (λ b. Some (number_of b)) (paired_same f u assoc (a ∷ b ∷ bs))
+    tree_shows fuel [] (a ∷ bs) few h = absurd h
+    tree_shows fuel (d ∷ es) [] few h = absurd h
+    tree_shows fuel (d ∷ []) (a ∷ b ∷ bs) few h = absurd (h.1)
+    tree_shows fuel (d ∷ e ∷ es) (a ∷ []) few h = absurd (h.1)
+
+  -- ---- what registers show
+
+  module _ (view : ActivityView) (has : Registered) (r : Registers) (hold : RegistersEncoded has scope r here) where
+    counter_gives : (k : ℕ) → has.counters k ≡ true → gives scope here (c_read (counter_place k)) ≡ Some (pos (r.counters k))
+    counter_gives k its =
+        ap (option_map number_in) (read_answer scope here (counter_place k) (register_at scope (Counter k)) (counter_answer scope here k))
+        ∙ ap Some (hold.each (Counter k) its)
+
+    pub rested_gives : (k : ℕ) → has.copied k ≡ true → gives scope here (c_read (rested_place k)) ≡ Some (pos (r.rested k))
+    rested_gives k its =
+        ap (option_map number_in) (read_answer scope here (rested_place k) (register_at scope (Before k)) (local_answer scope here (rested_name k)))
+        ∙ ap Some (hold.each (Before k) its)
+
+    pub flag_shows : (k : ℕ) → has.flags k ≡ true → Shows (c_read (flag_place k)) (r.flags k)
+    flag_shows k its =
+        ap (option_map number_in) (read_answer scope here (flag_place k) (register_at scope (Flag k)) (local_answer scope here (flag_name k)))
+        ∙ ap Some (hold.each (Flag k) its)
+
+    mark_shows : (k : ℕ) → has.marks k ≡ true → Shows (c_read (mark_place k)) (r.marks k)
+    mark_shows k its =
+        ap (option_map number_in) (read_answer scope here (mark_place k) (register_at scope (Mark k)) (local_answer scope here (mark_name k)))
+        ∙ ap Some (hold.each (Mark k) its)
+
+    pub rested_shows : RestsWithin view.sizes r → (slot : Slot) → has.copied slot.counter ≡ true →
+        Shows (rested_at view slot) (is_at r.rested slot)
+    rested_shows within slot its = by (is_only view.sizes slot) refl
+      where
+        by : (only : Bool) → is_only view.sizes slot ≡ only → Shows (rested_by view slot only) (is_at r.rested slot)
+        by true is =
+            let found = and_both (nat_eq slot.value 1) (nat_le (greatest_value view.sizes slot.counter) 1) is in
+            differs_shows (c_read (rested_place slot.counter)) (counter_value view.sizes slot.counter 0) (r.rested slot.counter) 0
+            (rested_gives slot.counter its) (literal_gives _ (pos 0))
+            ∙ ap (λ b. Some (number_of b))
+            (one_value (r.rested slot.counter) slot.value (greatest_value view.sizes slot.counter) (eqb-true slot.value 1 found.0)
+            (leb-true (greatest_value view.sizes slot.counter) 1 found.1) (within slot.counter))
+        by false is =
+            eq_shows (c_read (rested_place slot.counter)) (counter_value view.sizes slot.counter slot.value) (r.rested slot.counter) slot.value
+            (rested_gives slot.counter its) (literal_gives _ (pos slot.value))
+
+    slot_shows : (slot : Slot) → has.counters slot.counter ≡ true → Shows (at_slot view slot) (is_at r.counters slot)
+    slot_shows slot its =
+        eq_shows (c_read (counter_place slot.counter)) (counter_value view.sizes slot.counter slot.value) (r.counters slot.counter) slot.value
+        (counter_gives slot.counter its) (literal_gives _ (pos slot.value))
+
+    slots_show : (slots : List Slot) → list_all (λ slot. has.counters slot.counter) slots ≡ true →
+        AllShow (map (at_slot view) slots) (map (is_at r.counters) slots)
+    slots_show [] its = tt
+    slots_show (slot ∷ rest) its =
+        let found = and_both (has.counters slot.counter) (list_all (λ slot. has.counters slot.counter) rest) its in
+        (slot_shows slot found.0, slots_show rest found.1)
+
+    ends_by : (slots : List Slot) → list_all (λ slot. has.counters slot.counter) slots ≡ true → (all : Bool) →
+        Shows (ends_test view (record { all = all; slots = slots })) (are_ended r.counters (record { all = all; slots = slots }))
+    ends_by slots its true =
+        tree_shows And (λ a b. a && b) true and_assoc and_true and_shows (c_truth true) (truth_shows true) (length (map (at_slot view) slots))
+        (map (at_slot view) slots) (map (is_at r.counters) slots) (omega arith) (slots_show slots its)
+        ∙ ap (λ b. Some (number_of b)) (all_reduced (is_at r.counters) slots)
+    ends_by slots its false =
+        tree_shows Or (λ a b. a || b) false or_assoc or_false or_shows (c_truth false) (truth_shows false) (length (map (at_slot view) slots))
+        (map (at_slot view) slots) (map (is_at r.counters) slots) (omega arith) (slots_show slots its)
+        ∙ ap (λ b. Some (number_of b)) (any_reduced (is_at r.counters) slots)
+
+    pub aged_shows : (age : Age) (ends : CExpr) (ended : Bool) → has_age view.number has age ≡ true → Shows ends ended →
+        Shows (aged_test view age ends) (is_aged view.number r.marks age && ended)
+    aged_shows (IsNew n) ends ended its h =
+        and_shows (c_read (mark_place (view.number n))) ends (r.marks (view.number n)) ended (mark_shows (view.number n) its) h
+    aged_shows (IsOld n) ends ended its h =
+        and_shows (c_not (c_read (mark_place (view.number n)))) ends (not (r.marks (view.number n))) ended
+        (not_shows (c_read (mark_place (view.number n))) (r.marks (view.number n)) (mark_shows (view.number n) its)) h
+    aged_shows IsAny ends ended its h = h
+
+    pub ends_show : (needed : Needed) → list_all (λ slot. has.counters slot.counter) needed.slots ≡ true →
+        Shows (ends_test view needed) (are_ended r.counters needed)
+    ends_show needed its = ends_by needed.slots its needed.all

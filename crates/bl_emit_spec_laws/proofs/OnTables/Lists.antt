@@ -1,0 +1,85 @@
+-- Lists by positions.
+use Rattle.std.proofs.Common.{◌≡◌, ℕ, zero, suc, ◌+◌, ◌<◌, List, [], ◌∷◌, ◌++◌, drop, map, take, length}
+use Rattle.std.proofs.Common.{Some, None, refl, ap, ◌∙◌, arith}
+use Rattle.std.proofs.lemmas.Option.{same_Some}
+use Rattle.std.specs.Prelude.{slice_get}
+use Rattle.bl_tree.specs.declared.tree.Unit.{Unit as UnitDef}
+use Rattle.bl_emit_spec_laws.specs.Tables.Tables.{each_from}
+
+pub take_next : {A : Type 0} (xs : List A) (k : ℕ) (x : A) → slice_get xs k ≡ Some x → take (suc k) xs ≡ take k xs ++ x ∷ []
+take_next [] zero x there = absurd (cc)
+take_next [] (suc k) x there = absurd (cc)
+take_next (y ∷ xs) zero x there = ap (λ y. y ∷ []) (same_Some y x there)
+take_next (y ∷ xs) (suc k) x there = ap (λ rest. y ∷ rest) (take_next xs k x there)
+
+pub take_past : {A : Type 0} (xs : List A) (k : ℕ) → slice_get xs k ≡ None → take (suc k) xs ≡ take k xs
+take_past [] zero past = refl
+take_past [] (suc k) past = refl
+take_past (y ∷ xs) zero past = absurd (cc)
+take_past (y ∷ xs) (suc k) past = ap (λ rest. y ∷ rest) (take_past xs k past)
+
+-- where a list goes on, its next element is there, and behind it the rest
+pub drop_next : {A : Type 0} (xs : List A) (k : ℕ) (x : A) (rest : List A) → drop k xs ≡ x ∷ rest
+    → (slice_get xs k ≡ Some x) × (drop (suc k) xs ≡ rest)
+drop_next [] zero x rest is = absurd (cc)
+drop_next [] (suc k) x rest is = absurd (cc)
+drop_next (y ∷ xs) zero x rest is = (first is, behind is)
+  where
+    first : y ∷ xs ≡ x ∷ rest → Some y ≡ Some x
+    first is = cc
+
+    behind : y ∷ xs ≡ x ∷ rest → xs ≡ rest
+    behind is = cc
+drop_next (y ∷ xs) (suc k) x rest is = drop_next xs k x rest is
+
+-- an element with what stands behind it
+pub drop_at : {A : Type 0} (xs : List A) (k : ℕ) (x : A) → slice_get xs k ≡ Some x → drop k xs ≡ x ∷ drop (suc k) xs
+drop_at [] zero x there = absurd (cc)
+drop_at [] (suc k) x there = absurd (cc)
+drop_at (y ∷ xs) zero x there = ap (λ y. y ∷ xs) (same_Some y x there)
+drop_at (y ∷ xs) (suc k) x there = drop_at xs k x there
+
+pub split_at : {A : Type 0} (xs : List A) (k : ℕ) → take k xs ++ drop k xs ≡ xs
+split_at [] zero = refl
+split_at [] (suc k) = refl
+split_at (x ∷ xs) zero = refl
+split_at (x ∷ xs) (suc k) = ap (λ rest. x ∷ rest) (split_at xs k)
+
+pub got_left : {A : Type 0} (xs ys : List A) (k : ℕ) → k < length xs → slice_get (xs ++ ys) k ≡ slice_get xs k
+got_left [] ys k less = absurd (omega (arith, less))
+got_left (x ∷ xs) ys zero less = refl
+got_left (x ∷ xs) ys (suc k) less = got_left xs ys k (omega (arith, less))
+
+pub got_last : {A : Type 0} (xs : List A) (x : A) → slice_get (xs ++ x ∷ []) (length xs) ≡ Some x
+got_last [] x = refl
+got_last (y ∷ xs) x = got_last xs x
+
+pub length_last : {A : Type 0} (xs : List A) (x : A) → length (xs ++ x ∷ []) ≡ suc (length xs)
+length_last [] x = refl
+length_last (y ∷ xs) x = ap suc (length_last xs x)
+
+pub map_take : {A B : Type 0} (f : A → B) (xs : List A) (k : ℕ) → map f (take k xs) ≡ take k (map f xs)
+map_take f [] zero = refl
+map_take f [] (suc k) = refl
+map_take f (x ∷ xs) zero = refl
+map_take f (x ∷ xs) (suc k) = ap (λ rest. f x ∷ rest) (map_take f xs k)
+
+-- ---- something of each unit
+
+module _ {X : Type 0} (of : ℕ → UnitDef → X) where
+  pub each_got : (xs : List UnitDef) (base k : ℕ) (x : UnitDef) → slice_get xs k ≡ Some x →
+      slice_get (each_from of base xs) k ≡ Some (of (base + k) x)
+  each_got [] base zero x there = absurd (cc)
+  each_got [] base (suc k) x there = absurd (cc)
+  each_got (y ∷ xs) base zero x there =
+      let same : base ≡ base + 0 = omega arith in
+      λ i. Some (of (same i) (same_Some y x there i))
+  each_got (y ∷ xs) base (suc k) x there =
+      let same : suc base + k ≡ base + suc k = omega arith in
+      each_got xs (suc base) k x there ∙ ap (λ n. Some (of n x)) same
+
+  pub each_past : (xs : List UnitDef) (base k : ℕ) → slice_get xs k ≡ None → slice_get (each_from of base xs) k ≡ None
+  each_past [] base zero past = refl
+  each_past [] base (suc k) past = refl
+  each_past (y ∷ xs) base zero past = absurd (cc)
+  each_past (y ∷ xs) base (suc k) past = each_past xs (suc base) k past

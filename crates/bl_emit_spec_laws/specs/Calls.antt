@@ -1,0 +1,5 @@
+pub mod Built
+pub mod Calls
+pub mod Laws
+pub mod Memories
+pub mod Invariant

@@ -1,0 +1,103 @@
+-- What the C of each activity of a program is made of, and the registers that its function has.
+use Rattle.std.specs.Prelude.{◌≡◌, ℕ, ◌<◌, zero, suc, Bool, true, false, ◌&&◌, ◌||◌, List, length, take, nat_eq, nat_lt, Option, Some}
+use Rattle.std.specs.Prelude.{option_and_then, option_map, slice_get, unwrap_or, if◌then◌else◌}
+use Rattle.std.specs.List.{list_any}
+use Rattle.bl_tree.specs.declared.tree.StructDef.{StructDef}
+use Rattle.bl_tree.specs.declared.tree.Unit.{Unit as UnitDef}
+use Rattle.bl_tree.specs.Reduce.{joined}
+use Rattle.bl_tree.specs.Typing.{TypingContext, is_activity}
+use Rattle.bl_graph_nodes.specs.Nodes.{Node}
+use Rattle.bl_graph_nodes.specs.Plain.{plain_body}
+use Rattle.bl_cause.specs.Activities.{graph_position}
+use Rattle.bl_ctree.specs.declared.instance.Origin.{Origin}
+use Rattle.bl_ctree.specs.Instances.{Setting}
+use Rattle.bl_ctree.specs.Store.{depth_at}
+use Rattle.bl_machine.specs.declared.machine.Activity.{Activity as InMachine}
+use Rattle.bl_machine.specs.Uses.{Slots}
+use Rattle.bl_machine_pass.specs.Numbered.{slots_of}
+use Rattle.bl_machine_pass.specs.Transitions.{Change, SetsMark, Transition}
+use Rattle.bl_machine_transitions.specs.Shared.{shared, shared_sizes}
+use Rattle.bl_machine_pass_laws_execution.specs.Frames.{Frames}
+use Rattle.bl_emit_spec.specs.Activities.{Activity, is_flagged, remembers_any, rules_at, view_of}
+use Rattle.bl_emit_spec_laws.specs.Registers.Registers.{Registered}
+
+-- ---- activities
+
+-- what C is made of, by the position of a unit; of a unit that is a function it says nothing
+abbrev pub Activities : Type 0
+Activities = ℕ → Activity
+
+-- the position of an instance's unit
+abbrev pub unit_number : Setting → ℕ → ℕ
+unit_number w i = unwrap_or (option_map (λ instance. instance.unit) (slice_get w.instances i)) 0
+
+-- what the C of the instance's activity is made of
+abbrev pub activity_at : Setting → Activities → ℕ → Activity
+activity_at w activities i = activities (unit_number w i)
+
+-- what the statements of the instance see
+abbrev pub site_at : Setting → Activities → ℕ → TypingContext
+site_at w activities i = (view_of (activity_at w activities i)).site
+
+-- the numbers of nodes in C, and those of resting places
+abbrev pub rank_by : Setting → Activities → ℕ → Node → ℕ
+rank_by w activities i = (view_of (activity_at w activities i)).number
+
+abbrev pub slots_by : Setting → Activities → ℕ → Slots
+slots_by w activities i = (activity_at w activities i).slots
+
+-- what is made of the activity at a position whose part of the machine is this
+pub record MadeOf (unit : UnitDef) (a : Activity) (machine : Option InMachine) : Type 0 where
+  pub one : InMachine
+  pub is : machine ≡ Some one
+  pub order : a.order ≡ joined one.blocks
+  pub blocks : a.blocks ≡ one.blocks
+  pub slots : a.slots ≡ slots_of (plain_body unit.body) (shared (joined one.blocks) (plain_body unit.body) one.slots)
+  pub sizes : a.sizes ≡ shared_sizes (joined one.blocks) (plain_body unit.body) one.slots
+
+-- each activity of the program is made of its unit, the units before it, and its part of the machine
+pub record AreBuilt (structs : List StructDef) (units : List UnitDef) (machine : List InMachine) (activities : Activities) : Type 0 where
+  pub structures : (k : ℕ) (unit : UnitDef) → slice_get units k ≡ Some unit → (activities k).structs ≡ structs
+  pub earlier : (k : ℕ) (unit : UnitDef) → slice_get units k ≡ Some unit → (activities k).earlier ≡ take k units
+  pub unit : (k : ℕ) (unit : UnitDef) → slice_get units k ≡ Some unit → (activities k).unit ≡ unit
+  -- it is told which of the units before it remember variables: no function does
+  pub remember : (k j : ℕ) (unit other : UnitDef) → slice_get units k ≡ Some unit → slice_get units j ≡ Some other → j < k →
+      slice_get (activities k).remember j ≡ Some (is_activity other.kind && remembers_any (activities j))
+  pub made : (k : ℕ) (unit : UnitDef) → slice_get units k ≡ Some unit → is_activity unit.kind ≡ true →
+      MadeOf unit (activities k) (slice_get machine (graph_position units k))
+
+-- ---- registers
+
+-- whether a rule asks for the flag of the node with this number
+abbrev pub asks_flag : (Node → ℕ) → ℕ → Transition → Bool
+asks_flag number k rule = is_flagged rule.asked && nat_eq k (number rule.node)
+
+-- whether a change sets the mark of the node with this number
+abbrev pub sets_mark : (Node → ℕ) → ℕ → Change → Bool
+sets_mark number k (SetsMark n) = nat_eq k (number n)
+sets_mark number k _ = false
+
+-- the registers that the activity's function has: its counters, copies of those that some rule asks for, the flags that rules ask for, and the
+-- marks that rules set
+abbrev pub registered : Activity → Registered
+registered a = record {
+  counters = λ k. nat_lt k (length a.sizes);
+  copied = (view_of a).is_read;
+  flags = λ k. list_any (asks_flag (view_of a).number k) (rules_at a);
+  marks = λ k. list_any (λ rule. list_any (sets_mark (view_of a).number k) rule.so) (rules_at a);
+}
+
+-- ---- what the start of a `run` clears
+
+-- where an instance was begun
+abbrev pub origin_at : Setting → ℕ → Option Origin
+origin_at w k = option_and_then (λ instance. instance.origin) (slice_get w.instances k)
+
+-- whether the instance k is j, or one that j calls through so many callers at most
+abbrev pub is_under : Setting → ℕ → ℕ → ℕ → Bool
+is_under w zero j k = nat_eq k j
+is_under w (suc depth) j k = nat_eq k j || unwrap_or (option_map (λ origin. is_under w depth j origin.caller) (origin_at w k)) false
+
+-- the frames once the frame of an instance was cleared, with those of all that it calls
+abbrev pub cleared : Setting → ℕ → Frames → Frames
+cleared w j frames k c = if is_under w (depth_at w k) j k then 0 else frames k c

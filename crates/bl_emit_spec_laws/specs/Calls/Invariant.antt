@@ -1,0 +1,80 @@
+-- How the C function of an activity stands in the middle of its pass.
+use Rattle.std.specs.Prelude.{◌≡◌, ℕ, ◌<◌, Bool, true, List, Contains, is_some, Some, slice_get, codes}
+use Rattle.bl_tree.specs.declared.place.Place.{Place}
+use Rattle.bl_tree.specs.declared.tree.StructDef.{StructDef}
+use Rattle.bl_tree.specs.declared.tree.Unit.{Unit as UnitDef}
+use Rattle.bl_tree.specs.declared.tree.Var.{Var}
+use Rattle.bl_tree.specs.declared.value.Value.{Value}
+use Rattle.bl_tree.specs.Typing.{TypingContext, is_activity, var_at}
+use Rattle.bl_graph_nodes.specs.Nodes.{Arguments, EnterAt, nodes_in}
+use Rattle.bl_graph_nodes.specs.Plain.{Label, plain_body}
+use Rattle.bl_ctext_semantics.specs.Meaning.{Scope, start_of}
+use Rattle.bl_ctext_semantics.specs.Memory.{Location, Memory, number_in, value_at}
+use Rattle.bl_ctree.specs.Actions.{result_at}
+use Rattle.bl_ctree.specs.Instances.{Setting, callee_of}
+use Rattle.bl_ctree.specs.Store.{Store, number_or_zero, view_at}
+use Rattle.bl_emit_acts.specs.Acts.{is_copied}
+use Rattle.bl_emit_acts.specs.declared.home.Home.TheVariants.{Lent}
+use Rattle.bl_emit_acts_laws_simulation.specs.Frames.{PointersAreValid, is_older, lent_at, remembered_at}
+use Rattle.bl_emit_acts_laws_simulation.specs.Encodes.{CopiesEncoded, VariablesEncoded, are_apart, home_at}
+use Rattle.bl_emit_functions_laws_simulation.specs.Units.{AllAgree}
+use Rattle.bl_emit_spec.specs.Activities.{copies_of, remembers_any}
+use Rattle.bl_emit_spec_laws.specs.Registers.Registers.{ApartFromPointers, FramePointersAreValid, RegistersEncoded, frame_at, over_at}
+use Rattle.bl_machine_pass.specs.Registers.{Registers}
+use Rattle.bl_machine_pass_laws_execution.specs.Frames.{Frames}
+use Rattle.bl_emit_spec_laws.specs.Calls.Built.{Activities, activity_at, rank_by, registered, site_at, unit_number}
+use Rattle.bl_emit_spec_laws.specs.Calls.Calls.{ActivitySimulates}
+use Rattle.bl_emit_spec_laws.specs.Calls.Memories.{MemoryEncodes, inner}
+
+-- ---- where pointers lead
+
+-- where the pointer for the result leads
+abbrev pub result_at_c : Scope → Location
+result_at_c scope = start_of scope true (codes "r")
+
+-- a place was there before the function began, and has nothing in common with the counters, with what tells whether the body has ended, and with what
+-- the pointers for variables lead to
+pub record PlaceIsSeparate (site : TypingContext) (scope : Scope) (place : Location) : Type 0 where
+  pub older : is_older scope.depth place.root ≡ true
+  pub frame : are_apart place (frame_at scope) ≡ true
+  pub over : are_apart place (over_at scope) ≡ true
+  pub lent : (k : ℕ) (var : Var) → var_at site k ≡ Some var → home_at site k ≡ Lent → are_apart place (lent_at scope k) ≡ true
+
+-- all pointers of the function lead to what was there before, and those through which is written apart from all others
+pub record PlacesAreSeparate (site : TypingContext) (unit : UnitDef) (remembers : Bool) (scope : Scope) : Type 0 where
+  pub pointers : PointersAreValid site scope
+  pub frame : FramePointersAreValid scope
+  pub frame_apart : ApartFromPointers site scope (frame_at scope)
+  pub over_apart : ApartFromPointers site scope (over_at scope)
+  -- what it remembers, itself or in what it calls
+  pub memory : remembers ≡ true → PlaceIsSeparate site scope (remembered_at scope)
+  pub result : is_some unit.result ≡ true → PlaceIsSeparate site scope (result_at_c scope)
+  pub result_apart : is_some unit.result ≡ true → remembers ≡ true → are_apart (result_at_c scope) (remembered_at scope) ≡ true
+
+-- ---- what the function knows
+
+-- the function for an instance of the unit at a position: its pointers stand, and the functions before it do in C what they do in the program
+pub record FunctionContext (structs : List StructDef) (units : List UnitDef) (w : Setting) (activities : Activities) (i : ℕ) (unit : UnitDef)
+    (scope : Scope) : Type 0 where
+  pub is_there : slice_get units (unit_number w i) ≡ Some unit
+  pub active : is_activity unit.kind ≡ true
+  pub places : PlacesAreSeparate (site_at w activities i) unit (remembers_any (activity_at w activities i)) scope
+  pub functions : AllAgree structs units (unit_number w i) scope
+  pub others : (u : ℕ) (other : UnitDef) → u < unit_number w i → slice_get units u ≡ Some other → is_activity other.kind ≡ true →
+      ActivitySimulates w activities u scope.known scope.depth
+
+-- ---- in the middle of a pass
+
+-- memory holds the registers, the values of the variables and their copies, what each `run` keeps of the instance that it calls, and the result where
+-- the body has ended
+pub record PassRepresents (w : Setting) (activities : Activities) (i : ℕ) (unit : UnitDef) (scope : Scope) (frames : Frames) (store : Store)
+    (copies : List Value) (r : Registers) (here : Memory) : Type 0 where
+  pub registers : RegistersEncoded (registered (activity_at w activities i)) scope r here
+  pub variables : VariablesEncoded (site_at w activities i) (view_at w store i).now scope here
+  pub copied : CopiesEncoded (site_at w activities i) copies (is_copied (copies_of unit)) scope here
+  pub callees : (l : Label) (at : Place) (arguments : Arguments) (j : ℕ) → Contains (nodes_in (plain_body unit.body)) (EnterAt l at arguments) →
+      callee_of w i at ≡ Some j →
+      let n = rank_by w activities i (EnterAt l at arguments) in
+      MemoryEncodes w activities j (inner (frame_at scope) n) (inner (remembered_at scope) n) frames store here
+  pub result : (value : Value) → r.over ≡ true → is_some unit.result ≡ true → result_at store i ≡ Some value →
+      number_in (value_at here (result_at_c scope)) ≡ number_or_zero value

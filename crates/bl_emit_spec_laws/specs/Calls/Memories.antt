@@ -1,0 +1,40 @@
+-- Where the memory of C has what an instance and all that it calls rest at and remember, and when it holds that.
+use Rattle.std.specs.Prelude.{◌≡◌, ℕ, pos, ◌<◌, [], ◌∷◌, length, Contains, Some, slice_get}
+use Rattle.bl_tree.specs.declared.place.Place.{Place}
+use Rattle.bl_tree.specs.declared.tree.Unit.{Unit as UnitDef}
+use Rattle.bl_tree.specs.declared.tree.Var.{Var}
+use Rattle.bl_tree.specs.declared.value.Value.{Value}
+use Rattle.bl_tree.specs.Typing.{var_at}
+use Rattle.bl_graph_nodes.specs.Nodes.{Arguments, EnterAt, nodes_in}
+use Rattle.bl_graph_nodes.specs.Plain.{Label, plain_body}
+use Rattle.bl_ctext_semantics.specs.Meaning.{further}
+use Rattle.bl_ctext_semantics.specs.Memory.{Location, Memory, member, number_in, value_at}
+use Rattle.bl_ctree.specs.Instances.{Setting, callee_of, unit_at}
+use Rattle.bl_ctree.specs.Store.{Store, view_at}
+use Rattle.bl_emit_acts.specs.declared.home.Home.TheVariants.{Held}
+use Rattle.bl_emit_acts.specs.Types.{variable_name}
+use Rattle.bl_emit_acts_laws_simulation.specs.Encodes.{Encodes, home_at}
+use Rattle.bl_emit_spec.specs.Names.{callee_name, counter_name}
+use Rattle.bl_machine_pass_laws_execution.specs.Frames.{Frames}
+use Rattle.bl_emit_spec_laws.specs.Calls.Built.{Activities, activity_at, rank_by, site_at}
+
+-- the part of a struct, of counters or of variables, that belongs to the `run` which begins at the node with this number
+abbrev pub inner : Location → ℕ → Location
+inner place n = further place (member (callee_name n) ∷ [])
+
+-- Nests w activities i f m k f' m': where the counters of the instance i stand at f and what it remembers at m, those of the instance k, which is i or
+-- called by it or by one that it calls, stand at f' and m'
+pub data Nests (w : Setting) (activities : Activities) : ℕ → Location → Location → ℕ → Location → Location → Type 0 where
+  here : {i : ℕ} {f m : Location} → Nests w activities i f m i f m
+  inside : {i j k : ℕ} {f m f' m' : Location} {unit : UnitDef} {l : Label} {at : Place} {arguments : Arguments} → unit_at w i ≡ Some unit →
+      Contains (nodes_in (plain_body unit.body)) (EnterAt l at arguments) → callee_of w i at ≡ Some j →
+      Nests w activities j (inner f (rank_by w activities i (EnterAt l at arguments))) (inner m (rank_by w activities i (EnterAt l at arguments))) k f' m' →
+      Nests w activities i f m k f' m'
+
+-- memory holds at these places what the counters of the instance, and of all that it calls, have, and what their variables are
+pub record MemoryEncodes (w : Setting) (activities : Activities) (i : ℕ) (f m : Location) (frames : Frames) (store : Store) (here : Memory) : Type 0 where
+  pub counters : (k : ℕ) (f' m' : Location) → Nests w activities i f m k f' m' → (c : ℕ) → c < length (activity_at w activities k).sizes →
+      number_in (value_at here (further f' (member (counter_name c) ∷ []))) ≡ pos (frames k c)
+  pub variables : (k : ℕ) (f' m' : Location) → Nests w activities i f m k f' m' → (x : ℕ) (var : Var) (value : Value) →
+      var_at (site_at w activities k) x ≡ Some var → home_at (site_at w activities k) x ≡ Held → slice_get (view_at w store k).now x ≡ Some value →
+      Encodes w.structs var.ty value (value_at here (further m' (member (variable_name x) ∷ [])))

@@ -1,0 +1,21 @@
+//! Laws of the C functions of all units of a program, one behind the other. None of these functions does anything: the contract is the
+//! law. `activities_of` (`specs/Tables/Tables.antt`) tells what the C of each activity is made of, as the machine has it (`ActivitiesBuilt`). The
+//! table of the C functions of all units knows them all, each over those before it (`TablesKnowAll`). The file that is written has those
+//! functions of the units that are needed, in the same order, and then those of its interface (`WrittenIsKept`).
+
+ghost use Rattle.bl_emit_spec_laws.specs.Tables.Laws.{ActivitiesBuilt, TablesKnowAll, WrittenIsKept};
+
+/// What the C of the activities of a machine is made of.
+pub fn activities_built()
+    ensures { ActivitiesBuilt }
+{}
+
+/// The table of the C functions of all units knows all of them.
+pub fn tables_know_all()
+    ensures { TablesKnowAll }
+{}
+
+/// The functions of the written file are those of the units that are needed.
+pub fn written_is_kept()
+    ensures { WrittenIsKept }
+{}

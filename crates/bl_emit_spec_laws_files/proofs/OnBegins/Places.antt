@@ -1,0 +1,314 @@
+-- The pointers of a called activity stand.
+use Rattle.std.proofs.Common.{◌≡◌, ℕ, ◌+◌, ◌<◌, ◌≤◌, ◌^◌, arith, Bool, true, false, not, ◌&&◌, ◌||◌, List, []}
+use Rattle.std.proofs.Common.{◌∷◌, ◌++◌, length, map}
+use Rattle.std.proofs.Common.{Some, refl, sym, ap, ap₂, ◌∙◌}
+use Rattle.std.proofs.lemmas.Bool.{eqb-true, ltb-true}
+use Rattle.std.specs.Prelude.{◌==◌, bytes_eq, codes, is_some, slice_get}
+use Rattle.std.specs.List.{list_all}
+use Rattle.bl_tree.specs.declared.tree.Var.{Var}
+use Rattle.bl_tree.specs.declared.value.Value.{Value}
+use Rattle.bl_tree.specs.Program.{parameters_of, roles_stand}
+use Rattle.bl_tree.specs.Typing.{TypingContext, is_activity, var_at}
+use Rattle.bl_eval.proofs.PassLemmas.{and_left, and_right}
+use Rattle.bl_ctext_semantics.specs.Meaning.{ArgumentValue, Meaning, Scope, by_address}
+use Rattle.bl_ctext_semantics.specs.Memory.{Location, Memory, Root, input_object, output_object, same_root, state_object, variable}
+use Rattle.bl_ctext_semantics.specs.Tables.{Table}
+use Rattle.bl_emit_acts.specs.declared.home.Home.TheVariants.{Lent}
+use Rattle.bl_emit_acts_laws_simulation.specs.Acts.{all_apart, places_in_args}
+use Rattle.bl_emit_acts_laws_simulation.specs.Frames.{PointersAreValid, is_older, lent_at, remembered_at}
+use Rattle.bl_emit_acts_laws_simulation.specs.Encodes.{are_apart, home_at, is_live, ways_part}
+use Rattle.bl_emit_functions_laws_simulation.specs.Calls.{HandedOver}
+use Rattle.bl_emit_spec.specs.Activities.{Activity, remembers_any, view_of}
+use Rattle.bl_emit_spec_laws.specs.Registers.Registers.{FramePointersAreValid, frame_at, over_at}
+use Rattle.bl_emit_spec_laws.specs.Calls.Calls.{CallAddresses, MayGive, where_true, written_by}
+use Rattle.bl_emit_spec_laws.specs.Calls.Invariant.{PlacesAreSeparate, result_at_c}
+use Rattle.bl_emit_spec_laws_files.proofs.OnBegins.Cells.{apart_flip}
+use Rattle.bl_emit_spec_laws_files.proofs.OnBegins.Given.{AllApart, all_front, apart_parts, apart_split, live_older, one_flip, one_where, place_where}
+use Rattle.bl_emit_spec_laws_files.proofs.OnBegins.Holders.{holder_remembers}
+use Rattle.bl_emit_spec_laws_files.proofs.OnBegins.Homes.{LentTo, lent_to, parameters, places_apart, where_is, within}
+use Rattle.bl_emit_spec_laws_files.proofs.OnBegins.Pointers.{Begun, frame_given, lent_given, memory_given, no_memory, over_given, result_given}
+
+no_such : true ≡ false → ⊥
+no_such h = cc
+
+and_false : (b : Bool) → (b && false) ≡ false
+and_false true = refl
+and_false false = refl
+
+pub older_differs : (depth : ℕ) (name : List ℕ) (root : Root) → is_older depth root ≡ true → same_root (variable depth name) root ≡ false
+older_differs depth name state_object h = refl
+older_differs depth name input_object h = refl
+older_differs depth name output_object h = refl
+older_differs depth name (variable d other) h = by (depth == d) refl
+  where
+    by : (same : Bool) → (depth == d) ≡ same → (same && bytes_eq name other) ≡ false
+    by false is = refl
+    by true is =
+        let less : d < depth = ltb-true d depth h in
+        let equal : depth ≡ d = eqb-true depth d is in
+        absurd (omega arith)
+
+roots_apart : (p q : Location) → same_root p.root q.root ≡ false → are_apart p q ≡ true
+roots_apart p q h = ap (λ same. not same || ways_part p.parts q.parts) h
+
+-- what keeps apart from one thing that may be left out
+to_one : (xs : List Location) (b : Bool) (y : Location) → b ≡ true → AllApart xs (where_true b y) → AllApart xs (y ∷ [])
+to_one xs true y is h = h
+to_one xs false y is h = absurd (cc)
+
+module _ (a : Activity) (standing : roles_stand a.unit ≡ true) (active : is_activity a.unit.kind ≡ true) (few : length a.unit.vars ≤ 2 ^ 64)
+    (known : Table Meaning) (depth : ℕ) (given : CallAddresses) (values : List Value) (here : Memory)
+    (handed : HandedOver a.structs a.unit (depth + 1) here values (given.inputs ++ map by_address given.outputs))
+    (many : length (given.inputs ++ map by_address given.outputs) ≡ a.unit.inputs + a.unit.outputs)
+    (may : MayGive a.unit (remembers_any a) depth given) where
+  abbrev site : TypingContext
+  site = (view_of a).site
+
+  abbrev remembers : Bool
+  remembers = remembers_any a
+
+  abbrev Args : List ArgumentValue
+  Args = given.inputs ++ map by_address given.outputs
+
+  abbrev n : ℕ
+  n = a.unit.inputs + a.unit.outputs
+
+  pub as_many : length (given.inputs ++ map by_address given.outputs) ≡ length (parameters_of a.unit)
+  as_many = many ∙ sym (parameters a.structs a.earlier a.unit standing active (depth + 1) values Args here handed)
+
+  abbrev scope : Scope
+  scope = Begun a known (depth + 1) given as_many
+
+  -- ---- what is given, in parts
+
+  abbrev Memories : List Location
+  Memories = where_true remembers given.memory
+
+  abbrev Results : List Location
+  Results = where_true (is_some a.unit.result) given.result
+
+  abbrev Ends : List Location
+  Ends = Results ++ given.over ∷ []
+
+  abbrev Later : List Location
+  Later = Memories ++ (given.outputs ++ Ends)
+
+  frame_all : list_all (are_apart given.frame) Later ≡ true
+  frame_all = and_left (list_all (are_apart given.frame) Later) (all_apart Later) may.apart
+
+  frame_memory : list_all (are_apart given.frame) Memories ≡ true
+  frame_memory = (all_front (are_apart given.frame) Memories (given.outputs ++ Ends) frame_all).0
+
+  frame_outputs : list_all (are_apart given.frame) given.outputs ≡ true
+  frame_outputs =
+      (all_front (are_apart given.frame) given.outputs Ends (all_front (are_apart given.frame) Memories (given.outputs ++ Ends) frame_all).1).0
+
+  frame_ends : list_all (are_apart given.frame) Ends ≡ true
+  frame_ends =
+      (all_front (are_apart given.frame) given.outputs Ends (all_front (are_apart given.frame) Memories (given.outputs ++ Ends) frame_all).1).1
+
+  frame_results : list_all (are_apart given.frame) Results ≡ true
+  frame_results = (all_front (are_apart given.frame) Results (given.over ∷ []) frame_ends).0
+
+  frame_over : are_apart given.frame given.over ≡ true
+  frame_over = and_left (are_apart given.frame given.over) true (all_front (are_apart given.frame) Results (given.over ∷ []) frame_ends).1
+
+  later_parts : AllApart Memories (given.outputs ++ Ends) × (all_apart Memories ≡ true) × (all_apart (given.outputs ++ Ends) ≡ true)
+  later_parts = apart_split Memories (given.outputs ++ Ends) (and_right (list_all (are_apart given.frame) Later) (all_apart Later) may.apart)
+
+  memory_parts : AllApart Memories given.outputs × AllApart Memories Ends
+  memory_parts = apart_parts Memories given.outputs Ends later_parts.0
+
+  memory_ends : AllApart Memories Results × AllApart Memories (given.over ∷ [])
+  memory_ends = apart_parts Memories Results (given.over ∷ []) memory_parts.1
+
+  output_parts : AllApart given.outputs Ends × (all_apart given.outputs ≡ true) × (all_apart Ends ≡ true)
+  output_parts = apart_split given.outputs Ends later_parts.2
+
+  output_ends : AllApart given.outputs Results × AllApart given.outputs (given.over ∷ [])
+  output_ends = apart_parts given.outputs Results (given.over ∷ []) output_parts.0
+
+  result_parts : AllApart Results (given.over ∷ []) × (all_apart Results ≡ true) × (all_apart (given.over ∷ []) ≡ true)
+  result_parts = apart_split Results (given.over ∷ []) output_parts.2
+
+  -- a test of all that may be written
+  module _ (test : Location → Bool) (all : list_all test (written_by a.unit (remembers_any a) given) ≡ true) where
+    later : list_all test Later ≡ true
+    later = and_right (test given.frame) (list_all test Later) all
+
+    behind : list_all test (given.outputs ++ Ends) ≡ true
+    behind = (all_front test Memories (given.outputs ++ Ends) later).1
+
+    ends : list_all test Ends ≡ true
+    ends = (all_front test given.outputs Ends behind).1
+
+    for_frame : test given.frame ≡ true
+    for_frame = and_left (test given.frame) (list_all test Later) all
+
+    for_memory : remembers ≡ true → test given.memory ≡ true
+    for_memory is = one_where test remembers given.memory is (all_front test Memories (given.outputs ++ Ends) later).0
+
+    for_result : is_some a.unit.result ≡ true → test given.result ≡ true
+    for_result is = one_where test (is_some a.unit.result) given.result is (all_front test Results (given.over ∷ []) ends).0
+
+    for_over : test given.over ≡ true
+    for_over = and_left (test given.over) true (all_front test Results (given.over ∷ []) ends).1
+
+  abbrev FromInputs : Location → Bool
+  FromInputs place = list_all (are_apart place) (places_in_args given.inputs)
+
+  abbrev IsLive : Location → Bool
+  IsLive place = is_live depth place.root
+
+  -- ---- where pointers lead
+
+  abbrev LentAt : ℕ → Var → Type 0
+  LentAt = LentTo (depth + 1) Args n
+
+  pub lead_to : (j : ℕ) (at : Location) → j < a.unit.inputs + a.unit.outputs → slice_get (given.inputs ++ map by_address given.outputs) j
+      ≡ Some (by_address at) → lent_at (Begun a known (depth + 1) given as_many) j ≡ at
+  lead_to j at less is =
+      let all : length (parameters_of a.unit) ≡ n = parameters a.structs a.earlier a.unit standing active (depth + 1) values Args here handed in
+      let most : n ≤ length a.unit.vars = within a.structs a.earlier a.unit standing active (depth + 1) values Args here handed in
+      lent_given a known (depth + 1) given as_many j at (omega (arith, all, most, few)) (omega (arith, all, less)) is
+
+  lent : (k : ℕ) (var : Var) → var_at site k ≡ Some var → home_at site k ≡ Lent → LentAt k var
+  lent k var there home =
+      lent_to a.structs a.earlier a.unit standing active (depth + 1) values Args here handed k var home
+      (where_is a.structs a.earlier a.unit standing active (depth + 1) values Args here handed k var there)
+
+  lent_leads : (k : ℕ) (var : Var) (to : LentAt k var) → lent_at scope k ≡ to.place
+  lent_leads k var to = lead_to k to.place to.less to.is_passed
+
+  lent_older : (k : ℕ) (var : Var) (to : LentAt k var) → is_older (depth + 1) (lent_at scope k).root ≡ true
+  lent_older k var to = ap (λ (p : Location). is_older (depth + 1) p.root) (lent_leads k var to) ∙ to.older
+
+  older_place : (at place : Location) → place ≡ at → is_live depth at.root ≡ true → is_older (depth + 1) place.root ≡ true
+  older_place at place is live = ap (λ (p : Location). is_older (depth + 1) p.root) is ∙ live_older depth at.root live
+
+  lent_place : (at place : Location) → place ≡ at → list_all (are_apart at) (places_in_args given.inputs) ≡ true →
+      list_all (are_apart at) given.outputs ≡ true → (k : ℕ) (var : Var) → var_at site k ≡ Some var → home_at site k ≡ Lent →
+      are_apart place (lent_at scope k) ≡ true
+  lent_place at place is inputs outputs k var there home =
+      let to : LentAt k var = lent k var there home in
+      ap₂ are_apart is (lent_leads k var to)
+      ∙ place_where (are_apart at) given.inputs given.outputs k to.place inputs outputs to.is_passed
+
+  -- ---- what is said of each place that is given
+
+  memory_is : remembers ≡ true → remembered_at scope ≡ given.memory
+  memory_is = memory_given a known (depth + 1) given as_many
+
+  result_is : is_some a.unit.result ≡ true → result_at_c scope ≡ given.result
+  result_is = result_given a known (depth + 1) given as_many
+
+  frame_is : frame_at scope ≡ given.frame
+  frame_is = frame_given a known (depth + 1) given as_many
+
+  over_is : over_at scope ≡ given.over
+  over_is = over_given a known (depth + 1) given as_many
+
+  memory_over : remembers ≡ true → are_apart given.memory given.over ≡ true
+  memory_over is =
+      and_left (are_apart given.memory given.over) true
+      (one_where (λ (x : Location). list_all (are_apart x) (given.over ∷ [])) remembers given.memory is memory_ends.1)
+
+  frame_from_memory : remembers ≡ true → are_apart given.frame given.memory ≡ true
+  frame_from_memory is = one_where (are_apart given.frame) remembers given.memory is frame_memory
+
+  memory_outputs : remembers ≡ true → list_all (are_apart given.memory) given.outputs ≡ true
+  memory_outputs is = one_where (λ (x : Location). list_all (are_apart x) given.outputs) remembers given.memory is memory_parts.0
+
+  result_over : is_some a.unit.result ≡ true → are_apart given.result given.over ≡ true
+  result_over is =
+      and_left (are_apart given.result given.over) true
+      (one_where (λ (x : Location). list_all (are_apart x) (given.over ∷ [])) (is_some a.unit.result) given.result is result_parts.0)
+
+  result_outputs : is_some a.unit.result ≡ true → list_all (are_apart given.result) given.outputs ≡ true
+  result_outputs is = one_flip given.outputs given.result (to_one given.outputs (is_some a.unit.result) given.result is output_ends.0)
+
+  memory_result : remembers ≡ true → is_some a.unit.result ≡ true → are_apart given.memory given.result ≡ true
+  memory_result is has =
+      one_where (are_apart given.memory) (is_some a.unit.result) given.result has
+      (one_where (λ (x : Location). list_all (are_apart x) Results) remembers given.memory is memory_ends.0)
+
+  pub memory_older : remembers_any a ≡ true → is_older (depth + 1) given.memory.root ≡ true
+  memory_older is = live_older depth given.memory.root (for_memory IsLive may.live is)
+
+  -- ---- the whole
+
+  memory_lent : (k : ℕ) (var : Var) → var_at site k ≡ Some var → home_at site k ≡ Lent →
+      are_apart (remembered_at scope) (lent_at scope k) ≡ true
+  memory_lent k var there home = by remembers refl
+    where
+      by : (b : Bool) → remembers ≡ b → are_apart (remembered_at scope) (lent_at scope k) ≡ true
+      by true is =
+          lent_place given.memory (remembered_at scope) (memory_is is) (for_memory FromInputs may.inputs_apart is)
+          (memory_outputs is) k var there home
+      by false is =
+          ap (λ (p : Location). are_apart p (lent_at scope k)) (no_memory a known (depth + 1) given as_many is)
+          ∙ roots_apart (record { root = variable (depth + 1) (codes "m"); parts = [] }) (lent_at scope k)
+          (older_differs (depth + 1) (codes "m") (lent_at scope k).root (lent_older k var (lent k var there home)))
+
+  pub pointers_stand : PointersAreValid (view_of a).site (Begun a known (depth + 1) given as_many)
+  pointers_stand = record {
+    few = few;
+    lent_older = λ k var there home. lent_older k var (lent k var there home);
+    held_older = λ k var there home active.
+        let is : remembers ≡ true = holder_remembers a k var there home in
+        older_place given.memory (remembered_at scope) (memory_is is) (for_memory IsLive may.live is);
+    lent_apart = λ j k one two there other home second writable differ.
+        ap₂ are_apart (lent_leads j one (lent j one there home)) (lent_leads k two (lent k two other second))
+        ∙ places_apart a.structs a.earlier a.unit standing active (depth + 1) values Args here handed j k one two there writable differ
+        (lent j one there home) (lent k two other second);
+    held_apart = λ active k var there home. memory_lent k var there home;
+  }
+
+  frame_stands : FramePointersAreValid scope
+  frame_stands = record {
+    frame_older = older_place given.frame (frame_at scope) frame_is (for_frame IsLive may.live);
+    over_older = older_place given.over (over_at scope) over_is (for_over IsLive may.live);
+    apart = ap₂ are_apart frame_is over_is ∙ frame_over;
+  }
+
+  frame_lent : (k : ℕ) (var : Var) → var_at site k ≡ Some var → home_at site k ≡ Lent →
+      are_apart (frame_at scope) (lent_at scope k) ≡ true
+  frame_lent = lent_place given.frame (frame_at scope) frame_is (for_frame FromInputs may.inputs_apart) frame_outputs
+
+  over_lent : (k : ℕ) (var : Var) → var_at site k ≡ Some var → home_at site k ≡ Lent →
+      are_apart (over_at scope) (lent_at scope k) ≡ true
+  over_lent =
+      lent_place given.over (over_at scope) over_is (for_over FromInputs may.inputs_apart) (one_flip given.outputs given.over output_ends.1)
+
+  pub places_stand : PlacesAreSeparate (view_of a).site a.unit (remembers_any a) (Begun a known (depth + 1) given as_many)
+  places_stand = record {
+    pointers = pointers_stand;
+    frame = frame_stands;
+    frame_apart = record {
+      lent = frame_lent;
+      remembered = λ k var there home active.
+          let is : remembers ≡ true = holder_remembers a k var there home in
+          ap₂ are_apart frame_is (memory_is is) ∙ frame_from_memory is;
+    };
+    over_apart = record {
+      lent = over_lent;
+      remembered = λ k var there home active.
+          let is : remembers ≡ true = holder_remembers a k var there home in
+          ap₂ are_apart over_is (memory_is is) ∙ apart_flip given.memory given.over (memory_over is);
+    };
+    memory = λ is. record {
+      older = older_place given.memory (remembered_at scope) (memory_is is) (for_memory IsLive may.live is);
+      frame = ap₂ are_apart (memory_is is) frame_is ∙ apart_flip given.frame given.memory (frame_from_memory is);
+      over = ap₂ are_apart (memory_is is) over_is ∙ memory_over is;
+      lent = memory_lent;
+    };
+    result = λ is. record {
+      older = older_place given.result (result_at_c scope) (result_is is) (for_result IsLive may.live is);
+      frame = ap₂ are_apart (result_is is) frame_is
+          ∙ apart_flip given.frame given.result (one_where (are_apart given.frame) (is_some a.unit.result) given.result is frame_results);
+      over = ap₂ are_apart (result_is is) over_is ∙ result_over is;
+      lent = lent_place given.result (result_at_c scope) (result_is is) (for_result FromInputs may.inputs_apart is) (result_outputs is);
+    };
+    result_apart = λ is remember. ap₂ are_apart (result_is is) (memory_is remember)
+        ∙ apart_flip given.memory given.result (memory_result remember is);
+  }

@@ -1,0 +1,317 @@
+-- What the statements before the blocks leave in memory.
+use Rattle.std.proofs.Common.{◌≡◌, ℕ, ℤ, pos, Bool, true, false}
+use Rattle.std.proofs.Common.{◌&&◌, ◌||◌}
+use Rattle.std.proofs.Common.{List, [], ◌∷◌, ◌++◌, map, Option, Some, None, refl, sym, ap, ◌∙◌, subst}
+use Rattle.std.proofs.lemmas.Bool.{eq-eqb, eqb-true}
+use Rattle.std.proofs.lemmas.List.{append-nil}
+use Rattle.std.proofs.lemmas.Option.{same_Some}
+use Rattle.std.specs.Prelude.{nat_eq, option_map, if◌then◌else◌}
+use Rattle.std.specs.List.{list_all, list_any}
+use Rattle.bl_tree.specs.declared.c.CExpr.{CExpr}
+use Rattle.bl_tree.specs.declared.c.CPlace.{CPlace}
+use Rattle.bl_tree.specs.declared.scalar.Op.TheVariants.{Eq}
+use Rattle.bl_tree.specs.declared.tree.StructDef.{StructDef}
+use Rattle.bl_tree.specs.declared.tree.Ty.{Ty}
+use Rattle.bl_tree.specs.declared.value.Value.{Value}
+use Rattle.bl_tree.specs.Numbers.{number_of}
+use Rattle.bl_tree.specs.Typing.{TypingContext}
+use Rattle.bl_graph_nodes.specs.Nodes.{ActAt, EnterAt, ForkAt, HeadAt, Node, PauseAt, StartAt, TestAt, arguments_of, entry}
+use Rattle.bl_graph_nodes.specs.Plain.{Act, Again, Await, Block, Cobegin, Done, If, Plain, Repeat, Run, Then, Until, When, While}
+use Rattle.bl_machine.specs.Uses.{Slots}
+use Rattle.bl_eval.proofs.PassLemmas.{and_left, and_right}
+use Rattle.bl_ctext_semantics.specs.Meaning.{Scope, block_c, location_c, runs_c, start_of, value_c}
+use Rattle.bl_ctext_semantics.specs.Memory.{CValue, Location, Memory, Projection, Root, left_after, number_in, number_or, set_at, value_at}
+use Rattle.bl_ctext_semantics.specs.Memory.{with_part}
+use Rattle.bl_emit_acts.specs.Acts.{c_set}
+use Rattle.bl_emit_acts.specs.Trees.{c_read, c_two}
+use Rattle.bl_emit_acts_laws_simulation.specs.Frames.{is_older}
+use Rattle.bl_emit_acts_laws_simulation.specs.Encodes.{Encodes, VariablesEncoded, location_in, way_to}
+use Rattle.bl_emit_spec.specs.Activities.{entry_code, rested_code}
+use Rattle.bl_emit_spec.specs.Blocks.{ActivityView, Sizes, counter_value}
+use Rattle.bl_emit_spec.specs.Names.{counter_place, flag_name, flag_place, rested_name, rested_place}
+use Rattle.bl_emit_spec_laws.specs.Registers.Laws.{GuardsEvaluate, RegistersWithin, RestsWithin}
+use Rattle.bl_emit_spec_laws.specs.Registers.Registers.{Before, Counter, Flag, Mark, Over, Register, Registered, RegistersApart, RegistersBeside, RegistersEncoded}
+use Rattle.bl_emit_spec_laws.specs.Registers.Registers.{has_register, held_in, register_at, same_register}
+use Rattle.bl_machine_pass.specs.Registers.{Registers, with_at}
+use Rattle.bl_machine_pass.specs.Transitions.{Asked, Change, Ended, IsAny, Transition, enter, rules_in, rules_of}
+use Rattle.bl_machine_pass_laws.specs.Turns.Laws.{entry_flag}
+use Rattle.bl_emit_spec_laws.specs.Calls.Built.{asks_flag}
+use Rattle.bl_emit_spec_laws.proofs.OnWithin.Changing.{with_within}
+use Rattle.bl_emit_spec_laws_files.proofs.OnBegins.Cells.{apart_flip, apart_same, left_behind, same_object}
+use Rattle.bl_emit_spec_laws_files.proofs.OnBegins.Places.{older_differs}
+use Rattle.bl_emit_spec_laws_files.proofs.OnBegins.Setting.{GoesTo, SetIn, counter_answer, local_answer, read_answer, register_is, then_goes}
+use Rattle.bl_emit_spec_laws_files.proofs.OnBegins.Statements.{Ends, alone_alike, set_after, set_ends}
+
+no_such : true ≡ false → ⊥
+no_such h = cc
+
+-- the registers once these copies of counters were made
+abbrev pub with_rested : List ℕ → Registers → Registers
+with_rested [] r = r
+with_rested (k ∷ ks) r = with_rested ks (record {
+  counters = r.counters;
+  rested = with_at k (r.counters k) r.rested;
+  flags = r.flags;
+  marks = r.marks;
+  over = r.over;
+})
+
+-- and once the flag of the entry was set, where there is one
+abbrev pub with_entry : ActivityView → Block → Registers → Registers
+with_entry view Done r = r
+with_entry view (Then s rest) r = record {
+  counters = r.counters;
+  rested = r.rested;
+  flags = with_at (view.number (entry s)) (nat_eq (r.counters 0) 0) r.flags;
+  marks = r.marks;
+  over = r.over;
+}
+
+holds_same : (structs : List StructDef) (ty : Ty) (value : Value) (held other : CValue) → ((way : List Projection) → held way ≡ other way) →
+    Encodes structs ty value held → Encodes structs ty value other
+holds_same structs ty value held other same holds = record {
+  each = λ ks n is. sym (same (way_to structs ks (Some ty))) ∙ holds.each ks n is;
+}
+
+number_is : (o : Option CValue) (n : ℤ) → option_map number_in o ≡ Some n → (v : CValue) × (o ≡ Some v) × (number_in v ≡ n)
+number_is None n h = absurd (cc)
+number_is (Some v) n h = (v, refl, same_Some (number_in v) n h)
+
+at_other : {X : Type 0} (k : ℕ) (x : X) (f : ℕ → X) (j : ℕ) → nat_eq j k ≡ false → with_at k x f j ≡ f j
+at_other k x f j h = ap (λ b. if b then x else f j) h
+
+at_own : {X : Type 0} (k : ℕ) (x : X) (f : ℕ → X) → with_at k x f k ≡ x
+at_own k x f = ap (λ b. if b then x else f k) (eq-eqb k k refl)
+
+and_true : (b : Bool) → (b && true) ≡ b
+and_true true = refl
+and_true false = refl
+
+-- memory in the middle of the start: it holds registers and variables, and what was there before the function began is as it was
+pub record Stands (has : Registered) (site : TypingContext) (scope : Scope) (now : List Value) (begun : Memory) (r : Registers) (m : Memory) : Type 0 where
+  pub hold : RegistersEncoded has scope r m
+  pub older : (root : Root) (way : List Projection) → is_older scope.depth root ≡ true → m root way ≡ begun root way
+  pub vars : VariablesEncoded site now scope m
+
+module _ (has : Registered) (site : TypingContext) (scope : Scope) (apart : RegistersApart has scope) (beside : RegistersBeside site scope) (now : List Value)
+    (begun : Memory) where
+  abbrev Mid : Registers → Memory → Type 0
+  Mid = Stands has site scope now begun
+
+  own_number : (m : Memory) (x : Register) (held : CValue) → number_in (value_at (set_at m (register_at scope x) held) (register_at scope x))
+      ≡ number_in held
+  own_number m x held =
+      let place = register_at scope x in
+      same_object m place held (place.parts ++ [])
+      ∙ ap (λ left. number_or left held (m place.root (place.parts ++ [])))
+      (ap (λ front. left_after front (place.parts ++ [])) (sym (append-nil place.parts)) ∙ left_behind place.parts [] [])
+
+  -- a register that is a variable of the function is set
+  set_stands : (m : Memory) (r after : Registers) (x : Register) (name : List ℕ) (held : CValue) → has_register has x ≡ true →
+      register_at scope x ≡ start_of scope false name → SetIn has r after x (number_in held) → Mid r m → Mid after
+      (set_at m (register_at scope x) held)
+  set_stands m r after x name held there is set stands = record {
+    hold = record { each = λ y its. by y its (same_register y x) refl };
+    older = λ root way old.
+        subst (λ (p : Location). set_at m p held root way ≡ begun root way) (sym is)
+        (ap (λ b. (if b then with_part (m root) [] held else m root) way) (older_differs scope.depth name root old) ∙ stands.older root way old);
+    vars = record {
+      each = λ k var value at known.
+          holds_same site.structs var.ty value (value_at m (location_in scope site k []))
+          (value_at (set_at m (register_at scope x) held) (location_in scope site k []))
+          (λ way. sym (apart_same m (register_at scope x) held (location_in scope site k []) (beside.variables x k var at) way))
+          (stands.vars.each k var value at known);
+    };
+  }
+    where
+      by : (y : Register) → has_register has y ≡ true → (same : Bool) → same_register y x ≡ same →
+          number_in (value_at (set_at m (register_at scope x) held) (register_at scope y)) ≡ held_in after y
+      by y its true same =
+          subst (λ (y : Register). number_in (value_at (set_at m (register_at scope x) held) (register_at scope y)) ≡ held_in after y)
+          (sym (register_is y x same)) (own_number m x held ∙ sym set.0)
+      by y its false differ =
+          apart_same m (register_at scope x) held (register_at scope y)
+          (apart_flip (register_at scope y) (register_at scope x) (apart.each y x its there differ)) []
+          ∙ (stands.hold.each y its ∙ sym (set.1 y its differ))
+
+  -- the C that does that
+  set_goes : (m : Memory) (r after : Registers) (x : Register) (name : List ℕ) (held : CValue) (place : CPlace) (value : CExpr) →
+      has_register has x ≡ true → register_at scope x ≡ start_of scope false name →
+      (location_c place scope m).answer ≡ Some (register_at scope x) → (value_c value scope m).answer ≡ Some held →
+      SetIn has r after x (number_in held) → Mid r m → GoesTo (Mid after) (block_c (c_set place value ∷ []) scope m)
+  set_goes m r after x name held place value there local at is set stands =
+      let o = runs_c (c_set place value) scope m in
+      let alone = alone_alike scope (c_set place value) m in
+      let ends : Ends o (Some (set_at m (register_at scope x) held)) =
+      subst (λ (at : Option Location). Ends o (set_after scope m at (Some held))) at
+      (subst (λ (is : Option CValue). Ends o (set_after scope m (location_c place scope m).answer is)) is (set_ends scope m place value)) in
+      (alone.0 ∙ ends.0, subst (Mid after) (sym (alone.1 ∙ ends.1)) (set_stands m r after x name held there local set stands))
+
+  -- ---- copies of counters
+
+  rested_sets : (k : ℕ) (r : Registers) (n : ℤ) → n ≡ pos (r.counters k) →
+      SetIn has r (with_rested (k ∷ []) r) (Before k) n
+  rested_sets k r n is = (ap pos (at_own k (r.counters k) r.rested) ∙ sym is, others)
+    where
+      others : (y : Register) → has_register has y ≡ true → same_register y (Before k) ≡ false →
+          held_in (with_rested (k ∷ []) r) y ≡ held_in r y
+      others (Counter j) its differ = refl
+      others (Before j) its differ = ap pos (at_other k (r.counters k) r.rested j differ)
+      others (Flag j) its differ = refl
+      others (Mark j) its differ = refl
+      others Over its differ = refl
+
+  pub rested_goes : (ks : List ℕ) (r : Registers) (m : Memory) → list_all has.counters ks ≡ true → list_all has.copied ks ≡ true →
+      Mid r m →
+      GoesTo (Mid (with_rested ks r)) (block_c (map rested_code ks) scope m)
+  rested_goes [] r m counters copied stands = (refl, stands)
+  rested_goes (k ∷ ks) r m counters copied stands =
+      let counted : has.counters k ≡ true = and_left (has.counters k) (list_all has.counters ks) counters in
+      then_goes scope (rested_code k ∷ []) (map rested_code ks) m (Mid (with_rested (k ∷ []) r)) (Mid (with_rested (k ∷ ks) r))
+      (set_goes m r (with_rested (k ∷ []) r) (Before k) (rested_name k) (value_at m (register_at scope (Counter k))) (rested_place k)
+      (c_read (counter_place k)) (and_left (has.copied k) (list_all has.copied ks) copied) refl (local_answer scope m (rested_name k))
+      (read_answer scope m (counter_place k) (register_at scope (Counter k)) (counter_answer scope m k))
+      (rested_sets k r (number_in (value_at m (register_at scope (Counter k)))) (stands.hold.each (Counter k) counted)) stands)
+      (λ m' next. rested_goes ks (with_rested (k ∷ []) r) m' (and_right (has.counters k) (list_all has.counters ks) counters)
+      (and_right (has.copied k) (list_all has.copied ks) copied) next)
+
+  -- ---- the flag of the entry
+
+  entry_sets : (n : ℕ) (r after : Registers) (b : Bool) → after ≡ record {
+    counters = r.counters;
+    rested = r.rested;
+    flags = with_at n b r.flags;
+    marks = r.marks;
+    over = r.over;
+  } → (x : ℤ) → x ≡ number_of b → SetIn has r after (Flag n) x
+  entry_sets n r after b is x held =
+      subst (λ (after : Registers). SetIn has r after (Flag n) x) (sym is) (ap number_of (at_own n b r.flags) ∙ sym held, others)
+    where
+      others : (y : Register) → has_register has y ≡ true → same_register y (Flag n) ≡ false → held_in (record {
+        counters = r.counters;
+        rested = r.rested;
+        flags = with_at n b r.flags;
+        marks = r.marks;
+        over = r.over;
+      }) y ≡ held_in r y
+      others (Counter j) its differ = refl
+      others (Before j) its differ = refl
+      others (Flag j) its differ = ap number_of (at_other n b r.flags j differ)
+      others (Mark j) its differ = refl
+      others Over its differ = refl
+
+  module _ (view : ActivityView) (guards : GuardsEvaluate) (first : has.counters 0 ≡ true) where
+    -- the first number of the first counter, as a guard asks it
+    abbrev none_yet : Asked
+    none_yet = Ended IsAny (record { all = true; slots = record { counter = 0; value = 0 } ∷ [] })
+
+    pub entry_goes : (body : Block) (r : Registers) (m : Memory) →
+        ((s : Plain) (rest : Block) → body ≡ Then s rest → has.flags (view.number (entry s)) ≡ true) → RestsWithin view.sizes r → Mid r m →
+        GoesTo (Mid (with_entry view body r)) (block_c (entry_code view body) scope m)
+    entry_goes Done r m flagged within stands = (refl, stands)
+    entry_goes (Then s rest) r m flagged within stands =
+        let shows : option_map number_in (value_c (c_two Eq (c_read (counter_place 0)) (counter_value view.sizes 0 0)) scope m).answer
+        ≡ Some (number_of (nat_eq (r.counters 0) 0)) =
+        guards view has scope (entry s) none_yet r m stands.hold within (ap (λ b. b && true) first)
+        ∙ ap (λ b. Some (number_of b)) (and_true (nat_eq (r.counters 0) 0)) in
+        let found = number_is (value_c (c_two Eq (c_read (counter_place 0)) (counter_value view.sizes 0 0)) scope m).answer
+        (number_of (nat_eq (r.counters 0) 0)) shows in
+        set_goes m r (with_entry view (Then s rest) r) (Flag (view.number (entry s))) (flag_name (view.number (entry s))) found.0
+        (flag_place (view.number (entry s))) (c_two Eq (c_read (counter_place 0)) (counter_value view.sizes 0 0)) (flagged s rest refl) refl
+        (local_answer scope m (flag_name (view.number (entry s)))) found.1
+        (entry_sets (view.number (entry s)) r (with_entry view (Then s rest) r) (nat_eq (r.counters 0) 0) refl (number_in found.0) found.2) stands
+
+-- ---- what the registers hold then
+
+pub same_parts : (ks : List ℕ) (r : Registers) → ((with_rested ks r).counters ≡ r.counters) × ((with_rested ks r).flags ≡ r.flags)
+    × ((with_rested ks r).marks ≡ r.marks) × ((with_rested ks r).over ≡ r.over)
+same_parts [] r = (refl, refl, refl, refl)
+same_parts (k ∷ ks) r = same_parts ks (with_rested (k ∷ []) r)
+
+-- none of them is greater than its counter's greatest value where no counter holds more
+pub copies_within : (sizes : Sizes) (ks : List ℕ) (r : Registers) → RegistersWithin sizes r → RegistersWithin sizes (with_rested ks r)
+copies_within sizes [] r within = within
+copies_within sizes (k ∷ ks) r within = copies_within sizes ks (with_rested (k ∷ []) r) (record {
+  counters = within.counters;
+  rested = with_within sizes k (r.counters k) r.rested (within.counters k) within.rested;
+})
+
+stays_rested : (ks : List ℕ) (r : Registers) (k : ℕ) → r.rested k ≡ r.counters k → (with_rested ks r).rested k ≡ r.counters k
+stays_rested [] r k h = h
+stays_rested (j ∷ ks) r k h = stays_rested ks (with_rested (j ∷ []) r) k (by (nat_eq k j) refl)
+  where
+    by : (b : Bool) → nat_eq k j ≡ b → (if b then r.counters j else r.rested k) ≡ r.counters k
+    by true is = ap r.counters (sym (eqb-true k j is))
+    by false is = h
+
+pub comes_rested : (ks : List ℕ) (r : Registers) (k : ℕ) → list_any (nat_eq k) ks ≡ true → (with_rested ks r).rested k ≡ r.counters k
+comes_rested [] r k h = absurd (cc)
+comes_rested (j ∷ ks) r k h = by (nat_eq k j) refl (comes_rested ks (with_rested (j ∷ []) r) k) h
+  where
+    by : (b : Bool) → nat_eq k j ≡ b → (list_any (nat_eq k) ks ≡ true → (with_rested (j ∷ ks) r).rested k ≡ r.counters k) →
+        (b || list_any (nat_eq k) ks) ≡ true → (with_rested (j ∷ ks) r).rested k ≡ r.counters k
+    by true is again all =
+        stays_rested ks (with_rested (j ∷ []) r) k
+        (ap (λ b. if b then r.counters j else r.rested k) is ∙ ap r.counters (sym (eqb-true k j is)))
+    by false is again all = again all
+
+-- the flag of the entry
+pub entry_begun : (view : ActivityView) (body : Block) (r : Registers) (k : ℕ) → r.counters 0 ≡ 0 → r.flags k ≡ false →
+    (with_entry view body r).flags k ≡ entry_flag view.number body k
+entry_begun view Done r k first none = none
+entry_begun view (Then s rest) r k first none = by (nat_eq k (view.number (entry s)))
+  where
+    by : (b : Bool) → (if b then nat_eq (r.counters 0) 0 else r.flags k) ≡ b
+    by true = ap (λ n. nat_eq n 0) first
+    by false = none
+
+pub entry_resumed : (view : ActivityView) (body : Block) (r : Registers) (k : ℕ) → (r.counters 0 ≡ 0 → ⊥) → r.flags k ≡ false →
+    (with_entry view body r).flags k ≡ false
+entry_resumed view Done r k first none = none
+entry_resumed view (Then s rest) r k first none = by (nat_eq k (view.number (entry s)))
+  where
+    not_first : (b : Bool) → nat_eq (r.counters 0) 0 ≡ b → b ≡ false
+    not_first true is = absurd (first (eqb-true (r.counters 0) 0 is))
+    not_first false is = refl
+
+    by : (b : Bool) → (if b then nat_eq (r.counters 0) 0 else r.flags k) ≡ false
+    by true = not_first (nat_eq (r.counters 0) 0) refl
+    by false = none
+
+pub other_parts : (view : ActivityView) (body : Block) (r : Registers) → ((with_entry view body r).counters ≡ r.counters)
+    × ((with_entry view body r).rested ≡ r.rested) × ((with_entry view body r).marks ≡ r.marks) × ((with_entry view body r).over ≡ r.over)
+other_parts view Done r = (refl, refl, refl, refl)
+other_parts view (Then s rest) r = (refl, refl, refl, refl)
+
+-- ---- the rule of the entry asks for its flag
+
+either_first : (a : Bool) → a ≡ true → (b : Bool) → (a || b) ≡ true
+either_first true h b = refl
+either_first false h b = absurd (cc)
+
+either_next : (a b : Bool) → b ≡ true → (a || b) ≡ true
+either_next true b h = refl
+either_next false b h = h
+
+itself : (k : ℕ) → nat_eq k k ≡ true
+itself k = eq-eqb k k refl
+
+-- rules of a statement, whatever follows them, ask for the flag of its entry
+pub entry_asks : (number : Node → ℕ) (slots : Slots) (s : Plain) (rest : Block) (next : Change) →
+    list_any (asks_flag number (number (entry s))) (rules_in slots (Then s rest) next) ≡ true
+entry_asks number slots s rest next = by s (enter rest next) (rules_in slots rest next)
+  where
+    by : (s : Plain) (after : Change) (more : List Transition) → list_any (asks_flag number (number (entry s))) (rules_of slots s after ++ more) ≡ true
+    by (Act l s) after more = either_first (nat_eq (number (ActAt l s)) (number (ActAt l s))) (itself (number (ActAt l s))) _
+    by (Await l at e) after more = either_first (nat_eq (number (PauseAt l at)) (number (PauseAt l at))) (itself (number (PauseAt l at))) _
+    by (Run l at target a inputs outputs) after more =
+        let n : Node = EnterAt l at (arguments_of target inputs outputs) in either_first (nat_eq (number n) (number n)) (itself (number n)) _
+    by (If l at e body other) after more = either_first (nat_eq (number (TestAt l at e)) (number (TestAt l at e))) (itself (number (TestAt l at e))) _
+    by (Cobegin l at bodies) after more = either_first (nat_eq (number (ForkAt l at)) (number (ForkAt l at))) (itself (number (ForkAt l at))) _
+    by (When l at guard e body) after more = either_first (nat_eq (number (StartAt l at)) (number (StartAt l at))) (itself (number (StartAt l at))) _
+    by (Repeat l at body) after more = either_first (nat_eq (number (HeadAt l at)) (number (HeadAt l at))) (itself (number (HeadAt l at))) _
+    by (Until l at body e) after more = either_first (nat_eq (number (HeadAt l at)) (number (HeadAt l at))) (itself (number (HeadAt l at))) _
+    by (While l at e body) after more = either_first (nat_eq (number (TestAt l at e)) (number (TestAt l at e))) (itself (number (TestAt l at e))) _
+    by (Again l at body e) after more =
+        either_next (nat_eq (number (TestAt l at e)) (number (HeadAt l at))) _
+        (either_first (nat_eq (number (TestAt l at e)) (number (TestAt l at e))) (itself (number (TestAt l at e))) _)

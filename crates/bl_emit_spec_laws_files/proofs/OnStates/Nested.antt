@@ -1,0 +1,303 @@
+-- Where the structs of what is called stand in the state.
+use Rattle.std.proofs.Common.{◌≡◌, ℕ, zero, suc, ◌<◌, Bool, true, false, ◌&&◌, List, [], ◌∷◌, ◌++◌, map}
+use Rattle.std.proofs.Common.{length, nat_lt}
+use Rattle.std.proofs.Common.{Option, Some, None, refl, sym, ap, ap₂, ◌∙◌, subst, arith}
+use Rattle.std.proofs.lemmas.Bool.{lt-ltb}
+use Rattle.std.proofs.lemmas.Option.{same_Some}
+use Rattle.std.specs.Prelude.{codes, Contains, option_and_then, option_map, slice_get, unwrap_or, if◌then◌else◌}
+use Rattle.bl_tree.specs.declared.c.CMember.{CMember}
+use Rattle.bl_tree.specs.declared.c.CType.TheVariants.{Struct as OfStruct}
+use Rattle.bl_tree.specs.declared.place.Place.{Place}
+use Rattle.bl_tree.specs.declared.text.Text.{Text}
+use Rattle.bl_tree.specs.declared.tree.StructDef.{StructDef}
+use Rattle.bl_tree.specs.declared.tree.Unit.{Unit as UnitDef}
+use Rattle.bl_tree.specs.Reduce.{joined}
+use Rattle.bl_eval.proofs.PassLemmas.{get_take}
+use Rattle.bl_graph_nodes.specs.Nodes.{Arguments, EnterAt, Node, nodes_in}
+use Rattle.bl_graph_nodes.specs.Plain.{Label, plain_body}
+use Rattle.bl_ctext_semantics.specs.Faults.{WellFormed, struct_table}
+use Rattle.bl_ctext_semantics.specs.Memory.{Location, Projection, member, state_object}
+use Rattle.bl_ctext_semantics.specs.Parts.{Parts}
+use Rattle.bl_ctext_semantics_laws.specs.Fitting.{ValueSpot, step_in, walk, whole}
+use Rattle.bl_ctree.specs.declared.instance.Instance.{Instance}
+use Rattle.bl_ctree.specs.Instances.{Setting, callee_of, setting_of, unit_at, unit_of}
+use Rattle.bl_ctree_laws_confluence.specs.Deeds.Orderly.{AcceptedIsOrderly}
+use Rattle.bl_emit_functions.specs.Functions.{members_of, memory_name}
+use Rattle.bl_emit_spec.specs.Activities.{
+  Activity,
+  RunAt,
+  body_of,
+  callees_in,
+  counter_member,
+  frame_member,
+  frame_struct,
+  memory_member,
+  remembered,
+  remembers_any,
+  rules_at,
+  run_at,
+  runs_at,
+  runs_in_body,
+  struct_member,
+  view_of,
+}
+use Rattle.bl_emit_spec.specs.Blocks.{name_in}
+use Rattle.bl_emit_spec.specs.Names.{callee_name, frame_name}
+use Rattle.bl_emit_spec.specs.Programs.{state_struct}
+use Rattle.bl_machine.specs.declared.machine.Activity.{Activity as InMachine}
+use Rattle.bl_machine.specs.Blocks.{up_to}
+use Rattle.bl_machine_pass.specs.Transitions.{Transition}
+use Rattle.bl_machine_pass_laws.specs.Turns.Laws.{StaysPlaced}
+use Rattle.bl_emit_spec_laws.specs.Calls.Built.{Activities, activity_at, rank_by, unit_number}
+use Rattle.bl_emit_spec_laws.specs.Calls.Laws.{CompilationContext}
+use Rattle.bl_emit_spec_laws.specs.Calls.Memories as memories
+use Rattle.bl_emit_spec_laws.specs.Calls.Memories.{Nests, inner}
+use Rattle.bl_emit_spec_laws_files.specs.States.States.{FramesDeclared, RunFound, RunsFound, frame_place, memory_of_activity, memory_place}
+use Rattle.bl_emit_spec_laws_files.proofs.OnStates.Declared.{member_step, stands_somewhere}
+
+-- ---- members of lists
+
+pub here : {X : Type 0} (x : X) (xs : List X) → Contains (x ∷ xs) x
+here x xs = (0, omega arith, refl)
+
+pub further : {X : Type 0} (y : X) (xs : List X) (x : X) → Contains xs x → Contains (y ∷ xs) x
+further y xs x at = let less = at.1 in (suc at.0, omega (arith, less), at.2)
+
+pub in_right : {X : Type 0} (xs ys : List X) (x : X) → Contains ys x → Contains (xs ++ ys) x
+in_right [] ys x at = at
+in_right (y ∷ xs) ys x at = further y (xs ++ ys) x (in_right xs ys x at)
+
+got_in : {X : Type 0} (xs : List X) (k : ℕ) (x : X) → slice_get xs k ≡ Some x → Contains xs x
+got_in [] k x e = absurd (cc)
+got_in (y ∷ xs) zero x e = subst (λ (z : _). Contains (z ∷ xs) x) (sym (same_Some y x e)) (here x xs)
+got_in (y ∷ xs) (suc k) x e = further y xs x (got_in xs k x e)
+
+got_left : {X : Type 0} (xs ys : List X) (k : ℕ) (x : X) → slice_get xs k ≡ Some x → slice_get (xs ++ ys) k ≡ Some x
+got_left [] ys k x e = absurd (cc)
+got_left (y ∷ xs) ys zero x e = e
+got_left (y ∷ xs) ys (suc k) x e = got_left xs ys k x e
+
+pub in_left : {X : Type 0} (xs ys : List X) (x : X) → Contains xs x → Contains (xs ++ ys) x
+in_left xs ys x at = let found = stands_somewhere xs x at in got_in (xs ++ ys) found.0 x (got_left xs ys found.0 x found.1)
+
+got_mapped : {A B : Type 0} (f : A → B) (xs : List A) (k : ℕ) (x : A) → slice_get xs k ≡ Some x → slice_get (map f xs) k ≡ Some (f x)
+got_mapped f [] k x e = absurd (cc)
+got_mapped f (y ∷ xs) zero x e = ap (λ y. Some (f y)) (same_Some y x e)
+got_mapped f (y ∷ xs) (suc k) x e = got_mapped f xs k x e
+
+pub in_mapped : {A B : Type 0} (f : A → B) (xs : List A) (x : A) → Contains xs x → Contains (map f xs) (f x)
+in_mapped f xs x at = let found = stands_somewhere xs x at in got_in (map f xs) found.0 (f x) (got_mapped f xs found.0 x found.1)
+
+in_joined_at : {A B : Type 0} (f : A → List B) (xs : List A) (k : ℕ) (x : A) (y : B) → slice_get xs k ≡ Some x → Contains (f x) y →
+    Contains (joined (map f xs)) y
+in_joined_at f [] k x y e at = absurd (cc)
+in_joined_at f (z ∷ xs) zero x y e at =
+    in_left (f z) (joined (map f xs)) y (subst (λ (z : _). Contains (f z) y) (sym (same_Some z x e)) at)
+in_joined_at f (z ∷ xs) (suc k) x y e at = in_right (f z) (joined (map f xs)) y (in_joined_at f xs k x y e at)
+
+pub in_joined : {A B : Type 0} (f : A → List B) (xs : List A) (x : A) (y : B) → Contains xs x → Contains (f x) y → Contains (joined (map f xs)) y
+in_joined f xs x y at of = let found = stands_somewhere xs x at in in_joined_at f xs found.0 x y found.1 of
+
+pub below : (n k : ℕ) → k < n → Contains (up_to n) k
+below zero k less = absurd (omega (arith, less))
+below (suc n) k less = by (Rattle.std.specs.Prelude.nat_lt k n) refl (λ fewer. below n k fewer)
+  where
+    by : (b : Bool) → nat_lt k n ≡ b → (k < n → Contains (up_to n) k) → Contains (up_to n ++ n ∷ []) k
+    by true e fewer = in_left (up_to n) (n ∷ []) k (fewer (Rattle.std.proofs.lemmas.Bool.ltb-true k n e))
+    by false e fewer =
+        let more = Rattle.std.proofs.lemmas.Bool.ltb-false k n e in
+        let same : n ≡ k = omega (arith, less, more) in
+        in_right (up_to n) (n ∷ []) k (subst (λ m. Contains (m ∷ []) k) (sym same) (here k []))
+
+pub some_long : {X : Type 0} (xs : List X) (x : X) → Contains xs x → nat_lt 0 (length xs) ≡ true
+some_long xs x at = let less = at.1 in lt-ltb 0 (length xs) (omega (arith, less))
+
+-- ---- `run`s
+
+mapped_got : {A B : Type 0} (f : A → B) (xs : List A) (k : ℕ) (y : B) → slice_get (map f xs) k ≡ Some y → (x : A) × (slice_get xs k ≡ Some x)
+    × (f x ≡ y)
+mapped_got f [] k y e = absurd (cc)
+mapped_got f (x ∷ xs) zero y e = (x, refl, same_Some (f x) y e)
+mapped_got f (x ∷ xs) (suc k) y e = mapped_got f xs k y e
+
+run_there : (number : Node → ℕ) (callees : List ℕ) (rs : List Transition) (p u : ℕ) (rule : Transition) (l : Label) (at : Place) (arguments : Arguments) →
+    slice_get callees p ≡ Some u → slice_get rs p ≡ Some rule → rule.node ≡ EnterAt l at arguments →
+    Contains (runs_at number callees rs) (record { number = number (EnterAt l at arguments); unit = u })
+run_there number callees [] p u rule l at arguments one two is = absurd (cc)
+run_there number [] (r ∷ rs) p u rule l at arguments one two is = absurd (cc)
+run_there number (v ∷ callees) (r ∷ rs) zero u rule l at arguments one two is =
+    let node = ap (λ (r : Transition). r.node) (same_Some r rule two) ∙ is in
+    in_left (run_at number v r.node) (runs_at number callees rs) (record { number = number (EnterAt l at arguments); unit = u })
+    (subst (λ (n : Node). Contains (run_at number v n) (record { number = number (EnterAt l at arguments); unit = u })) (sym node)
+    (subst (λ (w : ℕ). Contains (run_at number w (EnterAt l at arguments)) (record { number = number (EnterAt l at arguments); unit = u }))
+    (sym (same_Some v u one)) (here (record { number = number (EnterAt l at arguments); unit = u }) [])))
+run_there number (v ∷ callees) (r ∷ rs) (suc p) u rule l at arguments one two is =
+    in_right (run_at number v r.node) (runs_at number callees rs) (record { number = number (EnterAt l at arguments); unit = u })
+    (run_there number callees rs p u rule l at arguments one two is)
+
+-- ---- places
+
+unit_by : (w : Setting) (o : Option Instance) (unit : UnitDef) → option_and_then (unit_of w) o ≡ Some unit →
+    slice_get w.units (unwrap_or (option_map (λ (instance : Instance). instance.unit) o) 0) ≡ Some unit
+unit_by w None unit is = absurd (cc)
+unit_by w (Some instance) unit is = is
+
+module _ (orderly : AcceptedIsOrderly) (placed : StaysPlaced) (structs : List StructDef) (units : List UnitDef) (entry : ℕ)
+    (machine : List InMachine) (activities : Activities) (unit : UnitDef) (file : Parts) (compiled : CompilationContext structs units entry machine activities)
+    (runs : RunsFound structs units entry) (formed : WellFormed file) (declared : FramesDeclared structs units entry activities unit file) where
+  abbrev pub W : Setting
+  W = setting_of structs units entry
+
+  abbrev pub A : ℕ → Activity
+  A i = activity_at W activities i
+
+  pub unit_there : (i : ℕ) (other : UnitDef) → unit_at W i ≡ Some other → slice_get units (unit_number W i) ≡ Some other
+  unit_there i other is = unit_by W (slice_get W.instances i) other is
+
+  pub own_unit : (i : ℕ) (other : UnitDef) → unit_at W i ≡ Some other → (A i).unit ≡ other
+  own_unit i other is = compiled.built.unit (unit_number W i) other (unit_there i other is)
+
+  -- from the state a way leads there
+  abbrev pub Leads : List Projection → ValueSpot → Type 0
+  Leads way goal = walk (struct_table file.structs) (Some (whole (OfStruct (codes "bl_state")))) way ≡ Some goal
+
+  pub along : (first rest : List Projection) (spot goal : ValueSpot) → Leads first spot → walk (struct_table file.structs) (Some spot) rest ≡ Some goal →
+      Leads (first ++ rest) goal
+  along first rest spot goal one more =
+      by (Some (whole (OfStruct (codes "bl_state")))) first ∙ ap (λ o. walk (struct_table file.structs) o rest) one ∙ more
+    where
+      none_on : (way : List Projection) → walk (struct_table file.structs) None way ≡ None
+      none_on [] = refl
+      none_on (p ∷ way) = refl
+
+      by : (o : Option ValueSpot) (first : List Projection) →
+          walk (struct_table file.structs) o (first ++ rest) ≡ walk (struct_table file.structs) (walk (struct_table file.structs) o first) rest
+      by o [] = refl
+      by None (p ∷ first) = sym (none_on rest)
+      by (Some spot) (p ∷ first) = by (step_in (struct_table file.structs) spot p) first
+
+  -- what stands at the places of an instance
+  pub record StandsAt (k : ℕ) (f m : Location) : Type 0 where
+    pub other : UnitDef
+    pub is_there : unit_at W k ≡ Some other
+    pub frame_root : f.root ≡ state_object
+    pub memory_root : m.root ≡ state_object
+    pub frame : Leads f.parts (whole (OfStruct (frame_struct (A k)).name))
+    pub memory : remembers_any (A k) ≡ true → Leads m.parts (whole (OfStruct (memory_of_activity (A k)).name))
+
+  module _ (i j : ℕ) (u : UnitDef) (l : Label) (at : Place) (arguments : Arguments) (is : unit_at W i ≡ Some u)
+      (within : Contains (nodes_in (plain_body u.body)) (EnterAt l at arguments)) (calls : callee_of W i at ≡ Some j) where
+    found : RunFound W u l at arguments i j
+    found = runs i j u l at arguments is within calls
+
+    n : ℕ
+    n = rank_by W activities i (EnterAt l at arguments)
+
+    run : RunAt
+    run = record { number = rank_by W activities i (EnterAt l at arguments); unit = unit_number W j }
+
+    run_within : Contains (runs_in_body (A i)) (record { number = rank_by W activities i (EnterAt l at arguments); unit = unit_number W j })
+    run_within =
+        let called = subst (λ (x : UnitDef). Rattle.bl_emit_spec_laws.specs.Calls.Laws.CalledAt (plain_body x.body) (EnterAt l at arguments)
+        (unit_number W j)) (sym (own_unit i u is)) found.called in
+        let rule = mapped_got (λ (rule : Transition). rule.node) (rules_at (A i)) called.position (EnterAt l at arguments)
+        (ap (λ (ns : List Node). slice_get ns called.position) (placed.nodes (A i).slots (body_of (A i))) ∙ called.node) in
+        run_there (view_of (A i)).number (callees_in (body_of (A i))) (rules_at (A i)) called.position (unit_number W j) rule.0 l at arguments called.unit
+        rule.1 rule.2
+
+    earlier_is : slice_get (A i).earlier (unit_number W j) ≡ Some found.other
+    earlier_is =
+        ap (λ (us : List UnitDef). slice_get us (unit_number W j)) (compiled.built.earlier (unit_number W i) u (unit_there i u is))
+        ∙ get_take units (unit_number W i) (unit_number W j) found.earlier ∙ unit_there j found.other found.is_there
+
+    named : name_in (slice_get (A i).earlier (unit_number W j)) ≡ (A j).unit.name
+    named = ap name_in earlier_is ∙ ap (λ (x : UnitDef). x.name) (sym (own_unit j found.other found.is_there))
+
+    frame_step : step_in (struct_table file.structs) (whole (OfStruct (frame_struct (A i)).name)) (member (callee_name (rank_by W activities i (EnterAt l at
+        arguments)))) ≡ Some (whole (OfStruct (frame_struct (A j)).name))
+    frame_step =
+        member_step file formed (frame_struct (A i))
+        (frame_member (A i) (record { number = rank_by W activities i (EnterAt l at arguments); unit = unit_number W j })) (declared.frames i u is)
+        (in_right (map (counter_member (A i).sizes) (up_to (length (A i).sizes))) (map (frame_member (A i)) (runs_in_body (A i)))
+        (frame_member (A i) (record { number = rank_by W activities i (EnterAt l at arguments); unit = unit_number W j }))
+        (in_mapped (frame_member (A i)) (runs_in_body (A i))
+        (record { number = rank_by W activities i (EnterAt l at arguments); unit = unit_number W j }) run_within))
+        ∙ ap (λ (name : Text). Some (whole (OfStruct (frame_name name)))) named
+
+    module _ (remembers : remembers_any (A j) ≡ true) where
+      told : (view_of (A i)).remembers (unit_number W j) ≡ true
+      told =
+          let active = ((orderly structs units entry compiled.keeps compiled.passes).each j found.other found.is_there).activity in
+          ap (λ (o : Option Bool). unwrap_or o false) (compiled.built.remember (unit_number W i) (unit_number W j) u found.other (unit_there i u is)
+          (unit_there j found.other found.is_there) found.earlier)
+          ∙ ap₂ (λ a b. a && b) active remembers
+
+      the_member : CMember
+      the_member = struct_member (callee_name (rank_by W activities i (EnterAt l at arguments))) (memory_name (name_in (slice_get (A i).earlier (unit_number
+          W j))))
+
+      member_within : Contains (remembered (A i)) (struct_member (callee_name (rank_by W activities i (EnterAt l at arguments)))
+          (memory_name (name_in (slice_get (A i).earlier (unit_number W j)))))
+      member_within =
+          in_right (members_of (A i).structs (A i).earlier (A i).unit) (joined (map (memory_member (A i)) (runs_in_body (A i))))
+          (struct_member (callee_name (rank_by W activities i (EnterAt l at arguments))) (memory_name (name_in (slice_get (A i).earlier (unit_number W j)))))
+          (in_joined (memory_member (A i)) (runs_in_body (A i)) (record { number = rank_by W activities i (EnterAt l at arguments); unit = unit_number W j })
+          (struct_member (callee_name (rank_by W activities i (EnterAt l at arguments))) (memory_name (name_in (slice_get (A i).earlier (unit_number W j)))))
+          run_within
+          (subst (λ (b : Bool). Contains (if b then struct_member (callee_name (rank_by W activities i (EnterAt l at arguments)))
+          (memory_name (name_in (slice_get (A i).earlier (unit_number W j)))) ∷ [] else [])
+          (struct_member (callee_name (rank_by W activities i (EnterAt l at arguments))) (memory_name (name_in (slice_get (A i).earlier (unit_number W j))))))
+          (sym told) (here (struct_member (callee_name (rank_by W activities i (EnterAt l at arguments)))
+          (memory_name (name_in (slice_get (A i).earlier (unit_number W j))))) [])))
+
+      outer_remembers : remembers_any (A i) ≡ true
+      outer_remembers =
+          some_long (remembered (A i)) (struct_member (callee_name (rank_by W activities i (EnterAt l at arguments)))
+          (memory_name (name_in (slice_get (A i).earlier (unit_number W j))))) member_within
+
+      memory_step : step_in (struct_table file.structs) (whole (OfStruct (memory_of_activity (A i)).name)) (member (callee_name (rank_by W activities i
+          (EnterAt l at arguments)))) ≡ Some (whole (OfStruct (memory_of_activity (A j)).name))
+      memory_step =
+          member_step file formed (memory_of_activity (A i))
+          (struct_member (callee_name (rank_by W activities i (EnterAt l at arguments))) (memory_name (name_in (slice_get (A i).earlier (unit_number W j)))))
+          (declared.memories i u is outer_remembers) member_within
+          ∙ ap (λ (name : Text). Some (whole (OfStruct (memory_name name)))) named
+
+    pub inner_stands : (f m : Location) → StandsAt i f m →
+        StandsAt j (inner f (rank_by W activities i (EnterAt l at arguments))) (inner m (rank_by W activities i (EnterAt l at arguments)))
+    inner_stands f m stands = record {
+      other = found.other;
+      is_there = found.is_there;
+      frame_root = stands.frame_root;
+      memory_root = stands.memory_root;
+      frame = along f.parts (member (callee_name (rank_by W activities i (EnterAt l at arguments))) ∷ []) (whole (OfStruct (frame_struct (A i)).name))
+          (whole (OfStruct (frame_struct (A j)).name)) stands.frame frame_step;
+      memory = λ remembers.
+          along m.parts (member (callee_name (rank_by W activities i (EnterAt l at arguments))) ∷ []) (whole (OfStruct (memory_of_activity (A i)).name))
+          (whole (OfStruct (memory_of_activity (A j)).name)) (stands.memory (outer_remembers remembers)) (memory_step remembers);
+    }
+
+  pub nested : {i k : ℕ} {f m f' m' : Location} → Nests W activities i f m k f' m' → StandsAt i f m → StandsAt k f' m'
+  nested memories.here stands = stands
+  nested {i} {f = f} {m = m} (memories.inside {j = j} {unit = u} {l = l} {at = at} {arguments = arguments} is within calls rest) stands =
+      nested rest (inner_stands i j u l at arguments is within calls f m stands)
+
+  -- the entry
+  pub entry_stands : (is : unit_at W 0 ≡ Some unit) → unit_number W 0 ≡ entry → StandsAt 0 frame_place memory_place
+  entry_stands is number = record {
+    other = unit;
+    is_there = is;
+    frame_root = refl;
+    memory_root = refl;
+    frame =
+        member_step file formed (state_struct unit.name (remembers_any (activities entry))) (struct_member (codes "f") (frame_name unit.name)) declared.state
+        (here (struct_member (codes "f") (frame_name unit.name)) _)
+        ∙ ap (λ (x : UnitDef). Some (whole (OfStruct (frame_name x.name)))) (sym (own_unit 0 unit is));
+    memory = λ remembers.
+        member_step file formed (state_struct unit.name true) (struct_member (codes "m") (memory_name unit.name))
+        (subst (λ (b : Bool). Contains file.structs (state_struct unit.name b)) (ap (λ (k : ℕ). remembers_any (activities k)) (sym number) ∙ remembers)
+        declared.state)
+        (further (struct_member (codes "f") (frame_name unit.name)) (struct_member (codes "m") (memory_name unit.name) ∷ [])
+        (struct_member (codes "m") (memory_name unit.name)) (here (struct_member (codes "m") (memory_name unit.name)) []))
+        ∙ ap (λ (x : UnitDef). Some (whole (OfStruct (memory_name x.name)))) (sym (own_unit 0 unit is));
+  }

@@ -1,0 +1,51 @@
+//! How the C function of an activity begins. None of these functions does anything: the contract is the law. The pointers of the called function
+//! lead to the places that the call gives, and these keep apart as a pass needs (`specs/Begins.antt`, `PointersAreGiven`, `FunctionsBeginInContext`); in the
+//! memory in which it begins each variable has its value (`VariablesBegin`). What stands before the blocks, copies of counters, the flag of the
+//! entry and copies of variables, goes on, and leaves memory that stands for the start of a pass by rules (`FunctionsBeginWhere`).
+
+ghost use Rattle.bl_emit_spec_laws_files.specs.Begins.{FunctionsBeginInContext, FunctionsBeginWhere, PointersFollow, VariablesBegin};
+
+use bl_ctree_laws_confluence::deeds::accepted_programs_are_orderly;
+use bl_emit_acts_laws_simulation::{copies_begin, frames_apart};
+use bl_emit_functions_laws_simulation::calls::{calls_keep, hands_over};
+use bl_emit_spec_laws::registers::{guards_show, registers_apart};
+use bl_tree::Program;
+
+/// The pointers of the called C function of an activity lead to the places that the call gives.
+pub fn pointers_follow(program: &Program)
+    ensures { PointersFollow program.now.structs program.now.units program.now.entry }
+{
+    accepted_programs_are_orderly();
+    hands_over(program);
+}
+
+/// The called C function of an activity stands as it begins.
+pub fn functions_stand(program: &Program)
+    ensures { FunctionsBeginInContext program.now.structs program.now.units program.now.entry }
+{
+    accepted_programs_are_orderly();
+    hands_over(program);
+}
+
+/// In the memory in which the called C function of an activity begins each variable has its value at its place.
+pub fn variables_begin(program: &Program)
+    ensures { VariablesBegin program.now.structs program.now.units program.now.entry }
+{
+    accepted_programs_are_orderly();
+    hands_over(program);
+    calls_keep();
+}
+
+/// The called C function of an activity begins as a pass begins: what stands before its blocks goes on, and leaves memory that holds the registers,
+/// the variables and their copies, and what it keeps of all that it calls.
+pub fn functions_begin(program: &Program)
+    ensures { FunctionsBeginWhere program.now.structs program.now.units program.now.entry }
+{
+    accepted_programs_are_orderly();
+    hands_over(program);
+    calls_keep();
+    registers_apart();
+    guards_show();
+    frames_apart();
+    copies_begin();
+}

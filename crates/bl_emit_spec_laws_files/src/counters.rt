@@ -1,0 +1,15 @@
+//! The counters of the activities of an accepted program suffice. A law, as the contract of a function that does nothing: where no rule fails, each
+//! activity has a counter, and all of which a rule of its body asks what they held are counters of it (`specs/Counters.antt`, `AllSuffice`).
+
+ghost use Rattle.bl_emit_spec_laws_files.specs.Counters.{AllSuffice};
+
+use bl_emit_spec_laws::own::copies_are_counters;
+use bl_machine_laws::rests::activities_count;
+
+/// The counters of each activity of an accepted program suffice.
+pub fn counters_suffice()
+    ensures { AllSuffice }
+{
+    activities_count();
+    copies_are_counters();
+}

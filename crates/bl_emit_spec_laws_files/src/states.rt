@@ -1,0 +1,26 @@
+//! What a program keeps from tick to tick in its C file. Between two ticks a C file keeps the numbers of the cells of its three objects
+//! alone. None of these functions does anything: the contract is the law. Where a place of an object leads to a scalar the number there is
+//! kept (`specs/States/Cells.antt`, `AllCellsKept`). So a file that declares the structs of its program keeps what the call of the entry
+//! needs: where all rests, what is remembered, and the outputs (`specs/States/States.antt`, `StatesAreKept`).
+
+ghost use Rattle.bl_emit_spec_laws_files.specs.States.Cells.{AllCellsKept};
+ghost use Rattle.bl_emit_spec_laws_files.specs.States.States.{StatesAreKept};
+
+use bl_ctree_laws_confluence::deeds::accepted_programs_are_orderly;
+use bl_ctree_laws_typing::views::views_are_typed;
+use bl_machine_pass_laws::numbers::trees_stay_placed;
+
+/// Numbers of the objects' scalars are kept.
+pub fn cells_are_kept()
+    ensures { AllCellsKept }
+{}
+
+/// What the call of the entry needs is kept.
+pub fn states_are_kept()
+    ensures { StatesAreKept }
+{
+    accepted_programs_are_orderly();
+    trees_stay_placed();
+    views_are_typed();
+    cells_are_kept();
+}

@@ -1,0 +1,176 @@
+-- What registers have nothing in common with, and so what stays when they change.
+use Rattle.std.proofs.Common.{◌≡◌, ℕ, ◌<◌, arith, Bool, true, false, not, ◌&&◌, ◌||◌, List, [], ◌∷◌, ◌++◌, None}
+use Rattle.std.proofs.Common.{refl, sym, ap, ◌∙◌, append_assoc}
+use Rattle.std.proofs.lemmas.Bool.{eqb-true, ltb-true}
+use Rattle.std.proofs.lemmas.List.{append-nil}
+use Rattle.std.specs.Prelude.{bytes_eq, is_some, ◌==◌, if◌then◌else◌}
+use Rattle.bl_tree.specs.Typing.{TypingContext}
+use Rattle.bl_graph_nodes.specs.Nodes.{EnterAt}
+use Rattle.bl_ctext_semantics.specs.Meaning.{Scope, further}
+use Rattle.bl_ctext_semantics.specs.Memory.{Location, Memory, Projection, Root, input_object, left_after, member, output_object, same_part}
+use Rattle.bl_ctext_semantics.specs.Memory.{same_root, state_object, value_at, variable}
+use Rattle.bl_ctree.specs.Instances.{Setting}
+use Rattle.bl_emit_acts_laws_simulation.specs.Acts.{lies_in}
+use Rattle.bl_emit_acts_laws_simulation.specs.Frames.{is_older}
+use Rattle.bl_emit_acts_laws_simulation.specs.Encodes.{are_apart, ways_part}
+use Rattle.bl_emit_spec.specs.Names.{callee_name, counter_name, flag_name, mark_name, rested_name}
+use Rattle.bl_emit_spec_laws.specs.Registers.Registers.{Before, Counter, Flag, FramePointersAreValid, Mark, Outside, Over, Register, Registered, RegistersEncodedAfter}
+use Rattle.bl_emit_spec_laws.specs.Registers.Registers.{frame_at, has_register, over_at, register_at}
+use Rattle.bl_machine_pass.specs.Registers.{Registers}
+use Rattle.bl_emit_spec_laws.specs.Calls.Built.{Activities, rank_by}
+use Rattle.bl_emit_spec_laws.specs.Calls.Memories as memories
+use Rattle.bl_emit_spec_laws.specs.Calls.Memories.{Nests, inner}
+use Rattle.bl_emit_spec_laws.specs.Calls.Invariant.{PlaceIsSeparate}
+use Rattle.bl_emit_spec_laws_nodes.proofs.OnPoints.Cells.{apart_flip, behind_front, left_apart, or_last, ways_flip, ways_further}
+
+-- ---- roots
+
+pub older_differs : (depth : ℕ) (name : List ℕ) (root : Root) → is_older depth root ≡ true → same_root (variable depth name) root ≡ false
+older_differs depth name state_object h = refl
+older_differs depth name input_object h = refl
+older_differs depth name output_object h = refl
+older_differs depth name (variable d other) h = by (depth == d) refl
+  where
+    by : (same : Bool) → (depth == d) ≡ same → (same && bytes_eq name other) ≡ false
+    by false is = refl
+    by true is =
+        let less : d < depth = ltb-true d depth h in
+        let equal : depth ≡ d = eqb-true depth d is in
+        absurd (omega arith)
+
+-- ---- places further on
+
+split : (same a b : Bool) → (a ≡ true → b ≡ true) → (not same || a) ≡ true → (not same || b) ≡ true
+split true a b next h = next h
+split false a b next h = refl
+
+-- what lies further on keeps apart too
+pub first_further : (p q : Location) (xs : List Projection) → are_apart p q ≡ true → are_apart (further p xs) q ≡ true
+first_further p q xs h =
+    split (same_root p.root q.root) (ways_part p.parts q.parts) (ways_part (p.parts ++ xs) q.parts) (ways_further p.parts q.parts xs) h
+
+pub last_further : (p q : Location) (xs : List Projection) → are_apart p q ≡ true → are_apart p (further q xs) ≡ true
+last_further p q xs h =
+    split (same_root p.root q.root) (ways_part p.parts q.parts) (ways_part p.parts (q.parts ++ xs))
+    (λ part. ways_flip p.parts (q.parts ++ xs) ∙ ways_further q.parts p.parts xs (ways_flip q.parts p.parts ∙ part)) h
+
+-- further on, and on
+pub further_twice : (p : Location) (xs ys : List Projection) → further (further p xs) ys ≡ further p (xs ++ ys)
+further_twice p xs ys = ap (λ (parts : List Projection). record { root = p.root; parts = parts }) (append_assoc p.parts xs ys)
+
+-- no number of a place lies in one that has nothing in common with it
+pub lies_apart : (p q : Location) (way : List Projection) → are_apart p q ≡ true → lies_in p q.root (q.parts ++ way) ≡ false
+lies_apart p q way h = by (same_root p.root q.root) h
+  where
+    by : (same : Bool) → (not same || ways_part p.parts q.parts) ≡ true → (same && is_some (left_after p.parts (q.parts ++ way))) ≡ false
+    by false part = refl
+    by true part =
+        ap is_some (ap (λ front. left_after front (q.parts ++ way)) (sym (append-nil p.parts)) ∙ left_apart p.parts q.parts [] way part)
+
+left_more : (ps more way : List Projection) → is_some (left_after ps way) ≡ false → is_some (left_after (ps ++ more) way) ≡ false
+left_more [] more way h = absurd (cc)
+left_more (p ∷ ps) more [] h = refl
+left_more (p ∷ ps) more (q ∷ qs) h = by (same_part p q) (left_more ps more qs) h
+  where
+    by : (same : Bool) → (is_some (left_after ps qs) ≡ false → is_some (left_after (ps ++ more) qs) ≡ false) →
+        is_some (if same then left_after ps qs else None) ≡ false → is_some (if same then left_after (ps ++ more) qs else None) ≡ false
+    by true again h = again h
+    by false again h = refl
+
+-- what doesn't lie in a place lies nowhere further on
+pub lies_further : (p : Location) (more : List Projection) (root : Root) (way : List Projection) → lies_in p root way ≡ false →
+    lies_in (further p more) root way ≡ false
+lies_further p more root way h = by (same_root p.root root) h
+  where
+    by : (same : Bool) → (same && is_some (left_after p.parts way)) ≡ false → (same && is_some (left_after (p.parts ++ more) way)) ≡ false
+    by false h = refl
+    by true h = left_more p.parts more way h
+
+-- ---- registers
+
+module _ (scope : Scope) where
+  local_apart : (name : List ℕ) (place : Location) → is_older scope.depth place.root ≡ true →
+      are_apart (record { root = variable scope.depth name; parts = [] }) place ≡ true
+  local_apart name place older = ap (λ same. not same || ways_part [] place.parts) (older_differs scope.depth name place.root older)
+
+  -- a place that is older and apart from counters and end is apart from registers
+  pub register_apart : (place : Location) → is_older scope.depth place.root ≡ true → are_apart place (frame_at scope) ≡ true →
+      are_apart place (over_at scope) ≡ true → (x : Register) → are_apart (register_at scope x) place ≡ true
+  register_apart place older frame over (Counter k) =
+      first_further (frame_at scope) place (member (counter_name k) ∷ []) (apart_flip place (frame_at scope) frame)
+  register_apart place older frame over (Before k) = local_apart (rested_name k) place older
+  register_apart place older frame over (Flag k) = local_apart (flag_name k) place older
+  register_apart place older frame over (Mark k) = local_apart (mark_name k) place older
+  register_apart place older frame over Over = first_further (over_at scope) place [] (apart_flip place (over_at scope) over)
+
+  pub register_stands : (site : TypingContext) (place : Location) → PlaceIsSeparate site scope place → (x : Register) →
+      are_apart (register_at scope x) place ≡ true
+  register_stands site place stands = register_apart place stands.older stands.frame stands.over
+
+  -- registers are apart from the counters of what is called
+  pub register_inner : FramePointersAreValid scope → (n : ℕ) (more : List Projection) (x : Register) →
+      are_apart (register_at scope x) (further (frame_at scope) (member (callee_name n) ∷ more)) ≡ true
+  register_inner frame n more (Counter k) =
+      let start = frame_at scope in
+      or_last (not (same_root start.root start.root))
+      (ways_part (start.parts ++ member (counter_name k) ∷ []) (start.parts ++ (member (callee_name n) ∷ more)))
+      (behind_front start.parts (member (counter_name k) ∷ []) (member (callee_name n) ∷ more))
+  register_inner frame n more (Before k) =
+      local_apart (rested_name k) (further (frame_at scope) (member (callee_name n) ∷ more)) frame.frame_older
+  register_inner frame n more (Flag k) =
+      local_apart (flag_name k) (further (frame_at scope) (member (callee_name n) ∷ more)) frame.frame_older
+  register_inner frame n more (Mark k) =
+      local_apart (mark_name k) (further (frame_at scope) (member (callee_name n) ∷ more)) frame.frame_older
+  register_inner frame n more Over =
+      first_further (over_at scope) (further (frame_at scope) (member (callee_name n) ∷ more)) []
+      (last_further (over_at scope) (frame_at scope) (member (callee_name n) ∷ more) (apart_flip (frame_at scope) (over_at scope) frame.apart))
+
+  -- numbers outside of where the pointers lead that belonged to older roots belong to no register
+  pub outside_all : (has : Registered) (root : Root) (way : List Projection) → is_older scope.depth root ≡ true →
+      lies_in (frame_at scope) root way ≡ false →
+      lies_in (over_at scope) root way ≡ false → Outside has scope root way
+  outside_all has root way older frame over = record { each = λ x its. by x }
+    where
+      by : (x : Register) → lies_in (register_at scope x) root way ≡ false
+      by (Counter k) = lies_further (frame_at scope) (member (counter_name k) ∷ []) root way frame
+      by (Before k) = ap (λ same. same && is_some (left_after [] way)) (older_differs scope.depth (rested_name k) root older)
+      by (Flag k) = ap (λ same. same && is_some (left_after [] way)) (older_differs scope.depth (flag_name k) root older)
+      by (Mark k) = ap (λ same. same && is_some (left_after [] way)) (older_differs scope.depth (mark_name k) root older)
+      by Over = lies_further (over_at scope) [] root way over
+
+  -- a place that is apart from registers has what it had
+  pub place_kept : (has : Registered) (r : Registers) (here after : Memory) (place : Location) → RegistersEncodedAfter has scope r here after →
+      ((x : Register) → has_register has x ≡ true → are_apart (register_at scope x) place ≡ true) → (way : List Projection) →
+      value_at after place way ≡ value_at here place way
+  place_kept has r here after place left apart way =
+      left.kept place.root (place.parts ++ way) (record { each = λ x its. lies_apart (register_at scope x) place way (apart x its) })
+
+-- ---- places of what is called
+
+-- the place lies further on
+abbrev pub Beyond : Location → Location → Type 0
+Beyond base place = (more : List Projection) × (place ≡ further base more)
+
+beyond_itself : (place : Location) → Beyond place place
+beyond_itself place = ([], sym (ap (λ (parts : List Projection). record { root = place.root; parts = parts }) (append-nil place.parts)))
+
+beyond_part : (base place : Location) (more : List Projection) → Beyond (further base more) place → Beyond base place
+beyond_part base place more far = (more ++ far.0, far.1 ∙ further_twice base more far.0)
+
+-- the places of what is called lie further on than those of what calls
+pub nests_beyond : (w : Setting) (activities : Activities) (i k : ℕ) (f m f' m' : Location) → Nests w activities i f m k f' m' →
+    Beyond f f' × Beyond m m'
+nests_beyond w activities i k f m f' m' memories.here = (beyond_itself f, beyond_itself m)
+nests_beyond w activities i k f m f' m' (memories.inside {j = j} {l = l} {at = at} {arguments = arguments} there node called deeper) =
+    let n = rank_by w activities i (EnterAt l at arguments) in
+    let found = nests_beyond w activities j k (inner f n) (inner m n) f' m' deeper in (
+      beyond_part f f' (member (callee_name n) ∷ []) found.0,
+      beyond_part m m' (member (callee_name n) ∷ []) found.1,
+    )
+
+-- what lies further on from such a place
+pub inner_is : (base f' : Location) (n : ℕ) (far : Beyond (inner base n) f') (more : List Projection) →
+    further f' more ≡ further base (member (callee_name n) ∷ (far.0 ++ more))
+inner_is base f' n far more =
+    ap (λ (place : Location). further place more) (far.1 ∙ further_twice base (member (callee_name n) ∷ []) far.0)
+    ∙ further_twice base (member (callee_name n) ∷ far.0) more

@@ -1,0 +1,164 @@
+-- What an `if` comes to, and so the block of a node.
+use Rattle.std.proofs.Common.{◌≡◌, ℕ, ◌+◌, Bool, true, false, List, [], ◌∷◌, map, Option, Some, None, refl, sym, ap, ◌∙◌, subst}
+use Rattle.std.specs.Prelude.{option_map, unwrap_or, if◌then◌else◌}
+use Rattle.bl_tree.specs.declared.c.CExpr.{CExpr}
+use Rattle.bl_tree.specs.declared.c.CStmt.{CStmt, fold-roll-CStmt, roll-CStmt}
+use Rattle.bl_tree.specs.declared.c.CStmtKind.{CStmtKind, CStmtKind-F, fold-roll-CStmtKind, roll-CStmtKind}
+use Rattle.bl_tree.specs.declared.c.CStmtKind.TheVariants as statement
+use Rattle.bl_tree.specs.Numbers.{is_one, number_of}
+use Rattle.bl_ctext_semantics.specs.Course.{End, Outcome, breaks, ended_by, following_end, goes_on, returns, traps}
+use Rattle.bl_ctext_semantics.specs.Memory.{CValue, Memory, number_in}
+use Rattle.bl_ctext_semantics.specs.Meaning.{Scope, block_c, block_of, executed, runs_c, value_c}
+use Rattle.bl_emit_acts.specs.Trees.{nowhere}
+use Rattle.bl_emit_functions.specs.Trees.{c_if}
+use Rattle.bl_emit_spec.specs.Activities.{view_of}
+use Rattle.bl_emit_spec.specs.Blocks.{guard_of, node_code}
+use Rattle.bl_emit_spec_laws.specs.Registers.Laws.{GuardsEvaluate}
+use Rattle.bl_ctree.specs.Instances.{Setting, setting_of}
+use Rattle.bl_ctree.specs.Store.{Store}
+use Rattle.bl_emit_spec_laws.specs.Calls.Built.{Activities, activity_at, rank_by, registered, slots_by}
+use Rattle.bl_emit_spec_laws.specs.Calls.Laws.{Midway, guarded}
+use Rattle.bl_machine_pass.specs.Registers.{Registers, is_due}
+use Rattle.bl_machine_pass.specs.Transitions.{Transition}
+use Rattle.bl_machine_pass_laws_execution.specs.Executes.{HasRule}
+use Rattle.bl_machine_pass_laws_execution.specs.Frames.{Frames}
+use Rattle.bl_tree.specs.declared.tree.StructDef.{StructDef}
+use Rattle.bl_tree.specs.declared.tree.Unit.{Unit as UnitDef}
+use Rattle.bl_tree.specs.declared.value.Value.{Value}
+use Rattle.bl_machine.specs.declared.machine.Activity.{Activity as InMachine}
+use Rattle.bl_emit_spec_laws_nodes.specs.Points.Laws.{BlocksChoose, GuardsSimulate, RulesOwn}
+
+-- two outcomes that differ at most in their counts
+abbrev pub Alike : Outcome Memory → Outcome Memory → Type 0
+Alike o p = (o.end ≡ p.end) × (o.memory ≡ p.memory)
+
+module _ (scope : Scope) where
+  -- one statement alone
+  pub alone_alike : (s : CStmt) (m : Memory) → Alike (block_c (s ∷ []) scope m) (runs_c s scope m)
+  alone_alike s m = by (runs_c s scope m).count (runs_c s scope m).memory (runs_c s scope m).end
+    where
+      by : (n : ℕ) (k : Memory) (e : End) → Alike (following_end n k e (block_c [] scope)) (record { memory = k; end = e; count = n })
+      by n k goes_on = (refl, refl)
+      by n k breaks = (refl, refl)
+      by n k (returns x) = (refl, refl)
+      by n k traps = (refl, refl)
+
+abbrev what : CStmtKind-F CStmtKind CStmt → CStmt
+what layer = roll-CStmt (record { place = nowhere; what = roll-CStmtKind layer })
+
+module _ (scope : Scope) (here : Memory) where
+  -- what an `if` does whose condition is evaluated
+  abbrev chooses : CExpr → List CStmt → Option (List CStmt) → Outcome Memory
+  chooses test block other =
+      executed here (value_c test scope here)
+      (λ v. (if is_one (number_in v) then block_of (map runs_c block) else block_of (unwrap_or (option_map (map runs_c) other) [])) scope here)
+
+  if-open : (test : CExpr) (block : List CStmt) (other : Option (List CStmt)) → runs_c (what (CStmtKind-F.If test block other)) scope here
+      ≡ chooses test block other
+  if-open test block None = rw (fold-roll-CStmt, fold-roll-CStmtKind) refl
+  if-open test block (Some stmts) = rw (fold-roll-CStmt, fold-roll-CStmtKind) refl
+
+  pub if-runs : (test : CExpr) (block : List CStmt) (other : Option (List CStmt)) →
+      runs_c (c_if test block other) scope here ≡ chooses test block other
+  if-runs test block other =
+      subst (λ (k : CStmtKind). runs_c (roll-CStmt (record { place = nowhere; what = k })) scope here ≡ chooses test block other)
+      (statement.rolls-If test block other) (if-open test block other)
+
+-- whether a condition is true in C; none where it traps
+abbrev pub truth_c : Scope → CExpr → Memory → Option Bool
+truth_c scope test m = option_map (λ v. is_one (number_in v)) (value_c test scope m).answer
+
+-- an `if` comes to what its chosen block comes to
+abbrev pub Chosen : Scope → Memory → (End → Memory → Type 0) → List CStmt → Option (List CStmt) → Option Bool → Type 0
+Chosen scope here Q block other None = Q traps here
+Chosen scope here Q block other (Some true) = Q (block_c block scope here).end (block_c block scope here).memory
+Chosen scope here Q block other (Some false) = Q (block_c (unwrap_or other []) scope here).end (block_c (unwrap_or other []) scope here).memory
+
+module _ (scope : Scope) (here : Memory) (Q : End → Memory → Type 0) where
+  abbrev Of : Outcome Memory → Type 0
+  Of o = Q o.end o.memory
+
+  by_choice : (block : List CStmt) (other : Option (List CStmt)) (b : Bool) → Chosen scope here Q block other (Some b) →
+      Of ((if b then block_of (map runs_c block) else block_of (unwrap_or (option_map (map runs_c) other) [])) scope here)
+  by_choice block other true h = h
+  by_choice block None false h = h
+  by_choice block (Some stmts) false h = h
+
+  by_answer : (block : List CStmt) (other : Option (List CStmt)) (n : ℕ) (a : Option CValue) →
+      Chosen scope here Q block other (option_map (λ v. is_one (number_in v)) a) →
+      Of (ended_by here n a (λ v. (if is_one (number_in v) then block_of (map runs_c block) else block_of
+      (unwrap_or (option_map (map runs_c) other) [])) scope here))
+  by_answer block other n None h = h
+  by_answer block other n (Some v) h = by_choice block other (is_one (number_in v)) h
+
+  pub if_comes : (test : CExpr) (block : List CStmt) (other : Option (List CStmt)) → Chosen scope here Q block other (truth_c scope test here) →
+      Of (runs_c (c_if test block other) scope here)
+  if_comes test block other h =
+      let c = value_c test scope here in
+      subst (λ (o : Outcome Memory). Q o.end o.memory) (sym (if-runs scope here test block other)) (by_answer block other (1 + c.count) c.answer h)
+
+-- ---- tests
+
+is_bit : (b : Bool) → is_one (number_of b) ≡ b
+is_bit true = refl
+is_bit false = refl
+
+both_maps : (a : Option CValue) → option_map (λ v. is_one (number_in v)) a ≡ option_map is_one (option_map number_in a)
+both_maps None = refl
+both_maps (Some v) = refl
+
+-- an `if` alone
+pub if_alone : (scope : Scope) (here : Memory) (Q : End → Memory → Type 0) (test : CExpr) (block : List CStmt) (other : Option (List CStmt)) →
+    Chosen scope here Q block other (truth_c scope test here) →
+    Q (block_c (c_if test block other ∷ []) scope here).end (block_c (c_if test block other ∷ []) scope here).memory
+if_alone scope here Q test block other chosen =
+    let s = c_if test block other in
+    let alone = alone_alike scope s here in
+    let done : Q (runs_c s scope here).end (runs_c s scope here).memory = if_comes scope here Q test block other chosen in
+    subst (λ (m : Memory). Q (block_c (s ∷ []) scope here).end m) (sym alone.1)
+    (subst (λ (e : End). Q e (runs_c s scope here).memory) (sym alone.0) done)
+
+-- one whose test has this answer
+if_block : (scope : Scope) (here : Memory) (Q : End → Memory → Type 0) (test : CExpr) (block : List CStmt) (other : Option (List CStmt))
+    (b : Bool) →
+    option_map number_in (value_c test scope here).answer ≡ Some (number_of b) → Chosen scope here Q block other (Some b) →
+    Q (block_c (c_if test block other ∷ []) scope here).end (block_c (c_if test block other ∷ []) scope here).memory
+if_block scope here Q test block other b shown chosen =
+    let truth : truth_c scope test here ≡ Some b =
+    both_maps (value_c test scope here).answer ∙ (ap (option_map is_one) shown ∙ ap Some (is_bit b)) in
+    if_alone scope here Q test block other (subst (Chosen scope here Q block other) (sym truth) chosen)
+
+-- ---- blocks
+
+-- an `if` by the guard of a rule, where it is known whether the rule is due
+module _ (show : GuardsEvaluate) (structs : List StructDef) (units : List UnitDef) (entry : ℕ) (machine : List InMachine) (activities : Activities)
+    (own : RulesOwn (setting_of structs units entry) activities) where
+  abbrev w : Setting
+  w = setting_of structs units entry
+
+  chosen : (i : ℕ) (unit : UnitDef) (scope : Scope) (frames : Frames) (store : Store) (copies : List Value) (r : Registers) (rule : Transition)
+      (code : List CStmt) (here : Memory) → Midway structs units entry machine activities i unit scope frames store copies r here →
+      HasRule (slots_by w activities) i unit rule → (b : Bool) → is_due (rank_by w activities i) rule r ≡ b → (Q : End → Memory → Type 0) →
+      Chosen scope here Q code None (Some b) →
+      Q (block_c (guarded (view_of (activity_at w activities i)) rule code ∷ []) scope here).end
+      (block_c (guarded (view_of (activity_at w activities i)) rule code ∷ []) scope here).memory
+  chosen i unit scope frames store copies r rule code here midway there b due Q so =
+      let a = activity_at w activities i in
+      let asks = own.asks i unit rule midway.is_there there in
+      let shown = show (view_of a) (registered a) scope rule.node rule.asked r here midway.stands.registers midway.within.rested asks in
+      if_block scope here Q (guard_of (view_of a) rule.node rule.asked) code None b (shown ∙ ap (λ b. Some (number_of b)) due) so
+
+pub guards_choose : GuardsEvaluate → GuardsSimulate
+guards_choose show structs units entry machine activities own = record {
+  enters = λ i unit scope frames store copies r rule code here midway there due.
+      chosen show structs units entry machine activities own i unit scope frames store copies r rule code here midway there true due
+      (λ e m. (e ≡ (block_c code scope here).end) × (m ≡ (block_c code scope here).memory)) (refl, refl);
+  skips = λ i unit scope frames store copies r rule code here midway there due.
+      chosen show structs units entry machine activities own i unit scope frames store copies r rule code here midway there false due
+      (λ e m. (e ≡ goes_on) × (m ≡ here)) (refl, refl);
+}
+
+pub choose : GuardsEvaluate → BlocksChoose
+choose show structs units entry machine activities own i unit scope frames store copies r rule u here midway there due =
+    (guards_choose show structs units entry machine activities own).enters i unit scope frames store copies r rule
+    (node_code (view_of (activity_at (setting_of structs units entry) activities i)) u rule rule.node) here midway there due

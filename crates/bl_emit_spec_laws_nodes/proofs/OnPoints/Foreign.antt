@@ -1,0 +1,154 @@
+-- Numbers of memory that an act of an instance may not write.
+use Rattle.std.proofs.Common.{◌≡◌, ℕ, ◌<◌, arith, Bool, true, false, not, ◌&&◌, ◌||◌, List, []}
+use Rattle.std.proofs.Common.{◌∷◌, ◌++◌, Some, refl, sym, ap, ◌∙◌}
+use Rattle.std.proofs.lemmas.Bool.{le-leb, ltb-true}
+use Rattle.std.specs.Prelude.{is_some}
+use Rattle.bl_tree.specs.declared.text.Text.{Text}
+use Rattle.bl_tree.specs.declared.tree.Unit.{Unit as UnitDef}
+use Rattle.bl_tree.specs.declared.tree.Var.{Var}
+use Rattle.bl_tree.specs.Program.{is_input}
+use Rattle.bl_tree.specs.Typing.{TypingContext, is_activity, var_at}
+use Rattle.bl_ctext_semantics.specs.Meaning.{Scope, further}
+use Rattle.bl_ctext_semantics.specs.Memory.{Location, Projection, Root, input_object, left_after, member, output_object, same_root, state_object, variable}
+use Rattle.bl_emit_acts.specs.declared.home.Home.{Home}
+use Rattle.bl_emit_acts.specs.declared.home.Home.TheVariants.{Given, Held, Lent}
+use Rattle.bl_emit_acts.specs.Types.{copy_name, variable_name}
+use Rattle.bl_emit_acts_laws_simulation.specs.Acts.{Foreign, copy_location, lies_in}
+use Rattle.bl_emit_acts_laws_simulation.specs.Frames.{is_older, lent_at, remembered_at}
+use Rattle.bl_emit_acts_laws_simulation.specs.Encodes.{are_apart, home_at, is_live, lead_in, location_in, start_in, ways_part}
+use Rattle.bl_emit_spec.specs.Names.{callee_name}
+use Rattle.bl_emit_spec_laws.specs.Registers.Registers.{Register, RegistersApart, RegistersBeside, Registered, frame_at, register_at}
+use Rattle.bl_emit_spec_laws.specs.Calls.Laws.{PassOutside}
+use Rattle.bl_emit_spec_laws.specs.Calls.Invariant.{PlacesAreSeparate, result_at_c}
+use Rattle.bl_emit_spec_laws_nodes.proofs.OnPoints.Apart.{first_further, last_further, lies_apart, lies_further, older_differs}
+use Rattle.bl_emit_spec_laws_nodes.proofs.OnPoints.Cells.{apart_flip, behind_front, or_last}
+
+older_live : (depth : ℕ) (root : Root) → is_older depth root ≡ true → is_live depth root ≡ true
+older_live depth state_object h = refl
+older_live depth input_object h = refl
+older_live depth output_object h = refl
+older_live depth (variable d name) h = let less : d < depth = ltb-true d depth h in le-leb d depth (omega arith)
+
+roots_differ : (p q : Location) → same_root p.root q.root ≡ false → are_apart p q ≡ true
+roots_differ p q h = ap (λ same. not same || ways_part p.parts q.parts) h
+
+module _ (site : TypingContext) (unit : UnitDef) (remembers : Bool) (scope : Scope) (places : PlacesAreSeparate site unit remembers scope)
+    (active : is_activity site.kind ≡ true)
+    (held_here : (k : ℕ) (var : Var) → var_at site k ≡ Some var → home_at site k ≡ Held → remembers ≡ true) (copied : ℕ → Bool) where
+  pub local_older : (p q : Location) (name : Text) → p.root ≡ variable scope.depth name → is_older scope.depth q.root ≡ true →
+      are_apart p q ≡ true
+  local_older p q name is older =
+      roots_differ p q (ap (λ root. same_root root q.root) is ∙ older_differs scope.depth name q.root older)
+
+  -- ---- places
+
+  abbrev place_of : Bool → Home → ℕ → Location
+  place_of activity home k = further (start_in scope activity home k) (lead_in home k ++ [])
+
+  -- no variable has anything in common with an older place that is apart from what the pointers lead to
+  pub variable_apart : (place : Location) → is_older scope.depth place.root ≡ true →
+      ((k : ℕ) (var : Var) → var_at site k ≡ Some var → home_at site k ≡ Lent → are_apart place (lent_at scope k) ≡ true) →
+      ((k : ℕ) (var : Var) → var_at site k ≡ Some var → home_at site k ≡ Held →
+      are_apart (further (remembered_at scope) (member (variable_name k) ∷ [])) place ≡ true) →
+      (k : ℕ) (var : Var) → var_at site k ≡ Some var → are_apart (location_in scope site k []) place ≡ true
+  variable_apart place older lent held k var there = by (is_activity site.kind) (home_at site k) refl refl
+    where
+      no_such : false ≡ true → ⊥
+      no_such h = cc
+
+      by : (activity : Bool) (x : Home) → is_activity site.kind ≡ activity → home_at site k ≡ x → are_apart (place_of activity x k) place ≡ true
+      by false Held kind is = absurd (no_such (sym kind ∙ active))
+      by true Held kind is = held k var there is
+      by activity Given kind is = local_older (place_of activity Given k) place (variable_name k) refl older
+      by activity Lent kind is = first_further (lent_at scope k) place [] (apart_flip place (lent_at scope k) (lent k var there is))
+
+  -- so it is foreign
+  foreign_place : (place : Location) → is_live scope.depth place.root ≡ true →
+      ((k : ℕ) (var : Var) → var_at site k ≡ Some var → are_apart (location_in scope site k []) place ≡ true) →
+      ((k : ℕ) → are_apart (copy_location scope k) place ≡ true) → (way : List Projection) → Foreign site copied scope place.root (place.parts ++ way)
+  foreign_place place live variables copies way = record {
+    live = live;
+    variables = λ k var there writable. lies_apart (location_in scope site k []) place way (variables k var there);
+    copies = λ k its. lies_apart (copy_location scope k) place way (copies k);
+  }
+
+  foreign_older : (place : Location) → is_older scope.depth place.root ≡ true →
+      ((k : ℕ) (var : Var) → var_at site k ≡ Some var → home_at site k ≡ Lent → are_apart place (lent_at scope k) ≡ true) →
+      ((k : ℕ) (var : Var) → var_at site k ≡ Some var → home_at site k ≡ Held →
+      are_apart (further (remembered_at scope) (member (variable_name k) ∷ [])) place ≡ true) → (way : List Projection) →
+      Foreign site copied scope place.root (place.parts ++ way)
+  foreign_older place older lent held =
+      foreign_place place (older_live scope.depth place.root older) (variable_apart place older lent held)
+      (λ k. local_older (copy_location scope k) place (copy_name k) refl older)
+
+  -- ---- registers, what is called, and the result
+
+  pub foreign_register : (has : Registered) → RegistersApart has scope → RegistersBeside site scope → (x : Register) (way : List Projection) →
+      Foreign site copied scope (register_at scope x).root ((register_at scope x).parts ++ way)
+  foreign_register has apart beside x =
+      foreign_place (register_at scope x) (apart.live x)
+      (λ k var there. apart_flip (register_at scope x) (location_in scope site k []) (beside.variables x k var there))
+      (λ k. apart_flip (register_at scope x) (copy_location scope k) (beside.copies x k))
+
+  pub foreign_counter : (more : List Projection) (way : List Projection) →
+      Foreign site copied scope (further (frame_at scope) more).root ((further (frame_at scope) more).parts ++ way)
+  foreign_counter more =
+      let place = further (frame_at scope) more in
+      foreign_older place places.frame.frame_older
+      (λ k var there is. first_further (frame_at scope) (lent_at scope k) more (places.frame_apart.lent k var there is))
+      (λ k var there is.
+      first_further (remembered_at scope) place (member (variable_name k) ∷ [])
+      (last_further (remembered_at scope) (frame_at scope) more
+      (apart_flip (frame_at scope) (remembered_at scope) (places.frame_apart.remembered k var there is active))))
+
+  pub foreign_memory : remembers ≡ true → (n : ℕ) (more : List Projection) (way : List Projection) →
+      Foreign site copied scope (further (remembered_at scope) (member (callee_name n) ∷ more)).root
+      ((further (remembered_at scope) (member (callee_name n) ∷ more)).parts ++ way)
+  foreign_memory its n more =
+      let start = remembered_at scope in
+      foreign_older (further start (member (callee_name n) ∷ more)) (places.memory its).older
+      (λ k var there is. first_further start (lent_at scope k) (member (callee_name n) ∷ more) ((places.memory its).lent k var there is))
+      (λ k var there is.
+      or_last (not (same_root start.root start.root))
+      (ways_part (start.parts ++ member (variable_name k) ∷ []) (start.parts ++ (member (callee_name n) ∷ more)))
+      (behind_front start.parts (member (variable_name k) ∷ []) (member (callee_name n) ∷ more)))
+
+  pub foreign_result : is_some unit.result ≡ true → (way : List Projection) →
+      Foreign site copied scope (result_at_c scope).root ((result_at_c scope).parts ++ way)
+  foreign_result one =
+      foreign_older (result_at_c scope) (places.result one).older (places.result one).lent
+      (λ k var there is.
+      first_further (remembered_at scope) (result_at_c scope) (member (variable_name k) ∷ [])
+      (apart_flip (result_at_c scope) (remembered_at scope) (places.result_apart one (held_here k var there is))))
+
+  -- no variable has anything in common with the result
+  pub result_variable : is_some unit.result ≡ true → (k : ℕ) (var : Var) → var_at site k ≡ Some var →
+      are_apart (location_in scope site k []) (result_at_c scope) ≡ true
+  result_variable one =
+      variable_apart (result_at_c scope) (places.result one).older (places.result one).lent
+      (λ k var there is.
+      first_further (remembered_at scope) (result_at_c scope) (member (variable_name k) ∷ [])
+      (apart_flip (result_at_c scope) (remembered_at scope) (places.result_apart one (held_here k var there is))))
+
+  -- ---- what was there before
+
+  pub foreign_outside : (root : Root) (way : List Projection) → is_older scope.depth root ≡ true → PassOutside site unit remembers scope root way →
+      Foreign site copied scope root way
+  foreign_outside root way older outside = record {
+    live = older_live scope.depth root older;
+    variables = λ k var there writable. by k var there writable (is_activity site.kind) (home_at site k) refl refl;
+    copies = λ k its. ap (λ same. same && is_some (left_after [] way)) (older_differs scope.depth (copy_name k) root older);
+  }
+    where
+      no_such : false ≡ true → ⊥
+      no_such h = cc
+
+      by : (k : ℕ) (var : Var) → var_at site k ≡ Some var → is_input var.role ≡ false → (activity : Bool) (x : Home) →
+          is_activity site.kind ≡ activity →
+          home_at site k ≡ x → lies_in (place_of activity x k) root way ≡ false
+      by k var there writable false Held kind is = absurd (no_such (sym kind ∙ active))
+      by k var there writable true Held kind is =
+          lies_further (remembered_at scope) (member (variable_name k) ∷ []) root way (outside.memory (held_here k var there is))
+      by k var there writable activity Given kind is =
+          ap (λ same. same && is_some (left_after [] way)) (older_differs scope.depth (variable_name k) root older)
+      by k var there writable activity Lent kind is = lies_further (lent_at scope k) [] root way (outside.outputs k var there is writable)

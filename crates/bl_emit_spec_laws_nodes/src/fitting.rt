@@ -1,0 +1,17 @@
+//! What is done at the nodes of a program that is accepted. Laws, as contracts of functions that do nothing: at each node stands an act or a
+//! `return` that fits, or a condition that does (`specs/Fitting.antt`, `NodesFit`), and no output of a call overlaps another output or an
+//! aggregate input (`CallsApart`).
+
+ghost use Rattle.bl_emit_spec_laws_nodes.specs.Fitting.{CallsApart, NodesFit};
+
+use bl_tree::Program;
+
+/// What is done at nodes fits where it stands.
+pub fn nodes_fit(_program: &Program)
+    ensures { NodesFit _program.now.structs _program.now.units _program.now.entry }
+{}
+
+/// No output of a call at a node overlaps another output or an aggregate input.
+pub fn nodes_apart(_program: &Program)
+    ensures { CallsApart _program.now.structs _program.now.units _program.now.entry }
+{}

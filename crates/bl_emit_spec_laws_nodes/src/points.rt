@@ -1,0 +1,94 @@
+//! Laws of the C of an activity's pass where nothing is done but changes of registers. None of these functions does anything: the contract
+//! is the law (`specs/Points/Laws.antt`). The C of changes leaves in the middle of a pass memory that stands for the changed registers and for all
+//! else as before (`ChangesSimulateInPass`); an `if` by the guard of a rule does what stands in it where the rule is due, and else nothing
+//! (`GuardsSimulate`), so a block whose rule is due does what the C of its node does (`BlocksChoose`); the blocks of nodes at which nothing is done
+//! but changes do what a pass by rules does (`SilentNodesSimulate`). Premises are that all that rules ask and change are registers of their activity
+//! (`RulesOwn`), that nothing but a `return` ends a body with a result (`ReturnsEnd`), and that an activity remembers what those that it calls
+//! remember (`Remembering`).
+
+ghost use Rattle.bl_emit_spec_laws_nodes.specs.Points.Acts.{ActNodesSimulate, ReturnNodesSimulate};
+ghost use Rattle.bl_emit_spec_laws_nodes.specs.Points.Laws.{BlocksChoose, ChangesSimulateInPass, GuardsSimulate, SilentNodesSimulate};
+ghost use Rattle.bl_emit_spec_laws_nodes.specs.Points.Nodes.{TestNodesSimulate};
+ghost use Rattle.bl_emit_spec_laws_nodes.specs.Points.Points.{BodiesEnd, PointsSimulate};
+
+use bl_emit_acts_laws_simulation::{acts_simulate, expressions_simulate, frames_apart};
+use bl_emit_spec_laws::registers::{changes_simulate, guards_show, registers_apart};
+use bl_tree::Program;
+
+/// In the middle of a pass the C of changes changes the registers alone.
+pub fn changes_stand()
+    ensures { ChangesSimulateInPass }
+{
+    changes_simulate();
+    registers_apart();
+}
+
+/// An `if` by the guard of a rule does what stands in it where the rule is due, and else nothing.
+pub fn guards_choose()
+    ensures { GuardsSimulate }
+{
+    guards_show();
+}
+
+/// A block whose rule is due does what the C of its node does.
+pub fn blocks_choose()
+    ensures { BlocksChoose }
+{
+    guards_show();
+}
+
+/// The blocks of nodes at which nothing is done but changes do what a pass by rules does there.
+pub fn silent_nodes_simulate()
+    ensures { SilentNodesSimulate }
+{
+    changes_stand();
+    blocks_choose();
+}
+
+/// The blocks of nodes at which a condition is tested do what a pass by rules does there.
+pub fn test_nodes_simulate(program: &Program)
+    ensures { TestNodesSimulate program.now.structs program.now.units program.now.entry }
+{
+    changes_stand();
+    blocks_choose();
+    frames_apart();
+    expressions_simulate(program);
+}
+
+/// The blocks of nodes at which an act is done do what a pass by rules does there.
+pub fn act_nodes_simulate(program: &Program)
+    ensures { ActNodesSimulate program.now.structs program.now.units program.now.entry }
+{
+    changes_stand();
+    blocks_choose();
+    frames_apart();
+    registers_apart();
+    acts_simulate(program);
+}
+
+/// Nothing but a `return` ends the body of an activity with a result.
+pub fn returns_end(_program: &Program)
+    ensures { BodiesEnd _program.now.structs _program.now.units _program.now.entry }
+{}
+
+/// The blocks of nodes at which a `return` is done do what a pass by rules does there.
+pub fn return_nodes_simulate(program: &Program)
+    ensures { ReturnNodesSimulate program.now.structs program.now.units program.now.entry }
+{
+    changes_stand();
+    blocks_choose();
+    frames_apart();
+    expressions_simulate(program);
+}
+
+/// The blocks of all nodes but those of a `run` do what a pass by rules does there.
+pub fn points_simulate(program: &Program)
+    ensures { PointsSimulate program.now.structs program.now.units program.now.entry }
+{
+    silent_nodes_simulate();
+    guards_choose();
+    test_nodes_simulate(program);
+    act_nodes_simulate(program);
+    return_nodes_simulate(program);
+    returns_end(program);
+}

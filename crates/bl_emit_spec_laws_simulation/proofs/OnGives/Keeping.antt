@@ -1,0 +1,268 @@
+-- The places that a `run` hands over keep apart, and are there.
+use Rattle.std.proofs.Common.{◌≡◌, ℕ, ◌<◌, arith, Bool, true, false, not, ◌&&◌}
+use Rattle.std.proofs.Common.{◌||◌, List, [], ◌∷◌, ◌++◌, Some, refl, sym, ap, ◌∙◌}
+use Rattle.std.proofs.lemmas.Bool.{le-leb, ltb-true}
+use Rattle.std.specs.List.{list_all}
+use Rattle.std.specs.Prelude.{bytes_eq, is_some, nat_le, ◌==◌}
+use Rattle.bl_tree.specs.declared.tree.Unit.{Unit as UnitDef}
+use Rattle.bl_tree.specs.declared.tree.Var.{Var}
+use Rattle.bl_tree.specs.Typing.{TypingContext, is_activity, var_at}
+use Rattle.bl_eval.proofs.PassLemmas.{and_left, and_right, both}
+use Rattle.bl_ctext_semantics.specs.Meaning.{ArgumentValue, Scope, further, start_of}
+use Rattle.bl_ctext_semantics.specs.Memory.{Location, Projection, Root, input_object, member, output_object, same_root, state_object, variable}
+use Rattle.bl_emit_acts.specs.declared.home.Home.{Home}
+use Rattle.bl_emit_acts.specs.declared.home.Home.TheVariants.{Given as ByValue, Held, Lent}
+use Rattle.bl_emit_acts.specs.Types.{variable_name}
+use Rattle.bl_emit_acts_laws_simulation.specs.Acts.{MayPass, all_apart, places_in_args}
+use Rattle.bl_emit_acts_laws_simulation.specs.Arguments.{ApartFromVariables}
+use Rattle.bl_emit_acts_laws_simulation.specs.Frames.{is_older, lent_at, remembered_at}
+use Rattle.bl_emit_acts_laws_simulation.specs.Encodes.{are_apart, home_at, is_live, lead_in, start_in, ways_part}
+use Rattle.bl_emit_spec.specs.Names.{callee_name, ended_name, given_name}
+use Rattle.bl_emit_spec_laws.specs.Registers.Registers.{frame_at}
+use Rattle.bl_emit_spec_laws.specs.Calls.Calls.{MayGive, where_true, written_by}
+use Rattle.bl_emit_spec_laws.specs.Calls.Memories.{inner}
+use Rattle.bl_emit_spec_laws.specs.Calls.Invariant.{PlacesAreSeparate}
+use Rattle.bl_emit_spec_laws_nodes.specs.Calling.{given_by}
+use Rattle.bl_emit_spec_laws_nodes.proofs.OnPoints.Apart.{first_further, last_further, older_differs}
+use Rattle.bl_emit_spec_laws_nodes.proofs.OnPoints.Cells.{apart_flip, behind_front, or_last}
+
+-- ---- lists of places
+
+append_all : (f : Location → Bool) (xs ys : List Location) → list_all f xs ≡ true → list_all f ys ≡ true → list_all f (xs ++ ys) ≡ true
+append_all f [] ys one other = other
+append_all f (x ∷ xs) ys one other =
+    both (f x) (list_all f (xs ++ ys)) (and_left (f x) (list_all f xs) one) (append_all f xs ys (and_right (f x) (list_all f xs) one) other)
+
+single_all : (f : Location → Bool) (x : Location) → f x ≡ true → list_all f (x ∷ []) ≡ true
+single_all f x one = both (f x) true one refl
+
+where_all : (f : Location → Bool) (test : Bool) (x : Location) → (test ≡ true → f x ≡ true) → list_all f (where_true test x) ≡ true
+where_all f true x one = single_all f x (one refl)
+where_all f false x one = refl
+
+where_apart : (test : Bool) (x : Location) → all_apart (where_true test x) ≡ true
+where_apart true x = refl
+where_apart false x = refl
+
+-- each of these has nothing in common with any of the others
+abbrev Parted : List Location → List Location → Type 0
+Parted xs ys = list_all (λ x. list_all (are_apart x) ys) xs ≡ true
+
+append_apart : (xs ys : List Location) → all_apart xs ≡ true → all_apart ys ≡ true → Parted xs ys → all_apart (xs ++ ys) ≡ true
+append_apart [] ys one other parted = other
+append_apart (x ∷ xs) ys one other parted =
+    both (list_all (are_apart x) (xs ++ ys)) (all_apart (xs ++ ys))
+    (append_all (are_apart x) xs ys (and_left (list_all (are_apart x) xs) (all_apart xs) one)
+    (and_left (list_all (are_apart x) ys) (list_all (λ x. list_all (are_apart x) ys) xs) parted))
+    (append_apart xs ys (and_right (list_all (are_apart x) xs) (all_apart xs) one) other
+    (and_right (list_all (are_apart x) ys) (list_all (λ x. list_all (are_apart x) ys) xs) parted))
+
+first_apart : (x : Location) (ys : List Location) → list_all (are_apart x) ys ≡ true → all_apart ys ≡ true → all_apart (x ∷ ys) ≡ true
+first_apart x ys one other = both (list_all (are_apart x) ys) (all_apart ys) one other
+
+-- what is apart from a place, one by one
+flip_all : (x : Location) (ys : List Location) → list_all (are_apart x) ys ≡ true → list_all (λ y. are_apart y x) ys ≡ true
+flip_all x [] all = refl
+flip_all x (y ∷ ys) all =
+    both (are_apart y x) (list_all (λ y. are_apart y x) ys) (apart_flip x y (and_left (are_apart x y) (list_all (are_apart x) ys) all))
+    (flip_all x ys (and_right (are_apart x y) (list_all (are_apart x) ys) all))
+
+parted_nothing : (xs : List Location) → Parted xs []
+parted_nothing [] = refl
+parted_nothing (x ∷ xs) = parted_nothing xs
+
+parted_more : (xs : List Location) (y : Location) (ys : List Location) → list_all (λ x. are_apart x y) xs ≡ true → Parted xs ys →
+    Parted xs (y ∷ ys)
+parted_more [] y ys one other = refl
+parted_more (x ∷ xs) y ys one other =
+    both (list_all (are_apart x) (y ∷ ys)) (list_all (λ x. list_all (are_apart x) (y ∷ ys)) xs)
+    (both (are_apart x y) (list_all (are_apart x) ys) (and_left (are_apart x y) (list_all (λ x. are_apart x y) xs) one)
+    (and_left (list_all (are_apart x) ys) (list_all (λ x. list_all (are_apart x) ys) xs) other))
+    (parted_more xs y ys (and_right (are_apart x y) (list_all (λ x. are_apart x y) xs) one)
+    (and_right (list_all (are_apart x) ys) (list_all (λ x. list_all (are_apart x) ys) xs) other))
+
+parted_where : (xs : List Location) (test : Bool) (y : Location) (ys : List Location) → (test ≡ true → list_all (λ x. are_apart x y) xs ≡ true) →
+    Parted xs ys → Parted xs (where_true test y ++ ys)
+parted_where xs true y ys one other = parted_more xs y ys (one refl) other
+parted_where xs false y ys one other = other
+
+where_parted : (test : Bool) (x : Location) (ys : List Location) → (test ≡ true → list_all (are_apart x) ys ≡ true) → Parted (where_true test x) ys
+where_parted true x ys one = both (list_all (are_apart x) ys) true (one refl) refl
+where_parted false x ys one = refl
+
+-- ---- two places
+
+no_part : (b : Bool) → (b && false) ≡ false
+no_part true = refl
+no_part false = refl
+
+roots_apart : (p q : Location) → same_root p.root q.root ≡ false → are_apart p q ≡ true
+roots_apart p q differ = ap (λ same. not same || ways_part p.parts q.parts) differ
+
+-- variables of a function with different names
+locals_apart : (depth : ℕ) (p q : Location) (a b : List ℕ) → p.root ≡ variable depth a → q.root ≡ variable depth b → bytes_eq a b ≡ false →
+    are_apart p q ≡ true
+locals_apart depth p q a b first second differ =
+    roots_apart p q
+    (ap (λ root. same_root root q.root) first
+    ∙ (ap (same_root (variable depth a)) second ∙ (ap (λ same. (depth == depth) && same) differ ∙ no_part (depth == depth))))
+
+local_older : (depth : ℕ) (p q : Location) (name : List ℕ) → p.root ≡ variable depth name → is_older depth q.root ≡ true →
+    are_apart p q ≡ true
+local_older depth p q name is older = roots_apart p q (ap (λ root. same_root root q.root) is ∙ older_differs depth name q.root older)
+
+pub older_live : (depth : ℕ) (root : Root) → is_older depth root ≡ true → is_live depth root ≡ true
+older_live depth state_object h = refl
+older_live depth input_object h = refl
+older_live depth output_object h = refl
+older_live depth (variable d name) h = let less : d < depth = ltb-true d depth h in le-leb d depth (omega arith)
+
+own_live : (depth : ℕ) → nat_le depth depth ≡ true
+own_live depth = le-leb depth depth (omega arith)
+
+module _ (site : TypingContext) (unit : UnitDef) (remembers : Bool) (scope : Scope) (places : PlacesAreSeparate site unit remembers scope)
+    (active : is_activity site.kind ≡ true) (n : ℕ) where
+  -- ---- where a `run` of the function keeps what it hands over
+
+  abbrev pub frame : Location
+  frame = inner (frame_at scope) n
+
+  abbrev pub memory : Location
+  memory = inner (remembered_at scope) n
+
+  abbrev pub result : Location
+  result = start_of scope false (given_name n)
+
+  abbrev pub over : Location
+  over = start_of scope false (ended_name n)
+
+  abbrev place_of : Bool → Home → ℕ → Location
+  place_of activity home k = further (start_in scope activity home k) (lead_in home k ++ [])
+
+  -- a place is apart from all variables where it is apart from what they may be
+  apart_by : (place : Location) →
+      ((k : ℕ) (var : Var) → var_at site k ≡ Some var → home_at site k ≡ Held → are_apart place (place_of true Held k) ≡ true) →
+      ((k : ℕ) → are_apart place (place_of true ByValue k) ≡ true) →
+      ((k : ℕ) (var : Var) → var_at site k ≡ Some var → home_at site k ≡ Lent → are_apart place (lent_at scope k) ≡ true) →
+      ApartFromVariables site scope place
+  apart_by place held given lent k var there = by (is_activity site.kind) (home_at site k) refl refl
+    where
+      no_such : false ≡ true → ⊥
+      no_such h = cc
+
+      by : (activity : Bool) (x : Home) → is_activity site.kind ≡ activity → home_at site k ≡ x → are_apart place (place_of activity x k) ≡ true
+      by false Held kind is = absurd (no_such (sym kind ∙ active))
+      by true Held kind is = held k var there is
+      by activity ByValue kind is = given k
+      by activity Lent kind is = last_further place (lent_at scope k) [] (lent k var there is)
+
+  frame_older : is_older scope.depth frame.root ≡ true
+  frame_older = places.frame.frame_older
+
+  -- an older place is apart from the function's own variables
+  older_apart : (place : Location) (name : List ℕ) (way : List Projection) → is_older scope.depth place.root ≡ true →
+      are_apart place (further (start_of scope false name) way) ≡ true
+  older_apart place name way older =
+      apart_flip (further (start_of scope false name) way) place
+      (local_older scope.depth (further (start_of scope false name) way) place name refl older)
+
+  pub frame_variables : ApartFromVariables site scope frame
+  frame_variables =
+      apart_by frame
+      (λ k var there is.
+      first_further (frame_at scope) (place_of true Held k) (member (callee_name n) ∷ [])
+      (last_further (frame_at scope) (remembered_at scope) (member (variable_name k) ∷ [])
+      (places.frame_apart.remembered k var there is active)))
+      (λ k. older_apart frame (variable_name k) [] frame_older)
+      (λ k var there is. first_further (frame_at scope) (lent_at scope k) (member (callee_name n) ∷ []) (places.frame_apart.lent k var there is))
+
+  pub memory_variables : remembers ≡ true → ApartFromVariables site scope memory
+  memory_variables its =
+      let start = remembered_at scope in
+      apart_by memory
+      (λ k var there is.
+      or_last (not (same_root start.root start.root))
+      (ways_part (start.parts ++ member (callee_name n) ∷ []) (start.parts ++ member (variable_name k) ∷ []))
+      (behind_front start.parts (member (callee_name n) ∷ []) (member (variable_name k) ∷ [])))
+      (λ k. older_apart memory (variable_name k) [] (places.memory its).older)
+      (λ k var there is. first_further start (lent_at scope k) (member (callee_name n) ∷ []) ((places.memory its).lent k var there is))
+
+  -- a local of another name is apart from all variables
+  local_variables : (name : List ℕ) → ((k : ℕ) → bytes_eq name (variable_name k) ≡ false) →
+      ApartFromVariables site scope (start_of scope false name)
+  local_variables name differ =
+      let place = start_of scope false name in
+      apart_by place
+      (λ k var there is.
+      last_further place (remembered_at scope) (member (variable_name k) ∷ [])
+      (local_older scope.depth place (remembered_at scope) name refl (places.pointers.held_older k var there is active)))
+      (λ k. locals_apart scope.depth place (place_of true ByValue k) name (variable_name k) refl refl (differ k))
+      (λ k var there is. local_older scope.depth place (lent_at scope k) name refl (places.pointers.lent_older k var there is))
+
+  pub result_variables : ApartFromVariables site scope result
+  result_variables = local_variables (given_name n) (λ k. refl)
+
+  pub over_variables : ApartFromVariables site scope over
+  over_variables = local_variables (ended_name n) (λ k. refl)
+
+  -- ---- among themselves
+
+  frame_memory : remembers ≡ true → are_apart frame memory ≡ true
+  frame_memory its =
+      first_further (frame_at scope) memory (member (callee_name n) ∷ [])
+      (last_further (frame_at scope) (remembered_at scope) (member (callee_name n) ∷ [])
+      (apart_flip (remembered_at scope) (frame_at scope) (places.memory its).frame))
+
+  result_over : are_apart result over ≡ true
+  result_over = locals_apart scope.depth result over (given_name n) (ended_name n) refl refl refl
+
+  abbrev written : UnitDef → Bool → List ArgumentValue → List Location → List Location
+  written other has inputs outputs = written_by other has (given_by scope n inputs outputs)
+
+  -- ---- all of them
+
+  pub may_give : (other : UnitDef) (has : Bool) (inputs : List ArgumentValue) (outputs : List Location) → (has ≡ true → remembers ≡ true) →
+      MayPass scope.depth inputs outputs →
+      ((place : Location) → ApartFromVariables site scope place → list_all (are_apart place) (places_in_args inputs) ≡ true) →
+      ((place : Location) → ApartFromVariables site scope place → list_all (are_apart place) outputs ≡ true) →
+      MayGive other has scope.depth (given_by scope n inputs outputs)
+  may_give other has inputs outputs its may from_inputs from_outputs =
+      let last : List Location = where_true (is_some other.result) result ++ over ∷ [] in
+      let rest : List Location = outputs ++ last in
+      let older_last : (place : Location) → is_older scope.depth place.root ≡ true → list_all (are_apart place) last ≡ true =
+      λ place older. append_all (are_apart place) (where_true (is_some other.result) result) (over ∷ [])
+      (where_all (are_apart place) (is_some other.result) result (λ one. older_apart place (given_name n) [] older))
+      (single_all (are_apart place) over (older_apart place (ended_name n) [] older)) in
+      let last_apart : all_apart last ≡ true =
+      append_apart (where_true (is_some other.result) result) (over ∷ []) (where_apart (is_some other.result) result) refl
+      (where_parted (is_some other.result) result (over ∷ []) (λ one. single_all (are_apart result) over result_over)) in
+      let rest_apart : all_apart rest ≡ true =
+      append_apart outputs last may.apart last_apart
+      (parted_where outputs (is_some other.result) result (over ∷ []) (λ one. flip_all result outputs (from_outputs result result_variables))
+      (parted_more outputs over [] (flip_all over outputs (from_outputs over over_variables)) (parted_nothing outputs))) in
+      let memory_rest : has ≡ true → list_all (are_apart memory) rest ≡ true =
+      λ one. append_all (are_apart memory) outputs last (from_outputs memory (memory_variables (its one)))
+      (older_last memory (places.memory (its one)).older) in
+      let frame_rest : list_all (are_apart frame) (where_true has memory ++ rest) ≡ true =
+      append_all (are_apart frame) (where_true has memory) rest (where_all (are_apart frame) has memory (λ one. frame_memory (its one)))
+      (append_all (are_apart frame) outputs last (from_outputs frame frame_variables) (older_last frame frame_older)) in
+      let apart_input : Location → Bool = λ place. list_all (are_apart place) (places_in_args inputs) in
+      let live : Location → Bool = λ place. is_live scope.depth place.root in
+      record {
+        apart = first_apart frame (where_true has memory ++ rest) frame_rest
+            (append_apart (where_true has memory) rest (where_apart has memory) rest_apart (where_parted has memory rest memory_rest));
+        inputs_apart = both (apart_input frame) (list_all apart_input (where_true has memory ++ rest)) (from_inputs frame frame_variables)
+            (append_all apart_input (where_true has memory) rest
+            (where_all apart_input has memory (λ one. from_inputs memory (memory_variables (its one))))
+            (append_all apart_input outputs last may.inputs_apart
+            (append_all apart_input (where_true (is_some other.result) result) (over ∷ [])
+            (where_all apart_input (is_some other.result) result (λ one. from_inputs result result_variables))
+            (single_all apart_input over (from_inputs over over_variables)))));
+        live = both (live frame) (list_all live (where_true has memory ++ rest)) (older_live scope.depth frame.root frame_older)
+            (append_all live (where_true has memory) rest
+            (where_all live has memory (λ one. older_live scope.depth memory.root (places.memory (its one)).older))
+            (append_all live outputs last may.live
+            (append_all live (where_true (is_some other.result) result) (over ∷ [])
+            (where_all live (is_some other.result) result (λ one. own_live scope.depth))
+            (single_all live over (own_live scope.depth)))));
+      }

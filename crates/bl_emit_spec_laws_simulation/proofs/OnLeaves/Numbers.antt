@@ -1,0 +1,242 @@
+-- No two `run`s of a body have one number, and the numbers of `run`s are those of flags.
+use Rattle.std.proofs.Common.{◌≡◌, ℕ, zero, suc, ◌+◌, ◌<◌, ◌^◌, Bool, true, false}
+use Rattle.std.proofs.Common.{◌&&◌, ◌||◌, List, [], ◌∷◌, ◌++◌, Contains}
+use Rattle.std.proofs.Common.{Some, nat_eq, length, map, drop, refl, sym, ap, subst, ◌∙◌, arith}
+use Rattle.std.proofs.lemmas.Bool.{eq-eqb}
+use Rattle.std.proofs.lemmas.Fmt.{decimal_injective}
+use Rattle.std.proofs.lemmas.Slice.Eq.{bytes_eq-Decides}
+use Rattle.std.specs.List.{list_all, list_any}
+use Rattle.std.specs.Prelude.{IsPermutation, bytes_eq, slice_get}
+use Rattle.bl_tree.specs.declared.place.Place.{Place}
+use Rattle.bl_tree.specs.declared.tree.Stmt.{Stmt}
+use Rattle.bl_graph_nodes.specs.Nodes.{Arguments, DepthJoinAt, EnterAt, ForkAt, HeadAt, Node, SurfaceEndAt, SurfaceJoinAt, are_instant, is_instant, nodes_in}
+use Rattle.bl_graph_nodes.specs.Plain.{
+  Act,
+  Again,
+  Await,
+  Block,
+  Bodies,
+  Body as BodyOf,
+  Cobegin,
+  Done,
+  If,
+  Label,
+  Last,
+  Plain,
+  Repeat,
+  Run as RunOf,
+  Then,
+  Until,
+  When,
+  While,
+  plain_body,
+}
+use Rattle.bl_emit_spec.specs.Activities.{is_flagged}
+use Rattle.bl_emit_spec.specs.Names.{callee_name}
+use Rattle.bl_machine.specs.Blocks.{up_to}
+use Rattle.bl_machine.specs.Uses.{Slots}
+use Rattle.bl_machine_pass.specs.Numbered.{position_where}
+use Rattle.bl_machine_pass.specs.Transitions.{Asked, Change, IsNew, SetsCounter, SetsFlag, Transition, age_of, body_ends, enter, flagged, joins, rule_where, rules}
+use Rattle.bl_machine_pass.specs.Transitions.{Finishes, rules_in, rules_in_each, rules_of}
+use Rattle.bl_machine_pass_laws.specs.Turns.Laws.{StaysPlaced}
+use Rattle.bl_machine_pass_laws.specs.Keys.{NodesHaveKeys}
+use Rattle.bl_machine_transitions.specs.Callees.{number_in}
+use Rattle.bl_machine_transitions.specs.Listed.{layout_of}
+use Rattle.bl_machine_transitions_laws.proofs.Agreeing.{Agrees}
+use Rattle.bl_machine_transitions_laws.proofs.Standing.{nodes_stand}
+use Rattle.bl_emit_spec_laws.specs.Calls.Built.{asks_flag}
+use Rattle.bl_emit_spec_laws.proofs.OnPlaced.Lists.{contains_at, found_at, number_once, number_there, some_is, stands_at, within_at}
+
+-- ---- numbers
+
+agrees_at : {X Y : Type 0} (f : X → Y) (at : ℕ → Y) (xs : List X) (first k : ℕ) (x : X) → Agrees f at first xs → slice_get xs k ≡ Some x →
+    f x ≡ at (first + k)
+agrees_at f at [] first k x agrees is = absurd (cc)
+agrees_at f at (y ∷ xs) first zero x agrees is =
+    let same : first ≡ first + 0 = omega arith in ap f (sym (some_is y x is)) ∙ agrees.0 ∙ ap at same
+agrees_at f at (y ∷ xs) first (suc k) x agrees is =
+    let same : suc first + k ≡ first + suc k = omega arith in agrees_at f at xs (suc first) k x agrees.1 is ∙ ap at same
+
+module _ (keys : NodesHaveKeys) (body : List Stmt) (order : List ℕ)
+    (permutes : IsPermutation (up_to (length (nodes_in (plain_body body)))) order) where
+  abbrev nodes : List Node
+  nodes = nodes_in (plain_body body)
+
+  -- the number of the node at a position is where that position stands in the order
+  number_at : (i : ℕ) (x : Node) → slice_get nodes i ≡ Some x →
+      (k : ℕ) × (slice_get order k ≡ Some i) × (number_in order (plain_body body) x ≡ k)
+  number_at i x at =
+      let k = number_there (length nodes) order permutes i (within_at nodes i x at) in
+      let none : 0 + i ≡ i = omega arith in (
+        k.0,
+        k.1,
+        agrees_at (number_in order (plain_body body)) (layout_of order []).number nodes 0 i x (nodes_stand keys body order []) at
+            ∙ ap (λ q. position_where (nat_eq q) order) none
+            ∙ found_at i order k.0 k.1 (λ j there. number_once (length nodes) order permutes i j k.0 there k.1),
+      )
+
+  -- nodes with one number are one
+  pub one_number : (x y : Node) → Contains nodes x → Contains nodes y →
+      number_in order (plain_body body) x ≡ number_in order (plain_body body) y → x ≡ y
+  one_number x y first second same =
+      let a = stands_at nodes x first in
+      let b = stands_at nodes y second in
+      let m = number_at a.0 x a.1 in
+      let l = number_at b.0 y b.1 in
+      let numbers : m.0 ≡ l.0 = sym m.2 ∙ (same ∙ l.2) in
+      let positions : a.0 ≡ b.0 = some_is a.0 b.0 (sym m.1 ∙ (ap (slice_get order) numbers ∙ l.1)) in
+      some_is x y (sym a.1 ∙ (ap (slice_get nodes) positions ∙ b.1))
+
+-- ---- the rule of a `run` that begins asks for its flag
+
+abbrev is_fine : Node → Asked → Bool
+is_fine (EnterAt l at arguments) asked = is_flagged asked
+is_fine _ asked = true
+
+abbrev fine : Transition → Bool
+fine rule = is_fine rule.node rule.asked
+
+record Fine (rs : List Transition) : Type 0 where
+  all : list_all fine rs ≡ true
+
+both : (a b : Bool) → a ≡ true → b ≡ true → (a && b) ≡ true
+both true b h i = i
+both false b h i = h
+
+both_lists : (first rest : List Transition) → list_all fine first ≡ true → list_all fine rest ≡ true → list_all fine (first ++ rest) ≡ true
+both_lists [] rest h i = i
+both_lists (rule ∷ first) rest h i = split (fine rule) h (both_lists first rest)
+  where
+    split : (b : Bool) → (b && list_all fine first) ≡ true →
+        (list_all fine first ≡ true → list_all fine rest ≡ true → list_all fine (first ++ rest) ≡ true) →
+        (b && list_all fine (first ++ rest)) ≡ true
+    split true h again = again h i
+    split false h again = h
+
+fine_both : (first rest : List Transition) → Fine first → Fine rest → Fine (first ++ rest)
+fine_both first rest h i = record { all = both_lists first rest h.all i.all }
+
+behind : (rule : Transition) (rest : List Transition) → fine rule ≡ true → Fine rest → Fine (rule ∷ rest)
+behind rule rest h i = record { all = both (fine rule) (list_all fine rest) h i.all }
+
+no_rules : Fine []
+no_rules = record { all = refl }
+
+where_fine : (test : Bool) (rule : Transition) → fine rule ≡ true → Fine (rule_where test rule)
+where_fine true rule h = behind rule [] h no_rules
+where_fine false rule h = no_rules
+
+mutual
+  fine_of : (slots : Slots) (s : Plain) (next : Change) → Fine (rules_of slots s next)
+  fine_of slots (Act l s) next = record { all = refl }
+  fine_of slots (Await l at e) next = record { all = refl }
+  fine_of slots (RunOf l at target a inputs outputs) next = record { all = refl }
+  fine_of slots (If l at e body other) next =
+      record { all = (fine_both (rules_in slots body next) (rules_in slots other next) (fine_in slots body next) (fine_in slots other next)).all }
+  fine_of slots (Cobegin l at bodies) next =
+      let instant = is_instant (Cobegin l at bodies) in
+      let sooner : Transition = joins slots l bodies (IsNew (ForkAt l at)) (SurfaceJoinAt l at) next in
+      let later : Transition = joins slots l bodies (age_of instant (ForkAt l at)) (DepthJoinAt l at) next in
+      record {
+        all = (fine_both (rule_where instant sooner) (later ∷ rules_in_each slots l 0 bodies) (where_fine instant sooner refl)
+            (behind later (rules_in_each slots l 0 bodies) refl (fine_each slots l 0 bodies))).all;
+      }
+  fine_of slots (When l at guard e body) next =
+      let instant = are_instant body in
+      let surface : Transition = flagged (SurfaceEndAt l at) (next ∷ []) in
+      let inner = fine_in slots body (body_ends l at body) in
+      record { all = both_lists (rule_where instant surface) _ (where_fine instant surface refl).all inner.all }
+  fine_of slots (Repeat l at body) next = record { all = (fine_in slots body (SetsFlag (HeadAt l at))).all }
+  fine_of slots (Until l at body e) next = record { all = (fine_in slots body _).all }
+  fine_of slots (While l at e body) next = record { all = (fine_in slots body _).all }
+  fine_of slots (Again l at body e) next = record { all = (fine_in slots body _).all }
+
+  fine_in : (slots : Slots) (body : Block) (next : Change) → Fine (rules_in slots body next)
+  fine_in slots Done next = no_rules
+  fine_in slots (Then s rest) next =
+      fine_both (rules_of slots s (enter rest next)) (rules_in slots rest next) (fine_of slots s (enter rest next)) (fine_in slots rest next)
+
+  fine_each : (slots : Slots) (l : Label) (k : ℕ) (bodies : Bodies) → Fine (rules_in_each slots l k bodies)
+  fine_each slots l k Last = no_rules
+  fine_each slots l k (BodyOf weak body rest) =
+      fine_both (rules_in slots body (SetsCounter (slots.ending l k))) (rules_in_each slots l (suc k) rest) (fine_in slots body (SetsCounter (slots.ending l k)))
+      (fine_each slots l (suc k) rest)
+
+-- ---- the rule of a node
+
+map_got : {X Y : Type 0} (f : X → Y) (xs : List X) (k : ℕ) (y : Y) → slice_get (map f xs) k ≡ Some y →
+    (x : X) × (slice_get xs k ≡ Some x) × (f x ≡ y)
+map_got f [] k y is = absurd (cc)
+map_got f (x ∷ xs) zero y is = (x, refl, some_is (f x) y is)
+map_got f (x ∷ xs) (suc k) y is = map_got f xs k y is
+
+all_got : {X : Type 0} (p : X → Bool) (xs : List X) (k : ℕ) (x : X) → list_all p xs ≡ true → slice_get xs k ≡ Some x → p x ≡ true
+all_got p [] k x all is = absurd (cc)
+all_got p (y ∷ xs) zero x all is = ap p (sym (some_is y x is)) ∙ first (p y) all
+  where
+    first : (b : Bool) → (b && list_all p xs) ≡ true → b ≡ true
+    first true h = refl
+    first false h = h
+all_got p (y ∷ xs) (suc k) x all is = all_got p xs k x (last (p y) all) is
+  where
+    last : (b : Bool) → (b && list_all p xs) ≡ true → list_all p xs ≡ true
+    last true h = h
+    last false h = absurd (cc)
+
+any_got : {X : Type 0} (p : X → Bool) (xs : List X) (k : ℕ) (x : X) → slice_get xs k ≡ Some x → p x ≡ true → list_any p xs ≡ true
+any_got p [] k x is so = absurd (cc)
+any_got p (y ∷ xs) zero x is so = ap (λ b. b || list_any p xs) (ap p (some_is y x is) ∙ so)
+any_got p (y ∷ xs) (suc k) x is so = or_last (p y) (list_any p xs) (any_got p xs k x is so)
+  where
+    or_last : (a b : Bool) → b ≡ true → (a || b) ≡ true
+    or_last true b h = refl
+    or_last false b h = h
+
+-- a rule of a node
+pub record RuleOf (slots : Slots) (body : Block) (n : Node) : Type 0 where
+  pub rule : Transition
+  pub position : ℕ
+  pub at : slice_get (rules slots body) position ≡ Some rule
+  pub there : Contains (rules slots body) rule
+  pub of_node : rule.node ≡ n
+
+pub rule_of : StaysPlaced → (slots : Slots) (body : Block) (n : Node) → Contains (nodes_in body) n → RuleOf slots body n
+rule_of placed slots body n there =
+    let at = stands_at (nodes_in body) n there in
+    let found = map_got (λ (rule : Transition). rule.node) (rules slots body) at.0 n (ap (λ ns. slice_get ns at.0) (placed.nodes slots body) ∙ at.1) in
+    record {
+      rule = found.0;
+      position = at.0;
+      at = found.1;
+      there = contains_at (rules slots body) at.0 found.0 found.1;
+      of_node = found.2;
+    }
+
+itself : (k : ℕ) → nat_eq k k ≡ true
+itself k = eq-eqb k k refl
+
+-- so some rule asks for the flag of a `run` that begins
+pub run_flagged : StaysPlaced → (slots : Slots) (body : Block) (number : Node → ℕ) (l : Label) (at : Place) (arguments : Arguments) →
+    Contains (nodes_in body) (EnterAt l at arguments) →
+    list_any (asks_flag number (number (EnterAt l at arguments))) (rules slots body) ≡ true
+run_flagged placed slots body number l at arguments there =
+    let n = EnterAt l at arguments in
+    let found = rule_of placed slots body n there in
+    let so : is_fine found.rule.node found.rule.asked ≡ true =
+    all_got fine (rules slots body) found.position found.rule (fine_in slots body Finishes).all found.at in
+    let asked : is_flagged found.rule.asked ≡ true = subst (λ m. is_fine m found.rule.asked ≡ true) found.of_node so in
+    any_got (asks_flag number (number n)) (rules slots body) found.position found.rule found.at
+    (both (is_flagged found.rule.asked) (nat_eq (number n) (number found.rule.node)) asked
+    (ap (λ m. nat_eq (number n) (number m)) found.of_node ∙ itself (number n)))
+
+-- ---- names
+
+-- the members of `run`s with different numbers have different names
+pub callees_differ : (j k : ℕ) → j < 2 ^ 64 → k < 2 ^ 64 → (j ≡ k → ⊥) → bytes_eq (callee_name j) (callee_name k) ≡ false
+callees_differ j k less most differ = by (bytes_eq (callee_name j) (callee_name k)) refl
+  where
+    by : (same : Bool) → bytes_eq (callee_name j) (callee_name k) ≡ same → same ≡ false
+    by false is = refl
+    by true is =
+        let text : callee_name j ≡ callee_name k = (bytes_eq-Decides (callee_name j) (callee_name k)).0 is in
+        absurd (differ (decimal_injective j k less most (ap (drop 1) text)))

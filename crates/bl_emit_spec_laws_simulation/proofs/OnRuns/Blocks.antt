@@ -1,0 +1,497 @@
+-- The blocks of the nodes at which a `run` begins or goes on.
+use Rattle.std.proofs.Common.{◌≡◌, ℕ, Bool, true, false, List, [], ◌∷◌, ◌++◌, Option, Some, None, refl, sym, ap, ◌∙◌, subst}
+use Rattle.std.proofs.lemmas.Option.{same_Some}
+use Rattle.std.specs.List.{list_any}
+use Rattle.std.specs.Prelude.{pos, slice_get, take}
+use Rattle.bl_tree.specs.declared.c.CStmt.{CStmt}
+use Rattle.bl_tree.specs.declared.place.Place.{Place}
+use Rattle.bl_tree.specs.declared.tree.Path.{Path}
+use Rattle.bl_tree.specs.declared.tree.StructDef.{StructDef}
+use Rattle.bl_tree.specs.declared.tree.Unit.{Unit as UnitDef}
+use Rattle.bl_tree.specs.declared.value.Value.{Value}
+use Rattle.bl_tree.specs.Numbers.{number_of}
+use Rattle.bl_tree.specs.Typing.{site_of, target_fits}
+use Rattle.bl_graph_nodes.specs.Nodes.{Arguments, EnterAt, Node, ResumeAt}
+use Rattle.bl_graph_nodes.specs.Plain.{Label, plain_body}
+use Rattle.bl_ctext_semantics.specs.Course.{End, Outcome, goes_on, traps}
+use Rattle.bl_ctext_semantics.specs.Meaning.{Scope, block_c, runs_c, start_of}
+use Rattle.bl_ctext_semantics.specs.Memory.{Memory, scalar, set_at, zeros}
+use Rattle.bl_ctree.specs.Actions.{Copies, Gives, Performed, done, given_to, result_at}
+use Rattle.bl_ctree.specs.Instances.{Setting, callee_of, setting_of}
+use Rattle.bl_ctree.specs.Store.{Store, view_at}
+use Rattle.bl_ctree_laws.specs.Ends.{done_by}
+use Rattle.bl_ctree_laws.specs.Pending.{deed}
+use Rattle.bl_ctree_laws_confluence.specs.Deeds.Nesting.{ProgramsNest}
+use Rattle.bl_ctree_laws_confluence.specs.Deeds.Orderly.{AcceptedIsOrderly}
+use Rattle.bl_ctree_laws_confluence.specs.Deeds.Origins.{InstancesHaveCallers}
+use Rattle.bl_emit_acts.specs.Acts.{c_calling, c_clear, c_set}
+use Rattle.bl_emit_acts.specs.Trees.{c_read}
+use Rattle.bl_emit_acts_laws_simulation.specs.Laws.{FramesApart, PlacesSimulate, WritesEncode}
+use Rattle.bl_emit_functions.specs.Trees.{c_if, c_truth}
+use Rattle.bl_emit_spec.specs.Activities.{remembers_any, view_of}
+use Rattle.bl_emit_spec.specs.Blocks.{ActivityView, changes_code, name_in, node_code, target_code}
+use Rattle.bl_emit_spec.specs.Names.{callee_frame, ended_name, ended_place, frame_name}
+use Rattle.bl_emit_spec_laws.specs.Registers.Laws.{RegistersKeepApart}
+use Rattle.bl_emit_spec_laws.specs.Registers.Registers.{frame_at}
+use Rattle.bl_machine.specs.declared.machine.Activity.{Activity as InMachine}
+use Rattle.bl_machine_laws.specs.Passes.Follows.{DeedYields}
+use Rattle.bl_machine_pass.specs.Registers.{Registers, after_rule, all_changed, is_due, with_at}
+use Rattle.bl_machine_pass.specs.Transitions.{Transition}
+use Rattle.bl_machine_pass_laws_execution.specs.Executes as executes
+use Rattle.bl_machine_pass_laws_execution.specs.Executes.{CopiesMatch, Executes, HasRule, IsPoint, NodeTraps, PassTraps, Performs, begun_registers, recopied, resumed_registers}
+use Rattle.bl_machine_pass_laws.specs.Turns.Laws.{StaysPlaced}
+use Rattle.bl_machine_pass_laws_typing.specs.Fits.{PassesKeepTypes}
+use Rattle.bl_machine_pass_laws_execution.specs.Frames.{Frames}
+use Rattle.bl_machine_pass_laws.specs.Keys.{NodesHaveKeys}
+use Rattle.bl_emit_spec_laws.specs.Calls.Built.{Activities, activity_at, cleared, rank_by, site_at, slots_by, unit_number}
+use Rattle.bl_emit_spec_laws.specs.Calls.Calls.{FramesWithin, PassStarts}
+use Rattle.bl_emit_spec_laws.specs.Calls.Laws.{CalledAt, Midway, PartSimulates, PassKeepsFrame, block_done}
+use Rattle.bl_emit_spec_laws.specs.Calls.Memories.{inner}
+use Rattle.bl_emit_spec_laws.specs.Calls.Invariant.{PassRepresents}
+use Rattle.bl_emit_spec_laws_nodes.specs.Calling.{NotEnded, RunLeaves, RunOf, RunsEstablish, RunsLeave, RunsSimulate, TargetsSeen}
+use Rattle.bl_emit_spec_laws.specs.Cleared.{ClearingIsInside}
+use Rattle.bl_emit_spec_laws.specs.Registers.Laws.{RegistersWithin}
+use Rattle.bl_emit_spec_laws.specs.Within.{AllStayWithin}
+use Rattle.bl_emit_spec_laws.proofs.OnWithin.Passing.{frame_within, starts_within}
+use Rattle.bl_emit_spec_laws_nodes.specs.Points.Laws.{BlocksChoose, ChangesSimulateInPass, ResultTold, ends_body, is_return_node}
+use Rattle.bl_emit_spec_laws_nodes.specs.Points.Points.{BodiesEnd, PointsStand}
+use Rattle.bl_emit_spec_laws_nodes.proofs.OnPoints.ActNodes.{append_goes}
+use Rattle.bl_emit_spec_laws_nodes.proofs.OnPoints.Choices.{Alike, Chosen, if_alone}
+use Rattle.bl_emit_spec_laws_nodes.proofs.OnPoints.Silent.{comes_as, either, no_such, not_so, over_after}
+use Rattle.bl_emit_spec_laws_simulation.proofs.OnRuns.Asking.{resumes_quiet}
+use Rattle.bl_emit_spec_laws_simulation.proofs.OnRuns.Calls.{after_call, call_comes, call_left, given_fits, inputs_trap, pass_traps, written}
+use Rattle.bl_emit_spec_laws_simulation.proofs.OnRuns.Clearing.{cleared_keeps, cleared_midway, ended_keeps, ended_midway, not_ended}
+use Rattle.bl_emit_spec_laws_simulation.proofs.OnRuns.Entered.{node_by}
+use Rattle.bl_emit_spec_laws_simulation.proofs.OnRuns.Inner.{cleared_own}
+use Rattle.bl_emit_spec_laws_simulation.proofs.OnRuns.Running.{CallsUnit, node_calls}
+use Rattle.bl_emit_spec_laws_simulation.proofs.OnRuns.Statements.{clear_ends, ended_ends, ended_truth, frame_answer, step_goes, step_traps}
+use Rattle.bl_emit_spec_laws_simulation.proofs.OnRuns.Targets.{target_comes, target_typed}
+use Rattle.bl_ctree_laws_confluence.specs.Deeds.Nesting as nesting
+
+module _ (orderly : AcceptedIsOrderly) (callers : InstancesHaveCallers) (nests : ProgramsNest) (frames_apart : FramesApart)
+    (keep : RegistersKeepApart) (clearing : ClearingIsInside) (choose : BlocksChoose) (stand : ChangesSimulateInPass) (fitting : PassesKeepTypes)
+    (stay : AllStayWithin) (keys : NodesHaveKeys) (placed : StaysPlaced) (structs : List StructDef) (units : List UnitDef) (entry : ℕ)
+    (lead : PlacesSimulate structs units entry) (write : WritesEncode structs units entry) (end : BodiesEnd structs units entry)
+    (machine : List InMachine) (activities : Activities) (gives : RunsEstablish structs units entry machine activities)
+    (leaves : RunsLeave structs units entry machine activities) (seen : TargetsSeen (setting_of structs units entry) activities)
+    (i : ℕ) (unit : UnitDef) (scope : Scope) (frames : Frames) (store : Store) (copies : List Value) (r : Registers) (rule : Transition) (u : ℕ)
+    (here : Memory) (points : PointsStand structs units entry activities)
+    (midway : Midway structs units entry machine activities i unit scope frames store copies r here)
+    (there : HasRule (slots_by (setting_of structs units entry) activities) i unit rule) (called : CalledAt (plain_body unit.body) rule.node u)
+    (due : is_due (rank_by (setting_of structs units entry) activities i) rule r ≡ true)
+    (sees : CopiesMatch (setting_of structs units entry) i rule.node store copies)
+  where
+    abbrev w : Setting
+    w = setting_of structs units entry
+
+    abbrev k : ℕ
+    k = unit_number w i
+
+    abbrev view : ActivityView
+    view = view_of (activity_at w activities i)
+
+    abbrev number : Node → ℕ
+    number = rank_by w activities i
+
+    abbrev block : Outcome Memory
+    block = block_done w activities i u rule scope here
+
+    abbrev Keeping : Memory → Memory → Type 0
+    Keeping = PassKeepsFrame (site_at w activities i) unit (remembers_any (activity_at w activities i)) scope
+
+    -- one after the other
+    keeping : (a b c : Memory) → Keeping a b → Keeping b c → Keeping a c
+    keeping a b c one two root way older outside = two root way older outside ∙ one root way older outside
+
+    -- the block does what the C of its node does
+    chosen : (n : Node) → rule.node ≡ n → (block.end ≡ (block_c (node_code view u rule n) scope here).end)
+        × (block.memory ≡ (block_c (node_code view u rule n) scope here).memory)
+    chosen n is =
+        let so = choose structs units entry machine activities points.own i unit scope frames store copies r rule u here midway there due in
+        let code = ap (node_code view u rule) is in (
+          so.0 ∙ ap (λ code. (block_c code scope here).end) code,
+          so.1 ∙ ap (λ code. (block_c code scope here).memory) code,
+        )
+
+    -- changes behind what was done
+    changes_behind : (frames' : Frames) (left : Store) (after : Memory) → is_return_node rule.node ≡ false → Keeping here after →
+        PassRepresents w activities i unit scope frames' left copies r after →
+        PartSimulates w activities i unit scope frames' left copies (all_changed number rule.so r) here (block_c (changes_code view rule.so) scope after)
+    changes_behind frames' left after no_return kept stands =
+        let told : ResultTold unit i scope left (all_changed number rule.so r) after =
+        λ value over one is. stands.result value
+        (either r.over (list_any ends_body rule.so) (over_after number rule.so r over)
+        (not_so (list_any ends_body rule.so)
+        (λ ending. no_such
+        (sym ((end activities midway.compiled.keeps).so k unit rule midway.function.is_there midway.function.active one there ending) ∙ no_return))))
+        one is in
+        let changed = stand structs units entry machine activities i unit scope frames' left copies r after rule.so midway.compiled midway.function
+        midway.is_there points.remembering stands (points.own.so i unit rule midway.is_there there) told in record {
+          ends = changed.ends;
+          stands = changed.stands;
+          kept = keeping here after _ kept changed.kept;
+        }
+
+    -- ---- one `run`
+
+    -- the `run` of the node, which calls an instance of the unit
+    run_at : (late : Bool) (l : Label) (at : Place) (arguments : Arguments) (j : ℕ) →
+        rule.node ≡ node_by late
+        (record { label = l; place = at; unit = u; arguments = arguments }) → callee_of w i at ≡ Some j →
+        CallsUnit w activities i unit (record { label = l; place = at; unit = u; arguments = arguments }) j
+    run_at late l at arguments j is begins =
+        node_calls orderly callers structs units entry machine activities midway.compiled i unit midway.is_there late
+        (record { label = l; place = at; unit = u; arguments = arguments }) called.position j (called.node ∙ ap Some is) called.unit begins
+
+    module _ (l : Label) (at : Place) (arguments : Arguments) (j : ℕ) (other : UnitDef) (run : RunOf w activities i unit l at arguments j other)
+        (is_number : unit_number w j ≡ u)
+      where
+        abbrev n : ℕ
+        n = rank_by w activities i (EnterAt l at arguments)
+
+        abbrev forget : CStmt
+        forget = c_set (ended_place n) (c_truth false)
+
+        abbrev forgotten : Memory → Memory
+        forgotten m = set_at m (start_of scope false (ended_name n)) (scalar (pos 0))
+
+        -- ---- it begins
+
+        module _ (is : rule.node ≡ EnterAt l at arguments) where
+          abbrev clear : CStmt
+          clear = c_clear (callee_frame n) (frame_name (name_in (slice_get view.site.earlier u)))
+
+          abbrev cleared_here : Memory
+          cleared_here = set_at here (inner (frame_at scope) n) zeros
+
+          abbrev begun_frames : Frames
+          begun_frames = cleared w j frames
+
+          mid_cleared : Midway structs units entry machine activities i unit scope begun_frames store copies r cleared_here
+          mid_cleared =
+              cleared_midway orderly callers clearing keys placed structs units entry (nests structs units entry) machine activities points.remembering i
+              unit scope frames store copies r here midway l at arguments j run.node run.callee
+
+          mid_begun : Midway structs units entry machine activities i unit scope begun_frames store copies r (forgotten cleared_here)
+          mid_begun =
+              ended_midway orderly callers clearing keys placed structs units entry (nests structs units entry) machine activities points.remembering i
+              unit scope begun_frames store copies r cleared_here mid_cleared n
+
+          sees_begun : CopiesMatch w i (EnterAt l at arguments) store copies
+          sees_begun = subst (λ n. CopiesMatch w i n store copies) is sees
+
+          kept_begun : Keeping here (forgotten cleared_here)
+          kept_begun =
+              keeping here cleared_here (forgotten cleared_here)
+              (cleared_keeps orderly callers clearing keys placed structs units entry (nests structs units entry) machine activities points.remembering i
+              unit scope frames store copies r here midway l at arguments j run.node run.callee)
+              (ended_keeps orderly callers clearing keys placed structs units entry (nests structs units entry) machine activities points.remembering i
+              unit scope begun_frames store copies r cleared_here mid_cleared n)
+
+          abbrev call : CStmt
+          call = c_calling (written structs units entry machine activities gives leaves i unit scope begun_frames store copies r (forgotten cleared_here)
+              mid_begun l at arguments j other run u is_number sees_begun)
+
+          starts_begun : PassStarts w activities j other begun_frames (begun_registers (rank_by w activities) j other)
+          starts_begun = executes.begins (λ c. cleared_own callers clearing structs units entry j frames j nesting.itself c)
+
+          not_ended_begun : NotEnded scope n (forgotten cleared_here)
+          not_ended_begun =
+              not_ended orderly callers clearing keys placed structs units entry (nests structs units entry) machine activities points.remembering i
+              unit scope begun_frames store copies r cleared_here mid_cleared n
+
+          -- what stands before the call
+          before_call : (rest : List CStmt) → Alike (block_c (clear ∷ forget ∷ rest) scope here) (block_c rest scope (forgotten cleared_here))
+          before_call rest =
+              let one = step_goes scope clear (forget ∷ rest) here cleared_here
+              (clear_ends scope here (callee_frame n) (frame_name (name_in (slice_get view.site.earlier u))) (inner (frame_at scope) n)
+              (frame_answer scope here n)) in
+              let two = step_goes scope forget rest cleared_here (forgotten cleared_here) (ended_ends scope cleared_here n) in
+              (one.0 ∙ two.0, one.1 ∙ two.1)
+
+          trapped : (runs : End) → runs ≡ traps →
+              runs ≡ (runs_c call scope (forgotten cleared_here)).end → block.end ≡ traps
+          trapped runs traps_so same =
+              (chosen (EnterAt l at arguments) is).0
+              ∙ ((before_call (call ∷ changes_code view rule.so)).0
+              ∙ step_traps scope call (changes_code view rule.so) (forgotten cleared_here) (sym same ∙ traps_so))
+
+          pub enter_inputs : done_by w (deed i at (Copies j arguments.inputs)) store ≡ None → block.end ≡ traps
+          enter_inputs did =
+              trapped _ (inputs_trap structs units entry machine activities gives leaves i unit scope begun_frames store copies r
+              (forgotten cleared_here) mid_begun l at arguments j other run u is_number sees_begun did) refl
+
+          module _ (given : Store) (copied : DeedYields w (deed i at (Copies j arguments.inputs)) store true given) where
+            pub enter_cut : PassTraps w (rank_by w activities) (slots_by w activities) (cleared w) j 0 begun_frames given (view_at w given j).now
+                (begun_registers (rank_by w activities) j other) → block.end ≡ traps
+            enter_cut cut =
+                trapped _ (pass_traps structs units entry machine activities gives leaves i unit scope begun_frames store copies r
+                (forgotten cleared_here) mid_begun l at arguments j other run u is_number sees_begun given not_ended_begun copied
+                (begun_registers (rank_by w activities) j other) starts_begun cut) refl
+
+            pub enter_comes : (frames' : Frames) (left : Store) (r' : Registers) →
+                Executes w (rank_by w activities) (slots_by w activities) (cleared w) j 0 begun_frames given (view_at w given j).now
+                (begun_registers (rank_by w activities) j other) frames' left r' →
+                PartSimulates w activities i unit scope (with_at j r'.counters frames') left copies (after_rule number rule true r) here block
+            enter_comes frames' left r' executed =
+                let begun = begun_registers (rank_by w activities) j other in
+                let after = after_call structs units entry machine activities gives leaves i unit scope begun_frames store copies r
+                (forgotten cleared_here) mid_begun l at arguments j other run u is_number sees_begun given not_ended_begun copied begun starts_begun
+                frames' left r' executed in
+                let goes = call_comes structs units entry machine activities gives leaves i unit scope begun_frames store copies r
+                (forgotten cleared_here) mid_begun l at arguments j other run u is_number sees_begun given not_ended_begun copied begun starts_begun
+                frames' left r' executed in
+                let ended = call_left structs units entry machine activities gives leaves i unit scope begun_frames store copies r
+                (forgotten cleared_here) mid_begun l at arguments j other run u is_number sees_begun given not_ended_begun copied begun starts_begun
+                frames' left r' executed in
+                let changes = changes_code view rule.so in
+                let so = chosen (EnterAt l at arguments) is in
+                let before = before_call (call ∷ changes) in
+                let called_so = step_goes scope call changes (forgotten cleared_here) after goes in
+                comes_as w activities i unit scope (with_at j r'.counters frames') left copies (all_changed number rule.so r) here block
+                (block_c changes scope after) (so.0 ∙ (before.0 ∙ called_so.0)) (so.1 ∙ (before.1 ∙ called_so.1))
+                (changes_behind (with_at j r'.counters frames') left after (ap is_return_node is)
+                (keeping here (forgotten cleared_here) after kept_begun ended.kept) ended.stands)
+
+        -- ---- it goes on
+
+        module _ (is : rule.node ≡ ResumeAt l at arguments) where
+          mid_resumed : Midway structs units entry machine activities i unit scope frames store copies r (forgotten here)
+          mid_resumed =
+              ended_midway orderly callers clearing keys placed structs units entry (nests structs units entry) machine activities points.remembering i
+              unit scope frames store copies r here midway n
+
+          sees_resumed : CopiesMatch w i (EnterAt l at arguments) store copies
+          sees_resumed = subst (λ n. CopiesMatch w i n store copies) is sees
+
+          kept_resumed : Keeping here (forgotten here)
+          kept_resumed =
+              ended_keeps orderly callers clearing keys placed structs units entry (nests structs units entry) machine activities points.remembering i
+              unit scope frames store copies r here midway n
+
+          not_ended_resumed : NotEnded scope n (forgotten here)
+          not_ended_resumed =
+              not_ended orderly callers clearing keys placed structs units entry (nests structs units entry) machine activities points.remembering i
+              unit scope frames store copies r here midway n
+
+          abbrev calls : CStmt
+          calls = c_calling (written structs units entry machine activities gives leaves i unit scope frames store copies r (forgotten here)
+              mid_resumed l at arguments j other run u is_number sees_resumed)
+
+          abbrev told : List CStmt
+          told = target_code view n arguments.target ++ changes_code view rule.so
+
+          abbrev asked : CStmt
+          asked = c_if (c_read (ended_place n)) told None
+
+          forget_goes : (rest : List CStmt) → Alike (block_c (forget ∷ rest) scope here) (block_c rest scope (forgotten here))
+          forget_goes rest = step_goes scope forget rest here (forgotten here) (ended_ends scope here n)
+
+          stopped : (runs : End) → runs ≡ traps → runs ≡ (runs_c calls scope (forgotten here)).end →
+              block.end ≡ traps
+          stopped runs traps_so same =
+              (chosen (ResumeAt l at arguments) is).0
+              ∙ ((forget_goes (calls ∷ asked ∷ [])).0 ∙ step_traps scope calls (asked ∷ []) (forgotten here) (sym same ∙ traps_so))
+
+          pub resume_inputs : done_by w (deed i at (Copies j arguments.inputs)) store ≡ None → block.end ≡ traps
+          resume_inputs did =
+              stopped _ (inputs_trap structs units entry machine activities gives leaves i unit scope frames store copies r
+              (forgotten here) mid_resumed l at arguments j other run u is_number sees_resumed did) refl
+
+          module _ (given : Store) (copied : DeedYields w (deed i at (Copies j arguments.inputs)) store true given) (started : Registers)
+              (starts : PassStarts w activities j other frames started) where
+            pub resume_cut : PassTraps w (rank_by w activities) (slots_by w activities) (cleared w) j 0 frames given (view_at w given j).now started →
+                block.end ≡ traps
+            resume_cut cut =
+                stopped _ (pass_traps structs units entry machine activities gives leaves i unit scope frames store copies r
+                (forgotten here) mid_resumed l at arguments j other run u is_number sees_resumed given not_ended_resumed copied
+                started starts cut) refl
+
+            module _ (frames' : Frames) (left : Store) (r' : Registers)
+                (executed : Executes w (rank_by w activities) (slots_by w activities) (cleared w) j 0 frames given (view_at w given j).now
+                started frames' left r')
+              where
+                abbrev new_frames : Frames
+                new_frames = with_at j r'.counters frames'
+
+                abbrev after : Memory
+                after = after_call structs units entry machine activities gives leaves i unit scope frames store copies r
+                    (forgotten here) mid_resumed l at arguments j other run u is_number sees_resumed given not_ended_resumed copied
+                    started starts frames' left r' executed
+
+                ended : RunLeaves w activities i unit scope n j other new_frames left copies r r'.over (forgotten here) after
+                ended = call_left structs units entry machine activities gives leaves i unit scope frames store copies r
+                    (forgotten here) mid_resumed l at arguments j other run u is_number sees_resumed given not_ended_resumed copied
+                    started starts frames' left r' executed
+
+                kept_after : Keeping here after
+                kept_after = keeping here (forgotten here) after kept_resumed ended.kept
+
+                -- what is done where the answer is asked for
+                asked_so : (block.end ≡ (block_c (asked ∷ []) scope after).end) × (block.memory ≡ (block_c (asked ∷ []) scope after).memory)
+                asked_so =
+                    let so = chosen (ResumeAt l at arguments) is in
+                    let before = forget_goes (calls ∷ asked ∷ []) in
+                    let called_so = step_goes scope calls (asked ∷ []) (forgotten here) after
+                    (call_comes structs units entry machine activities gives leaves i unit scope frames store copies r
+                    (forgotten here) mid_resumed l at arguments j other run u is_number sees_resumed given not_ended_resumed copied
+                    started starts frames' left r' executed) in
+                    (so.0 ∙ (before.0 ∙ called_so.0), so.1 ∙ (before.1 ∙ called_so.1))
+
+                -- the body of what is called hasn't ended
+                pub resume_comes : r'.over ≡ false →
+                    PartSimulates w activities i unit scope new_frames left copies (after_rule number rule false r) here block
+                resume_comes over =
+                    let truth = ended_truth scope after n false (ended.over ∙ ap number_of over) in
+                    let rest = if_alone scope after (λ e m. (e ≡ goes_on) × (m ≡ after)) (c_read (ended_place n)) told None
+                    (subst (Chosen scope after (λ e m. (e ≡ goes_on) × (m ≡ after)) told None) (sym truth) (refl, refl)) in
+                    let quiet : rule.otherwise ≡ [] =
+                    resumes_quiet (slots_by w activities i) (plain_body unit.body) rule there l at arguments is in
+                    let unchanged : r ≡ all_changed number rule.otherwise r = ap (λ changes. all_changed number changes r) (sym quiet) in
+                    let memory : block.memory ≡ after = asked_so.1 ∙ rest.1 in
+                    record {
+                      ends = asked_so.0 ∙ rest.0;
+                      stands = subst (PassRepresents w activities i unit scope new_frames left copies (all_changed number rule.otherwise r)) (sym memory)
+                          (subst (λ r. PassRepresents w activities i unit scope new_frames left copies r after) unchanged ended.stands);
+                      kept = subst (Keeping here) (sym memory) kept_after;
+                    }
+
+                -- it has
+                record Targeted (last : Store) : Type 0 where
+                  memory : Memory
+                  goes : (block_c (target_code view n arguments.target) scope after).end ≡ goes_on
+                  leaves_it : (block_c (target_code view n arguments.target) scope after).memory ≡ memory
+                  stands : PassRepresents w activities i unit scope new_frames last copies r memory
+                  kept : Keeping after memory
+
+                within_after : FramesWithin w activities frames' × RegistersWithin (activity_at w activities j).sizes r'
+                within_after =
+                    (stay structs units entry machine activities).executes j 0 frames given (view_at w given j).now started frames'
+                    left r' midway.compiled midway.frames_within (starts_within w activities j other frames started midway.frames_within starts)
+                    executed
+
+                mid_after : Midway structs units entry machine activities i unit scope new_frames left copies r after
+                mid_after = record {
+                  compiled = midway.compiled;
+                  is_there = midway.is_there;
+                  function = midway.function;
+                  stands = ended.stands;
+                  fits = (fitting structs units entry midway.compiled.keeps).executes (rank_by w activities) (slots_by w activities) (cleared w) j 0
+                      frames given (view_at w given j).now started frames' left r'
+                      (given_fits structs units entry machine activities gives leaves i unit scope frames store copies r
+                      (forgotten here) mid_resumed l at arguments j other run u is_number sees_resumed given not_ended_resumed copied
+                      started starts) executed;
+                  copies_fit = midway.copies_fit;
+                  frames_within = frame_within w activities j r'.counters frames' within_after.1.counters within_after.0;
+                  within = midway.within;
+                }
+
+                targeted : r'.over ≡ true → (target : Option Path) → arguments.target ≡ target → (last : Store) →
+                    DeedYields w (deed i at (Gives j target)) left true last → Targeted last
+                targeted over None none last did =
+                    let same : left ≡ last =
+                    ap (λ (p : Performed). p.store)
+                    (same_Some (done (given_to w i None (result_at left j) left)) (record { answer = true; store = last }) did) in
+                    record {
+                      memory = after;
+                      goes = ap (λ target. (block_c (target_code view n target) scope after).end) none;
+                      leaves_it = ap (λ target. (block_c (target_code view n target) scope after).memory) none;
+                      stands = subst (λ store. PassRepresents w activities i unit scope new_frames store copies r after) same ended.stands;
+                      kept = λ root way older outside. refl;
+                    }
+                targeted over (Some path) some last did =
+                    let fit = subst (λ target. target_fits
+                    (site_of structs (take k units) unit) other.result target ≡ true) some
+                    (target_typed callers structs units entry midway.compiled.keeps activities i unit midway.is_there l at arguments j other run) in
+                    let set = target_comes frames_apart keep structs units entry lead write points.views machine activities points.remembering seen i unit
+                    scope new_frames left copies r after mid_after l at arguments j other run n
+                    (λ value one is. ended.result value over one is) path last some did fit in
+                    let one = step_goes scope _ [] after set.after set.ends in
+                    record {
+                      memory = set.after;
+                      goes = ap (λ target. (block_c (target_code view n target) scope after).end) some ∙ one.0;
+                      leaves_it = ap (λ target. (block_c (target_code view n target) scope after).memory) some ∙ one.1;
+                      stands = set.stands;
+                      kept = set.kept;
+                    }
+
+                pub return_comes : r'.over ≡ true → (last : Store) → DeedYields w (deed i at (Gives j arguments.target)) left true last →
+                    PartSimulates w activities i unit scope new_frames last copies (after_rule number rule true r) here block
+                return_comes over last did =
+                    let truth = ended_truth scope after n true (ended.over ∙ ap number_of over) in
+                    let inside = block_c told scope after in
+                    let rest = if_alone scope after (λ e m. (e ≡ inside.end) × (m ≡ inside.memory)) (c_read (ended_place n)) told None
+                    (subst (Chosen scope after (λ e m. (e ≡ inside.end) × (m ≡ inside.memory)) told None) (sym truth) (refl, refl)) in
+                    let set = targeted over arguments.target refl last did in
+                    let changes = changes_code view rule.so in
+                    let alike = append_goes scope (target_code view n arguments.target) changes after set.goes in
+                    let end_so = ap (λ (m : Memory). (block_c changes scope m).end) set.leaves_it in
+                    let memory_so = ap (λ (m : Memory). (block_c changes scope m).memory) set.leaves_it in
+                    comes_as w activities i unit scope new_frames last copies (all_changed number rule.so r) here block
+                    (block_c changes scope set.memory) (asked_so.0 ∙ (rest.0 ∙ (alike.0 ∙ end_so))) (asked_so.1 ∙ (rest.1 ∙ (alike.1 ∙ memory_so)))
+                    (changes_behind new_frames last set.memory (ap is_return_node is) (keeping here after set.memory kept_after set.kept) set.stands)
+
+    -- ---- all nodes of `run`s
+
+    pub turn_comes : {n : Node} {answer : Bool} {frames' : Frames} {left : Store} →
+        Performs w (rank_by w activities) (slots_by w activities) (cleared w) i n frames store answer frames' left → rule.node ≡ n →
+        (IsPoint n → ⊥) →
+        PartSimulates w activities i unit scope frames' left (recopied w i n left copies) (after_rule number rule answer r) here block
+    turn_comes (executes.does point did) is none = absurd (none point)
+    turn_comes
+        (executes.enters {l = l} {at = at} {arguments = arguments} {given = given} {frames' = frames'} {left = left} {r' = r'} {callee = j} {unit = other}
+        begins of copied executed over) is none =
+        let calls = run_at false l at arguments j is begins in
+        let same : calls.other ≡ other = same_Some calls.other other (sym calls.run.is_there ∙ of) in
+        enter_comes l at arguments j other (subst (λ other. RunOf w activities i unit l at arguments j other) same calls.run) calls.number is given copied
+        frames' left r' executed
+    turn_comes
+        (executes.resumes {l = l} {at = at} {arguments = arguments} {given = given} {frames' = frames'} {left = left} {r = started} {r' = r'} {callee = j}
+        {unit = other} begins of starts copied executed over) is none =
+        let calls = run_at true l at arguments j is begins in
+        let same : calls.other ≡ other = same_Some calls.other other (sym calls.run.is_there ∙ of) in
+        resume_comes l at arguments j other (subst (λ other. RunOf w activities i unit l at arguments j other) same calls.run) calls.number is given copied
+        started starts frames' left r' executed over
+    turn_comes
+        (executes.returns {l = l} {at = at} {arguments = arguments} {given = given} {frames' = frames'} {ended = ended} {left = left} {r = started} {r' = r'}
+        {callee = j} {unit = other} begins of starts copied executed over did) is none =
+        let calls = run_at true l at arguments j is begins in
+        let same : calls.other ≡ other = same_Some calls.other other (sym calls.run.is_there ∙ of) in
+        return_comes l at arguments j other (subst (λ other. RunOf w activities i unit l at arguments j other) same calls.run) calls.number is given copied
+        started starts frames' ended r' executed over left did
+
+    pub turn_stops : {n : Node} → NodeTraps w (rank_by w activities) (slots_by w activities) (cleared w) i n frames store → rule.node ≡ n →
+        (IsPoint n → ⊥) → block.end ≡ traps
+    turn_stops (executes.point_stops point did) is none = absurd (none point)
+    turn_stops (executes.inputs_stop {l = l} {at = at} {arguments = arguments} {callee = j} begins did) is none =
+        let calls = run_at false l at arguments j is begins in
+        enter_inputs l at arguments j calls.other calls.run calls.number is did
+    turn_stops (executes.copies_stop {l = l} {at = at} {arguments = arguments} {callee = j} begins did) is none =
+        let calls = run_at true l at arguments j is begins in
+        resume_inputs l at arguments j calls.other calls.run calls.number is did
+    turn_stops (executes.begun_stops {l = l} {at = at} {arguments = arguments} {given = given} {callee = j} {unit = other} begins of copied cut) is none =
+        let calls = run_at false l at arguments j is begins in
+        let same : calls.other ≡ other = same_Some calls.other other (sym calls.run.is_there ∙ of) in
+        enter_cut l at arguments j other (subst (λ other. RunOf w activities i unit l at arguments j other) same calls.run) calls.number is given copied cut
+    turn_stops
+        (executes.resumed_stops {l = l} {at = at} {arguments = arguments} {given = given} {r = started} {callee = j} {unit = other} begins of starts copied
+        cut) is none =
+        let calls = run_at true l at arguments j is begins in
+        let same : calls.other ≡ other = same_Some calls.other other (sym calls.run.is_there ∙ of) in
+        resume_cut l at arguments j other (subst (λ other. RunOf w activities i unit l at arguments j other) same calls.run) calls.number is given copied
+        started starts cut
+
+pub runs_simulate : AcceptedIsOrderly → InstancesHaveCallers → ProgramsNest → FramesApart → RegistersKeepApart → ClearingIsInside → BlocksChoose →
+    ChangesSimulateInPass → PassesKeepTypes → AllStayWithin → NodesHaveKeys → StaysPlaced → (structs : List StructDef) (units : List UnitDef) (entry : ℕ) →
+    PlacesSimulate structs units entry → WritesEncode structs units entry → BodiesEnd structs units entry → RunsSimulate structs units entry
+runs_simulate orderly callers nests frames_apart keep clearing choose stand fitting stay keys placed structs units entry lead write end machine activities
+    gives leaves seen points = record {
+      acts = λ i unit scope frames store copies r rule u answer frames' left here midway there none called due sees performs.
+          turn_comes orderly callers nests frames_apart keep clearing choose stand fitting stay keys placed structs units entry lead write end machine
+          activities gives leaves seen i unit scope frames store copies r rule u here (points midway.compiled) midway there called due sees performs refl
+          none;
+      stops = λ i unit scope frames store copies r rule u here midway there none called due sees stops.
+          turn_stops orderly callers nests frames_apart keep clearing choose stand fitting stay keys placed structs units entry lead write end machine
+          activities gives leaves seen i unit scope frames store copies r rule u here (points midway.compiled) midway there called due sees stops refl
+          none;
+    }

@@ -1,0 +1,171 @@
+-- Different `run`s of a body have different numbers, and names.
+use Rattle.std.proofs.Common.{◌≡◌, ℕ, zero, suc, ◌+◌, ◌<◌, ◌^◌, Bool, true, false, ◌&&◌, ◌||◌, List, [], ◌∷◌, Contains, Some}
+use Rattle.std.proofs.Common.{drop, length, map, nat_eq, refl, sym, ap, subst, ◌∙◌, arith}
+use Rattle.std.proofs.lemmas.Bool.{eq-eqb}
+use Rattle.std.proofs.lemmas.Fmt.{decimal_injective}
+use Rattle.std.proofs.lemmas.Option.{same_Some}
+use Rattle.std.proofs.lemmas.Slice.Eq.{bytes_eq-Decides}
+use Rattle.std.specs.Fmt.{decimal}
+use Rattle.std.specs.List.{list_any}
+use Rattle.std.specs.Prelude.{IsPermutation, bytes_eq, slice_get}
+use Rattle.bl_tree.specs.declared.place.Place.{Place}
+use Rattle.bl_tree.specs.declared.tree.StructDef.{StructDef}
+use Rattle.bl_tree.specs.declared.tree.Unit.{Unit as UnitDef}
+use Rattle.bl_tree.specs.Reduce.{joined}
+use Rattle.bl_tree.specs.Typing.{is_activity}
+use Rattle.bl_cause.specs.Activities.{activities as activities_of, graph_position}
+use Rattle.bl_cause.proofs.PairLemmas.{each_at, filtered_at}
+use Rattle.bl_graph_nodes.specs.Nodes.{Arguments, EnterAt, Node, nodes_in}
+use Rattle.bl_graph_nodes.specs.Plain.{Label, plain_body}
+use Rattle.bl_ctree.specs.Instances.{Setting, setting_of, unit_at}
+use Rattle.bl_machine.specs.declared.machine.Activity.{Activity as InMachine}
+use Rattle.bl_machine.specs.Blocks.{Ordered, up_to}
+use Rattle.bl_machine.specs.Machines.{IsActivityOf}
+use Rattle.bl_machine_pass.specs.Numbered.{position_where}
+use Rattle.bl_machine_pass.specs.Transitions.{Transition}
+use Rattle.bl_machine_pass_laws.specs.Turns.Laws.{StaysPlaced}
+use Rattle.bl_machine_pass_laws.specs.Keys.{NodesHaveKeys}
+use Rattle.bl_machine_transitions.specs.Callees.{number_in}
+use Rattle.bl_machine_transitions.specs.Listed.{layout_of}
+use Rattle.bl_machine_transitions_laws.proofs.Agreeing.{Agrees}
+use Rattle.bl_machine_transitions_laws.proofs.Standing.{nodes_stand}
+use Rattle.bl_emit_spec.specs.Activities.{Activity, is_flagged, rules_at, view_of}
+use Rattle.bl_emit_spec.specs.Names.{callee_name}
+use Rattle.bl_emit_spec_laws.specs.Calls.Built.{Activities, activity_at, asks_flag, rank_by, unit_number}
+use Rattle.bl_emit_spec_laws.specs.Calls.Laws.{CompilationContext}
+use Rattle.bl_emit_spec_laws.proofs.OnPlaced.Lists.{contains_at, found_at, number_once, number_there, stands_at, within_at}
+use Rattle.bl_emit_spec_laws_simulation.proofs.OnRuns.Asking.{enters_flagged}
+use Rattle.bl_emit_spec_laws_simulation.proofs.OnRuns.Running.{unit_there}
+
+-- ---- names
+
+no_such : true ≡ false → ⊥
+no_such h = cc
+
+-- names of one letter with different numbers differ
+names_differ : (letter : ℕ) (j k : ℕ) → j < 2 ^ 64 → k < 2 ^ 64 → (j ≡ k → ⊥) →
+    bytes_eq (letter ∷ decimal j) (letter ∷ decimal k) ≡ false
+names_differ letter j k less most differ = by (bytes_eq (letter ∷ decimal j) (letter ∷ decimal k)) refl
+  where
+    by : (same : Bool) → bytes_eq (letter ∷ decimal j) (letter ∷ decimal k) ≡ same → same ≡ false
+    by false is = refl
+    by true is =
+        let text : letter ∷ decimal j ≡ letter ∷ decimal k = (bytes_eq-Decides (letter ∷ decimal j) (letter ∷ decimal k)).0 is in
+        absurd (differ (decimal_injective j k less most (ap (drop 1) text)))
+
+-- ---- numbers
+
+agrees_at : {X Y : Type 0} (f : X → Y) (at : ℕ → Y) (xs : List X) (first k : ℕ) (x : X) → Agrees f at first xs → slice_get xs k
+    ≡ Some x → f x ≡ at (first + k)
+agrees_at f at [] first k x agrees is = absurd (cc)
+agrees_at f at (y ∷ xs) first zero x agrees is =
+    let same : first ≡ first + 0 = omega arith in ap f (sym (same_Some y x is)) ∙ agrees.0 ∙ ap at same
+agrees_at f at (y ∷ xs) first (suc k) x agrees is =
+    let same : suc first + k ≡ first + suc k = omega arith in agrees_at f at xs (suc first) k x agrees.1 is ∙ ap at same
+
+any_at : {A : Type 0} (p : A → Bool) (xs : List A) (k : ℕ) (x : A) → slice_get xs k ≡ Some x → p x ≡ true → list_any p xs ≡ true
+any_at p [] k x there e = absurd (cc)
+any_at p (y ∷ xs) zero x there e = ap (λ b. b || list_any p xs) (ap p (same_Some y x there) ∙ e)
+any_at p (y ∷ xs) (suc k) x there e = by (p y) (any_at p xs k x there e)
+  where
+    by : (b : Bool) → list_any p xs ≡ true → (b || list_any p xs) ≡ true
+    by true h = refl
+    by false h = h
+
+of_map : {A B : Type 0} (f : A → B) (xs : List A) (k : ℕ) (b : B) → slice_get (map f xs) k ≡ Some b →
+    (x : A) × (slice_get xs k ≡ Some x) × (f x ≡ b)
+of_map f [] k b is = absurd (cc)
+of_map f (x ∷ xs) zero b is = (x, refl, same_Some (f x) b is)
+of_map f (x ∷ xs) (suc k) b is = of_map f xs k b is
+
+-- the numbers of the nodes of a body by an order of them
+module _ (keys : NodesHaveKeys) (a : Activity) (unit : UnitDef) (one : InMachine) (unit_is : a.unit ≡ unit) (order_is : a.order ≡ joined one.blocks)
+    (ordered : Ordered (plain_body unit.body) one.blocks)
+  where
+    abbrev nodes : List Node
+    nodes = nodes_in (plain_body unit.body)
+
+    permutes : IsPermutation (up_to (length nodes)) a.order
+    permutes = subst (λ order. IsPermutation (up_to (length nodes)) order) (sym order_is) ordered.all
+
+    number_is : (p k : ℕ) (n : Node) → slice_get nodes p ≡ Some n → slice_get a.order k ≡ Some p → (view_of a).number n ≡ k
+    number_is p k n is at =
+        let none : 0 + p ≡ p = omega arith in
+        ap (λ (u : UnitDef). number_in a.order (plain_body u.body) n) unit_is
+        ∙ agrees_at (number_in a.order (plain_body unit.body)) (layout_of a.order one.slots).number nodes 0 p n
+        (nodes_stand keys unit.body a.order one.slots) is
+        ∙ ap (λ q. position_where (nat_eq q) a.order) none
+        ∙ found_at p a.order k at (λ j there. number_once (length nodes) a.order permutes p j k there at)
+
+    pub numbers_tell : (n m : Node) → Contains nodes n → Contains nodes m → (view_of a).number n ≡ (view_of a).number m → n ≡ m
+    numbers_tell n m first second same =
+        let p = stands_at nodes n first in
+        let q = stands_at nodes m second in
+        let k = number_there (length nodes) a.order permutes p.0 (within_at nodes p.0 n p.1) in
+        let j = number_there (length nodes) a.order permutes q.0 (within_at nodes q.0 m q.1) in
+        let one : k.0 ≡ j.0 = sym (number_is p.0 k.0 n p.1 k.1) ∙ (same ∙ number_is q.0 j.0 m q.1 j.1) in
+        let both : p.0 ≡ q.0 = same_Some p.0 q.0 (sym k.1 ∙ (ap (slice_get a.order) one ∙ j.1)) in
+        same_Some n m (sym p.1 ∙ (ap (slice_get nodes) both ∙ q.1))
+
+-- ---- the activities of a program
+
+module _ (keys : NodesHaveKeys) (placed : StaysPlaced) (structs : List StructDef) (units : List UnitDef) (entry : ℕ) (machine : List InMachine)
+    (activities : Activities) (compiled : CompilationContext structs units entry machine activities) (i : ℕ) (unit : UnitDef)
+    (is : unit_at (setting_of structs units entry) i ≡ Some unit) (active : is_activity unit.kind ≡ true)
+  where
+    abbrev w : Setting
+    w = setting_of structs units entry
+
+    abbrev a : Activity
+    a = activity_at w activities i
+
+    abbrev k : ℕ
+    k = unit_number w i
+
+    there : slice_get units k ≡ Some unit
+    there = unit_there w i unit is
+
+    -- nodes of one number are one
+    pub ranks_tell : (n m : Node) → Contains (nodes_in (plain_body unit.body)) n → Contains (nodes_in (plain_body unit.body)) m →
+        rank_by w activities i n ≡ rank_by w activities i m → n ≡ m
+    ranks_tell =
+        let own = each_at IsActivityOf (activities_of units) machine (graph_position units k) unit compiled.agrees
+        (filtered_at (λ it. is_activity it.kind) units k unit there active) in
+        let parts = compiled.built.made k unit there active in
+        let same : own.0 ≡ parts.one = same_Some own.0 parts.one (sym own.1 ∙ parts.is) in
+        numbers_tell keys a unit parts.one (compiled.built.unit k unit there) parts.order
+        (subst (λ (one : InMachine). Ordered (plain_body unit.body) one.blocks) same own.2.order)
+
+    flag_asked : (rule : Transition) (p : ℕ) (l : Label) (at : Place) (arguments : Arguments) → slice_get (rules_at a) p ≡ Some rule →
+        rule.node ≡ EnterAt l at arguments →
+        list_any (asks_flag (view_of a).number (rank_by w activities i (EnterAt l at arguments))) (rules_at a) ≡ true
+    flag_asked rule p l at arguments found node =
+        any_at (asks_flag (view_of a).number (rank_by w activities i (EnterAt l at arguments))) (rules_at a) p rule found
+        (both (is_flagged rule.asked) (nat_eq (rank_by w activities i (EnterAt l at arguments)) ((view_of a).number rule.node))
+        (enters_flagged a.slots (plain_body a.unit.body) rule (contains_at (rules_at a) p rule found) l at arguments node)
+        (eq-eqb (rank_by w activities i (EnterAt l at arguments)) ((view_of a).number rule.node) (ap (view_of a).number (sym node))))
+      where
+        both : (b c : Bool) → b ≡ true → c ≡ true → (b && c) ≡ true
+        both true c one other = other
+        both false c one other = one
+
+    -- the number of the node at which a `run` begins fits a name
+    pub rank_small : (l : Label) (at : Place) (arguments : Arguments) → Contains (nodes_in (plain_body unit.body)) (EnterAt l at arguments) →
+        rank_by w activities i (EnterAt l at arguments) < 2 ^ 64
+    rank_small l at arguments within =
+        let own : a.unit ≡ unit = compiled.built.unit k unit there in
+        let position = stands_at (nodes_in (plain_body unit.body)) (EnterAt l at arguments) within in
+        let nodes : map (λ (rule : Transition). rule.node) (rules_at a) ≡ nodes_in (plain_body unit.body) =
+        placed.nodes a.slots (plain_body a.unit.body) ∙ ap (λ (u : UnitDef). nodes_in (plain_body u.body)) own in
+        let rule = of_map (λ (rule : Transition). rule.node) (rules_at a) position.0 (EnterAt l at arguments)
+        (ap (λ (ns : List Node). slice_get ns position.0) nodes ∙ position.1) in
+        (compiled.registers k unit there active).flags (rank_by w activities i (EnterAt l at arguments))
+        (flag_asked rule.0 position.0 l at arguments rule.1 rule.2)
+
+    -- so the names of different `run`s differ
+    pub callees_differ : (l m : Label) (at by : Place) (x y : Arguments) → Contains (nodes_in (plain_body unit.body)) (EnterAt l at x) →
+        Contains (nodes_in (plain_body unit.body)) (EnterAt m by y) → (EnterAt l at x ≡ EnterAt m by y → ⊥) →
+        bytes_eq (callee_name (rank_by w activities i (EnterAt l at x))) (callee_name (rank_by w activities i (EnterAt m by y))) ≡ false
+    callees_differ l m at by x y one two differ =
+        names_differ 120 (rank_by w activities i (EnterAt l at x)) (rank_by w activities i (EnterAt m by y)) (rank_small l at x one)
+        (rank_small m by y two) (λ same. differ (ranks_tell (EnterAt l at x) (EnterAt m by y) one two same))

@@ -1,0 +1,210 @@
+-- The instance that a `run` at a node begins or goes on with is of the activity that the node calls.
+use Rattle.std.proofs.Common.{◌≡◌, inl, inr, ℕ, zero, suc, ◌<◌, Bool, true, false, List, [], ◌∷◌, Contains}
+use Rattle.std.proofs.Common.{Option, Some, None, length, map, take, get_or, nat_eq, unwrap_or}
+use Rattle.std.proofs.Common.{refl, sym, ap, subst, ◌∙◌, arith, eqb-true}
+use Rattle.std.proofs.lemmas.List.Quantifiers.{position-Some}
+use Rattle.std.proofs.lemmas.Option.{same_Some}
+use Rattle.std.specs.Prelude.{option_and_then, option_map, slice_get}
+use Rattle.bl_tree.specs.declared.tree.StructDef.{StructDef}
+use Rattle.bl_tree.specs.declared.tree.Unit.{Unit as UnitDef}
+use Rattle.bl_tree.specs.Reduce.{joined}
+use Rattle.bl_tree.specs.Rules.{same_place}
+use Rattle.bl_tree.specs.Typing.{site_of}
+use Rattle.bl_effects.proofs.EntryLemmas.{same_place_is}
+use Rattle.bl_graph_nodes.specs.Nodes.{EnterAt, Node, nodes_in}
+use Rattle.bl_graph_nodes.specs.Plain.{Block, plain_body}
+use Rattle.bl_ctree.specs.declared.instance.Instance.{Instance}
+use Rattle.bl_ctree.specs.declared.instance.Origin.{Origin}
+use Rattle.bl_ctree.specs.declared.instance.Run.{Run}
+use Rattle.bl_ctree.specs.Instances.{Setting, begins_at, callee_of, one_a_place, runs_in, runs_of, setting_of, unit_at, unit_of}
+use Rattle.bl_ctree_laws.specs.Trees.{Call}
+use Rattle.bl_ctree_laws_confluence.specs.Deeds.Orderly.{AcceptedIsOrderly}
+use Rattle.bl_ctree_laws_confluence.specs.Deeds.Origins.{CalledBy, HasCaller, InstancesHaveCallers}
+use Rattle.bl_ctree_laws_confluence.proofs.OnDeeds.Activities.{AllOf, and_left, and_right, one_a_place_so}
+use Rattle.bl_ctree_laws_traces.proofs.OnProgress.Earlier.{RunsUnit, body_runs}
+use Rattle.bl_ctree_laws_traces.proofs.OnReady.Keys.{Differ, Has, Same, bodies_differ_so}
+use Rattle.bl_ctree_laws_traces.proofs.OnBounded.Callees.{taken_before, typed_at}
+use Rattle.bl_ctree_laws_traces.proofs.OnBounded.Calls.{calls_in, run_of}
+use Rattle.bl_ctree_laws_traces.proofs.OnBounded.Lists.{Among, among_got}
+use Rattle.bl_ctree_laws_traces.proofs.OnBounded.Statements.{body_few}
+use Rattle.bl_machine.specs.declared.machine.Activity.{Activity as InMachine}
+use Rattle.bl_machine_transitions.specs.Callees.{callees_in}
+use Rattle.bl_emit_spec_laws.specs.Calls.Built.{Activities, unit_number}
+use Rattle.bl_emit_spec_laws.specs.Calls.Laws.{CompilationContext}
+use Rattle.bl_emit_spec_laws_nodes.specs.Calling.{RunOf}
+use Rattle.bl_emit_spec_laws.proofs.OnPlaced.Lists.{contains_at}
+use Rattle.bl_emit_spec_laws_simulation.proofs.OnRuns.Entered.{call_there, calls_in_are, entered_at, node_by}
+
+-- ---- lists
+
+got_or : {A : Type 0} (xs : List A) (k : ℕ) (d : A) → k < length xs → slice_get xs k ≡ Some (get_or xs k d)
+got_or [] k d within = absurd (omega (arith, within))
+got_or (x ∷ xs) zero d within = refl
+got_or (x ∷ xs) (suc k) d within = got_or xs k d (omega (arith, within))
+
+all_among : {A : Type 0} (P : A → Type 0) (xs : List A) (x : A) → AllOf P xs → Among x xs → P x
+all_among P [] x all at = absurd at
+all_among P (y ∷ xs) x all (inl is) = subst P (sym is) all.0
+all_among P (y ∷ xs) x all (inr at) = all_among P xs x all.1 at
+
+all_own : {A : Type 0} (all some : List A) → ((x : A) → Among x some → Among x all) → AllOf (λ x. Among x all) some
+all_own all [] inside = tt
+all_own all (y ∷ some) inside = (inside y (inl refl), all_own all some (λ x at. inside x (inr at)))
+
+once_there : (runs : List Run) (run : Run) → Among run (one_a_place runs) → Among run runs
+once_there runs run at =
+    all_among (λ x. Among x runs) (one_a_place runs) run (one_a_place_so (λ x. Among x runs) runs (all_own runs runs (λ x there. there))) at
+
+-- an image is that of an element
+record Image (runs : List Call) (run : Run) : Type 0 where
+  call : Call
+  there : Among call runs
+  is : run ≡ run_of call
+
+image_of : (calls : List Call) (run : Run) → Among run (map run_of calls) → Image calls run
+image_of [] run at = absurd at
+image_of (c ∷ calls) run (inl is) = record { call = c; there = inl refl; is = is }
+image_of (c ∷ calls) run (inr at) =
+    let rest = image_of calls run at in record { call = rest.call; there = inr rest.there; is = rest.is }
+
+taken : (units : List UnitDef) (n k : ℕ) (unit : UnitDef) → slice_get (take n units) k ≡ Some unit → slice_get units k ≡ Some unit
+taken [] zero k unit e = e
+taken [] (suc n) k unit e = e
+taken (u ∷ units) zero k unit e = absurd (cc)
+taken (u ∷ units) (suc n) zero unit e = e
+taken (u ∷ units) (suc n) (suc k) unit e = taken units n k unit e
+
+-- no node stands twice
+same_itself : (n : Node) → Same n n
+same_itself n = record { label = refl; sort = refl }
+
+has_at : (xs : List Node) (k : ℕ) (x n : Node) → slice_get xs k ≡ Some n → Same x n → Has xs x
+has_at [] k x n e same = absurd (cc)
+has_at (y ∷ xs) zero x n e same = inl (subst (Same x) (sym (same_Some y n e)) same)
+has_at (y ∷ xs) (suc k) x n e same = inr (has_at xs k x n e same)
+
+pub one_place : (xs : List Node) → Differ xs → (i j : ℕ) (n : Node) → slice_get xs i ≡ Some n → slice_get xs j ≡ Some n → i ≡ j
+one_place [] apart i j n one two = absurd (cc)
+one_place (x ∷ xs) apart zero zero n one two = refl
+one_place (x ∷ xs) apart zero (suc j) n one two =
+    absurd (apart.0 (has_at xs j x n two (subst (Same x) (same_Some x n one) (same_itself x))))
+one_place (x ∷ xs) apart (suc i) zero n one two =
+    absurd (apart.0 (has_at xs i x n one (subst (Same x) (same_Some x n two) (same_itself x))))
+one_place (x ∷ xs) apart (suc i) (suc j) n one two = ap suc (one_place xs apart.1 i j n one two)
+
+-- ---- units of instances
+
+unit_by : (w : Setting) (found : Option Instance) (unit : UnitDef) → option_and_then (unit_of w) found ≡ Some unit →
+    slice_get w.units (unwrap_or (option_map (λ (one : Instance). one.unit) found) 0) ≡ Some unit
+unit_by w None unit e = absurd (cc)
+unit_by w (Some instance) unit e = e
+
+-- the unit of an instance stands at its position
+pub unit_there : (w : Setting) (i : ℕ) (unit : UnitDef) → unit_at w i ≡ Some unit → slice_get w.units (unit_number w i) ≡ Some unit
+unit_there w i unit is = unit_by w (slice_get w.instances i) unit is
+
+number_is : (w : Setting) (i : ℕ) (instance : Instance) → slice_get w.instances i ≡ Some instance → unit_number w i ≡ instance.unit
+number_is w i instance there = ap (λ found. unwrap_or (option_map (λ (one : Instance). one.unit) found) 0) there
+
+-- ---- the `run`
+
+-- the `run` of the node is one of the instance, and calls the unit at the position
+pub record CallsUnit (w : Setting) (activities : Activities) (i : ℕ) (unit : UnitDef) (s : Call) (j : ℕ) : Type 0 where
+  pub other : UnitDef
+  pub run : RunOf w activities i unit s.label s.place s.arguments j other
+  pub number : unit_number w j ≡ s.unit
+
+module _ (orderly : AcceptedIsOrderly) (callers : InstancesHaveCallers) (structs : List StructDef) (units : List UnitDef) (entry : ℕ)
+    (machine : List InMachine) (activities : Activities) (compiled : CompilationContext structs units entry machine activities) (i : ℕ) (unit : UnitDef)
+    (is : unit_at (setting_of structs units entry) i ≡ Some unit)
+  where
+    abbrev w : Setting
+    w = setting_of structs units entry
+
+    abbrev k : ℕ
+    k = unit_number w i
+
+    abbrev body : Block
+    body = plain_body unit.body
+
+    there : slice_get units k ≡ Some unit
+    there = unit_there w i unit is
+
+    -- `run`s that are one of a place are one
+    same_units : (s t : Call) → Among s (calls_in body) → Among t (calls_in body) → s.place ≡ t.place → s.unit ≡ t.unit
+    same_units s t one two places =
+        let at = entered_at (nodes_in body) (callees_in body) s
+        (subst (Among s) (sym (calls_in_are false body)) one) in
+        let by = entered_at (nodes_in body) (callees_in body) t
+        (subst (Among t) (sym (calls_in_are false body)) two) in
+        let alone = compiled.text.alone unit ((orderly structs units entry compiled.keeps compiled.passes).each i unit is).is_there in
+        let first : slice_get (nodes_in body) at.position ≡ Some (EnterAt s.label t.place s.arguments) =
+        at.node ∙ ap (λ place. Some (EnterAt s.label place s.arguments)) places in
+        let same : EnterAt s.label t.place s.arguments ≡ EnterAt t.label t.place t.arguments =
+        alone.alone s.label t.label t.place s.arguments t.arguments
+        (contains_at (nodes_in body) at.position (EnterAt s.label t.place s.arguments) first)
+        (contains_at (nodes_in body) by.position (EnterAt t.label t.place t.arguments) by.node) in
+        let position : at.position ≡ by.position =
+        one_place (nodes_in body) (bodies_differ_so unit.body []) at.position by.position (EnterAt t.label t.place t.arguments)
+        (first ∙ ap Some same) by.node in
+        same_Some s.unit t.unit (sym at.unit ∙ (ap (slice_get (callees_in body)) position ∙ by.unit))
+
+    module _ (j : ℕ) (s : Call) (within : Among s (calls_in body)) (begins : callee_of w i s.place ≡ Some j) where
+      -- a `run` of the body that began the instance
+      by_run : (instance : Instance) (run : Run) → slice_get w.instances j ≡ Some instance → Among run (joined (map runs_in unit.body)) →
+          instance.unit ≡ run.unit → s.place ≡ run.place → CallsUnit w activities i unit s j
+      by_run instance run at among is_unit place =
+          let typed = typed_at structs [] units k unit compiled.keeps.units_stand there in
+          let runs = all_among (RunsUnit (take k units)) (joined (map runs_in unit.body)) run
+          (body_runs (site_of structs (take k units) unit) unit.body typed) among in
+          let callee_there = taken units k run.unit runs.callee runs.there in
+          let less = taken_before units k run.unit runs.callee runs.there in
+          let found : unit_at w j ≡ Some runs.callee =
+          ap (option_and_then (unit_of w)) at ∙ ap (slice_get units) is_unit ∙ callee_there in
+          let active = ((orderly structs units entry compiled.keeps compiled.passes).each j runs.callee found).activity in
+          let number : unit_number w j ≡ run.unit = number_is w j instance at ∙ is_unit in
+          let image = image_of (calls_in body) run
+          (subst (λ rs. Among run rs) (sym (body_few (site_of structs (take k units) unit) unit.body typed).are) among) in
+          let same : s.unit ≡ image.call.unit =
+          same_units s image.call within image.there (place ∙ ap (λ (r : Run). r.place) image.is) in
+          let here = entered_at (nodes_in body) (callees_in body) s (subst (Among s) (sym (calls_in_are false body)) within) in
+          record {
+            other = runs.callee;
+            run = record {
+              node = contains_at (nodes_in body) here.position (EnterAt s.label s.place s.arguments) here.node;
+              callee = begins;
+              is_there = found;
+              active = active;
+              earlier = subst (λ n. n < k) (sym number) less;
+            };
+            number = number ∙ (ap (λ (r : Run). r.unit) image.is ∙ sym same);
+          }
+
+      by_origin : (instance : Instance) → slice_get w.instances j ≡ Some instance → (o : Option Origin) → instance.origin ≡ o →
+          begins_at i s.place o ≡ true → CallsUnit w activities i unit s j
+      by_origin instance found None of e = absurd (cc)
+      by_origin instance found (Some origin) of e =
+          let called : CalledBy units w.instances j instance origin =
+          subst (HasCaller units entry w.instances j instance) of (callers units entry j instance found) in
+          let by : origin.caller ≡ i = eqb-true origin.caller i (and_left (nat_eq origin.caller i) (same_place origin.place s.place) e) in
+          let place : origin.place ≡ s.place =
+          same_place_is origin.place s.place (and_right (nat_eq origin.caller i) (same_place origin.place s.place) e) in
+          let calling : unit_at w origin.caller ≡ Some called.unit = ap (option_and_then (unit_of w)) called.there ∙ called.body in
+          let same : called.unit ≡ unit = same_Some called.unit unit (sym calling ∙ ap (unit_at w) by ∙ is) in
+          let among : Among called.run (joined (map runs_in unit.body)) =
+          once_there (joined (map runs_in unit.body)) called.run
+          (among_got called.run (runs_of unit) (subst (λ (u : UnitDef). Contains (runs_of u) called.run) same called.runs)) in
+          by_run instance called.run found among called.names (sym place ∙ called.place)
+
+      pub calls_unit : CallsUnit w activities i unit s j
+      calls_unit =
+          let d : Instance = record { unit = 0; depth = 0; origin = None } in
+          let position = position-Some (λ (instance : Instance). begins_at i s.place instance.origin) w.instances j d begins in
+          by_origin (get_or w.instances j d) (got_or w.instances j d position.0) (get_or w.instances j d).origin refl position.1
+
+    -- so it is of each node of a `run`, be it the first or the second
+    pub node_calls : (late : Bool) (s : Call) (p j : ℕ) → slice_get (nodes_in body) p ≡ Some (node_by late s) →
+        slice_get (callees_in body) p ≡ Some s.unit → callee_of w i s.place ≡ Some j → CallsUnit w activities i unit s j
+    node_calls late s p j node unit_is begins =
+        calls_unit j s
+        (subst (Among s) (calls_in_are late body) (call_there late (nodes_in body) (callees_in body) p s node unit_is)) begins

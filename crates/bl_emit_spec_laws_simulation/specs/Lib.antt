@@ -1,0 +1,4 @@
+pub mod Simulation
+pub mod Compiled
+pub mod Establishes
+pub mod Leaves

@@ -1,0 +1,39 @@
+//! What the laws of passes ask of a compiled program. There is no code here. Laws, as contracts of functions that do nothing
+//! (`specs/Compiled.antt`): a typed program of a source text that passes the rules, with a machine of it that shares counters, has all that
+//! they ask, where 64 bits count the variables and the statements of each of its units (`ProgramsCompile`); and all that the rules of an
+//! instance's nodes ask and change are registers that its function has, where rule Cells doesn't fail (`RulesAreOwn`).
+
+ghost use Rattle.bl_emit_spec_laws_simulation.specs.Compiled.{ProgramsCompile, RulesAreOwn};
+
+use bl_ctree_laws_confluence::deeds::accepted_programs_are_orderly;
+use bl_emit_functions_laws_wellformed::numbered::units_counted;
+use bl_emit_spec_laws::own::{asked_are_own, changes_are_own, registers_are_few};
+use bl_emit_spec_laws_wellformed::closed::instances_needed;
+use bl_emit_spec_laws_wellformed::counts::nodes_counted;
+use bl_emit_spec_laws_wellformed::needed::needed_small;
+use bl_limits_measures::laws::units_add_up;
+use bl_limits_measures_laws::laws::units_use_earlier_ones;
+use bl_tree::Program;
+
+/// A program of a source text that passes the rules, with a machine that shares counters, is compiled as the laws of passes ask.
+pub fn programs_compile(program: &Program)
+    ensures { ProgramsCompile program.now.structs program.now.units program.now.entry }
+{
+    units_counted(program);
+    nodes_counted(program);
+    registers_are_few();
+}
+
+/// The rules of an instance's nodes ask and change registers of its function.
+pub fn rules_are_own(program: &Program)
+    ensures { RulesAreOwn program.now.structs program.now.units program.now.entry }
+{
+    accepted_programs_are_orderly();
+    changes_are_own();
+    asked_are_own();
+    instances_needed(program);
+    needed_small(program);
+    nodes_counted(program);
+    units_use_earlier_ones();
+    units_add_up();
+}

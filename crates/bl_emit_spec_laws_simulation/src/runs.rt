@@ -1,0 +1,39 @@
+//! The blocks of `run`s. There is no code here. A law, as the contract of a function that does nothing: where the call that a `run` makes is given
+//! what a pass of the called instance begins with, and leaves what that pass leaves, the blocks of the nodes at which a `run` begins or goes on do
+//! what a pass by rules does there (`RunsSimulate` of the crate `bl_emit_spec_laws_nodes`).
+
+ghost use Rattle.bl_emit_spec_laws_nodes.specs.Calling.{RunsSimulate};
+
+use bl_ctree_laws_confluence::deeds::{
+    accepted_programs_are_orderly, instances_have_callers, instances_nest,
+};
+use bl_emit_acts_laws_simulation::{frames_apart, places_simulate, writes_encode};
+use bl_emit_spec_laws::cleared::clearing_is_inside;
+use bl_emit_spec_laws::registers::registers_apart;
+use bl_emit_spec_laws::within::passes_stay_within;
+use bl_emit_spec_laws_nodes::points::{blocks_choose, changes_stand, returns_end};
+use bl_machine_pass_laws::keys::nodes_have_keys;
+use bl_machine_pass_laws::numbers::trees_stay_placed;
+use bl_machine_pass_laws_typing::fits::turns_fit;
+use bl_tree::Program;
+
+/// The blocks of `run`s do what a pass by rules does there.
+pub fn runs_simulate(program: &Program)
+    ensures { RunsSimulate program.now.structs program.now.units program.now.entry }
+{
+    accepted_programs_are_orderly();
+    instances_have_callers();
+    instances_nest();
+    frames_apart();
+    places_simulate(program);
+    writes_encode(program);
+    registers_apart();
+    clearing_is_inside();
+    blocks_choose();
+    changes_stand();
+    returns_end(program);
+    turns_fit();
+    passes_stay_within();
+    nodes_have_keys();
+    trees_stay_placed();
+}

@@ -1,0 +1,59 @@
+//! The C functions of all activities of a program do what passes of their instances do. There is no code here. A law, as the contract of a function
+//! that does nothing (`specs/Simulation.antt`): it puts the laws of the parts together, of points and of `run`s, of how a function begins and of how its
+//! blocks stand, so that no premise is left but that the program is compiled, that rules Frames and Cells don't fail, and that the table knows the C
+//! functions (`CompiledSimulate`).
+
+ghost use Rattle.bl_emit_spec_laws_simulation.specs.Simulation.{CompiledSimulate};
+
+use crate::compiled::rules_are_own;
+use crate::establishes::runs_establish;
+use crate::leaves::runs_leave;
+use crate::runs::runs_simulate;
+use bl_ctree_laws_typing::views::views_are_typed;
+use bl_emit_functions_laws_simulation::units::functions_simulate;
+use bl_emit_spec_laws::activities::activities_simulate;
+use bl_emit_spec_laws::fits::turns_fit_compiled;
+use bl_emit_spec_laws::passes::blocks_pass;
+use bl_emit_spec_laws::placed::blocks_are_placed;
+use bl_emit_spec_laws::remember::callees_remember;
+use bl_emit_spec_laws::within::passes_stay_within;
+use bl_emit_spec_laws_files::begins::{functions_begin, pointers_follow};
+use bl_emit_spec_laws_files::counters::counters_suffice;
+use bl_emit_spec_laws_nodes::copied::{nodes_copied, runs_copied};
+use bl_emit_spec_laws_nodes::fitting::{nodes_apart, nodes_fit};
+use bl_emit_spec_laws_nodes::points::points_simulate;
+use bl_emit_spec_laws_nodes::prevs::prevs_agree;
+use bl_emit_spec_laws_nodes::seen::{own_seen, targets_seen};
+use bl_emit_spec_laws_nodes::views::{acts_leave, remembering_stands};
+use bl_tree::Program;
+
+/// The C functions of a program's activities do what passes of their instances do.
+pub fn compiled_simulate(program: &Program)
+    ensures { CompiledSimulate program.now.structs program.now.units program.now.entry }
+{
+    views_are_typed();
+    functions_simulate(program);
+    activities_simulate();
+    functions_begin(program);
+    pointers_follow(program);
+    runs_simulate(program);
+    rules_are_own(program);
+    nodes_copied();
+    runs_copied();
+    counters_suffice();
+    turns_fit_compiled();
+    nodes_apart(program);
+    nodes_fit(program);
+    runs_establish(program);
+    runs_leave();
+    blocks_pass();
+    passes_stay_within();
+    blocks_are_placed();
+    points_simulate(program);
+    prevs_agree();
+    callees_remember();
+    own_seen();
+    targets_seen();
+    acts_leave();
+    remembering_stands();
+}

@@ -1,0 +1,523 @@
+-- No two parameters and locals of the C function of an activity have one name.
+use Rattle.std.proofs.Common.{◌≡◌, ℕ, zero, suc, ◌+◌, ◌<◌, ◌≤◌, ◌^◌, Bool, true, false}
+use Rattle.std.proofs.Common.{not, ◌||◌, List, [], ◌∷◌, ◌++◌, map, take, drop}
+use Rattle.std.proofs.Common.{length, Option, Some, None, refl, sym, ap, ◌∙◌, arith, codes}
+use Rattle.std.proofs.lemmas.Bool.Decides.{nat_tests}
+use Rattle.std.proofs.lemmas.Fmt.{decimal_injective}
+use Rattle.std.proofs.lemmas.List.{append-nil, append_assoc, map-append}
+use Rattle.std.proofs.lemmas.Slice.Eq.{bytes_eq-Decides}
+use Rattle.std.specs.Fmt.{decimal}
+use Rattle.std.specs.List.{list_any}
+use Rattle.std.specs.Prelude.{bytes_eq, nat_eq, nat_lt, option_and_then, slice_get, if◌then◌else◌}
+use Rattle.bl_tree.specs.declared.text.Text.{Text}
+use Rattle.bl_tree.specs.declared.c.CLocal.{CLocal}
+use Rattle.bl_tree.specs.declared.c.CMember.{CMember}
+use Rattle.bl_tree.specs.declared.c.CParam.{CParam}
+use Rattle.bl_tree.specs.declared.scalar.Scalar.{Scalar as ScalarType}
+use Rattle.bl_tree.specs.declared.scalar.Scalar.TheVariants.{Bool as OfBool}
+use Rattle.bl_tree.specs.declared.tree.StructDef.{StructDef}
+use Rattle.bl_tree.specs.declared.tree.Unit.{Unit as UnitDef}
+use Rattle.bl_tree.specs.declared.tree.Var.{Var}
+use Rattle.bl_tree.specs.Program.{parameters_of}
+use Rattle.bl_tree.specs.Reduce.{joined}
+use Rattle.bl_tree.specs.Typing.{TypingContext, site_of}
+use Rattle.bl_tree.specs.Words.{are_distinct, is_among}
+use Rattle.bl_machine.specs.Blocks.{up_to}
+use Rattle.bl_graph_nodes.specs.Nodes.{Node}
+use Rattle.bl_machine_pass.specs.Transitions.{Change, Transition}
+use Rattle.bl_machine_pass.specs.Transitions.{ClearsBoth, ClearsCounter, EndsWhen, Finishes, SetsCounter, SetsFlag, SetsMark}
+use Rattle.bl_emit_acts.specs.Acts.{is_copied}
+use Rattle.bl_emit_acts.specs.Places.{home_of}
+use Rattle.bl_emit_functions.specs.Functions.{is_held, member_of, members_from, members_of, memory_name, params_from}
+use Rattle.bl_emit_spec.specs.Activities.{
+  Activity,
+  RunAt,
+  activity_locals,
+  activity_params,
+  copied_in,
+  copies_of,
+  copy_local,
+  counter_member,
+  counters_read,
+  flag_local,
+  frame_member,
+  frame_struct,
+  given_local,
+  is_flagged,
+  mark_local,
+  mark_locals,
+  memory_member,
+  memory_params,
+  over_param,
+  remembered,
+  remembers_any,
+  rested_local,
+  result_params,
+  rules_at,
+  run_locals,
+  runs_in_body,
+  scalar_local,
+  struct_member,
+  view_of,
+}
+use Rattle.bl_emit_spec.specs.Blocks.{Sizes, name_in}
+use Rattle.bl_emit_spec.specs.Names.{callee_name, flag_name}
+use Rattle.bl_emit_spec_laws_wellformed.specs.Names.{FrameDiffers, LocalsDiffer, MemoryDiffers, NumbersDiffer}
+use Rattle.bl_emit_spec_laws_wellformed.specs.Names.{are_numbers, flag_number, mark_number, mark_numbers}
+use Rattle.bl_emit_spec_laws_wellformed.proofs.OnNames.Names.{among-both, and-left, and-right, begins-append}
+use Rattle.bl_emit_spec_laws_wellformed.proofs.OnNames.Names.{both, family, family-begins, family-distinct}
+use Rattle.bl_emit_spec_laws_wellformed.proofs.OnNames.Names.{letter-new, neither, not-among, not-false, one-distinct, some_begins}
+use Rattle.bl_emit_spec_laws_wellformed.proofs.OnNames.Numbers.{chosen, chosen-numbers, filtered-numbers, first-numbers, position-numbers, positions}
+
+abbrev local_names : List CLocal → List Text
+local_names locals = map (λ (l : CLocal). l.name) locals
+
+abbrev member_names : List CMember → List Text
+member_names members = map (λ (m : CMember). m.name) members
+
+abbrev param_names : List CParam → List Text
+param_names params = map (λ (p : CParam). p.name) params
+
+locals_append : (xs ys : List CLocal) → local_names (xs ++ ys) ≡ local_names xs ++ local_names ys
+locals_append xs ys = map-append (λ (l : CLocal). l.name) xs ys
+
+members_append : (xs ys : List CMember) → member_names (xs ++ ys) ≡ member_names xs ++ member_names ys
+members_append xs ys = map-append (λ (m : CMember). m.name) xs ys
+
+family_append : (b : ℕ) (xs ys : List ℕ) → family b (xs ++ ys) ≡ family b xs ++ family b ys
+family_append b xs ys = map-append (λ k. b ∷ decimal k) xs ys
+
+-- ---- which names there are
+
+rested_names : (sizes : Sizes) (ks : List ℕ) → local_names (map (rested_local sizes) ks) ≡ family 119 ks
+rested_names sizes [] = refl
+rested_names sizes (k ∷ ks) = ap (λ rest. (119 ∷ decimal k) ∷ rest) (rested_names sizes ks)
+
+copy_names : (a : Activity) (ks : List ℕ) → local_names (map (copy_local a) ks) ≡ family 112 ks
+copy_names a [] = refl
+copy_names a (k ∷ ks) = ap (λ rest. (112 ∷ decimal k) ∷ rest) (copy_names a ks)
+
+flag_names : (number : Node → ℕ) (rules : List Transition) →
+    local_names (joined (map (flag_local number) rules)) ≡ family 103 (joined (map (flag_number number) rules))
+flag_names number [] = refl
+flag_names number (rule ∷ rules) =
+    locals_append (flag_local number rule) (joined (map (flag_local number) rules))
+    ∙ (λ i. one i ++ flag_names number rules i) ∙ sym (family_append 103 (flag_number number rule) (joined (map (flag_number number) rules)))
+  where
+    one : local_names (flag_local number rule) ≡ family 103 (flag_number number rule)
+    one = by (is_flagged rule.asked) (scalar_local OfBool (flag_name (number rule.node))) refl
+      where
+        by : (b : Bool) (l : CLocal) → l.name ≡ 103 ∷ decimal (number rule.node) →
+            local_names (if b then l ∷ [] else []) ≡ family 103 (if b then number rule.node ∷ [] else [])
+        by true l is = ap (λ name. name ∷ []) is
+        by false l is = refl
+
+change_names : (number : Node → ℕ) (change : Change) → local_names (mark_local number change) ≡ family 117 (mark_number number change)
+change_names number (SetsFlag n) = refl
+change_names number (SetsCounter slot) = refl
+change_names number (ClearsCounter k) = refl
+change_names number (ClearsBoth k) = refl
+change_names number (SetsMark n) = refl
+change_names number (EndsWhen start surface depth) = refl
+change_names number Finishes = refl
+
+changes_names : (number : Node → ℕ) (changes : List Change) →
+    local_names (joined (map (mark_local number) changes)) ≡ family 117 (joined (map (mark_number number) changes))
+changes_names number [] = refl
+changes_names number (change ∷ changes) =
+    locals_append (mark_local number change) (joined (map (mark_local number) changes))
+    ∙ (λ i. change_names number change i ++ changes_names number changes i)
+    ∙ sym (family_append 117 (mark_number number change) (joined (map (mark_number number) changes)))
+
+mark_names : (number : Node → ℕ) (rules : List Transition) →
+    local_names (joined (map (mark_locals number) rules)) ≡ family 117 (joined (map (mark_numbers number) rules))
+mark_names number [] = refl
+mark_names number (rule ∷ rules) =
+    locals_append (mark_locals number rule) (joined (map (mark_locals number) rules))
+    ∙ (λ i. changes_names number rule.so i ++ mark_names number rules i)
+    ∙ sym (family_append 117 (mark_numbers number rule) (joined (map (mark_numbers number) rules)))
+
+-- ---- the locals of `run`s
+
+distinct_text : (b c j k : ℕ) → j < 2 ^ 64 → k < 2 ^ 64 → nat_eq j k ≡ false → bytes_eq (b ∷ decimal j) (c ∷ decimal k) ≡ false
+distinct_text b c j k less least other = by (bytes_eq (b ∷ decimal j) (c ∷ decimal k)) refl
+  where
+    by : (t : Bool) → bytes_eq (b ∷ decimal j) (c ∷ decimal k) ≡ t → t ≡ false
+    by false is = refl
+    by true is =
+        let text : (b ∷ decimal j) ≡ (c ∷ decimal k) = (bytes_eq-Decides (b ∷ decimal j) (c ∷ decimal k)).0 is in
+        let same : j ≡ k = decimal_injective j k less least (ap (drop 1) text) in
+        absurd (let no : nat_eq j j ≡ false = ap (nat_eq j) same ∙ other in grind (arith, nat_tests, no))
+
+low : (k : ℕ) → nat_lt k (2 ^ 64) ≡ true → k < 2 ^ 64
+low k h = grind (arith, nat_tests)
+
+later_none : (p q : Bool) → (p || q) ≡ false → q ≡ false
+later_none false q h = h
+later_none true q h = absurd (cc)
+
+first_none : (p q : Bool) → (p || q) ≡ false → p ≡ false
+first_none false q h = refl
+first_none true q h = absurd (cc)
+
+module _ (a : Activity) where
+  abbrev result_at : RunAt → Option ScalarType
+  result_at run = option_and_then (λ (unit : UnitDef). unit.result) (slice_get a.earlier run.unit)
+
+  abbrev names_of_run : RunAt → List Text
+  names_of_run run = local_names (run_locals a run)
+
+  abbrev names_of_runs : List RunAt → List Text
+  names_of_runs runs = local_names (joined (map (run_locals a) runs))
+
+  abbrev run_numbers : List RunAt → List ℕ
+  run_numbers runs = map (λ (run : RunAt). run.number) runs
+
+  runs_split : (run : RunAt) (runs : List RunAt) → names_of_runs (run ∷ runs) ≡ names_of_run run ++ names_of_runs runs
+  runs_split run runs = locals_append (run_locals a run) (joined (map (run_locals a) runs))
+
+  -- one of other letters
+  given_begins : (b n : ℕ) (o : Option ScalarType) → nat_eq b 114 ≡ false → some_begins b (local_names (given_local n o)) ≡ false
+  given_begins b n None other = refl
+  given_begins b n (Some s) other = neither (nat_eq b 114) false other refl
+
+  run_begins : (b : ℕ) (run : RunAt) → nat_eq b 101 ≡ false → nat_eq b 114 ≡ false → some_begins b (names_of_run run) ≡ false
+  run_begins b run one other =
+      neither (nat_eq b 101) (some_begins b (local_names (given_local run.number (result_at run)))) one
+      (given_begins b run.number (result_at run) other)
+
+  runs_begin : (b : ℕ) (runs : List RunAt) → nat_eq b 101 ≡ false → nat_eq b 114 ≡ false → some_begins b (names_of_runs runs) ≡ false
+  runs_begin b [] one other = refl
+  runs_begin b (run ∷ runs) one other =
+      ap (some_begins b) (runs_split run runs)
+      ∙ begins-append b (names_of_run run) (names_of_runs runs) (run_begins b run one other) (runs_begin b runs one other)
+
+  -- one of another number
+  given_other : (b j n : ℕ) (o : Option ScalarType) → j < 2 ^ 64 → n < 2 ^ 64 → nat_eq j n ≡ false →
+      is_among (b ∷ decimal j) (local_names (given_local n o)) ≡ false
+  given_other b j n None less least other = refl
+  given_other b j n (Some s) less least other =
+      neither (bytes_eq (b ∷ decimal j) (114 ∷ decimal n)) false (distinct_text b 114 j n less least other) refl
+
+  runs_other : (b j : ℕ) (runs : List RunAt) → j < 2 ^ 64 → are_numbers (run_numbers runs) ≡ true →
+      list_any (nat_eq j) (run_numbers runs) ≡ false →
+      is_among (b ∷ decimal j) (names_of_runs runs) ≡ false
+  runs_other b j [] less all none = refl
+  runs_other b j (run ∷ runs) less all none =
+      let n : ℕ = run.number in
+      let least : n < 2 ^ 64 = low n (and-left (nat_lt n (2 ^ 64)) _ all) in
+      let rest : are_numbers (run_numbers runs) ≡ true =
+      and-right (not (list_any (nat_eq n) (run_numbers runs))) (are_numbers (run_numbers runs)) (and-right (nat_lt n (2 ^ 64)) _ all) in
+      let other : nat_eq j n ≡ false = first_none (nat_eq j n) (list_any (nat_eq j) (run_numbers runs)) none in
+      ap (is_among (b ∷ decimal j)) (runs_split run runs)
+      ∙ among-both (b ∷ decimal j) (names_of_run run) (names_of_runs runs)
+      (neither (bytes_eq (b ∷ decimal j) (101 ∷ decimal n)) (is_among (b ∷ decimal j) (local_names (given_local n (result_at run))))
+      (distinct_text b 101 j n less least other) (given_other b j n (result_at run) less least other))
+      (runs_other b j runs less rest (later_none (nat_eq j n) (list_any (nat_eq j) (run_numbers runs)) none))
+
+  -- one letter alone
+  given_letter : (b n : ℕ) (o : Option ScalarType) → n < 2 ^ 64 → are_numbers (n ∷ []) ≡ true →
+      is_among (b ∷ []) (local_names (given_local n o)) ≡ false
+  given_letter b n None least one = refl
+  given_letter b n (Some s) least one = letter-new b 114 (n ∷ []) one
+
+  runs_letter : (b : ℕ) (runs : List RunAt) → are_numbers (run_numbers runs) ≡ true → is_among (b ∷ []) (names_of_runs runs) ≡ false
+  runs_letter b [] all = refl
+  runs_letter b (run ∷ runs) all =
+      let n : ℕ = run.number in
+      let own : nat_lt n (2 ^ 64) ≡ true = and-left (nat_lt n (2 ^ 64)) _ all in
+      let least : n < 2 ^ 64 = low n own in
+      let one : are_numbers (n ∷ []) ≡ true = both (nat_lt n (2 ^ 64)) true own refl in
+      let rest : are_numbers (run_numbers runs) ≡ true =
+      and-right (not (list_any (nat_eq n) (run_numbers runs))) (are_numbers (run_numbers runs)) (and-right (nat_lt n (2 ^ 64)) _ all) in
+      ap (is_among (b ∷ [])) (runs_split run runs)
+      ∙ among-both (b ∷ []) (names_of_run run) (names_of_runs runs)
+      (among-both (b ∷ []) ((101 ∷ decimal n) ∷ []) (local_names (given_local n (result_at run))) (letter-new b 101 (n ∷ []) one)
+      (given_letter b n (result_at run) least one))
+      (runs_letter b runs rest)
+
+  -- all differ
+  given_distinct : (n : ℕ) (o : Option ScalarType) (others : List Text) → is_among (101 ∷ decimal n) others ≡ false →
+      is_among (114 ∷ decimal n) others ≡ false → are_distinct others ≡ true →
+      are_distinct ((101 ∷ decimal n) ∷ (local_names (given_local n o) ++ others)) ≡ true
+  given_distinct n None others one other differ = one-distinct (101 ∷ decimal n) others one differ
+  given_distinct n (Some s) others one other differ =
+      one-distinct (101 ∷ decimal n) ((114 ∷ decimal n) ∷ others)
+      (neither (bytes_eq (101 ∷ decimal n) (114 ∷ decimal n)) (is_among (101 ∷ decimal n) others) refl one)
+      (one-distinct (114 ∷ decimal n) others other differ)
+
+  runs_distinct : (runs : List RunAt) → are_numbers (run_numbers runs) ≡ true → are_distinct (names_of_runs runs) ≡ true
+  runs_distinct [] all = refl
+  runs_distinct (run ∷ runs) all =
+      let n : ℕ = run.number in
+      let least : n < 2 ^ 64 = low n (and-left (nat_lt n (2 ^ 64)) _ all) in
+      let more = and-right (nat_lt n (2 ^ 64)) _ all in
+      let new : list_any (nat_eq n) (run_numbers runs) ≡ false =
+      not-false (list_any (nat_eq n) (run_numbers runs))
+      (and-left (not (list_any (nat_eq n) (run_numbers runs))) (are_numbers (run_numbers runs)) more) in
+      let rest : are_numbers (run_numbers runs) ≡ true =
+      and-right (not (list_any (nat_eq n) (run_numbers runs))) (are_numbers (run_numbers runs)) more in
+      ap are_distinct (runs_split run runs)
+      ∙ given_distinct n (result_at run) (names_of_runs runs) (runs_other 101 n runs least rest new) (runs_other 114 n runs least rest new)
+      (runs_distinct runs rest)
+
+  -- ---- all locals
+
+  module _ (differ : NumbersDiffer a) where
+    abbrev number : Node → ℕ
+    number = (view_of a).number
+
+    abbrev flags : List ℕ
+    flags = joined (map (flag_number number) (rules_at a))
+
+    abbrev marks : List ℕ
+    marks = joined (map (mark_numbers number) (rules_at a))
+
+    abbrev runs : List RunAt
+    runs = runs_in_body a
+
+    abbrev from_copies : List Text
+    from_copies = family 112 (copied_in a) ++ names_of_runs runs
+
+    abbrev from_marks : List Text
+    from_marks = family 117 marks ++ from_copies
+
+    abbrev from_flags : List Text
+    from_flags = family 103 flags ++ from_marks
+
+    abbrev all_locals : List Text
+    all_locals = family 119 (counters_read a) ++ from_flags
+
+    locals_are : local_names (activity_locals a) ≡ all_locals
+    locals_are =
+        let of_runs : List CLocal = joined (map (run_locals a) runs) in
+        let of_copies : List CLocal = map (copy_local a) (copied_in a) in
+        let of_marks : List CLocal = joined (map (mark_locals number) (rules_at a)) in
+        let of_flags : List CLocal = joined (map (flag_local number) (rules_at a)) in
+        locals_append (map (rested_local a.sizes) (counters_read a)) (of_flags ++ (of_marks ++ (of_copies ++ of_runs)))
+        ∙ (λ i. rested_names a.sizes (counters_read a) i ++ locals_append of_flags (of_marks ++ (of_copies ++ of_runs)) i)
+        ∙ (λ i. family 119 (counters_read a) ++ (flag_names number (rules_at a) i ++ locals_append of_marks (of_copies ++ of_runs) i))
+        ∙ (λ i. family 119 (counters_read a) ++ (family 103 flags ++ (mark_names number (rules_at a) i ++ locals_append of_copies of_runs i)))
+        ∙ (λ i. family 119 (counters_read a) ++ (family 103 flags ++ (family 117 marks ++ (copy_names a (copied_in a) i ++ names_of_runs runs))))
+
+    copies_numbers : are_numbers (copied_in a) ≡ true
+    copies_numbers = filtered-numbers (is_copied (copies_of a.unit)) (length a.unit.vars) differ.variables
+
+    read_numbers : are_numbers (counters_read a) ≡ true
+    read_numbers = filtered-numbers (view_of a).is_read (length a.sizes) differ.counters
+
+    -- a letter that begins no name of a local
+    none_begins : (b : ℕ) → nat_eq b 119 ≡ false → nat_eq b 103 ≡ false → nat_eq b 117 ≡ false → nat_eq b 112 ≡ false →
+        nat_eq b 101 ≡ false →
+        nat_eq b 114 ≡ false → some_begins b all_locals ≡ false
+    none_begins b w g u p e r =
+        begins-append b (family 119 (counters_read a)) from_flags (family-begins b 119 (counters_read a) w)
+        (begins-append b (family 103 flags) from_marks (family-begins b 103 flags g)
+        (begins-append b (family 117 marks) from_copies (family-begins b 117 marks u)
+        (begins-append b (family 112 (copied_in a)) (names_of_runs runs) (family-begins b 112 (copied_in a) p) (runs_begin b runs e r))))
+
+    -- a letter alone is no name of a local
+    letter_none : (b : ℕ) → is_among (b ∷ []) all_locals ≡ false
+    letter_none b =
+        among-both (b ∷ []) (family 119 (counters_read a)) from_flags (letter-new b 119 (counters_read a) read_numbers)
+        (among-both (b ∷ []) (family 103 flags) from_marks (letter-new b 103 flags differ.flags)
+        (among-both (b ∷ []) (family 117 marks) from_copies (letter-new b 117 marks differ.marks)
+        (among-both (b ∷ []) (family 112 (copied_in a)) (names_of_runs runs) (letter-new b 112 (copied_in a) copies_numbers)
+        (runs_letter b runs differ.runs))))
+
+    locals_distinct : are_distinct all_locals ≡ true
+    locals_distinct =
+        family-distinct 119 (counters_read a) from_flags read_numbers
+        (begins-append 119 (family 103 flags) from_marks (family-begins 119 103 flags refl)
+        (begins-append 119 (family 117 marks) from_copies (family-begins 119 117 marks refl)
+        (begins-append 119 (family 112 (copied_in a)) (names_of_runs runs) (family-begins 119 112 (copied_in a) refl)
+        (runs_begin 119 runs refl refl))))
+        (family-distinct 103 flags from_marks differ.flags
+        (begins-append 103 (family 117 marks) from_copies (family-begins 103 117 marks refl)
+        (begins-append 103 (family 112 (copied_in a)) (names_of_runs runs) (family-begins 103 112 (copied_in a) refl)
+        (runs_begin 103 runs refl refl)))
+        (family-distinct 117 marks from_copies differ.marks
+        (begins-append 117 (family 112 (copied_in a)) (names_of_runs runs) (family-begins 117 112 (copied_in a) refl) (runs_begin 117 runs refl refl))
+        (family-distinct 112 (copied_in a) (names_of_runs runs) copies_numbers (runs_begin 112 runs refl refl) (runs_distinct runs differ.runs))))
+
+    -- ---- parameters
+
+    params_names : (structs : List StructDef) (k : ℕ) (vars : List Var) →
+        param_names (params_from structs k vars) ≡ family 118 (positions (λ v. true) k vars)
+    params_names structs k [] = refl
+    params_names structs k (v ∷ vars) = ap (λ rest. (118 ∷ decimal k) ∷ rest) (params_names structs (k + 1) vars)
+
+    taken_few : {A : Type 0} (n : ℕ) (xs : List A) → length (take n xs) ≤ length xs
+    taken_few zero xs = omega arith
+    taken_few (suc n) [] = omega arith
+    taken_few (suc n) (x ∷ xs) = let rest : length (take n xs) ≤ length xs = taken_few n xs in omega (arith, rest)
+
+    abbrev params : List ℕ
+    params = positions (λ v. true) 0 (parameters_of a.unit)
+
+    param_numbers : are_numbers params ≡ true
+    param_numbers =
+        let few = differ.variables in
+        let some : length (parameters_of a.unit) ≤ length a.unit.vars = taken_few (a.unit.inputs + a.unit.outputs) a.unit.vars in
+        let room : 0 + length (parameters_of a.unit) ≤ 2 ^ 64 = omega (arith, some, few) in
+        position-numbers (λ v. true) 0 (parameters_of a.unit) room
+
+    -- the names behind those of variables: that of the result, where there is one, and that of the end
+    abbrev last_names : Option ScalarType → List Text
+    last_names (Some s) = codes "r" ∷ codes "e" ∷ []
+    last_names None = codes "e" ∷ []
+
+    abbrev first_names : Bool → List Text → List Text
+    first_names true rest = codes "m" ∷ rest
+    first_names false rest = rest
+
+    abbrev after_variables : List Text
+    after_variables = last_names a.unit.result ++ all_locals
+
+    last_distinct : (o : Option ScalarType) → are_distinct (last_names o ++ all_locals) ≡ true
+    last_distinct None = one-distinct (codes "e") all_locals (letter_none 101) locals_distinct
+    last_distinct (Some s) =
+        one-distinct (codes "r") (codes "e" ∷ all_locals)
+        (neither (bytes_eq (codes "r") (codes "e")) (is_among (codes "r") all_locals) refl (letter_none 114))
+        (one-distinct (codes "e") all_locals (letter_none 101) locals_distinct)
+
+    last_begins : (b : ℕ) (o : Option ScalarType) → nat_eq b 101 ≡ false → nat_eq b 114 ≡ false → some_begins b all_locals ≡ false →
+        some_begins b (last_names o ++ all_locals) ≡ false
+    last_begins b None e r none = neither (nat_eq b 101) (some_begins b all_locals) e none
+    last_begins b (Some s) e r none =
+        neither (nat_eq b 114) (nat_eq b 101 || some_begins b all_locals) r (neither (nat_eq b 101) (some_begins b all_locals) e none)
+
+    abbrev from_variables : List Text
+    from_variables = family 118 params ++ after_variables
+
+    variables_distinct : are_distinct from_variables ≡ true
+    variables_distinct =
+        family-distinct 118 params after_variables param_numbers
+        (last_begins 118 a.unit.result refl refl (none_begins 118 refl refl refl refl refl refl)) (last_distinct a.unit.result)
+
+    begin_none : (b : ℕ) → nat_eq b 118 ≡ false → nat_eq b 101 ≡ false → nat_eq b 114 ≡ false → some_begins b all_locals ≡ false →
+        some_begins b from_variables ≡ false
+    begin_none b v e r none = begins-append b (family 118 params) after_variables (family-begins b 118 params v)
+        (last_begins b a.unit.result e r none)
+
+    memory_distinct : (remembers : Bool) → are_distinct (first_names remembers from_variables) ≡ true
+    memory_distinct false = variables_distinct
+    memory_distinct true =
+        one-distinct (codes "m") from_variables
+        (not-among 109 (codes "m") from_variables refl
+        (begin_none 109 refl refl refl (none_begins 109 refl refl refl refl refl refl))) variables_distinct
+
+    frame_new : (remembers : Bool) → is_among (codes "f") (first_names remembers from_variables) ≡ false
+    frame_new false = not-among 102 (codes "f") from_variables refl (begin_none 102 refl refl refl (none_begins 102 refl refl refl refl refl refl))
+    frame_new true =
+        neither (bytes_eq (codes "f") (codes "m")) (is_among (codes "f") from_variables) refl
+        (not-among 102 (codes "f") from_variables refl (begin_none 102 refl refl refl (none_begins 102 refl refl refl refl refl refl)))
+
+    params_append : (xs ys : List CParam) → param_names (xs ++ ys) ≡ param_names xs ++ param_names ys
+    params_append xs ys = map-append (λ (p : CParam). p.name) xs ys
+
+    last_are : (o : Option ScalarType) → param_names (result_params o ++ over_param ∷ []) ≡ last_names o
+    last_are None = refl
+    last_are (Some s) = refl
+
+    memory_are : (remembers : Bool) (rest : List CParam) →
+        param_names (memory_params a remembers ++ rest) ≡ first_names remembers (param_names rest)
+    memory_are true rest = refl
+    memory_are false rest = refl
+
+    first_append : (remembers : Bool) (xs ys : List Text) → first_names remembers xs ++ ys ≡ first_names remembers (xs ++ ys)
+    first_append true xs ys = refl
+    first_append false xs ys = refl
+
+    abbrev variable_params : List CParam
+    variable_params = params_from a.structs 0 (parameters_of a.unit)
+
+    params_are : param_names (activity_params a) ≡ codes "f" ∷ first_names (remembers_any a) (family 118 params ++ last_names a.unit.result)
+    params_are =
+        ap (λ rest. codes "f" ∷ rest)
+        (memory_are (remembers_any a) (variable_params ++ (result_params a.unit.result ++ over_param ∷ []))
+        ∙ ap (first_names (remembers_any a))
+        (params_append variable_params (result_params a.unit.result ++ over_param ∷ [])
+        ∙ (λ i. params_names a.structs 0 (parameters_of a.unit) i ++ last_are a.unit.result i)))
+
+    all_distinct : are_distinct (param_names (activity_params a) ++ local_names (activity_locals a)) ≡ true
+    all_distinct =
+        ap are_distinct
+        ((λ i. params_are i ++ locals_are i)
+        ∙ ap (λ rest. codes "f" ∷ rest)
+        (first_append (remembers_any a) (family 118 params ++ last_names a.unit.result) all_locals
+        ∙ ap (first_names (remembers_any a)) (append_assoc (family 118 params) (last_names a.unit.result) all_locals)))
+        ∙ one-distinct (codes "f") (first_names (remembers_any a) from_variables) (frame_new (remembers_any a)) (memory_distinct (remembers_any a))
+
+    -- ---- members
+
+    counter_names : (sizes : Sizes) (ks : List ℕ) → member_names (map (counter_member sizes) ks) ≡ family 99 ks
+    counter_names sizes [] = refl
+    counter_names sizes (k ∷ ks) = ap (λ rest. (99 ∷ decimal k) ∷ rest) (counter_names sizes ks)
+
+    frame_names : (runs : List RunAt) → member_names (map (frame_member a) runs) ≡ family 120 (run_numbers runs)
+    frame_names [] = refl
+    frame_names (run ∷ runs) = ap (λ rest. (120 ∷ decimal run.number) ∷ rest) (frame_names runs)
+
+    families_distinct : (b c : ℕ) (js ks : List ℕ) → nat_eq b c ≡ false → are_numbers js ≡ true → are_numbers ks ≡ true →
+        are_distinct (family b js ++ family c ks) ≡ true
+    families_distinct b c js ks other one two =
+        family-distinct b js (family c ks) one (family-begins b c ks other)
+        (ap are_distinct (sym (append-nil (family c ks))) ∙ family-distinct c ks [] two refl refl)
+
+    frame_distinct : are_distinct (member_names (frame_struct a).members) ≡ true
+    frame_distinct =
+        ap are_distinct
+        (members_append (map (counter_member a.sizes) (up_to (length a.sizes))) (map (frame_member a) runs)
+        ∙ (λ i. counter_names a.sizes (up_to (length a.sizes)) i ++ frame_names runs i))
+        ∙ families_distinct 99 120 (up_to (length a.sizes)) (run_numbers runs) refl (first-numbers (length a.sizes) differ.counters) differ.runs
+
+    held_names : (site : TypingContext) (k : ℕ) (vars : List Var) →
+        member_names (members_from site k vars) ≡ family 118 (positions (λ (v : Var). is_held (home_of site (Some v))) k vars)
+    held_names site k [] = refl
+    held_names site k (v ∷ vars) =
+        members_append (member_of (is_held (home_of site (Some v))) site.structs k v) (members_from site (k + 1) vars)
+        ∙ (λ i. by (is_held (home_of site (Some v))) i ++ held_names site (k + 1) vars i)
+        ∙ sym (family_append 118 (if is_held (home_of site (Some v)) then k ∷ [] else [])
+        (positions (λ (v : Var). is_held (home_of site (Some v))) (k + 1) vars))
+      where
+        by : (b : Bool) → member_names (member_of b site.structs k v) ≡ family 118 (if b then k ∷ [] else [])
+        by true = refl
+        by false = refl
+
+    memory_names : (runs : List RunAt) → member_names (joined (map (memory_member a) runs))
+        ≡ family 120 (chosen (λ (run : RunAt). (view_of a).remembers run.unit) (λ (run : RunAt). run.number) runs)
+    memory_names [] = refl
+    memory_names (run ∷ runs) =
+        members_append (memory_member a run) (joined (map (memory_member a) runs))
+        ∙ (λ i. by ((view_of a).remembers run.unit) i ++ memory_names runs i)
+        ∙ sym (family_append 120 (if (view_of a).remembers run.unit then run.number ∷ [] else [])
+        (chosen (λ (run : RunAt). (view_of a).remembers run.unit) (λ (run : RunAt). run.number) runs))
+      where
+        by : (b : Bool) → member_names (if b then struct_member (callee_name run.number)
+            (memory_name (name_in (slice_get a.earlier run.unit))) ∷ [] else [])
+            ≡ family 120 (if b then run.number ∷ [] else [])
+        by true = refl
+        by false = refl
+
+    remembered_distinct : are_distinct (member_names (remembered a)) ≡ true
+    remembered_distinct =
+        let site : TypingContext = site_of a.structs a.earlier a.unit in
+        let few = differ.variables in
+        let room : 0 + length a.unit.vars ≤ 2 ^ 64 = omega (arith, few) in
+        ap are_distinct
+        (members_append (members_of a.structs a.earlier a.unit) (joined (map (memory_member a) runs))
+        ∙ (λ i. held_names (site_of a.structs a.earlier a.unit) 0 a.unit.vars i ++ memory_names runs i))
+        ∙ families_distinct 118 120 (positions (λ (v : Var). is_held (home_of (site_of a.structs a.earlier a.unit) (Some v))) 0 a.unit.vars)
+        (chosen (λ (run : RunAt). (view_of a).remembers run.unit) (λ (run : RunAt). run.number) runs) refl
+        (position-numbers (λ (v : Var). is_held (home_of (site_of a.structs a.earlier a.unit) (Some v))) 0 a.unit.vars room)
+        (chosen-numbers (λ (run : RunAt). (view_of a).remembers run.unit) (λ (run : RunAt). run.number) runs differ.runs)
+
+pub locals : LocalsDiffer
+locals a differ = all_distinct a differ
+
+pub frame : FrameDiffers
+frame a differ = frame_distinct a differ
+
+pub memory : MemoryDiffers
+memory a differ = remembered_distinct a differ

@@ -1,0 +1,157 @@
+-- Names that are a letter and a number differ where their numbers do, and from names with another letter.
+use Rattle.std.proofs.Common.{◌≡◌, ℕ, ◌<◌, ◌^◌, Bool, true, false, not}
+use Rattle.std.proofs.Common.{◌&&◌, ◌||◌, List, [], ◌∷◌, ◌++◌, map, drop, length}
+use Rattle.std.proofs.Common.{refl, sym, ap, ◌∙◌, arith}
+use Rattle.std.proofs.lemmas.Bool.Decides.{nat_tests}
+use Rattle.std.proofs.lemmas.Fmt.{decimal_injective, decimal_is_IsNumeral}
+use Rattle.std.proofs.lemmas.List.Folds.{list_any-append}
+use Rattle.std.proofs.lemmas.Slice.Eq.{bytes_eq-Decides}
+use Rattle.std.specs.Fmt.{decimal}
+use Rattle.std.specs.List.{list_any}
+use Rattle.std.specs.Prelude.{bytes_eq, nat_eq, nat_lt}
+use Rattle.bl_tree.specs.declared.text.Text.{Text}
+use Rattle.bl_tree.specs.Words.{are_distinct, is_among}
+use Rattle.bl_emit_spec_laws_wellformed.specs.Names.{are_numbers}
+
+pub and-left : (a b : Bool) → (a && b) ≡ true → a ≡ true
+and-left true b _ = refl
+and-left false b all = all
+
+pub and-right : (a b : Bool) → (a && b) ≡ true → b ≡ true
+and-right true b all = all
+and-right false b all = absurd (cc)
+
+pub both : (a b : Bool) → a ≡ true → b ≡ true → (a && b) ≡ true
+both true b _ other = other
+both false b one _ = one
+
+pub neither : (a b : Bool) → a ≡ false → b ≡ false → (a || b) ≡ false
+neither false b one other = other
+neither true b one other = absurd (cc)
+
+pub not-false : (b : Bool) → not b ≡ true → b ≡ false
+not-false false h = refl
+not-false true h = absurd (let no : false ≡ true = h in cc)
+
+-- ---- letters
+
+-- whether a name begins with this byte
+abbrev pub begins : ℕ → Text → Bool
+begins b [] = false
+begins b (c ∷ rest) = nat_eq b c
+
+-- whether one of some names does
+abbrev pub some_begins : ℕ → List Text → Bool
+some_begins b names = list_any (begins b) names
+
+-- a name that begins as none of some names does is none of them
+pub not-among : (b : ℕ) (x : Text) (names : List Text) → begins b x ≡ true → some_begins b names ≡ false → is_among x names ≡ false
+not-among b x [] own none = refl
+not-among b x (y ∷ names) own none =
+    neither (bytes_eq x y) (is_among x names) (by (bytes_eq x y) refl) (not-among b x names own (later (begins b y) (some_begins b names) none))
+  where
+    later : (p q : Bool) → (p || q) ≡ false → q ≡ false
+    later false q h = h
+    later true q h = absurd (cc)
+
+    first : (p q : Bool) → (p || q) ≡ false → p ≡ false
+    first false q h = refl
+    first true q h = absurd (cc)
+
+    by : (t : Bool) → bytes_eq x y ≡ t → t ≡ false
+    by false is = refl
+    by true is =
+        absurd (let no : true ≡ false = sym own ∙ ap (begins b) ((bytes_eq-Decides x y).0 is) ∙ first (begins b y) (some_begins b names) none in
+        cc)
+
+pub begins-append : (b : ℕ) (xs ys : List Text) → some_begins b xs ≡ false → some_begins b ys ≡ false → some_begins b (xs ++ ys) ≡ false
+begins-append b xs ys one other = list_any-append (begins b) xs ys ∙ neither (some_begins b xs) (some_begins b ys) one other
+
+-- ---- families
+
+-- the names that are a letter and one of some numbers
+abbrev pub family : ℕ → List ℕ → List Text
+family b ks = map (λ k. b ∷ decimal k) ks
+
+pub family-begins : (b c : ℕ) (ks : List ℕ) → nat_eq b c ≡ false → some_begins b (family c ks) ≡ false
+family-begins b c [] other = refl
+family-begins b c (k ∷ ks) other = neither (nat_eq b c) (some_begins b (family c ks)) other (family-begins b c ks other)
+
+low : (k : ℕ) → nat_lt k (2 ^ 64) ≡ true → k < 2 ^ 64
+low k h = grind (arith, nat_tests)
+
+apart_by : (b j k : ℕ) → j < 2 ^ 64 → k < 2 ^ 64 → nat_eq j k ≡ false → bytes_eq (b ∷ decimal j) (b ∷ decimal k) ≡ false
+apart_by b j k less least other = by (bytes_eq (b ∷ decimal j) (b ∷ decimal k)) refl
+  where
+    by : (t : Bool) → bytes_eq (b ∷ decimal j) (b ∷ decimal k) ≡ t → t ≡ false
+    by false is = refl
+    by true is =
+        let text : (b ∷ decimal j) ≡ (b ∷ decimal k) = (bytes_eq-Decides (b ∷ decimal j) (b ∷ decimal k)).0 is in
+        let same : j ≡ k = decimal_injective j k less least (ap (drop 1) text) in
+        absurd (let no : nat_eq j j ≡ false = ap (nat_eq j) same ∙ other in grind (arith, nat_tests, no))
+
+pub family-new : (b j : ℕ) (ks : List ℕ) → j < 2 ^ 64 → are_numbers ks ≡ true → list_any (nat_eq j) ks ≡ false →
+    is_among (b ∷ decimal j)
+    (family b ks) ≡ false
+family-new b j [] less all new = refl
+family-new b j (k ∷ ks) less all new =
+    let small : k < 2 ^ 64 = low k (and-left (nat_lt k (2 ^ 64)) _ all) in
+    let rest : are_numbers ks ≡ true = and-right (not (list_any (nat_eq k) ks)) (are_numbers ks) (and-right (nat_lt k (2 ^ 64)) _ all) in
+    neither (bytes_eq (b ∷ decimal j) (b ∷ decimal k)) (is_among (b ∷ decimal j) (family b ks))
+    (apart_by b j k less small (first (nat_eq j k) (list_any (nat_eq j) ks) new))
+    (family-new b j ks less rest (later (nat_eq j k) (list_any (nat_eq j) ks) new))
+  where
+    later : (p q : Bool) → (p || q) ≡ false → q ≡ false
+    later false q h = h
+    later true q h = absurd (cc)
+
+    first : (p q : Bool) → (p || q) ≡ false → p ≡ false
+    first false q h = refl
+    first true q h = absurd (cc)
+
+among-append : (x : Text) (xs ys : List Text) → is_among x xs ≡ false → is_among x ys ≡ false → is_among x (xs ++ ys) ≡ false
+among-append x xs ys one other = list_any-append (bytes_eq x) xs ys ∙ neither (is_among x xs) (is_among x ys) one other
+
+-- a family before names none of which begins with its letter
+pub family-distinct : (b : ℕ) (ks : List ℕ) (others : List Text) → are_numbers ks ≡ true → some_begins b others ≡ false →
+    are_distinct others ≡ true →
+    are_distinct (family b ks ++ others) ≡ true
+family-distinct b [] others all none differ = differ
+family-distinct b (k ∷ ks) others all none differ =
+    let small : k < 2 ^ 64 = low k (and-left (nat_lt k (2 ^ 64)) _ all) in
+    let more = and-right (nat_lt k (2 ^ 64)) _ all in
+    let new : list_any (nat_eq k) ks ≡ false = not-false (list_any (nat_eq k) ks) (and-left (not (list_any (nat_eq k) ks)) (are_numbers ks) more) in
+    let rest : are_numbers ks ≡ true = and-right (not (list_any (nat_eq k) ks)) (are_numbers ks) more in
+    both (not (is_among (b ∷ decimal k) (family b ks ++ others))) (are_distinct (family b ks ++ others))
+    (ap not (among-append (b ∷ decimal k) (family b ks) others (family-new b k ks small rest new)
+    (not-among b (b ∷ decimal k) others (own b) none)))
+    (family-distinct b ks others rest none differ)
+  where
+    own : (b : ℕ) → nat_eq b b ≡ true
+    own b = grind (arith, nat_tests)
+
+-- a name before others
+pub one-distinct : (x : Text) (others : List Text) → is_among x others ≡ false → are_distinct others ≡ true →
+    are_distinct (x ∷ others) ≡ true
+one-distinct x others new differ = both (not (is_among x others)) (are_distinct others) (ap not new) differ
+
+-- a letter alone is in no family
+letter_other : (b c : ℕ) (ds : List ℕ) → 0 < length ds → bytes_eq (b ∷ []) (c ∷ ds) ≡ false
+letter_other b c [] some = absurd (omega arith)
+letter_other b c (d ∷ ds) some = by (nat_eq b c)
+  where
+    by : (t : Bool) → (t && false) ≡ false
+    by true = refl
+    by false = refl
+
+pub letter-new : (b c : ℕ) (ks : List ℕ) → are_numbers ks ≡ true → is_among (b ∷ []) (family c ks) ≡ false
+letter-new b c [] all = refl
+letter-new b c (k ∷ ks) all =
+    let small : k < 2 ^ 64 = low k (and-left (nat_lt k (2 ^ 64)) _ all) in
+    let rest : are_numbers ks ≡ true = and-right (not (list_any (nat_eq k) ks)) (are_numbers ks) (and-right (nat_lt k (2 ^ 64)) _ all) in
+    let numeral = decimal_is_IsNumeral k small in
+    neither (bytes_eq (b ∷ []) (c ∷ decimal k)) (is_among (b ∷ []) (family c ks)) (letter_other b c (decimal k) numeral.0.0)
+    (letter-new b c ks rest)
+
+pub among-both : (x : Text) (xs ys : List Text) → is_among x xs ≡ false → is_among x ys ≡ false → is_among x (xs ++ ys) ≡ false
+among-both = among-append

@@ -1,0 +1,154 @@
+-- The numbers of flags, marks and `run`s differ where those of nodes do.
+use Rattle.std.proofs.Common.{◌≡◌, ℕ, ◌^◌, Bool, true, false, not, ◌&&◌, ◌||◌}
+use Rattle.std.proofs.Common.{List, [], ◌∷◌, ◌++◌, map, refl, sym, ap, ◌∙◌, subst}
+use Rattle.std.proofs.lemmas.List.{map-append}
+use Rattle.std.specs.List.{list_any}
+use Rattle.std.specs.Prelude.{nat_eq, nat_lt, if◌then◌else◌}
+use Rattle.bl_tree.specs.Reduce.{joined}
+use Rattle.bl_graph_nodes.specs.Nodes.{ActAt, CheckAt, DepthEndAt, DepthJoinAt, EnterAt, ForkAt, HeadAt, Node, PauseAt, ResumeAt}
+use Rattle.bl_graph_nodes.specs.Nodes.{StartAt, SurfaceEndAt, SurfaceJoinAt, TestAt}
+use Rattle.bl_machine_pass.specs.Transitions.{Finishes, Transition}
+use Rattle.bl_emit_spec.specs.Activities.{RunAt, body_of, callees_in, is_flagged, rules_at, run_at, runs_at, view_of}
+use Rattle.bl_emit_spec_laws_wellformed.specs.Names.{are_numbers, flag_number, mark_numbers}
+use Rattle.bl_emit_spec_laws_wellformed.proofs.OnNodes.Rules.{of_block as nodes_of_block}
+use Rattle.bl_emit_spec_laws_wellformed.specs.Numbers.{NumbersFollow}
+use Rattle.bl_emit_spec_laws_wellformed.proofs.OnNumbers.Marks.{AllOwn, None_set, Own_set, Owns, of_block}
+
+and-left : (a b : Bool) → (a && b) ≡ true → a ≡ true
+and-left true b _ = refl
+and-left false b all = all
+
+and-right : (a b : Bool) → (a && b) ≡ true → b ≡ true
+and-right true b all = all
+and-right false b all = absurd (cc)
+
+both : (a b : Bool) → a ≡ true → b ≡ true → (a && b) ≡ true
+both true b _ other = other
+both false b one _ = one
+
+neither : (a b : Bool) → a ≡ false → b ≡ false → (a || b) ≡ false
+neither false b one other = other
+neither true b one other = absurd (cc)
+
+first_none : (p q : Bool) → (p || q) ≡ false → p ≡ false
+first_none false q h = refl
+first_none true q h = absurd (cc)
+
+later_none : (p q : Bool) → (p || q) ≡ false → q ≡ false
+later_none false q h = h
+later_none true q h = absurd (cc)
+
+not-false : (b : Bool) → not b ≡ true → b ≡ false
+not-false false h = refl
+not-false true h = absurd (let no : false ≡ true = h in cc)
+
+-- numbers that something has: none, or its own
+data Few (n : ℕ) (ns : List ℕ) : Type 0 where
+  Nothing_of : ns ≡ [] → Few n ns
+  Just_own : ns ≡ n ∷ [] → Few n ns
+
+-- those of several things, in order
+record Some_of (all some : List ℕ) : Type 0 where
+  none : (k : ℕ) → list_any (nat_eq k) all ≡ false → list_any (nat_eq k) some ≡ false
+  numbers : are_numbers all ≡ true → are_numbers some ≡ true
+
+nothing_of : Some_of [] []
+nothing_of = record { none = λ k h. refl; numbers = λ all. refl }
+
+more_of : (n : ℕ) (ns all some : List ℕ) → Few n ns → Some_of all some → Some_of (n ∷ all) (ns ++ some)
+more_of n ns all some (Nothing_of is) rest =
+    subst (λ ns. Some_of (n ∷ all) (ns ++ some)) (sym is) (record {
+      none = λ k h. rest.none k (later_none (nat_eq k n) (list_any (nat_eq k) all) h);
+      numbers = λ h. rest.numbers (and-right (not (list_any (nat_eq n) all)) (are_numbers all) (and-right (nat_lt n (2 ^ 64)) _ h));
+    })
+more_of n ns all some (Just_own is) rest =
+    subst (λ ns. Some_of (n ∷ all) (ns ++ some)) (sym is) (record {
+      none = λ k h.
+          neither (nat_eq k n) (list_any (nat_eq k) some) (first_none (nat_eq k n) (list_any (nat_eq k) all) h)
+          (rest.none k (later_none (nat_eq k n) (list_any (nat_eq k) all) h));
+      numbers = λ h.
+          let more = and-right (nat_lt n (2 ^ 64)) _ h in
+          both (nat_lt n (2 ^ 64)) (not (list_any (nat_eq n) some) && are_numbers some) (and-left (nat_lt n (2 ^ 64)) _ h)
+          (both (not (list_any (nat_eq n) some)) (are_numbers some)
+          (ap not (rest.none n (not-false (list_any (nat_eq n) all) (and-left (not (list_any (nat_eq n) all)) (are_numbers all) more))))
+          (rest.numbers (and-right (not (list_any (nat_eq n) all)) (are_numbers all) more)));
+    })
+
+fewer_of : (n : ℕ) (all some : List ℕ) → Some_of all some → Some_of (n ∷ all) some
+fewer_of n all some rest = more_of n [] all some (Nothing_of refl) rest
+
+none_of : (all : List ℕ) → Some_of all []
+none_of [] = nothing_of
+none_of (n ∷ all) = fewer_of n all [] (none_of all)
+
+module _ (number : Node → ℕ) where
+  abbrev numbers_of : List Transition → List ℕ
+  numbers_of rules = map (λ (rule : Transition). number rule.node) rules
+
+  flag_few : (rule : Transition) → Few (number rule.node) (flag_number number rule)
+  flag_few rule = by (is_flagged rule.asked)
+    where
+      by : (b : Bool) → Few (number rule.node) (if b then number rule.node ∷ [] else [])
+      by true = Just_own refl
+      by false = Nothing_of refl
+
+  flags_some : (rules : List Transition) → Some_of (numbers_of rules) (joined (map (flag_number number) rules))
+  flags_some [] = nothing_of
+  flags_some (rule ∷ rules) =
+      more_of (number rule.node) (flag_number number rule) (numbers_of rules) (joined (map (flag_number number) rules)) (flag_few rule)
+      (flags_some rules)
+
+  mark_few : (rule : Transition) → Owns number rule → Few (number rule.node) (mark_numbers number rule)
+  mark_few rule (None_set is) = Nothing_of is
+  mark_few rule (Own_set is) = Just_own is
+
+  marks_some : (rules : List Transition) → AllOwn number rules → Some_of (numbers_of rules) (joined (map (mark_numbers number) rules))
+  marks_some [] own = nothing_of
+  marks_some (rule ∷ rules) own =
+      more_of (number rule.node) (mark_numbers number rule) (numbers_of rules) (joined (map (mark_numbers number) rules)) (mark_few rule own.0)
+      (marks_some rules own.1)
+
+  abbrev run_numbers : List RunAt → List ℕ
+  run_numbers runs = map (λ (run : RunAt). run.number) runs
+
+  run_few : (f : ℕ) (n : Node) → Few (number n) (run_numbers (run_at number f n))
+  run_few f (EnterAt l at arguments) = Just_own refl
+  run_few f (ActAt l s) = Nothing_of refl
+  run_few f (TestAt l at e) = Nothing_of refl
+  run_few f (PauseAt l at) = Nothing_of refl
+  run_few f (ResumeAt l at arguments) = Nothing_of refl
+  run_few f (HeadAt l at) = Nothing_of refl
+  run_few f (StartAt l at) = Nothing_of refl
+  run_few f (CheckAt l at e) = Nothing_of refl
+  run_few f (SurfaceEndAt l at) = Nothing_of refl
+  run_few f (DepthEndAt l at) = Nothing_of refl
+  run_few f (ForkAt l at) = Nothing_of refl
+  run_few f (SurfaceJoinAt l at) = Nothing_of refl
+  run_few f (DepthJoinAt l at) = Nothing_of refl
+
+  runs_some : (callees : List ℕ) (rules : List Transition) → Some_of (numbers_of rules) (run_numbers (runs_at number callees rules))
+  runs_some [] rules = none_of (numbers_of rules)
+  runs_some (f ∷ callees) [] = nothing_of
+  runs_some (f ∷ callees) (rule ∷ rules) =
+      subst (Some_of (numbers_of (rule ∷ rules)))
+      (sym (map-append (λ (run : RunAt). run.number) (run_at number f rule.node) (runs_at number callees rules)))
+      (more_of (number rule.node) (run_numbers (run_at number f rule.node)) (numbers_of rules) (run_numbers (runs_at number callees rules))
+      (run_few f rule.node) (runs_some callees rules))
+
+  by_nodes : (rules : List Transition) → numbers_of rules ≡ map number (map (λ (rule : Transition). rule.node) rules)
+  by_nodes [] = refl
+  by_nodes (rule ∷ rules) = ap (λ rest. number rule.node ∷ rest) (by_nodes rules)
+
+pub follow : NumbersFollow
+follow a variables counters differ =
+    let number : Node → ℕ = (view_of a).number in
+    let all : are_numbers (numbers_of (view_of a).number (rules_at a)) ≡ true =
+    ap are_numbers (by_nodes (view_of a).number (rules_at a) ∙ ap (map (view_of a).number) (nodes_of_block a.slots (body_of a) Finishes))
+    ∙ differ in
+    record {
+      variables = variables;
+      counters = counters;
+      flags = (flags_some (view_of a).number (rules_at a)).numbers all;
+      marks = (marks_some (view_of a).number (rules_at a) (of_block (view_of a).number a.slots (body_of a) Finishes refl)).numbers all;
+      runs = (runs_some (view_of a).number (callees_in (body_of a)) (rules_at a)).numbers all;
+    }

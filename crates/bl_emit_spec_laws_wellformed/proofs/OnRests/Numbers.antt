@@ -1,0 +1,167 @@
+-- The numbers in a list that count up are ones of their counters' types.
+use Rattle.std.proofs.Common.{◌≡◌, ℕ, zero, suc, ◌+◌, ◌<◌, ◌≤◌, ◌^◌}
+use Rattle.std.proofs.Common.{pos, Bool, true, false, List, [], ◌∷◌, ◌++◌}
+use Rattle.std.proofs.Common.{length, Option, Some, cond, refl, sym, ap, ◌∙◌, subst, arith}
+use Rattle.std.proofs.Math.Nat.{le-max_left, le-max_right}
+use Rattle.std.proofs.lemmas.Bool.Decides.{nat_tests}
+use Rattle.std.proofs.lemmas.List.{length_push}
+use Rattle.std.proofs.lemmas.List.Sums.{count_by-le-length, sum_by-cons, sum_by_push}
+use Rattle.std.proofs.lemmas.Option.{slice_get-map, slice_get_within}
+use Rattle.std.specs.Prelude.{if◌then◌else◌, int_le, nat_eq, nat_le, nat_lt, option_map, slice_get, unwrap_or}
+use Rattle.bl_tree.specs.declared.scalar.Scalar.TheVariants.{Nat}
+use Rattle.bl_tree.specs.declared.scalar.Width.TheVariants.{W8, W16, W32}
+use Rattle.bl_tree.specs.Reduce.{greatest}
+use Rattle.bl_tree.specs.Scalar.{in_range}
+use Rattle.bl_eval.proofs.PassLemmas.{both, get_front, get_seam}
+use Rattle.bl_machine.specs.declared.slots.Slot.{Slot}
+use Rattle.bl_machine.specs.Blocks.{up_to}
+use Rattle.bl_machine.specs.Slots.{counters_at, numbered, numbered_after, times}
+use Rattle.bl_machine_pass.specs.Numbered.{sizes_for, sizes_of}
+use Rattle.bl_emit_spec.specs.Blocks.{counter_type, type_for}
+use Rattle.bl_emit_spec_laws_wellformed.specs.Spelled.{slot_fits}
+
+le_test : (n m : ℕ) → n ≤ m → nat_le n m ≡ true
+le_test n m h = grind (arith, nat_tests)
+
+lt_test : (n m : ℕ) → n < m → nat_lt n m ≡ true
+lt_test n m h = grind (arith, nat_tests)
+
+eq_itself : (n : ℕ) → nat_eq n n ≡ true
+eq_itself n = grind (arith, nat_tests)
+
+-- ---- values count up
+
+-- whether a number is the counter, as 1 or 0
+abbrev hit : ℕ → ℕ → ℕ
+hit counter other = cond (nat_eq other counter) 1 0
+
+hit_itself : (k : ℕ) → hit k k ≡ 1
+hit_itself k = ap (λ b. cond b 1 0) (eq_itself k)
+
+times_first : (counter other : ℕ) (rest : List ℕ) →
+    times counter (other ∷ rest) ≡ hit counter other + times counter rest
+times_first counter other rest = sum_by-cons (hit counter) other rest
+
+times_last : (counter other : ℕ) (before : List ℕ) →
+    times counter (before ++ other ∷ []) ≡ times counter before + hit counter other
+times_last counter other before = sum_by_push (hit counter) before other
+
+first_is : (x y : Slot) → Some x ≡ Some y → x ≡ y
+first_is x y is = cc
+
+-- no value is greater than the number of those that have its counter
+values_low : (before counters : List ℕ) (i : ℕ) (x : Slot) → slice_get (numbered_after before counters) i ≡ Some x →
+    x.value ≤ times x.counter before + times x.counter counters
+values_low before [] i x is = absurd (cc)
+values_low before (counter ∷ rest) zero x is =
+    let same : record { counter = counter; value = suc (times counter before) } ≡ x = first_is _ x is in
+    let one = hit_itself counter in
+    let more = times_first counter counter rest in
+    let low : suc (times counter before) ≤ times counter before + times counter (counter ∷ rest) = omega (arith, one, more) in
+    subst (λ (y : Slot). y.value ≤ times y.counter before + times y.counter (counter ∷ rest)) same low
+values_low before (counter ∷ rest) (suc i) x is =
+    let low = values_low (before ++ counter ∷ []) rest i x is in
+    let more = times_first x.counter counter rest in
+    let last = times_last x.counter counter before in omega (arith, low, more, last)
+
+-- ---- how many values each counter has
+
+up_length : (n : ℕ) → length (up_to n) ≡ n
+up_length zero = refl
+up_length (suc n) = length_push (up_to n) n ∙ (let rest = up_length n in omega (arith, rest))
+
+up_at : (n k : ℕ) → k < n → slice_get (up_to n) k ≡ Some k
+up_at zero k less = absurd (omega (arith, less))
+up_at (suc n) k less = by (nat_lt k n) refl (up_at n k)
+  where
+    by : (b : Bool) → nat_lt k n ≡ b → (k < n → slice_get (up_to n) k ≡ Some k) → slice_get (up_to n ++ n ∷ []) k ≡ Some k
+    by true is rest = let lt : k < n = grind (arith, nat_tests, is) in get_front (up_to n) (n ∷ []) k k (rest lt)
+    by false is rest =
+        let same : k ≡ n = grind (arith, nat_tests, less, is) in
+        let many = up_length n in
+        let end : k ≡ length (up_to n) = omega (arith, same, many) in get_seam (up_to n) n k end ∙ ap Some (sym same)
+
+member_low : (counters : List ℕ) (i k : ℕ) → slice_get counters i ≡ Some k → k ≤ greatest counters
+member_low [] i k is = absurd (cc)
+member_low (c ∷ counters) zero k is =
+    let same : c ≡ k = cc in let low = le-max_left c (greatest counters) in omega (arith, same, low)
+member_low (c ∷ counters) (suc i) k is =
+    let rest = member_low counters i k is in let low = le-max_right c (greatest counters) in omega (arith, rest, low)
+
+size_at : (counters : List ℕ) (i k : ℕ) → slice_get counters i ≡ Some k → slice_get (sizes_for counters) k ≡ Some (times k counters)
+size_at [] i k is = absurd (cc)
+size_at (c ∷ counters) i k is =
+    let low : k ≤ greatest (c ∷ counters) = member_low (c ∷ counters) i k is in
+    slice_get-map (λ j. times j (c ∷ counters)) (up_to (suc (greatest (c ∷ counters)))) k
+    ∙ ap (option_map (λ j. times j (c ∷ counters))) (up_at (suc (greatest (c ∷ counters))) k (omega (arith, low)))
+
+-- ---- types
+
+typed : (n v : ℕ) → v ≤ n → n < 2 ^ 32 → in_range (type_for n) (pos v) ≡ true
+typed n v below small = by (nat_le n 255) (nat_le n 65535) refl refl
+  where
+    least : int_le (pos 0) (pos v) ≡ true
+    least = le_test 0 v (omega arith)
+
+    by : (a b : Bool) → nat_le n 255 ≡ a → nat_le n 65535 ≡ b →
+        in_range (if a then Nat W8 else if b then Nat W16 else Nat W32) (pos v) ≡ true
+    by true b one two =
+        let n_low : n ≤ 255 = grind (arith, nat_tests, one) in
+        both (int_le (pos 0) (pos v)) (int_le (pos v) (pos 255)) least (le_test v 255 (omega (arith, below, n_low)))
+    by false true one two =
+        let n_low : n ≤ 65535 = grind (arith, nat_tests, two) in
+        both (int_le (pos 0) (pos v)) (int_le (pos v) (pos 65535)) least (le_test v 65535 (omega (arith, below, n_low)))
+    by false false one two =
+        both (int_le (pos 0) (pos v)) (int_le (pos v) (pos 4294967295)) least (le_test v 4294967295 (omega (arith, below, small)))
+
+-- each number in the list is one of its counter, which has no more values than there are places
+pub number_low : (list : List Slot) → list ≡ numbered (counters_at list) → (i : ℕ) (x : Slot) → slice_get list i ≡ Some x →
+    (x.counter < length (sizes_of list)) × ((x.value ≤ unwrap_or (slice_get (sizes_of list) x.counter) 0)
+    × (unwrap_or (slice_get (sizes_of list) x.counter) 0 ≤ length list))
+number_low list values i x is =
+    let counters : List ℕ = counters_at list in
+    let counter : slice_get counters i ≡ Some x.counter =
+    slice_get-map (λ (slot : Slot). slot.counter) list i ∙ ap (option_map (λ (slot : Slot). slot.counter)) is in
+    let size : slice_get (sizes_of list) x.counter ≡ Some (times x.counter counters) = size_at counters i x.counter counter in
+    let there : slice_get (numbered counters) i ≡ Some x = ap (λ (all : List Slot). slice_get all i) (sym values) ∙ is in
+    let low : x.value ≤ times x.counter [] + times x.counter counters = values_low [] counters i x there in
+    let many : times x.counter counters ≤ length counters = count_by-le-length (λ other. nat_eq other x.counter) counters in
+    let same : length counters ≡ length list = map_length list in
+    let is_size : unwrap_or (slice_get (sizes_of list) x.counter) 0 ≡ times x.counter counters = ap (λ (o : Option ℕ). unwrap_or o 0) size in (
+      slice_get_within (sizes_of list) x.counter (times x.counter counters) size,
+      (omega (arith, low, is_size), omega (arith, many, same, is_size)),
+    )
+  where
+    map_length : (slots : List Slot) → length (counters_at slots) ≡ length slots
+    map_length [] = refl
+    map_length (slot ∷ slots) = ap suc (map_length slots)
+
+-- a number of the only counter fits
+pub one_fits : (m : ℕ) (x : Slot) → x.counter ≡ 0 → x.value ≤ m → m < 2 ^ 32 → slot_fits (m ∷ []) x ≡ true
+one_fits m x first low small =
+    both (nat_lt x.counter (2 ^ 64)) (in_range (counter_type (m ∷ []) x.counter) (pos x.value)) (lt_test x.counter (2 ^ 64) (omega (arith, first)))
+    (subst (λ c. in_range (counter_type (m ∷ []) c) (pos x.value) ≡ true) (sym first) (typed m x.value low small))
+
+-- each number in the list fits
+pub number_fits : (list : List Slot) → list ≡ numbered (counters_at list) → length list < 2 ^ 32 → length (sizes_of list) ≤ 2 ^ 64 →
+    (i : ℕ) (x : Slot) → slice_get list i ≡ Some x → slot_fits (sizes_of list) x ≡ true
+number_fits list values small few i x is =
+    let counters : List ℕ = counters_at list in
+    let counter : slice_get counters i ≡ Some x.counter =
+    slice_get-map (λ (slot : Slot). slot.counter) list i ∙ ap (option_map (λ (slot : Slot). slot.counter)) is in
+    let size : slice_get (sizes_of list) x.counter ≡ Some (times x.counter counters) = size_at counters i x.counter counter in
+    let there : slice_get (numbered counters) i ≡ Some x = ap (λ (all : List Slot). slice_get all i) (sym values) ∙ is in
+    let low : x.value ≤ times x.counter [] + times x.counter counters = values_low [] counters i x there in
+    let many : times x.counter counters ≤ length counters = count_by-le-length (λ other. nat_eq other x.counter) counters in
+    let same : length counters ≡ length list = map_length list in
+    let inside : x.counter < length (sizes_of list) = slice_get_within (sizes_of list) x.counter (times x.counter counters) size in
+    let kind : type_for (times x.counter counters) ≡ counter_type (sizes_of list) x.counter =
+    sym (ap (λ (size : Option ℕ). type_for (unwrap_or size 0)) size) in
+    both (nat_lt x.counter (2 ^ 64)) (in_range (counter_type (sizes_of list) x.counter) (pos x.value))
+    (lt_test x.counter (2 ^ 64) (omega (arith, inside, few)))
+    (subst (λ s. in_range s (pos x.value) ≡ true) kind
+    (typed (times x.counter counters) x.value (omega (arith, low)) (omega (arith, many, same, small))))
+  where
+    map_length : (slots : List Slot) → length (counters_at slots) ≡ length slots
+    map_length [] = refl
+    map_length (slot ∷ slots) = ap suc (map_length slots)

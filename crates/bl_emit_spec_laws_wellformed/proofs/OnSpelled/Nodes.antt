@@ -1,0 +1,426 @@
+-- The C of the blocks of an activity fits a depth.
+use Rattle.std.proofs.Common.{◌≡◌, ℕ, ◌+◌, ◌*◌, ◌^◌, ◌<◌, ◌≤◌, max, Bool, true, false, ◌&&◌}
+use Rattle.std.proofs.Common.{List, [], ◌∷◌, ◌++◌, map, length, Option, Some, None, refl, sym, ap, ◌∙◌, arith, codes}
+use Rattle.std.proofs.lemmas.Bool.Decides.{nat_tests}
+use Rattle.std.specs.List.{list_all}
+use Rattle.std.specs.Prelude.{is_some, nat_le, slice_get}
+use Rattle.bl_tree.specs.declared.text.Text.{Text}
+use Rattle.bl_tree.specs.declared.c.CArg.{CArg}
+use Rattle.bl_tree.specs.declared.c.CArg.TheVariants.{Address}
+use Rattle.bl_tree.specs.declared.c.CExpr.{CExpr}
+use Rattle.bl_tree.specs.declared.c.CStmt.{CStmt}
+use Rattle.bl_tree.specs.declared.scalar.Scalar.{Scalar as ScalarType}
+use Rattle.bl_tree.specs.declared.tree.Expr.{Expr}
+use Rattle.bl_tree.specs.declared.tree.Path.{Path}
+use Rattle.bl_tree.specs.declared.tree.Stmt.{Stmt, fold_out-Stmt, out-Stmt}
+use Rattle.bl_tree.specs.declared.tree.StmtKind.{StmtKind, fold-StmtKind, fold_out-StmtKind, map-StmtKind, out-StmtKind}
+use Rattle.bl_tree.specs.declared.tree.StmtKind.TheOpen.{StmtKind-F}
+use Rattle.bl_tree.specs.declared.tree.Arm.{Arm, fold-Arm}
+use Rattle.bl_tree.specs.declared.tree.Branch.{Branch, fold-Branch}
+use Rattle.bl_tree.specs.declared.tree.StructDef.{StructDef}
+use Rattle.bl_tree.specs.declared.tree.Ty.{Ty}
+use Rattle.bl_tree.specs.declared.tree.Unit.{Unit as UnitDef}
+use Rattle.bl_tree.specs.declared.tree.Var.{Var}
+use Rattle.bl_tree.specs.Depths.{Depth, arguments_depth, arm_depth, branch_depth, depth_of, expr_depth, path_depth}
+use Rattle.bl_tree.specs.Depths.{stmt_kind_depth, stmt_layer_depth, target_depth}
+use Rattle.bl_tree.specs.Types.{scalar, type_stands}
+use Rattle.bl_tree.specs.Typing.{TypingContext, are_same, arguments_fit, fits, is_activity, is_outlet, is_truth, run_fits, target_fits}
+use Rattle.bl_tree.specs.Typing.{arm_fits, branch_fits, kind_fits, return_fits, stmt_fits as stmt_fitted}
+use Rattle.bl_tree.specs.Typing.{type_of, type_of_path, var_at}
+use Rattle.bl_tree.specs.Words as words
+use Rattle.bl_eval.proofs.PassLemmas.{and_left, and_right, both}
+use Rattle.bl_ctext.specs.Names.{is_callee, is_name}
+use Rattle.bl_ctext.specs.inner.Fits.{arg_fits, expr_fits, place_fits, step_fits, stmt_fits, stmts_fit}
+use Rattle.bl_ctext.proofs.Fitting.{address-fits, call-fits, call_stmt-fits, expr_fits-more, if-fits, place-fits}
+use Rattle.bl_ctext.proofs.Fitting.{place_fits-more, read-fits, set-fits, step-fits, stmts_fit-more}
+use Rattle.bl_ctext.proofs.PrefixedNames.{name-struct, name-with_prefix}
+use Rattle.bl_graph_nodes.specs.Nodes.{ActAt, Arguments, CheckAt, DepthEndAt, DepthJoinAt, EnterAt, ForkAt, HeadAt, Node, PauseAt}
+use Rattle.bl_graph_nodes.specs.Nodes.{ResumeAt, StartAt, SurfaceEndAt, SurfaceJoinAt, TestAt}
+use Rattle.bl_machine_pass.specs.Transitions.{Transition}
+use Rattle.bl_emit_acts.specs.Acts.{act_code, c_calling, c_clear, c_set, call_args, code_made, name_of_callee}
+use Rattle.bl_emit_acts.specs.Expressions.{stands}
+use Rattle.bl_emit_acts.specs.Trees.{c_call, c_read, c_step, nowhere}
+use Rattle.bl_emit_acts_laws_wellformed.proofs.OnSpelled.Names.{callee-name, memory-name, numbered-name}
+use Rattle.bl_emit_functions.specs.Statements.{else_code}
+use Rattle.bl_emit_functions.specs.Trees.{c_if, c_truth}
+use Rattle.bl_emit_functions_laws_wellformed.proofs.OnSpelled.Acts.{arguments-fit, one-fits, room}
+use Rattle.bl_emit_functions_laws_wellformed.proofs.OnSpelled.Shapes.{clear-fits, else-fits}
+use Rattle.bl_emit_functions_laws_wellformed.proofs.OnSpelled.Types.{all_append, source_name}
+use Rattle.bl_emit_spec.specs.Blocks.{
+  ActivityView,
+  NodeCode,
+  acted,
+  arg_where,
+  begun_code,
+  changes_code,
+  guard_of,
+  has_result,
+  layer_acted,
+  merged_code,
+  name_in,
+  node_code,
+  resumed_code,
+  run_args,
+  run_code,
+  target_code,
+  tested,
+  turn_code,
+  turn_of,
+  turns_of,
+}
+use Rattle.bl_emit_spec.specs.Names.{callee_frame, callee_memory, callee_name, ended_place, frame_name, given_place, result_place}
+use Rattle.bl_emit_spec_laws_wellformed.specs.Spelled.{all_fit, asked_fits, change_fits, node_fits, rule_fits, run_stands}
+use Rattle.bl_emit_spec_laws_wellformed.proofs.OnSpelled.Guards.{changes-fit, ended-fits, frame-letter, given-fits, guard-fits, result-fits, truth-fits}
+
+-- what a turn asks and does fits inside its `if`
+abbrev pub turn_fits : NodeCode → Bool
+turn_fits turn = expr_fits 404 turn.test && stmts_fit 404 turn.code
+
+shallow : (n : ℕ) → nat_le n 200 ≡ true → n ≤ 200
+shallow n h = grind (arith, nat_tests)
+
+pub frame-named : (name : Text) → words.is_name name ≡ true → is_name (frame_name name) ≡ true
+frame-named name h = name-with_prefix (codes "f_") name refl (source_name name h)
+
+pub callee-named : (k : ℕ) → k < 2 ^ 64 → is_name (callee_name k) ≡ true
+callee-named k small = numbered-name 120 k refl refl small
+
+callee-frame-fits : (d k : ℕ) → 1 ≤ d → k < 2 ^ 64 → place_fits d (callee_frame k) ≡ true
+callee-frame-fits d k some small =
+    place-fits d true (codes "f") (c_step (callee_name k) ∷ []) some frame-letter
+    (both (step_fits d (c_step (callee_name k))) true (step-fits d (callee_name k) (callee-named k small)) refl)
+
+callee-memory-fits : (d k : ℕ) → 1 ≤ d → k < 2 ^ 64 → place_fits d (callee_memory k) ≡ true
+callee-memory-fits d k some small =
+    place-fits d true (codes "m") (c_step (callee_name k) ∷ []) some memory-name
+    (both (step_fits d (c_step (callee_name k))) true (step-fits d (callee_name k) (callee-named k small)) refl)
+
+-- the activity that a `run` calls
+pub run-callee : (site : TypingContext) (target : Option Path) (inputs : List Expr) (outputs : List Path) (o : Option UnitDef) →
+    run_fits site target inputs outputs o ≡ true → (callee : UnitDef) × (o ≡ Some callee)
+run-callee site target inputs outputs None h = absurd (cc)
+run-callee site target inputs outputs (Some callee) h = (callee, refl)
+
+-- ---- the value of a `return`
+
+module _ (site : TypingContext) where
+  abbrev fits_inside : StmtKind-F StmtKind Arm Branch Stmt → StmtKind-F Bool Bool Bool Bool
+  fits_inside = map-StmtKind StmtKind Arm Branch Stmt Bool Bool Bool Bool
+      (fold-StmtKind Bool Bool Bool Bool (kind_fits site) (arm_fits site) branch_fits stmt_fitted)
+      (fold-Arm Bool Bool Bool Bool (kind_fits site) (arm_fits site) branch_fits stmt_fitted)
+      (fold-Branch Bool Bool Bool Bool (kind_fits site) (arm_fits site) branch_fits stmt_fitted) (fits site)
+
+  fits_at : (s : Stmt) (layer : StmtKind-F StmtKind Arm Branch Stmt) → out-StmtKind (out-Stmt s).what ≡ layer →
+      fits site s ≡ kind_fits site (fits_inside layer)
+  fits_at s layer is =
+      fold_out-Stmt Bool Bool Bool Bool (kind_fits site) (arm_fits site) branch_fits stmt_fitted s
+      ∙ fold_out-StmtKind Bool Bool Bool Bool (kind_fits site) (arm_fits site) branch_fits stmt_fitted (out-Stmt s).what
+      ∙ ap (λ layer. kind_fits site (fits_inside layer)) is
+
+abbrev deep_inside : StmtKind-F StmtKind Arm Branch Stmt → StmtKind-F Depth Depth Depth Depth
+deep_inside = map-StmtKind StmtKind Arm Branch Stmt Depth Depth Depth Depth
+    (fold-StmtKind Depth Depth Depth Depth stmt_kind_depth arm_depth branch_depth stmt_layer_depth)
+    (fold-Arm Depth Depth Depth Depth stmt_kind_depth arm_depth branch_depth stmt_layer_depth)
+    (fold-Branch Depth Depth Depth Depth stmt_kind_depth arm_depth branch_depth stmt_layer_depth) depth_of
+
+deep_at : (s : Stmt) (layer : StmtKind-F StmtKind Arm Branch Stmt) → out-StmtKind (out-Stmt s).what ≡ layer →
+    depth_of s ≡ stmt_kind_depth (deep_inside layer)
+deep_at s layer is =
+    fold_out-Stmt Depth Depth Depth Depth stmt_kind_depth arm_depth branch_depth stmt_layer_depth s
+    ∙ fold_out-StmtKind Depth Depth Depth Depth stmt_kind_depth arm_depth branch_depth stmt_layer_depth (out-Stmt s).what
+    ∙ ap (λ layer. stmt_kind_depth (deep_inside layer)) is
+
+returned-fits : (site : TypingContext) →
+    ((e : Expr) (ty : Ty) → type_of site e ≡ Some ty → expr_fits (room (expr_depth e)) (code_made site e) ≡ true) →
+    (s : Stmt) (e : Expr) → out-StmtKind (out-Stmt s).what ≡ StmtKind-F.Return (Some e) →
+    (fits site s && nat_le (depth_of s).exprs 200) ≡ true → expr_fits 402 (code_made site e) ≡ true
+returned-fits site exprs s e is h =
+    let own : return_fits site (Some e) site.result ≡ true =
+    sym (fits_at site s (StmtKind-F.Return (Some e)) is) ∙ and_left (fits site s) (nat_le (depth_of s).exprs 200) h in
+    let same : (depth_of s).exprs ≡ expr_depth e = ap (λ (d : Depth). d.exprs) (deep_at s (StmtKind-F.Return (Some e)) is) in
+    let deep : (depth_of s).exprs ≤ 200 = shallow (depth_of s).exprs (and_right (fits site s) (nat_le (depth_of s).exprs 200) h) in
+    let found = by site.result own in
+    expr_fits-more (room (expr_depth e)) 402 (code_made site e) (omega (arith, deep, same)) (exprs e found.0 found.1)
+  where
+    same_there : (a b : Option Ty) → are_same a b ≡ true → (ty : Ty) × (b ≡ Some ty)
+    same_there None None h = absurd (cc)
+    same_there None (Some b) h = absurd (cc)
+    same_there (Some a) None h = absurd (cc)
+    same_there (Some a) (Some b) h = (b, refl)
+
+    by : (r : Option ScalarType) → return_fits site (Some e) r ≡ true → (ty : Ty) × (type_of site e ≡ Some ty)
+    by None h = absurd (cc)
+    by (Some r) h = same_there (Some (scalar r)) (type_of site e) h
+
+module _ (view : ActivityView) (few : length view.site.vars ≤ 2 ^ 64)
+    (numbers : (n : Node) → view.number n < 2 ^ 64)
+    (names : list_all words.is_name (map (λ (def : StructDef). def.name) view.site.structs) ≡ true)
+    (named : (f : ℕ) (callee : UnitDef) → slice_get view.site.earlier f ≡ Some callee → words.is_name callee.name ≡ true)
+    (typed_vars : (k : ℕ) (var : Var) → var_at view.site k ≡ Some var → type_stands (length view.site.structs) var.ty ≡ true)
+    (exprs : (e : Expr) (ty : Ty) → type_of view.site e ≡ Some ty → expr_fits (room (expr_depth e)) (code_made view.site e) ≡ true)
+    (paths : (path : Path) (ty : Ty) → type_of_path view.site path ≡ Some ty →
+    place_fits (room (path_depth path)) (stands view.site path).place ≡ true)
+    (acts : (s : Stmt) → fits view.site s ≡ true → stmts_fit (2 * (depth_of s).exprs + 3) (act_code view.site view.copies s) ≡ true) where
+  -- ---- acts
+
+  truth_there : (t : Option Ty) → is_truth t ≡ true → (ty : Ty) × (t ≡ Some ty)
+  truth_there None h = absurd (cc)
+  truth_there (Some ty) h = (ty, refl)
+
+  there : (a b : Option Ty) → are_same a b ≡ true → (ty : Ty) × (b ≡ Some ty)
+  there None None h = absurd (cc)
+  there None (Some b) h = absurd (cc)
+  there (Some a) None h = absurd (cc)
+  there (Some a) (Some b) h = (b, refl)
+
+  test-fits : (e : Expr) → (is_truth (type_of view.site e) && nat_le (expr_depth e) 200) ≡ true → expr_fits 402 (code_made view.site e) ≡ true
+  test-fits e h =
+      let found = truth_there (type_of view.site e) (and_left (is_truth (type_of view.site e)) (nat_le (expr_depth e) 200) h) in
+      let deep : expr_depth e ≤ 200 = shallow (expr_depth e) (and_right (is_truth (type_of view.site e)) (nat_le (expr_depth e) 200) h) in
+      expr_fits-more (room (expr_depth e)) 402 (code_made view.site e) (omega (arith, deep)) (exprs e found.0 found.1)
+
+  act_is : (s : Stmt) → (fits view.site s && nat_le (depth_of s).exprs 200) ≡ true → stmts_fit 403 (act_code view.site view.copies s) ≡ true
+  act_is s h =
+      let deep : (depth_of s).exprs ≤ 200 = shallow (depth_of s).exprs (and_right (fits view.site s) (nat_le (depth_of s).exprs 200) h) in
+      stmts_fit-more (2 * (depth_of s).exprs + 3) 403 (act_code view.site view.copies s) (omega (arith, deep))
+      (acts s (and_left (fits view.site s) (nat_le (depth_of s).exprs 200) h))
+
+  -- ---- runs
+
+  address : (d : ℕ) (test : Bool) (arg : CArg) → arg_fits d arg ≡ true → list_all (arg_fits d) (arg_where test arg) ≡ true
+  address d true arg h = both (arg_fits d arg) true h refl
+  address d false arg h = refl
+
+  callee_named : (o : Option UnitDef) (a : ℕ) → slice_get view.site.earlier a ≡ o → is_some o ≡ true →
+      is_callee (name_of_callee o) ≡ true
+  callee_named None a is h = absurd (cc)
+  callee_named (Some callee) a is h = callee-name callee.name (source_name callee.name (named a callee is))
+
+  name_known : (o : Option UnitDef) (a : ℕ) → slice_get view.site.earlier a ≡ o → is_some o ≡ true → words.is_name (name_in o) ≡ true
+  name_known None a is h = absurd (cc)
+  name_known (Some callee) a is h = named a callee is
+
+  some_there : (o : Option UnitDef) (callee : UnitDef) → o ≡ Some callee → is_some o ≡ true
+  some_there None callee is = absurd (cc)
+  some_there (Some x) callee is = refl
+
+  run_arguments : (target : Option Path) (inputs : List Expr) (outputs : List Path) (o : Option UnitDef) →
+      run_fits view.site target inputs outputs o ≡ true → (callee : UnitDef) × (arguments_fit view.site inputs outputs callee ≡ true)
+      × (target_fits view.site callee.result target ≡ true)
+  run_arguments target inputs outputs None h = absurd (cc)
+  run_arguments target inputs outputs (Some callee) h =
+      let parts = and_right (is_activity view.site.kind && is_activity callee.kind) (target_fits view.site callee.result target
+      && arguments_fit view.site inputs outputs callee) h in (
+        callee,
+        and_right (target_fits view.site callee.result target) (arguments_fit view.site inputs outputs callee) parts,
+        and_left (target_fits view.site callee.result target) (arguments_fit view.site inputs outputs callee) parts,
+      )
+
+  module _ (a : ℕ) (arguments : Arguments) (stand : run_stands view.site a arguments ≡ true) where
+    abbrev fitted : Bool
+    fitted = run_fits view.site arguments.target arguments.inputs arguments.outputs (slice_get view.site.earlier a)
+
+    abbrev deepest : ℕ
+    deepest = max (target_depth arguments.target) (arguments_depth arguments.inputs arguments.outputs)
+
+    is_fitted : fitted ≡ true
+    is_fitted = and_left fitted (nat_le deepest 200) stand
+
+    deep : deepest ≤ 200
+    deep = shallow deepest (and_right fitted (nat_le deepest 200) stand)
+
+    known : is_some (slice_get view.site.earlier a) ≡ true
+    known =
+        let found = run-callee view.site arguments.target arguments.inputs arguments.outputs (slice_get view.site.earlier a) is_fitted in
+        some_there (slice_get view.site.earlier a) found.0 found.1
+
+    call-is : (k : ℕ) → k < 2 ^ 64 → stmts_fit 403 (run_code view k a arguments) ≡ true
+    call-is k small =
+        let parts = run_arguments arguments.target arguments.inputs arguments.outputs (slice_get view.site.earlier a) is_fitted in
+        let within : room (arguments_depth arguments.inputs arguments.outputs) ≤ 402 = omega (arith, deep) in
+        let args = arguments-fit view.site few names named typed_vars exprs paths 402 arguments.inputs arguments.outputs parts.0 parts.1 within in
+        both (stmt_fits 403 (c_set (ended_place k) (c_truth false)))
+        (stmts_fit 403 (c_calling (c_call (name_of_callee (slice_get view.site.earlier a)) (run_args view k a arguments)) ∷ []))
+        (set-fits 403 nowhere (ended_place k) (c_truth false) (ended-fits 403 k (omega arith) small) (truth-fits 403 false (omega arith)))
+        (one-fits 403 (c_calling (c_call (name_of_callee (slice_get view.site.earlier a)) (run_args view k a arguments)))
+        (call_stmt-fits 403 nowhere (c_call (name_of_callee (slice_get view.site.earlier a)) (run_args view k a arguments))
+        (call-fits 402 403 (name_of_callee (slice_get view.site.earlier a)) (run_args view k a arguments) (omega arith)
+        (callee_named (slice_get view.site.earlier a) a refl known)
+        (both (arg_fits 402 (Address (callee_frame k))) _ (address-fits 402 (callee_frame k) (callee-frame-fits 402 k (omega arith) small))
+        (all_append (arg_fits 402) (arg_where (view.remembers a) (Address (callee_memory k)))
+        (call_args view.site arguments.inputs arguments.outputs
+        ++ (arg_where (has_result (slice_get view.site.earlier a)) (Address (given_place k)) ++ Address (ended_place k) ∷ []))
+        (address 402 (view.remembers a) (Address (callee_memory k))
+        (address-fits 402 (callee_memory k) (callee-memory-fits 402 k (omega arith) small)))
+        (all_append (arg_fits 402) (call_args view.site arguments.inputs arguments.outputs)
+        (arg_where (has_result (slice_get view.site.earlier a)) (Address (given_place k)) ++ Address (ended_place k) ∷ []) args
+        (all_append (arg_fits 402) (arg_where (has_result (slice_get view.site.earlier a)) (Address (given_place k))) (Address (ended_place k) ∷ [])
+        (address 402 (has_result (slice_get view.site.earlier a)) (Address (given_place k))
+        (address-fits 402 (given_place k) (given-fits 402 k (omega arith) small)))
+        (both (arg_fits 402 (Address (ended_place k))) true (address-fits 402 (ended_place k) (ended-fits 402 k (omega arith) small)) refl))))))))
+
+    target-by : (k : ℕ) → k < 2 ^ 64 → (result : Option ScalarType) (target : Option Path) → target_fits view.site result target ≡ true →
+        target_depth target ≤ 200 → stmts_fit 403 (target_code view k target) ≡ true
+    target-by k small result None h le = refl
+    target-by k small None (Some path) h le = absurd (cc)
+    target-by k small (Some s) (Some path) h le =
+        let found = there (Some (scalar s)) (type_of_path view.site path) (and_right (is_outlet view.site path) _ h) in
+        one-fits 403 (c_set (stands view.site path).place (c_read (given_place k)))
+        (set-fits 403 nowhere (stands view.site path).place (c_read (given_place k))
+        (place_fits-more (room (path_depth path)) 403 (stands view.site path).place (omega (arith, le)) (paths path found.0 found.1))
+        (read-fits 403 nowhere (given_place k) (given-fits 403 k (omega arith) small)))
+
+    target-is : (k : ℕ) → k < 2 ^ 64 → stmts_fit 403 (target_code view k arguments.target) ≡ true
+    target-is k small =
+        let parts = run_arguments arguments.target arguments.inputs arguments.outputs (slice_get view.site.earlier a) is_fitted in
+        target-by k small parts.0.result arguments.target parts.2 (omega (arith, deep))
+
+  -- ---- nodes
+
+  return_result : (e : Expr) → expr_fits 402 (code_made view.site e) ≡ true →
+      stmts_fit 404 (c_set result_place (code_made view.site e) ∷ []) ≡ true
+  return_result e fit =
+      one-fits 404 (c_set result_place (code_made view.site e))
+      (set-fits 404 nowhere result_place (code_made view.site e) (result-fits 404 (omega arith))
+      (expr_fits-more 402 404 (code_made view.site e) (omega arith) fit))
+
+  acted_by : (s : Stmt) (layer : StmtKind-F StmtKind Arm Branch Stmt) → out-StmtKind (out-Stmt s).what ≡ layer →
+      (fits view.site s && nat_le (depth_of s).exprs 200) ≡ true → stmts_fit 404 (layer_acted view s layer) ≡ true
+  acted_by s (StmtKind-F.Return (Some e)) is h = return_result e (returned-fits view.site exprs s e is h)
+  acted_by s (StmtKind-F.Return None) is h = refl
+  acted_by s (StmtKind-F.Declare k initial) is h = stmts_fit-more 403 404 (act_code view.site view.copies s) (omega arith) (act_is s h)
+  acted_by s (StmtKind-F.Assign path e) is h = stmts_fit-more 403 404 (act_code view.site view.copies s) (omega arith) (act_is s h)
+  acted_by s (StmtKind-F.Call f inputs outputs) is h = stmts_fit-more 403 404 (act_code view.site view.copies s) (omega arith) (act_is s h)
+  acted_by s (StmtKind-F.Await e) is h = stmts_fit-more 403 404 (act_code view.site view.copies s) (omega arith) (act_is s h)
+  acted_by s (StmtKind-F.Run target a inputs outputs) is h = stmts_fit-more 403 404 (act_code view.site view.copies s) (omega arith) (act_is s h)
+  acted_by s (StmtKind-F.If arms other) is h = stmts_fit-more 403 404 (act_code view.site view.copies s) (omega arith) (act_is s h)
+  acted_by s (StmtKind-F.Cobegin branches) is h = stmts_fit-more 403 404 (act_code view.site view.copies s) (omega arith) (act_is s h)
+  acted_by s (StmtKind-F.When guard e body) is h = stmts_fit-more 403 404 (act_code view.site view.copies s) (omega arith) (act_is s h)
+  acted_by s (StmtKind-F.Repeat body) is h = stmts_fit-more 403 404 (act_code view.site view.copies s) (omega arith) (act_is s h)
+  acted_by s (StmtKind-F.Until body e) is h = stmts_fit-more 403 404 (act_code view.site view.copies s) (omega arith) (act_is s h)
+  acted_by s (StmtKind-F.While e body) is h = stmts_fit-more 403 404 (act_code view.site view.copies s) (omega arith) (act_is s h)
+
+  -- the changes of a rule
+  so-fits : (rule : Transition) → rule_fits view.sizes rule ≡ true → stmts_fit 3 (changes_code view rule.so) ≡ true
+  so-fits rule h =
+      changes-fit view numbers rule.so
+      (and_left (list_all (change_fits view.sizes) rule.so) (list_all (change_fits view.sizes) rule.otherwise)
+      (and_right (asked_fits view.sizes rule.asked) _ h))
+
+  otherwise-fits : (rule : Transition) → rule_fits view.sizes rule ≡ true → stmts_fit 3 (changes_code view rule.otherwise) ≡ true
+  otherwise-fits rule h =
+      changes-fit view numbers rule.otherwise
+      (and_right (list_all (change_fits view.sizes) rule.so) (list_all (change_fits view.sizes) rule.otherwise)
+      (and_right (asked_fits view.sizes rule.asked) _ h))
+
+  tested-by : (test : CExpr) (so other : List CStmt) → expr_fits 402 test ≡ true → stmts_fit 402 so ≡ true →
+      stmts_fit 402 other ≡ true →
+      stmts_fit 404 (c_if test so (else_code other) ∷ []) ≡ true
+  tested-by test so [] one two three =
+      stmts_fit-more 403 404 (c_if test so None ∷ []) (omega arith)
+      (one-fits 403 (c_if test so None) (if-fits 402 403 nowhere test so (omega arith) one two))
+  tested-by test so (s ∷ rest) one two three =
+      stmts_fit-more 403 404 (c_if test so (Some (s ∷ rest)) ∷ []) (omega arith)
+      (one-fits 403 (c_if test so (Some (s ∷ rest))) (else-fits 402 403 test so (s ∷ rest) (omega arith) one two three))
+
+  tested-fits : (e : Expr) (rule : Transition) → rule_fits view.sizes rule ≡ true → expr_fits 402 (code_made view.site e) ≡ true →
+      stmts_fit 404 (tested view (code_made view.site e) rule) ≡ true
+  tested-fits e rule h fit =
+      tested-by (code_made view.site e) (changes_code view rule.so) (changes_code view rule.otherwise) fit
+      (stmts_fit-more 3 402 (changes_code view rule.so) (omega arith) (so-fits rule h))
+      (stmts_fit-more 3 402 (changes_code view rule.otherwise) (omega arith) (otherwise-fits rule h))
+
+  behind : (code : List CStmt) (rule : Transition) → rule_fits view.sizes rule ≡ true → stmts_fit 404 code ≡ true →
+      stmts_fit 404 (code ++ changes_code view rule.so) ≡ true
+  behind code rule h fit =
+      all_append (stmt_fits 404) code (changes_code view rule.so) fit
+      (stmts_fit-more 3 404 (changes_code view rule.so) (omega arith) (so-fits rule h))
+
+  only : (rule : Transition) → rule_fits view.sizes rule ≡ true → stmts_fit 404 (changes_code view rule.so) ≡ true
+  only rule h = stmts_fit-more 3 404 (changes_code view rule.so) (omega arith) (so-fits rule h)
+
+  begun-fits : (k a : ℕ) (arguments : Arguments) (rule : Transition) → k < 2 ^ 64 → rule_fits view.sizes rule ≡ true →
+      run_stands view.site a arguments ≡ true → stmts_fit 404 (begun_code view k a arguments rule) ≡ true
+  begun-fits k a arguments rule small h stand =
+      let name : Text = name_in (slice_get view.site.earlier a) in
+      both (stmt_fits 404 (c_clear (callee_frame k) (frame_name name))) (stmts_fit 404 (run_code view k a arguments ++ changes_code view rule.so))
+      (clear-fits 404 (callee_frame k) (frame_name name) (omega arith)
+      (name-struct (frame_name name) (frame-named name (name_known (slice_get view.site.earlier a) a refl (known a arguments stand))))
+      (callee-frame-fits 404 k (omega arith) small))
+      (behind (run_code view k a arguments) rule h
+      (stmts_fit-more 403 404 (run_code view k a arguments) (omega arith) (call-is a arguments stand k small)))
+
+  resumed-fits : (k a : ℕ) (arguments : Arguments) (rule : Transition) → k < 2 ^ 64 → rule_fits view.sizes rule ≡ true →
+      run_stands view.site a arguments ≡ true → stmts_fit 404 (resumed_code view k a arguments rule) ≡ true
+  resumed-fits k a arguments rule small h stand =
+      let code : List CStmt = target_code view k arguments.target ++ changes_code view rule.so in
+      all_append (stmt_fits 404) (run_code view k a arguments) (c_if (c_read (ended_place k)) code None ∷ [])
+      (stmts_fit-more 403 404 (run_code view k a arguments) (omega arith) (call-is a arguments stand k small))
+      (one-fits 404 (c_if (c_read (ended_place k)) code None)
+      (if-fits 403 404 nowhere (c_read (ended_place k)) code (omega arith)
+      (read-fits 403 nowhere (ended_place k) (ended-fits 403 k (omega arith) small))
+      (all_append (stmt_fits 403) (target_code view k arguments.target) (changes_code view rule.so) (target-is a arguments stand k small)
+      (stmts_fit-more 3 403 (changes_code view rule.so) (omega arith) (so-fits rule h)))))
+
+  node-is : (a : ℕ) (rule : Transition) (n : Node) → rule_fits view.sizes rule ≡ true → node_fits view.site a n ≡ true →
+      stmts_fit 404 (node_code view a rule n) ≡ true
+  node-is a rule (ActAt l s) h fit = behind (acted view s) rule h (acted_by s (out-StmtKind (out-Stmt s).what) refl fit)
+  node-is a rule (TestAt l at e) h fit = tested-fits e rule h (test-fits e fit)
+  node-is a rule (CheckAt l at e) h fit = tested-fits e rule h (test-fits e fit)
+  node-is a rule (EnterAt l at arguments) h fit =
+      begun-fits (view.number (EnterAt l at arguments)) a arguments rule (numbers (EnterAt l at arguments)) h fit
+  node-is a rule (ResumeAt l at arguments) h fit =
+      resumed-fits (view.number (EnterAt l at arguments)) a arguments rule (numbers (EnterAt l at arguments)) h fit
+  node-is a rule (PauseAt l at) h fit = only rule h
+  node-is a rule (HeadAt l at) h fit = only rule h
+  node-is a rule (StartAt l at) h fit = only rule h
+  node-is a rule (SurfaceEndAt l at) h fit = only rule h
+  node-is a rule (DepthEndAt l at) h fit = only rule h
+  node-is a rule (ForkAt l at) h fit = only rule h
+  node-is a rule (SurfaceJoinAt l at) h fit = only rule h
+  node-is a rule (DepthJoinAt l at) h fit = only rule h
+
+  turn-is : (a : ℕ) (rule : Transition) → rule_fits view.sizes rule ≡ true → node_fits view.site a rule.node ≡ true →
+      turn_fits (turn_of view a rule) ≡ true
+  turn-is a rule h fit =
+      both (expr_fits 404 (guard_of view rule.node rule.asked)) (stmts_fit 404 (node_code view a rule rule.node))
+      (expr_fits-more 68 404 (guard_of view rule.node rule.asked) (omega arith)
+      (guard-fits view numbers rule.node rule.asked (and_left (asked_fits view.sizes rule.asked) _ h)))
+      (node-is a rule rule.node h fit)
+
+  -- the turns of all nodes fit
+  pub turns-fit : (callees : List ℕ) (rules : List Transition) → all_fit view.sizes view.site callees rules ≡ true →
+      list_all turn_fits (turns_of view callees rules) ≡ true
+  turns-fit [] rules all = refl
+  turns-fit (a ∷ callees) [] all = refl
+  turns-fit (a ∷ callees) (rule ∷ rules) all =
+      let own = and_left (rule_fits view.sizes rule && node_fits view.site a rule.node) (all_fit view.sizes view.site callees rules) all in
+      both (turn_fits (turn_of view a rule)) (list_all turn_fits (turns_of view callees rules))
+      (turn-is a rule (and_left (rule_fits view.sizes rule) (node_fits view.site a rule.node) own)
+      (and_right (rule_fits view.sizes rule) (node_fits view.site a rule.node) own))
+      (turns-fit callees rules
+      (and_right (rule_fits view.sizes rule && node_fits view.site a rule.node) (all_fit view.sizes view.site callees rules) all))
+
+-- ---- blocks
+
+turns-fit-inside : (turns : List NodeCode) → list_all turn_fits turns ≡ true → stmts_fit 405 (map turn_code turns) ≡ true
+turns-fit-inside [] all = refl
+turns-fit-inside (turn ∷ turns) all =
+    let own = and_left (turn_fits turn) (list_all turn_fits turns) all in
+    both (stmt_fits 405 (turn_code turn)) (stmts_fit 405 (map turn_code turns))
+    (if-fits 404 405 nowhere turn.test turn.code (omega arith) (and_left (expr_fits 404 turn.test) (stmts_fit 404 turn.code) own)
+    (and_right (expr_fits 404 turn.test) (stmts_fit 404 turn.code) own))
+    (turns-fit-inside turns (and_right (turn_fits turn) (list_all turn_fits turns) all))
+
+-- a block whose turns fit does so, one level deeper than each of them
+pub merged-fits : (turns : List NodeCode) → list_all turn_fits turns ≡ true → stmts_fit 406 (merged_code turns) ≡ true
+merged-fits [] all = refl
+merged-fits (first ∷ rest) all =
+    let own = and_left (turn_fits first) (list_all turn_fits rest) all in
+    let code : List CStmt = first.code ++ map turn_code rest in
+    one-fits 406 (c_if first.test code None)
+    (if-fits 405 406 nowhere first.test code (omega arith)
+    (expr_fits-more 404 405 first.test (omega arith) (and_left (expr_fits 404 first.test) (stmts_fit 404 first.code) own))
+    (all_append (stmt_fits 405) first.code (map turn_code rest)
+    (stmts_fit-more 404 405 first.code (omega arith) (and_right (expr_fits 404 first.test) (stmts_fit 404 first.code) own))
+    (turns-fit-inside rest (and_right (turn_fits first) (list_all turn_fits rest) all))))

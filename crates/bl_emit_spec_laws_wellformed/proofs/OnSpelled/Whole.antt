@@ -1,0 +1,504 @@
+-- The C function of an activity, and its structs, have a spelling.
+use Rattle.std.proofs.Common.{◌≡◌, ℕ, zero, suc, ◌+◌, ◌*◌, ◌^◌, ◌<◌, ◌≤◌, Bool, true, false, ◌&&◌}
+use Rattle.std.proofs.Common.{List, [], ◌∷◌, ◌++◌, map, take, length, Option, Some, None, refl, sym, ap, ◌∙◌, subst, arith, codes}
+use Rattle.std.proofs.lemmas.Bool.Decides.{nat_tests}
+use Rattle.std.proofs.lemmas.List.Folds.{list_all-append}
+use Rattle.std.proofs.lemmas.Option.{same_Some}
+use Rattle.std.specs.List.{list_all}
+use Rattle.std.specs.Prelude.{filter, nat_lt, option_and_then, slice_get, option_to_list, if◌then◌else◌}
+use Rattle.bl_tree.specs.declared.text.Text.{Text}
+use Rattle.bl_tree.specs.declared.c.CLocal.{CLocal}
+use Rattle.bl_tree.specs.declared.c.CMember.{CMember}
+use Rattle.bl_tree.specs.declared.c.CStmt.{CStmt}
+use Rattle.bl_tree.specs.declared.c.CType.TheVariants.{Struct as OfStruct}
+use Rattle.bl_tree.specs.declared.scalar.Op.TheVariants.{Eq}
+use Rattle.bl_tree.specs.declared.scalar.Scalar.{Scalar as ScalarType}
+use Rattle.bl_tree.specs.declared.scalar.Scalar.TheVariants.{Bool as OfBool}
+use Rattle.bl_tree.specs.declared.tree.Expr.{Expr}
+use Rattle.bl_tree.specs.declared.tree.Path.{Path}
+use Rattle.bl_tree.specs.declared.tree.Stmt.{Stmt}
+use Rattle.bl_tree.specs.declared.tree.StructDef.{StructDef}
+use Rattle.bl_tree.specs.declared.tree.Ty.{Ty}
+use Rattle.bl_tree.specs.declared.tree.Unit.{Unit as UnitDef}
+use Rattle.bl_tree.specs.declared.tree.Var.{Var}
+use Rattle.bl_tree.specs.Depths.{depth_of, expr_depth, path_depth}
+use Rattle.bl_tree.specs.Program.{IsWellTyped, parameters_of}
+use Rattle.bl_tree.specs.Reduce.{joined}
+use Rattle.bl_tree.specs.Types.{type_stands}
+use Rattle.bl_tree.specs.Typing.{TypingContext, fits, site_of, type_of, type_of_path}
+use Rattle.bl_tree.specs.Words as words
+use Rattle.bl_eval.proofs.PassLemmas.{all_at, and_left, and_right, both}
+use Rattle.bl_ctext.specs.Names.{is_name}
+use Rattle.bl_ctext.specs.Spellable.{has_any, is_c_scalar, spells_local, spells_member, spells_param, spells_struct, spells_type}
+use Rattle.bl_ctext.specs.inner.Fits.{expr_fits, func_fits, place_fits, stmt_fits, stmts_fit}
+use Rattle.bl_ctext.proofs.Fitting.{func-fits, place-fits, read-fits, set-fits, stmts_fit-more, struct-spells, two-fits}
+use Rattle.bl_ctext.proofs.PrefixedNames.{name-function, name-struct, name-with_prefix}
+use Rattle.bl_machine.specs.Blocks.{up_to}
+use Rattle.bl_graph_nodes.specs.Nodes.{ActAt, CheckAt, DepthEndAt, DepthJoinAt, EnterAt, ForkAt, HeadAt, Node, PauseAt, entry as entry_node}
+use Rattle.bl_graph_nodes.specs.Nodes.{ResumeAt, StartAt, SurfaceEndAt, SurfaceJoinAt, TestAt}
+use Rattle.bl_graph_nodes.specs.Plain.{Block, Done, Then}
+use Rattle.bl_machine_pass.specs.Transitions.{Change, Transition}
+use Rattle.bl_machine_pass.specs.Transitions.{ClearsBoth, ClearsCounter, EndsWhen, Finishes, SetsCounter, SetsFlag, SetsMark}
+use Rattle.bl_emit_acts.specs.Acts.{act_code, c_copied, c_set, code_made}
+use Rattle.bl_emit_acts.specs.Expressions.{scalar_at, stands}
+use Rattle.bl_emit_acts.specs.Places.{place_in}
+use Rattle.bl_emit_acts.specs.Trees.{c_place, c_read, c_two, nowhere}
+use Rattle.bl_emit_acts.specs.Types.{c_scalar, copy_name, unit_name}
+use Rattle.bl_emit_acts_laws_wellformed.specs.Spelled.{ExpressionsFit, PlacesFit}
+use Rattle.bl_emit_acts_laws_wellformed.proofs.OnSpelled.Names.{copy-name, memory-name, numbered-name}
+use Rattle.bl_emit_functions.specs.Functions.{members_of, memory_name, params_from, struct_of}
+use Rattle.bl_emit_functions_laws_wellformed.specs.Spelled.{ActsFit, MembersSpelled}
+use Rattle.bl_emit_functions_laws_wellformed.proofs.OnSpelled.Acts.{one-fits, own-fits, room}
+use Rattle.bl_emit_functions_laws_wellformed.proofs.OnSpelled.Functions.{memory-named}
+use Rattle.bl_emit_functions_laws_wellformed.proofs.OnSpelled.Types.{all_append, scalar_spelled, source_name, struct_names}
+use Rattle.bl_emit_functions_laws_wellformed.proofs.OnSpelled.Functions.{earlier_named, params-spelled, typed}
+use Rattle.bl_emit_spec.specs.Activities.{
+  Activity,
+  RunAt,
+  activity_code,
+  activity_function,
+  activity_locals,
+  activity_params,
+  blocks_code,
+  blocks_in_order,
+  body_of,
+  callees_in,
+  copied_in,
+  copy_local,
+  counter_member,
+  counters_read,
+  entry_code,
+  flag_local,
+  frame_member,
+  frame_struct,
+  given_local,
+  is_flagged,
+  mark_local,
+  mark_locals,
+  memory_member,
+  memory_params,
+  over_param,
+  picked,
+  remembered,
+  remembered_struct,
+  remembers_any,
+  rested_code,
+  rested_local,
+  result_params,
+  rules_at,
+  run_at,
+  run_locals,
+  runs_at,
+  runs_in_body,
+  scalar_local,
+  struct_member,
+  turns_in_source,
+  view_of,
+}
+use Rattle.bl_emit_spec.specs.Blocks.{NodeCode, counter_value, merged_code, name_in}
+use Rattle.bl_emit_spec.specs.Names.{callee_name, counter_name, counter_place, ended_name, flag_name, flag_place, frame_name, given_name}
+use Rattle.bl_emit_spec.specs.Names.{mark_name, rested_name, rested_place}
+use Rattle.bl_emit_spec_laws_wellformed.specs.Spelled.{ActivitiesFit, FramesSpelled, RememberedSpelled, all_fit, node_fits, rule_fits}
+use Rattle.bl_emit_spec_laws_wellformed.proofs.OnSpelled.Guards.{counter-fits, end-letter, flag-fits, frame-letter, nothing-fits, rested-fits, result-letter}
+use Rattle.bl_emit_spec_laws_wellformed.proofs.OnSpelled.Guards.{type-spelled}
+use Rattle.bl_emit_spec_laws_wellformed.proofs.OnSpelled.Nodes.{callee-named, frame-named, merged-fits, run-callee, turn_fits, turns-fit}
+
+-- ---- lists
+
+lt_test : (k n : ℕ) → k < n → nat_lt k n ≡ true
+lt_test k n h = grind (arith, nat_tests)
+
+low : (k : ℕ) → nat_lt k (2 ^ 64) ≡ true → k < 2 ^ 64
+low k h = grind (arith, nat_tests)
+
+all_below : (p : ℕ → Bool) (n : ℕ) → ((k : ℕ) → k < n → p k ≡ true) → list_all p (up_to n) ≡ true
+all_below p zero each = refl
+all_below p (suc n) each =
+    let last : n < suc n = omega arith in
+    all_append p (up_to n) (n ∷ []) (all_below p n (λ k less. let more : k < suc n = omega (arith, less) in each k more))
+    (both (p n) true (each n last) refl)
+
+all_filtered : (p test : ℕ → Bool) (ks : List ℕ) → list_all p ks ≡ true → list_all p (filter test ks) ≡ true
+all_filtered p test [] all = refl
+all_filtered p test (k ∷ ks) all =
+    by (test k) (and_left (p k) (list_all p ks) all) (all_filtered p test ks (and_right (p k) (list_all p ks) all))
+  where
+    by : (b : Bool) → p k ≡ true → list_all p (filter test ks) ≡ true →
+        list_all p (if b then k ∷ filter test ks else filter test ks) ≡ true
+    by true one rest = both (p k) (list_all p (filter test ks)) one rest
+    by false one rest = rest
+
+all_mapped : {A B : Type 0} (p : B → Bool) (f : A → B) (xs : List A) → list_all (λ x. p (f x)) xs ≡ true → list_all p (map f xs) ≡ true
+all_mapped p f [] all = refl
+all_mapped p f (x ∷ xs) all =
+    both (p (f x)) (list_all p (map f xs)) (and_left (p (f x)) (list_all (λ x. p (f x)) xs) all)
+    (all_mapped p f xs (and_right (p (f x)) (list_all (λ x. p (f x)) xs) all))
+
+joined_each : {A B : Type 0} (p : B → Bool) (f : A → List B) → ((x : A) → list_all p (f x) ≡ true) → (xs : List A) →
+    list_all p (joined (map f xs)) ≡ true
+joined_each p f each [] = refl
+joined_each p f each (x ∷ xs) = all_append p (f x) (joined (map f xs)) (each x) (joined_each p f each xs)
+
+joined_where : {A B : Type 0} (p : B → Bool) (f : A → List B) (ok : A → Bool) → ((x : A) → ok x ≡ true → list_all p (f x) ≡ true) →
+    (xs : List A) →
+    list_all ok xs ≡ true → list_all p (joined (map f xs)) ≡ true
+joined_where p f ok each [] all = refl
+joined_where p f ok each (x ∷ xs) all =
+    all_append p (f x) (joined (map f xs)) (each x (and_left (ok x) (list_all ok xs) all))
+    (joined_where p f ok each xs (and_right (ok x) (list_all ok xs) all))
+
+all_picked : {A : Type 0} (p : A → Bool) (all : List A) (ks : List ℕ) → list_all p all ≡ true → list_all p (picked all ks) ≡ true
+all_picked p all [] h = refl
+all_picked {A = A} p all (k ∷ ks) h =
+    all_append p (option_to_list (slice_get all k)) (picked all ks) (by (slice_get all k) refl) (all_picked p all ks h)
+  where
+    by : (o : Option A) → slice_get all k ≡ o → list_all p (option_to_list o) ≡ true
+    by None is = refl
+    by (Some x) is = both (p x) true (all_at p all k x h is) refl
+
+blocks-fit : (turns : List NodeCode) (blocks : List (List ℕ)) → list_all turn_fits turns ≡ true → stmts_fit 406 (blocks_code turns blocks) ≡ true
+blocks-fit turns [] all = refl
+blocks-fit turns (block ∷ blocks) all =
+    all_append (stmt_fits 406) (merged_code (picked turns block)) (blocks_code turns blocks)
+    (merged-fits (picked turns block) (all_picked turn_fits turns block all)) (blocks-fit turns blocks all)
+
+-- ---- an activity
+
+module _ (units : List UnitDef) (entry k : ℕ) (a : Activity) (keeps : IsWellTyped a.structs units entry) (there : slice_get units k ≡ Some a.unit)
+    (earlier : a.earlier ≡ take k units) (few : length a.unit.vars ≤ 2 ^ 64) (short : length a.sizes ≤ 2 ^ 64)
+    (numbers : (n : Node) → (view_of a).number n < 2 ^ 64)
+    (fitted : all_fit a.sizes (view_of a).site (callees_in (body_of a)) (rules_at a) ≡ true) where
+  abbrev site : TypingContext
+  site = site_of a.structs a.earlier a.unit
+
+  abbrev number : Node → ℕ
+  number = (view_of a).number
+
+  unit_names : list_all words.is_name (map (λ (unit : UnitDef). unit.name) units) ≡ true
+  unit_names =
+      and_right (list_all words.is_name (map (λ (def : StructDef). def.name) a.structs))
+      (list_all words.is_name (map (λ (unit : UnitDef). unit.name) units))
+      (sym (list_all-append words.is_name (map (λ (def : StructDef). def.name) a.structs) (map (λ (unit : UnitDef). unit.name) units))
+      ∙ keeps.named)
+
+  own_name : words.is_name a.unit.name ≡ true
+  own_name = by units k unit_names there
+    where
+      by : (units : List UnitDef) (k : ℕ) → list_all words.is_name (map (λ (unit : UnitDef). unit.name) units) ≡ true →
+          slice_get units k ≡ Some a.unit → words.is_name a.unit.name ≡ true
+      by [] k all there = absurd (cc)
+      by (first ∷ units) zero all there =
+          ap (λ (unit : UnitDef). words.is_name unit.name) (sym (same_Some first a.unit there))
+          ∙ and_left (words.is_name first.name) (list_all words.is_name (map (λ (unit : UnitDef). unit.name) units)) all
+      by (first ∷ units) (suc k) all there =
+          by units k (and_right (words.is_name first.name) (list_all words.is_name (map (λ (unit : UnitDef). unit.name) units)) all) there
+
+  named : (f : ℕ) (callee : UnitDef) → slice_get a.earlier f ≡ Some callee → words.is_name callee.name ≡ true
+  named =
+      subst (λ (earlier : List UnitDef). (f : ℕ) (callee : UnitDef) → slice_get earlier f ≡ Some callee → words.is_name callee.name ≡ true)
+      (sym earlier) (earlier_named a.structs units entry k a.unit keeps there few)
+
+  -- ---- runs
+
+  run_ok : RunAt → Bool
+  run_ok run = nat_lt run.number (2 ^ 64) && words.is_name (name_in (slice_get a.earlier run.unit))
+
+  name_of : (o : Option UnitDef) (f : ℕ) (callee : UnitDef) → slice_get a.earlier f ≡ o → o ≡ Some callee →
+      words.is_name (name_in o) ≡ true
+  name_of None f callee is some = absurd (cc)
+  name_of (Some x) f callee is some = named f x is
+
+  one_run : (f : ℕ) (n : Node) → node_fits site f n ≡ true → list_all run_ok (run_at number f n) ≡ true
+  unfolding run_ok
+  one_run f (EnterAt l at arguments) h =
+      let found = run-callee site arguments.target arguments.inputs arguments.outputs (slice_get a.earlier f) (and_left _ _ h) in
+      both (nat_lt (number (EnterAt l at arguments)) (2 ^ 64) && words.is_name (name_in (slice_get a.earlier f))) true
+      (both (nat_lt (number (EnterAt l at arguments)) (2 ^ 64)) (words.is_name (name_in (slice_get a.earlier f)))
+      (lt_test (number (EnterAt l at arguments)) (2 ^ 64) (numbers (EnterAt l at arguments)))
+      (name_of (slice_get a.earlier f) f found.0 refl found.1)) refl
+  one_run f (ActAt l s) h = refl
+  one_run f (TestAt l at e) h = refl
+  one_run f (PauseAt l at) h = refl
+  one_run f (ResumeAt l at arguments) h = refl
+  one_run f (HeadAt l at) h = refl
+  one_run f (StartAt l at) h = refl
+  one_run f (CheckAt l at e) h = refl
+  one_run f (SurfaceEndAt l at) h = refl
+  one_run f (DepthEndAt l at) h = refl
+  one_run f (ForkAt l at) h = refl
+  one_run f (SurfaceJoinAt l at) h = refl
+  one_run f (DepthJoinAt l at) h = refl
+
+  runs_by : (callees : List ℕ) (rules : List Transition) → all_fit a.sizes site callees rules ≡ true →
+      list_all run_ok (runs_at number callees rules) ≡ true
+  runs_by [] rules all = refl
+  runs_by (f ∷ callees) [] all = refl
+  runs_by (f ∷ callees) (rule ∷ rules) all =
+      let own = and_left (rule_fits a.sizes rule && node_fits site f rule.node) (all_fit a.sizes site callees rules) all in
+      all_append run_ok (run_at number f rule.node) (runs_at number callees rules)
+      (one_run f rule.node (and_right (rule_fits a.sizes rule) (node_fits site f rule.node) own))
+      (runs_by callees rules (and_right (rule_fits a.sizes rule && node_fits site f rule.node) (all_fit a.sizes site callees rules) all))
+
+  runs_ok : list_all run_ok (runs_in_body a) ≡ true
+  runs_ok = runs_by (callees_in (body_of a)) (rules_at a) fitted
+
+  run_low : (run : RunAt) → run_ok run ≡ true → run.number < 2 ^ 64
+  unfolding run_ok
+  run_low run h = low run.number (and_left (nat_lt run.number (2 ^ 64)) (words.is_name (name_in (slice_get a.earlier run.unit))) h)
+
+  run_named : (run : RunAt) → run_ok run ≡ true → words.is_name (name_in (slice_get a.earlier run.unit)) ≡ true
+  unfolding run_ok
+  run_named run h = and_right (nat_lt run.number (2 ^ 64)) (words.is_name (name_in (slice_get a.earlier run.unit))) h
+
+  -- ---- structs
+
+  struct_type : (name : Text) → is_name name ≡ true → spells_type (OfStruct name) ≡ true
+  struct_type name h = name-struct name h
+
+  member_is : (name of : Text) → is_name name ≡ true → is_name of ≡ true → spells_member (struct_member name of) ≡ true
+  member_is name of one other =
+      both (spells_type (OfStruct of)) (is_name name && true) (struct_type of other) (both (is_name name) true one refl)
+
+  counter_is : (j : ℕ) → j < length a.sizes → spells_member (counter_member a.sizes j) ≡ true
+  counter_is j less =
+      let small : j < 2 ^ 64 = omega (arith, less, short) in
+      both (is_c_scalar _) (is_name (counter_name j) && true) (type-spelled a.sizes j)
+      (both (is_name (counter_name j)) true (numbered-name 99 j refl refl small) refl)
+
+  frame_members : list_all spells_member (frame_struct a).members ≡ true
+  frame_members =
+      all_append spells_member (map (counter_member a.sizes) (up_to (length a.sizes))) (map (frame_member a) (runs_in_body a))
+      (all_mapped spells_member (counter_member a.sizes) (up_to (length a.sizes))
+      (all_below (λ j. spells_member (counter_member a.sizes j)) (length a.sizes) counter_is))
+      (by (runs_in_body a) runs_ok)
+    where
+      by : (runs : List RunAt) → list_all run_ok runs ≡ true → list_all spells_member (map (frame_member a) runs) ≡ true
+      by [] all = refl
+      by (run ∷ runs) all =
+          let own = and_left (run_ok run) (list_all run_ok runs) all in
+          both (spells_member (frame_member a run)) (list_all spells_member (map (frame_member a) runs))
+          (member_is (callee_name run.number) (frame_name (name_in (slice_get a.earlier run.unit))) (callee-named run.number (run_low run own))
+          (frame-named (name_in (slice_get a.earlier run.unit)) (run_named run own)))
+          (by runs (and_right (run_ok run) (list_all run_ok runs) all))
+
+  pub frame-spelled : has_any (frame_struct a).members ≡ true → spells_struct (frame_struct a) ≡ true
+  frame-spelled some =
+      struct-spells nowhere (frame_name a.unit.name) (frame_struct a).members
+      (name-struct (frame_name a.unit.name) (frame-named a.unit.name own_name)) some frame_members
+
+  memory_is : (run : RunAt) → run_ok run ≡ true → list_all spells_member (memory_member a run) ≡ true
+  memory_is run ok = by ((view_of a).remembers run.unit)
+    where
+      by : (b : Bool) → list_all spells_member
+          (if b then struct_member (callee_name run.number) (memory_name (name_in (slice_get a.earlier run.unit))) ∷ [] else []) ≡ true
+      by true =
+          both (spells_member (struct_member (callee_name run.number) (memory_name (name_in (slice_get a.earlier run.unit))))) true
+          (member_is (callee_name run.number) (memory_name (name_in (slice_get a.earlier run.unit))) (callee-named run.number (run_low run ok))
+          (memory-named (name_in (slice_get a.earlier run.unit)) (run_named run ok))) refl
+      by false = refl
+
+  struct_by : (members : List CMember) → list_all spells_member members ≡ true → list_all spells_struct (struct_of a.unit.name members) ≡ true
+  struct_by [] h = refl
+  struct_by (m ∷ members) h =
+      both (spells_struct (record { place = nowhere; name = memory_name a.unit.name; members = m ∷ members })) true
+      (struct-spells nowhere (memory_name a.unit.name) (m ∷ members)
+      (name-struct (memory_name a.unit.name) (memory-named a.unit.name own_name)) refl h) refl
+
+  pub remembered-spelled : list_all spells_member (members_of a.structs a.earlier a.unit) ≡ true →
+      list_all spells_struct (remembered_struct a) ≡ true
+  remembered-spelled held =
+      struct_by (remembered a)
+      (all_append spells_member (members_of a.structs a.earlier a.unit) (joined (map (memory_member a) (runs_in_body a))) held
+      (joined_where spells_member (memory_member a) run_ok memory_is (runs_in_body a) runs_ok))
+
+  -- ---- parameters and locals
+
+  param_is : (name of : Text) → is_name name ≡ true → is_name of ≡ true →
+      spells_param (record { ty = OfStruct of; pointer = true; name = name }) ≡ true
+  param_is name of one other = both (spells_type (OfStruct of)) (is_name name) (struct_type of other) one
+
+  params_are : list_all spells_param (activity_params a) ≡ true
+  params_are =
+      both (spells_param (record { ty = OfStruct (frame_name a.unit.name); pointer = true; name = codes "f" })) _
+      (param_is (codes "f") (frame_name a.unit.name) frame-letter (frame-named a.unit.name own_name))
+      (all_append spells_param (memory_params a (remembers_any a))
+      (params_from a.structs 0 (parameters_of a.unit) ++ (result_params a.unit.result ++ over_param ∷ [])) (remembers (remembers_any a))
+      (all_append spells_param (params_from a.structs 0 (parameters_of a.unit)) (result_params a.unit.result ++ over_param ∷ [])
+      (params-spelled a.structs units entry k a.unit keeps there few)
+      (all_append spells_param (result_params a.unit.result) (over_param ∷ []) (result a.unit.result)
+      (both (spells_param over_param) true end-letter refl))))
+    where
+      remembers : (b : Bool) → list_all spells_param (memory_params a b) ≡ true
+      remembers true =
+          both (spells_param (record { ty = OfStruct (memory_name a.unit.name); pointer = true; name = codes "m" })) true
+          (param_is (codes "m") (memory_name a.unit.name) memory-name (memory-named a.unit.name own_name)) refl
+      remembers false = refl
+
+      result : (o : Option ScalarType) → list_all spells_param (result_params o) ≡ true
+      result None = refl
+      result (Some s) = both (is_c_scalar (c_scalar s) && is_name (codes "r")) true (both (is_c_scalar (c_scalar s)) (is_name (codes "r"))
+          (scalar_spelled s) result-letter) refl
+
+  local_is : (s : ScalarType) (name : Text) → is_c_scalar s ≡ true → is_name name ≡ true → spells_local (scalar_local s name) ≡ true
+  local_is s name one other = both (is_c_scalar s) (is_name name) one other
+
+  flag_is : (rule : Transition) → list_all spells_local (flag_local number rule) ≡ true
+  flag_is rule = by (is_flagged rule.asked)
+    where
+      by : (b : Bool) → list_all spells_local (if b then scalar_local OfBool (flag_name (number rule.node)) ∷ [] else []) ≡ true
+      by true =
+          both (spells_local (scalar_local OfBool (flag_name (number rule.node)))) true
+          (local_is OfBool (flag_name (number rule.node)) refl (numbered-name 103 (number rule.node) refl refl (numbers rule.node))) refl
+      by false = refl
+
+  mark_is : (change : Change) → list_all spells_local (mark_local number change) ≡ true
+  mark_is (SetsMark n) =
+      both (spells_local (scalar_local OfBool (mark_name (number n)))) true
+      (local_is OfBool (mark_name (number n)) refl (numbered-name 117 (number n) refl refl (numbers n))) refl
+  mark_is (SetsFlag n) = refl
+  mark_is (SetsCounter slot) = refl
+  mark_is (ClearsCounter j) = refl
+  mark_is (ClearsBoth j) = refl
+  mark_is (EndsWhen start surface depth) = refl
+  mark_is Finishes = refl
+
+  run_locals_are : (run : RunAt) → run_ok run ≡ true → list_all spells_local (run_locals a run) ≡ true
+  run_locals_are run ok =
+      both (spells_local (scalar_local OfBool (ended_name run.number))) _
+      (local_is OfBool (ended_name run.number) refl (numbered-name 101 run.number refl refl (run_low run ok)))
+      (by (option_and_then (λ (unit : UnitDef). unit.result) (slice_get a.earlier run.unit)))
+    where
+      by : (o : Option ScalarType) → list_all spells_local (given_local run.number o) ≡ true
+      by None = refl
+      by (Some s) =
+          both (spells_local (scalar_local (c_scalar s) (given_name run.number))) true
+          (local_is (c_scalar s) (given_name run.number) (scalar_spelled s) (numbered-name 114 run.number refl refl (run_low run ok))) refl
+
+  locals_are : list_all spells_local (activity_locals a) ≡ true
+  locals_are =
+      let of_runs : List CLocal = joined (map (run_locals a) (runs_in_body a)) in
+      let of_copies : List CLocal = map (copy_local a) (copied_in a) in
+      let of_marks : List CLocal = joined (map (mark_locals number) (rules_at a)) in
+      let of_flags : List CLocal = joined (map (flag_local number) (rules_at a)) in
+      all_append spells_local (map (rested_local a.sizes) (counters_read a)) (of_flags ++ (of_marks ++ (of_copies ++ of_runs)))
+      (all_mapped spells_local (rested_local a.sizes) (counters_read a)
+      (all_filtered (λ j. spells_local (rested_local a.sizes j)) (view_of a).is_read (up_to (length a.sizes))
+      (all_below (λ j. spells_local (rested_local a.sizes j)) (length a.sizes) rested_is)))
+      (all_append spells_local of_flags (of_marks ++ (of_copies ++ of_runs)) (joined_each spells_local (flag_local number) flag_is (rules_at a))
+      (all_append spells_local of_marks (of_copies ++ of_runs)
+      (joined_each spells_local (mark_locals number) (λ rule. joined_each spells_local (mark_local number) mark_is rule.so) (rules_at a))
+      (all_append spells_local of_copies of_runs
+      (all_mapped spells_local (copy_local a) (copied_in a)
+      (all_filtered (λ j. spells_local (copy_local a j)) _ (up_to (length a.unit.vars))
+      (all_below (λ j. spells_local (copy_local a j)) (length a.unit.vars) copy_is)))
+      (joined_where spells_local (run_locals a) run_ok run_locals_are (runs_in_body a) runs_ok))))
+    where
+      rested_is : (j : ℕ) → j < length a.sizes → spells_local (rested_local a.sizes j) ≡ true
+      rested_is j less =
+          let small : j < 2 ^ 64 = omega (arith, less, short) in
+          local_is _ (rested_name j) (type-spelled a.sizes j) (numbered-name 119 j refl refl small)
+
+      copy_is : (j : ℕ) → j < length a.unit.vars → spells_local (copy_local a j) ≡ true
+      copy_is j less =
+          let small : j < 2 ^ 64 = omega (arith, less, few) in
+          local_is (c_scalar (scalar_at (slice_get a.unit.vars j))) (copy_name j) (scalar_spelled (scalar_at (slice_get a.unit.vars j)))
+          (copy-name j small)
+
+  -- ---- statements
+
+  module _ (exprs : (e : Expr) (ty : Ty) → type_of site e ≡ Some ty → expr_fits (room (expr_depth e)) (code_made site e) ≡ true)
+      (paths : (path : Path) (ty : Ty) → type_of_path site path ≡ Some ty →
+      place_fits (room (path_depth path)) (stands site path).place ≡ true)
+      (acts : (s : Stmt) → fits site s ≡ true → stmts_fit (2 * (depth_of s).exprs + 3) (act_code site (view_of a).copies s) ≡ true) where
+    names : list_all words.is_name (map (λ (def : StructDef). def.name) a.structs) ≡ true
+    names = struct_names a.structs units entry keeps
+
+    typed_here : (j : ℕ) (var : Var) → slice_get a.unit.vars j ≡ Some var → type_stands (length a.structs) var.ty ≡ true
+    typed_here = typed a.structs units entry k a.unit keeps there few
+
+    rested_is : (j : ℕ) → j < length a.sizes → stmt_fits 406 (rested_code j) ≡ true
+    rested_is j less =
+        let small : j < 2 ^ 64 = omega (arith, less, short) in
+        set-fits 406 nowhere (rested_place j) (c_read (counter_place j)) (rested-fits 406 j (omega arith) small)
+        (read-fits 406 nowhere (counter_place j) (counter-fits 406 j (omega arith) small))
+
+    copied_is : (j : ℕ) → j < length a.unit.vars → stmt_fits 406 (c_copied site j) ≡ true
+    copied_is j less =
+        let small : j < 2 ^ 64 = omega (arith, less, few) in
+        set-fits 406 nowhere (c_place false (copy_name j) []) (c_read (place_in site j []))
+        (place-fits 406 false (copy_name j) [] (omega arith) (copy-name j small) refl)
+        (read-fits 406 nowhere (place_in site j []) (own-fits site few names named typed_here exprs paths 406 j (omega arith) small))
+
+    entry_is : (body : Block) → stmts_fit 406 (entry_code (view_of a) body) ≡ true
+    entry_is Done = refl
+    entry_is (Then s rest) =
+        let first : 0 < 2 ^ 64 = omega arith in
+        one-fits 406 (c_set (flag_place (number (entry_node s))) (c_two Eq (c_read (counter_place 0)) (counter_value a.sizes 0 0)))
+        (set-fits 406 nowhere (flag_place (number (entry_node s))) (c_two Eq (c_read (counter_place 0)) (counter_value a.sizes 0 0))
+        (flag-fits 406 (number (entry_node s)) (omega arith) (numbers (entry_node s)))
+        (two-fits 2 406 nowhere Eq (c_read (counter_place 0)) (counter_value a.sizes 0 0) (omega arith) refl
+        (read-fits 2 nowhere (counter_place 0) (counter-fits 2 0 (omega arith) first)) (nothing-fits 2 a.sizes 0 (omega arith))))
+
+    code_is : stmts_fit 406 (activity_code a) ≡ true
+    code_is =
+        let blocks : List CStmt = blocks_in_order a in
+        let copies : List CStmt = map (c_copied site) (copied_in a) in
+        all_append (stmt_fits 406) (map rested_code (counters_read a)) (entry_code (view_of a) (body_of a) ++ (copies ++ blocks))
+        (all_mapped (stmt_fits 406) rested_code (counters_read a)
+        (all_filtered (λ j. stmt_fits 406 (rested_code j)) (view_of a).is_read (up_to (length a.sizes))
+        (all_below (λ j. stmt_fits 406 (rested_code j)) (length a.sizes) rested_is)))
+        (all_append (stmt_fits 406) (entry_code (view_of a) (body_of a)) (copies ++ blocks) (entry_is (body_of a))
+        (all_append (stmt_fits 406) copies blocks
+        (all_mapped (stmt_fits 406) (c_copied site) (copied_in a)
+        (all_filtered (λ j. stmt_fits 406 (c_copied site j)) _ (up_to (length a.unit.vars))
+        (all_below (λ j. stmt_fits 406 (c_copied site j)) (length a.unit.vars) copied_is)))
+        (blocks-fit (turns_in_source a) a.blocks
+        (turns-fit (view_of a) few numbers names named typed_here exprs paths acts (callees_in (body_of a)) (rules_at a) fitted))))
+
+    pub activity-fits : func_fits 2000 (activity_function a) ≡ true
+    activity-fits =
+        func-fits 1999 2000 (activity_function a) (omega arith) (omega arith) refl
+        (name-function (unit_name a.unit.name)
+        (name-with_prefix (codes "a_") a.unit.name refl (source_name a.unit.name own_name))) params_are locals_are
+        (stmts_fit-more 406 1999 (activity_code a) (omega arith) code_is)
+
+-- ---- the laws
+
+keeps_of : (structs : List StructDef) (units : List UnitDef) (entry : ℕ) (a : Activity) → a.structs ≡ structs → IsWellTyped structs units entry →
+    IsWellTyped a.structs units entry
+keeps_of structs units entry a same keeps = subst (λ structs. IsWellTyped structs units entry) (sym same) keeps
+
+pub activities : (structs : List StructDef) (units : List UnitDef) (entry : ℕ) → ExpressionsFit structs units entry →
+    PlacesFit structs units entry →
+    ActsFit structs units entry → ActivitiesFit structs units entry
+activities structs units entry fit fit_places fit_acts k a keeps can =
+    let same : structs ≡ a.structs = sym can.structures in
+    let own : IsWellTyped a.structs units entry = subst (λ structs. IsWellTyped structs units entry) same keeps in
+    let before : take k units ≡ a.earlier = sym can.earlier in
+    let exprs = subst (λ structs. ExpressionsFit structs units entry) same fit in
+    let paths = subst (λ structs. PlacesFit structs units entry) same fit_places in
+    let acts = subst (λ structs. ActsFit structs units entry) same fit_acts in
+    activity-fits units entry k a own can.there can.earlier can.variables can.counters can.numbers can.rules
+    (subst (λ (earlier : List UnitDef). (e : Expr) (ty : Ty) → type_of (site_of a.structs earlier a.unit) e ≡ Some ty →
+    expr_fits (room (expr_depth e)) (code_made (site_of a.structs earlier a.unit) e) ≡ true) before
+    (λ e ty typed. exprs k a.unit e ty own can.there can.variables typed))
+    (subst (λ (earlier : List UnitDef). (path : Path) (ty : Ty) → type_of_path (site_of a.structs earlier a.unit) path ≡ Some ty →
+    place_fits (room (path_depth path)) (stands (site_of a.structs earlier a.unit) path).place ≡ true) before
+    (λ path ty typed. paths k a.unit path ty own can.there can.variables typed))
+    (subst (λ (earlier : List UnitDef). (s : Stmt) → fits (site_of a.structs earlier a.unit) s ≡ true →
+    stmts_fit (2 * (depth_of s).exprs + 3) (act_code (site_of a.structs earlier a.unit) (view_of a).copies s) ≡ true) before
+    (λ s fitted. acts k a.unit (view_of a).copies s own can.there can.variables fitted))
+
+pub frames : (structs : List StructDef) (units : List UnitDef) (entry : ℕ) → FramesSpelled structs units entry
+frames structs units entry k a keeps can some =
+    frame-spelled units entry k a (keeps_of structs units entry a can.structures keeps) can.there can.earlier can.variables can.counters can.numbers
+    can.rules some
+
+pub memories : (structs : List StructDef) (units : List UnitDef) (entry : ℕ) → MembersSpelled structs units entry →
+    RememberedSpelled structs units entry
+memories structs units entry members k a keeps can =
+    let own : IsWellTyped a.structs units entry = keeps_of structs units entry a can.structures keeps in
+    let spelled = subst (λ structs. MembersSpelled structs units entry) (sym can.structures) members in
+    remembered-spelled units entry k a own can.there can.earlier can.variables can.counters can.numbers can.rules
+    (subst (λ (earlier : List UnitDef). list_all spells_member (members_of a.structs earlier a.unit) ≡ true) (sym can.earlier)
+    (spelled k a.unit own can.there can.variables))

@@ -1,0 +1,22 @@
+-- The numbers of resting places in the rules of an activity.
+use Rattle.std.specs.Prelude.{◌≡◌, ℕ, ◌<◌, ◌≤◌, ◌^◌, true, List, Some, length, slice_get}
+use Rattle.std.specs.List.{list_all}
+use Rattle.bl_tree.specs.declared.tree.StructDef.{StructDef}
+use Rattle.bl_tree.specs.declared.tree.Unit.{Unit as UnitDef}
+use Rattle.bl_tree.specs.Program.{IsWellTyped}
+use Rattle.bl_graph_nodes.specs.Plain.{plain_body}
+use Rattle.bl_machine.specs.declared.slots.Slot.{Slot}
+use Rattle.bl_machine.specs.Slots.{Counters}
+use Rattle.bl_machine_pass.specs.Numbered.{sizes_of, slots_of}
+use Rattle.bl_machine_pass.specs.Transitions.{rules}
+use Rattle.bl_machine_transitions.specs.Shared.{shared, shared_sizes}
+use Rattle.bl_emit_spec_laws_wellformed.specs.Spelled.{rule_fits}
+
+-- where a list has a number for each resting place of a typed program's activity, 32 bits count these places and 64 the counters, all numbers in
+-- the rules of its nodes, as C has them, are ones of their counters' types
+abbrev pub RulesStand : List StructDef → List UnitDef → ℕ → Type 0
+RulesStand structs units entry =
+    (k : ℕ) (unit : UnitDef) (order : List ℕ) (list : List Slot) → IsWellTyped structs units entry → slice_get units k ≡ Some unit →
+    Counters (plain_body unit.body) list → length list < 2 ^ 32 → length (sizes_of list) ≤ 2 ^ 64 →
+    let body = plain_body unit.body in
+    list_all (rule_fits (shared_sizes order body list)) (rules (slots_of body (shared order body list)) body) ≡ true

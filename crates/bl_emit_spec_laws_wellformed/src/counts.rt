@@ -1,0 +1,12 @@
+//! Laws of how many nodes an activity has. None of these functions does anything: the contract is the law. The body of each unit of a
+//! typed program has at most four nodes for each statement that is counted, and no more places to rest than statements
+//! (`specs/Counts.antt`, `NodesCounted`).
+
+ghost use Rattle.bl_emit_spec_laws_wellformed.specs.Counts.{NodesCounted};
+
+use bl_tree::Program;
+
+/// A unit's nodes are at most four times as many as its statements, and its resting places no more than these.
+pub fn nodes_counted(_program: &Program)
+    ensures { NodesCounted _program.now.structs _program.now.units _program.now.entry }
+{}

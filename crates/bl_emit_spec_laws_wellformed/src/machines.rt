@@ -1,0 +1,39 @@
+//! Laws of the C of a machine's activities. None of these functions does anything: the contract is the law. Where a typed program's unit
+//! has at most a million cells, what the C of its activity in a machine that shares counters is made of has a spelling
+//! (`specs/Machines.antt`, `MachinesSpell`), and the numbers in its names differ (`MachinesDiffer`).
+
+ghost use Rattle.bl_emit_spec_laws_wellformed.specs.Machines.{MachinesDiffer, MachinesSpell};
+
+use crate::counts::nodes_counted;
+use crate::nodes::rules_fit;
+use crate::numbers::{nodes_numbered, numbers_follow};
+use crate::rests::rules_stand;
+use bl_emit_functions_laws_wellformed::numbered::cells_number;
+use bl_limits_measures::laws::units_add_up;
+use bl_limits_measures_laws::laws::units_use_earlier_ones;
+use bl_tree::Program;
+
+/// What the C of a machine's activity is made of has a spelling.
+pub fn machines_spell(program: &Program)
+    ensures { MachinesSpell program.now.structs program.now.units program.now.entry }
+{
+    units_use_earlier_ones();
+    units_add_up();
+    cells_number(program);
+    nodes_counted(program);
+    rules_fit(program);
+    rules_stand(program);
+    nodes_numbered();
+}
+
+/// The numbers in the names of a machine's activity differ.
+pub fn machines_differ(program: &Program)
+    ensures { MachinesDiffer program.now.structs program.now.units program.now.entry }
+{
+    units_use_earlier_ones();
+    units_add_up();
+    cells_number(program);
+    nodes_counted(program);
+    nodes_numbered();
+    numbers_follow();
+}

@@ -1,0 +1,24 @@
+//! The law of whole C files of activities as texts: they have a spelling. Its function does nothing: the contract is the law. The C
+//! file that is written of a typed program has one (`specs/Texts.antt`, `FilesSpelled`), where 64 bits hold the numbers in the names
+//! of the functions that its entry needs, and the C of each activity that it needs can be spelled (`AllWrite`).
+
+ghost use Rattle.bl_emit_spec_laws_wellformed.specs.Texts.{FilesSpelled};
+
+use crate::spelled::{activities_fit, frames_spelled, remembered_spelled};
+use bl_emit_functions_laws_wellformed::spelled::{
+    functions_fit, memories_spelled, structs_spelled, types_spelled,
+};
+use bl_tree::Program;
+
+/// The C file that is written of a typed program has a spelling.
+pub fn files_spelled(program: &Program)
+    ensures { FilesSpelled program.now }
+{
+    functions_fit(program);
+    memories_spelled(program);
+    structs_spelled(program);
+    types_spelled(program);
+    activities_fit(program);
+    frames_spelled(program);
+    remembered_spelled(program);
+}

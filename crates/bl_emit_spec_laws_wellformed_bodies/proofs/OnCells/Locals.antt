@@ -1,0 +1,175 @@
+-- The cells of the parameters and locals of the C function of an activity.
+use Rattle.std.proofs.Common.{◌≡◌, ℕ, zero, suc, ◌+◌, ◌*◌, ◌≤◌, Bool, true, false, List, [], ◌∷◌, ◌++◌, map, length}
+use Rattle.std.proofs.Common.{Option, Some, None, refl, ap, ◌∙◌, arith}
+use Rattle.std.proofs.lemmas.List.{length_push, map-append}
+use Rattle.std.specs.Prelude.{filter, is_some, option_and_then, slice_get, if◌then◌else◌}
+use Rattle.bl_tree.specs.declared.c.CLocal.{CLocal}
+use Rattle.bl_tree.specs.declared.c.CParam.{CParam}
+use Rattle.bl_tree.specs.declared.scalar.Scalar.{Scalar as ScalarType}
+use Rattle.bl_tree.specs.declared.tree.Unit.{Unit as UnitDef}
+use Rattle.bl_tree.specs.Program.{parameters_of}
+use Rattle.bl_tree.specs.Reduce.{joined, total}
+use Rattle.bl_graph_nodes.specs.Nodes.{Node}
+use Rattle.bl_machine.specs.Blocks.{up_to}
+use Rattle.bl_machine_pass.specs.Transitions.{Change, ClearsBoth, ClearsCounter, EndsWhen, Finishes, SetsCounter, SetsFlag, SetsMark, Transition}
+use Rattle.bl_ctext_semantics.specs.Sizes.{Sizes, size_of_member, size_of_param, size_of_type}
+use Rattle.bl_emit_functions.specs.Functions.{params_from}
+use Rattle.bl_emit_spec.specs.Activities.{
+  Activity,
+  RunAt,
+  activity_locals,
+  activity_params,
+  copied_in,
+  copies_of,
+  copy_local,
+  counter_member,
+  counters_read,
+  flag_local,
+  given_local,
+  is_flagged,
+  mark_local,
+  mark_locals,
+  memory_params,
+  over_param,
+  remembers_any,
+  rested_local,
+  result_params,
+  rules_at,
+  run_locals,
+  runs_in_body,
+  view_of,
+}
+use Rattle.bl_emit_acts.specs.Acts.{is_copied}
+use Rattle.bl_emit_spec_laws_wellformed.specs.Costs.{extras, marks_in}
+
+-- ---- sums
+
+pub total-append : (xs ys : List ℕ) → total (xs ++ ys) ≡ total xs + total ys
+total-append [] ys = omega arith
+total-append (x ∷ xs) ys = let rest = total-append xs ys in omega (arith, rest)
+
+pub up-length : (n : ℕ) → length (up_to n) ≡ n
+up-length zero = refl
+up-length (suc n) = length_push (up_to n) n ∙ (let rest = up-length n in omega (arith, rest))
+
+-- 1 where it is so
+abbrev pub one_where : Bool → ℕ
+one_where b = if b then 1 else 0
+
+module _ (known : Sizes) where
+  -- ---- locals
+
+  abbrev pub cells : List CLocal → ℕ
+  cells locals = total (map (λ (l : CLocal). size_of_type known l.ty) locals)
+
+  cells-append : (xs ys : List CLocal) → cells (xs ++ ys) ≡ cells xs + cells ys
+  cells-append xs ys =
+      ap total (map-append (λ (l : CLocal). size_of_type known l.ty) xs ys)
+      ∙ total-append (map (λ (l : CLocal). size_of_type known l.ty) xs) (map (λ (l : CLocal). size_of_type known l.ty) ys)
+
+  -- some of these, each of which has one cell
+  some-few : (made : ℕ → CLocal) → ((k : ℕ) → size_of_type known (made k).ty ≡ 1) → (test : ℕ → Bool) (ks : List ℕ) →
+      cells (map made (filter test ks)) ≤ length ks
+  some-few made one test [] = omega arith
+  some-few made one test (k ∷ ks) = by (test k) (some-few made one test ks)
+    where
+      by : (b : Bool) → cells (map made (filter test ks)) ≤ length ks →
+          cells (map made (if b then k ∷ filter test ks else filter test ks)) ≤ suc (length ks)
+      by true rest = let first = one k in omega (arith, first, rest)
+      by false rest = omega (arith, rest)
+
+  flag-one : (number : Node → ℕ) (rule : Transition) → cells (flag_local number rule) ≡ one_where (is_flagged rule.asked)
+  flag-one number rule = by (is_flagged rule.asked) _ refl
+    where
+      by : (b : Bool) (l : CLocal) → size_of_type known l.ty ≡ 1 → cells (if b then l ∷ [] else []) ≡ one_where b
+      by true l one = omega (arith, one)
+      by false l one = refl
+
+  marks-many : (number : Node → ℕ) (changes : List Change) → cells (joined (map (mark_local number) changes)) ≡ marks_in changes
+  marks-many number [] = refl
+  marks-many number (SetsMark n ∷ rest) = let later = marks-many number rest in omega (arith, later)
+  marks-many number (SetsFlag n ∷ rest) = marks-many number rest
+  marks-many number (SetsCounter slot ∷ rest) = marks-many number rest
+  marks-many number (ClearsCounter k ∷ rest) = marks-many number rest
+  marks-many number (ClearsBoth k ∷ rest) = marks-many number rest
+  marks-many number (EndsWhen start surface depth ∷ rest) = marks-many number rest
+  marks-many number (Finishes ∷ rest) = marks-many number rest
+
+  extras-many : (number : Node → ℕ) (listed : List Transition) →
+      cells (joined (map (flag_local number) listed)) + cells (joined (map (mark_locals number) listed)) ≡ extras listed
+  extras-many number [] = refl
+  extras-many number (rule ∷ listed) =
+      let flags = cells-append (flag_local number rule) (joined (map (flag_local number) listed)) in
+      let marks = cells-append (mark_locals number rule) (joined (map (mark_locals number) listed)) in
+      let flag = flag-one number rule in
+      let mark = marks-many number rule.so in
+      let rest = extras-many number listed in
+      omega (arith, flags, marks, flag, mark, rest)
+
+  given-one : (k : ℕ) (o : Option ScalarType) → cells (given_local k o) ≤ 1
+  given-one k (Some s) = omega arith
+  given-one k None = omega arith
+
+  runs-few : (a : Activity) (runs : List RunAt) → cells (joined (map (run_locals a) runs)) ≤ 2 * length runs
+  runs-few a [] = omega arith
+  runs-few a (run ∷ runs) =
+      let split = cells-append (run_locals a run) (joined (map (run_locals a) runs)) in
+      let given = given-one run.number (option_and_then (λ (unit : UnitDef). unit.result) (slice_get a.earlier run.unit)) in
+      let rest = runs-few a runs in
+      omega (arith, split, given, rest)
+
+  pub locals-few : (a : Activity) →
+      cells (activity_locals a) ≤ length a.sizes + extras (rules_at a) + length a.unit.vars + 2 * length (runs_in_body a)
+  locals-few a =
+      let number = (view_of a).number in
+      let rested = map (rested_local a.sizes) (counters_read a) in
+      let flags = joined (map (flag_local number) (rules_at a)) in
+      let marks = joined (map (mark_locals number) (rules_at a)) in
+      let copies = map (copy_local a) (copied_in a) in
+      let runs = joined (map (run_locals a) (runs_in_body a)) in
+      let first = cells-append rested (flags ++ (marks ++ (copies ++ runs))) in
+      let second = cells-append flags (marks ++ (copies ++ runs)) in
+      let third = cells-append marks (copies ++ runs) in
+      let fourth = cells-append copies runs in
+      let held = some-few (rested_local a.sizes) (λ k. refl) (view_of a).is_read (up_to (length a.sizes)) in
+      let counters = up-length (length a.sizes) in
+      let extra = extras-many number (rules_at a) in
+      let copied = some-few (copy_local a) (λ k. refl) (is_copied (copies_of a.unit)) (up_to (length a.unit.vars)) in
+      let vars = up-length (length a.unit.vars) in
+      let run = runs-few a (runs_in_body a) in
+      omega (arith, first, second, third, fourth, held, counters, extra, copied, vars, run)
+
+  -- ---- parameters
+
+  abbrev pub passed : List CParam → ℕ
+  passed params = total (map (size_of_param known) params)
+
+  passed-append : (xs ys : List CParam) → passed (xs ++ ys) ≡ passed xs + passed ys
+  passed-append xs ys = ap total (map-append (size_of_param known) xs ys) ∙ total-append (map (size_of_param known) xs) (map (size_of_param known) ys)
+
+  memory-one : (a : Activity) (b : Bool) → passed (memory_params a b) ≡ one_where b
+  memory-one a true = refl
+  memory-one a false = refl
+
+  result-one : (o : Option ScalarType) → passed (result_params o) ≡ one_where (is_some o)
+  result-one (Some s) = refl
+  result-one None = refl
+
+  pub params-are : (a : Activity) → passed (activity_params a)
+      ≡ 2 + one_where (remembers_any a) + passed (params_from a.structs 0 (parameters_of a.unit)) + one_where (is_some a.unit.result)
+  params-are a =
+      let memory = memory_params a (remembers_any a) in
+      let ports = params_from a.structs 0 (parameters_of a.unit) in
+      let result = result_params a.unit.result in
+      let first = passed-append memory (ports ++ (result ++ over_param ∷ [])) in
+      let second = passed-append ports (result ++ over_param ∷ []) in
+      let third = passed-append result (over_param ∷ []) in
+      let held = memory-one a (remembers_any a) in
+      let given = result-one a.unit.result in
+      omega (arith, first, second, third, held, given)
+
+  -- ---- counters
+
+  pub counters-are : (sizes : List ℕ) (ks : List ℕ) → total (map (size_of_member known) (map (counter_member sizes) ks)) ≡ length ks
+  counters-are sizes [] = refl
+  counters-are sizes (k ∷ ks) = let rest = counters-are sizes ks in omega (arith, rest)

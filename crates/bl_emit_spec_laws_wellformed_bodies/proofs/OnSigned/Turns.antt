@@ -1,0 +1,299 @@
+-- The C of an activity has no loops.
+use Rattle.std.proofs.lemmas.Option.{same_Some}
+use Rattle.std.proofs.Common.{◌≡◌, ℕ, zero, suc, Bool, true, false, List, [], ◌∷◌, ◌++◌, map, Option, Some, None, refl, ◌∙◌, subst}
+use Rattle.std.specs.Prelude.{option_map, option_to_list, slice_get, ⊤}
+use Rattle.bl_tree.specs.declared.text.Text.{Text}
+use Rattle.bl_tree.specs.declared.c.CCall.{CCall}
+use Rattle.bl_tree.specs.declared.c.CExpr.{CExpr}
+use Rattle.bl_tree.specs.declared.c.CPlace.{CPlace}
+use Rattle.bl_tree.specs.declared.c.CStmt.{CStmt, fold-roll-CStmt, roll-CStmt}
+use Rattle.bl_tree.specs.declared.c.CStmtKind.{CStmtKind, CStmtKind-F, fold-roll-CStmtKind, roll-CStmtKind}
+use Rattle.bl_tree.specs.declared.c.CStmtKind.TheVariants as statement
+use Rattle.bl_tree.specs.declared.scalar.Scalar.{Scalar as ScalarType}
+use Rattle.bl_tree.specs.declared.tree.Arm.{Arm}
+use Rattle.bl_tree.specs.declared.tree.Branch.{Branch}
+use Rattle.bl_tree.specs.declared.tree.Expr.{Expr}
+use Rattle.bl_tree.specs.declared.tree.Path.{Path}
+use Rattle.bl_tree.specs.declared.tree.Stmt.{Stmt, out-Stmt}
+use Rattle.bl_tree.specs.declared.tree.StmtKind.{StmtKind, out-StmtKind}
+use Rattle.bl_tree.specs.declared.tree.StmtKind.TheOpen.{StmtKind-F}
+use Rattle.bl_tree.specs.declared.tree.Ty.{Ty}
+use Rattle.bl_tree.specs.Types.{scalar_in}
+use Rattle.bl_tree.specs.Typing.{TypingContext, var_at}
+use Rattle.bl_ctext_semantics.specs.Loops.{LoopCounters, turns_in, turns_in_block, turns_or_none}
+use Rattle.bl_emit_acts.specs.Acts.{act_code, c_calling, c_clear, c_copied, c_set, c_zeroed, copy_code, initial_code, is_copied, layer_code, zeroed}
+use Rattle.bl_emit_acts.specs.Expressions.{type_at}
+use Rattle.bl_emit_acts.specs.Places.{place_in}
+use Rattle.bl_emit_acts.specs.Trees.{nowhere}
+use Rattle.bl_emit_functions.specs.Statements.{else_code}
+use Rattle.bl_emit_functions.specs.Trees.{c_if}
+use Rattle.bl_emit_functions_laws_wellformed.proofs.OnFormed.Turns.{block-turns, one-turns, set-turns}
+use Rattle.bl_graph_nodes.specs.Nodes.{ActAt, Arguments, CheckAt, DepthEndAt, DepthJoinAt, EnterAt, ForkAt, HeadAt, Node, PauseAt}
+use Rattle.bl_graph_nodes.specs.Nodes.{ResumeAt, StartAt, SurfaceEndAt, SurfaceJoinAt, TestAt}
+use Rattle.bl_graph_nodes.specs.Plain.{Block, Done, Then}
+use Rattle.bl_machine_pass.specs.Transitions.{Change, Transition}
+use Rattle.bl_machine_pass.specs.Transitions.{ClearsBoth, ClearsCounter, EndsWhen, Finishes, SetsCounter, SetsFlag, SetsMark}
+use Rattle.bl_emit_spec.specs.Activities.{
+  Activity,
+  activity_code,
+  blocks_code,
+  blocks_in_order,
+  body_of,
+  callees_in,
+  copied_in,
+  counters_read,
+  entry_code,
+  picked,
+  rested_code,
+  rules_at,
+  turns_in_source,
+  view_of,
+}
+use Rattle.bl_emit_spec.specs.Blocks.{ActivityView, NodeCode, acted, change_code, changes_code, flagged_now, forgotten, layer_acted, merged_code, node_code}
+use Rattle.bl_emit_spec.specs.Blocks.{run_code, target_code, tested, turn_code, turns_of}
+use Rattle.bl_emit_spec_laws_wellformed_bodies.specs.Signed.{NoneLoops}
+
+abbrev what : CStmtKind-F CStmtKind CStmt → CStmt
+what layer = roll-CStmt (record { place = nowhere; what = roll-CStmtKind layer })
+
+-- no loops in these statements
+record Quiet (block : List CStmt) : Type 0 where
+  none : turns_in_block block ≡ []
+
+-- nor in this one
+record Still (s : CStmt) : Type 0 where
+  none : turns_in s ≡ []
+
+by_form : (k : CStmtKind) (layer : CStmtKind-F CStmtKind CStmt) (turns : LoopCounters) → roll-CStmtKind layer ≡ k → turns_in (what layer) ≡ turns →
+    turns_in (roll-CStmt (record { place = nowhere; what = k })) ≡ turns
+by_form k layer turns is shape = subst (λ (k : CStmtKind). turns_in (roll-CStmt (record { place = nowhere; what = k })) ≡ turns) is shape
+
+pub clear-turns : (place : CPlace) (name : Text) → turns_in (c_clear place name) ≡ []
+clear-turns place name =
+    by_form (statement.Clear place name) (CStmtKind-F.Clear place name) [] (statement.rolls-Clear place name) (rw (fold-roll-CStmt, fold-roll-CStmtKind) refl)
+
+pub call-turns : (call : CCall) → turns_in (c_calling call) ≡ []
+call-turns call = by_form (statement.Call call) (CStmtKind-F.Call call) [] (statement.rolls-Call call) (rw (fold-roll-CStmt, fold-roll-CStmtKind) refl)
+
+abbrev pub turns_of_other : Option (List CStmt) → LoopCounters
+turns_of_other other = turns_or_none (option_map (map turns_in) other)
+
+pub if-turns : (test : CExpr) (block : List CStmt) (other : Option (List CStmt)) → turns_in_block block ≡ [] → turns_of_other other ≡ [] →
+    turns_in (c_if test block other) ≡ []
+if-turns test block other one rest =
+    by_form (statement.If test block other) (CStmtKind-F.If test block other) [] (statement.rolls-If test block other)
+    (by other ∙ (λ i. one i ++ rest i))
+  where
+    by : (other : Option (List CStmt)) → turns_in (what (CStmtKind-F.If test block other)) ≡ turns_in_block block ++ turns_of_other other
+    by None = rw (fold-roll-CStmt, fold-roll-CStmtKind) refl
+    by (Some rest) = rw (fold-roll-CStmt, fold-roll-CStmtKind) refl
+
+append-quiet : (first second : List CStmt) → Quiet first → Quiet second → Quiet (first ++ second)
+append-quiet first second one other = record { none = block-turns first second ∙ (λ i. one.none i ++ other.none i) }
+
+nothing : Quiet []
+nothing = record { none = refl }
+
+one-quiet : (s : CStmt) → Still s → Quiet (s ∷ [])
+one-quiet s is = record { none = one-turns s [] is.none }
+
+cons-quiet : (s : CStmt) (rest : List CStmt) → Still s → Quiet rest → Quiet (s ∷ rest)
+cons-quiet s rest one other = record { none = (λ i. one.none i ++ other.none i) }
+
+set-still : (place : CPlace) (value : CExpr) → Still (c_set place value)
+set-still place value = record { none = set-turns place value }
+
+clear-still : (place : CPlace) (name : Text) → Still (c_clear place name)
+clear-still place name = record { none = clear-turns place name }
+
+call-still : (call : CCall) → Still (c_calling call)
+call-still call = record { none = call-turns call }
+
+if-still : (test : CExpr) (block : List CStmt) (other : Option (List CStmt)) → Quiet block → turns_of_other other ≡ [] → Still (c_if test block other)
+if-still test block other one rest = record { none = if-turns test block other one.none rest }
+
+set-quiet : (place : CPlace) (value : CExpr) → Quiet (c_set place value ∷ [])
+set-quiet place value = one-quiet (c_set place value) (set-still place value)
+
+else-quiet : (code : List CStmt) → Quiet code → turns_of_other (else_code code) ≡ []
+else-quiet [] quiet = refl
+else-quiet (s ∷ rest) quiet = quiet.none
+
+mapped : (make : ℕ → CStmt) (xs : List ℕ) → ((x : ℕ) → Still (make x)) → Quiet (map make xs)
+mapped make [] each = nothing
+mapped make (x ∷ xs) each = cons-quiet (make x) (map make xs) (each x) (mapped make xs each)
+
+-- ---- acts
+
+module _ (site : TypingContext) (copies : List Bool) where
+  zeroed-quiet : (place : CPlace) (o : Option Ty) → Quiet (zeroed site.structs place o)
+  zeroed-quiet place None = nothing
+  zeroed-quiet place (Some ty) = one-quiet (c_zeroed site.structs place ty (scalar_in ty)) (by (scalar_in ty))
+    where
+      by : (s : Option ScalarType) → Still (c_zeroed site.structs place ty s)
+      by (Some s) = set-still place _
+      by None = clear-still place _
+
+  initial-quiet : (j : ℕ) (initial : Option Expr) → Quiet (initial_code site j initial)
+  initial-quiet j (Some e) = set-quiet (place_in site j []) _
+  initial-quiet j None = zeroed-quiet (place_in site j []) (type_at (var_at site j))
+
+  copy-quiet : (b : Bool) (j : ℕ) → Quiet (copy_code site b j)
+  copy-quiet true j = set-quiet _ _
+  copy-quiet false j = nothing
+
+  layer-quiet : (layer : StmtKind-F StmtKind Arm Branch Stmt) → Quiet (layer_code site copies layer)
+  layer-quiet (StmtKind-F.Declare j initial) =
+      append-quiet (initial_code site j initial) (copy_code site (is_copied copies j) j) (initial-quiet j initial) (copy-quiet (is_copied copies j) j)
+  layer-quiet (StmtKind-F.Assign path e) = set-quiet _ _
+  layer-quiet (StmtKind-F.Call f inputs outputs) = one-quiet _ (call-still _)
+  layer-quiet (StmtKind-F.Await e) = nothing
+  layer-quiet (StmtKind-F.Run target f inputs outputs) = nothing
+  layer-quiet (StmtKind-F.If arms other) = nothing
+  layer-quiet (StmtKind-F.Cobegin branches) = nothing
+  layer-quiet (StmtKind-F.When guard e body) = nothing
+  layer-quiet (StmtKind-F.Repeat body) = nothing
+  layer-quiet (StmtKind-F.Until body e) = nothing
+  layer-quiet (StmtKind-F.While e body) = nothing
+  layer-quiet (StmtKind-F.Return e) = nothing
+
+  act-quiet : (s : Stmt) → Quiet (act_code site copies s)
+  act-quiet s = layer-quiet (out-StmtKind (out-Stmt s).what)
+
+module _ (view : ActivityView) where
+  acted-by : (s : Stmt) (layer : StmtKind-F StmtKind Arm Branch Stmt) → Quiet (layer_acted view s layer)
+  acted-by s (StmtKind-F.Return (Some e)) = set-quiet _ _
+  acted-by s (StmtKind-F.Return None) = nothing
+  acted-by s (StmtKind-F.Declare j initial) = act-quiet view.site view.copies s
+  acted-by s (StmtKind-F.Assign path e) = act-quiet view.site view.copies s
+  acted-by s (StmtKind-F.Call f inputs outputs) = act-quiet view.site view.copies s
+  acted-by s (StmtKind-F.Await e) = act-quiet view.site view.copies s
+  acted-by s (StmtKind-F.Run target f inputs outputs) = act-quiet view.site view.copies s
+  acted-by s (StmtKind-F.If arms other) = act-quiet view.site view.copies s
+  acted-by s (StmtKind-F.Cobegin branches) = act-quiet view.site view.copies s
+  acted-by s (StmtKind-F.When guard e body) = act-quiet view.site view.copies s
+  acted-by s (StmtKind-F.Repeat body) = act-quiet view.site view.copies s
+  acted-by s (StmtKind-F.Until body e) = act-quiet view.site view.copies s
+  acted-by s (StmtKind-F.While e body) = act-quiet view.site view.copies s
+
+  -- ---- changes
+
+  forgotten-quiet : (c : ℕ) (read : Bool) → Quiet (forgotten view c read)
+  forgotten-quiet c true = cons-quiet _ _ (set-still _ _) (set-quiet _ _)
+  forgotten-quiet c false = set-quiet _ _
+
+  change-quiet : (change : Change) → Quiet (change_code view change)
+  change-quiet (SetsFlag n) = set-quiet _ _
+  change-quiet (SetsCounter slot) = set-quiet _ _
+  change-quiet (ClearsCounter c) = set-quiet _ _
+  change-quiet (ClearsBoth c) = forgotten-quiet c (view.is_read c)
+  change-quiet (SetsMark n) = set-quiet _ _
+  change-quiet (EndsWhen start surface depth) =
+      one-quiet _ (if-still _ (flagged_now view surface ∷ []) (Some (flagged_now view depth ∷ [])) (set-quiet _ _) (else-quiet (flagged_now view
+      depth ∷ []) (set-quiet _ _)))
+  change-quiet Finishes = set-quiet _ _
+
+  changes-quiet : (changes : List Change) → Quiet (changes_code view changes)
+  changes-quiet [] = nothing
+  changes-quiet (change ∷ changes) = append-quiet (change_code view change) (changes_code view changes) (change-quiet change) (changes-quiet changes)
+
+  -- ---- nodes
+
+  run-quiet : (n u : ℕ) (arguments : Arguments) → Quiet (run_code view n u arguments)
+  run-quiet n u arguments = cons-quiet _ _ (set-still _ _) (one-quiet _ (call-still _))
+
+  target-quiet : (n : ℕ) (target : Option Path) → Quiet (target_code view n target)
+  target-quiet n None = nothing
+  target-quiet n (Some path) = set-quiet _ _
+
+  tested-quiet : (test : CExpr) (rule : Transition) → Quiet (tested view test rule)
+  tested-quiet test rule =
+      one-quiet (c_if test (changes_code view rule.so) (else_code (changes_code view rule.otherwise)))
+      (if-still test (changes_code view rule.so) (else_code (changes_code view rule.otherwise)) (changes-quiet rule.so)
+      (else-quiet (changes_code view rule.otherwise) (changes-quiet rule.otherwise)))
+
+  node-quiet : (u : ℕ) (rule : Transition) (n : Node) → Quiet (node_code view u rule n)
+  node-quiet u rule (ActAt l s) =
+      append-quiet (acted view s) (changes_code view rule.so) (acted-by s (out-StmtKind (out-Stmt s).what)) (changes-quiet rule.so)
+  node-quiet u rule (TestAt l at e) = tested-quiet _ rule
+  node-quiet u rule (CheckAt l at e) = tested-quiet _ rule
+  node-quiet u rule (EnterAt l at arguments) =
+      let n : ℕ = view.number (EnterAt l at arguments) in
+      cons-quiet _ (run_code view n u arguments ++ changes_code view rule.so) (clear-still _ _)
+      (append-quiet (run_code view n u arguments) (changes_code view rule.so) (run-quiet n u arguments) (changes-quiet rule.so))
+  node-quiet u rule (ResumeAt l at arguments) =
+      let n : ℕ = view.number (EnterAt l at arguments) in
+      let code : List CStmt = target_code view n arguments.target ++ changes_code view rule.so in
+      append-quiet (run_code view n u arguments) (c_if _ code None ∷ []) (run-quiet n u arguments)
+      (one-quiet (c_if _ code None)
+      (if-still _ code None
+      (append-quiet (target_code view n arguments.target) (changes_code view rule.so) (target-quiet n arguments.target) (changes-quiet rule.so)) refl))
+  node-quiet u rule (PauseAt l at) = changes-quiet rule.so
+  node-quiet u rule (HeadAt l at) = changes-quiet rule.so
+  node-quiet u rule (StartAt l at) = changes-quiet rule.so
+  node-quiet u rule (SurfaceEndAt l at) = changes-quiet rule.so
+  node-quiet u rule (DepthEndAt l at) = changes-quiet rule.so
+  node-quiet u rule (ForkAt l at) = changes-quiet rule.so
+  node-quiet u rule (SurfaceJoinAt l at) = changes-quiet rule.so
+  node-quiet u rule (DepthJoinAt l at) = changes-quiet rule.so
+
+  -- no loops in what each turn does
+  abbrev Each : List NodeCode → Type 0
+  Each [] = ⊤
+  Each (turn ∷ rest) = Quiet turn.code × Each rest
+
+  turns-quiet : (callees : List ℕ) (rules : List Transition) → Each (turns_of view callees rules)
+  turns-quiet [] rules = tt
+  turns-quiet (u ∷ callees) [] = tt
+  turns-quiet (u ∷ callees) (rule ∷ rules) = (node-quiet u rule rule.node, turns-quiet callees rules)
+
+  at-quiet : (turns : List NodeCode) (j : ℕ) (o : Option NodeCode) → Each turns → slice_get turns j ≡ o → Each (option_to_list o)
+  at-quiet turns j None all is = tt
+  at-quiet [] j (Some turn) all is = absurd (cc)
+  at-quiet (x ∷ turns) zero (Some turn) all is = (subst (λ (turn : NodeCode). Quiet turn.code) (same_Some x turn is) all.0, tt)
+  at-quiet (x ∷ turns) (suc j) (Some turn) all is = at-quiet turns j (Some turn) all.1 is
+
+  append-each : (first second : List NodeCode) → Each first → Each second → Each (first ++ second)
+  append-each [] second one other = other
+  append-each (turn ∷ first) second one other = (one.0, append-each first second one.1 other)
+
+  picked-quiet : (turns : List NodeCode) (block : List ℕ) → Each turns → Each (picked turns block)
+  picked-quiet turns [] all = tt
+  picked-quiet turns (j ∷ block) all =
+      append-each (option_to_list (slice_get turns j)) (picked turns block) (at-quiet turns j (slice_get turns j) all refl)
+      (picked-quiet turns block all)
+
+  inside-quiet : (turns : List NodeCode) → Each turns → Quiet (map turn_code turns)
+  inside-quiet [] all = nothing
+  inside-quiet (turn ∷ turns) all =
+      cons-quiet (turn_code turn) (map turn_code turns) (if-still turn.test turn.code None all.0 refl) (inside-quiet turns all.1)
+
+  merged-quiet : (turns : List NodeCode) → Each turns → Quiet (merged_code turns)
+  merged-quiet [] all = nothing
+  merged-quiet (first ∷ rest) all =
+      one-quiet (c_if first.test (first.code ++ map turn_code rest) None)
+      (if-still first.test (first.code ++ map turn_code rest) None
+      (append-quiet first.code (map turn_code rest) all.0 (inside-quiet rest all.1)) refl)
+
+  blocks-quiet : (turns : List NodeCode) (blocks : List (List ℕ)) → Each turns → Quiet (blocks_code turns blocks)
+  blocks-quiet turns [] all = nothing
+  blocks-quiet turns (block ∷ blocks) all =
+      append-quiet (merged_code (picked turns block)) (blocks_code turns blocks) (merged-quiet (picked turns block) (picked-quiet turns block all))
+      (blocks-quiet turns blocks all)
+
+  entry-quiet : (body : Block) → Quiet (entry_code view body)
+  entry-quiet Done = nothing
+  entry-quiet (Then s rest) = set-quiet _ _
+
+whole : (a : Activity) → Quiet (activity_code a)
+whole a =
+    let copies : List CStmt = map (c_copied (view_of a).site) (copied_in a) in
+    let last : List CStmt = blocks_in_order a in
+    append-quiet (map rested_code (counters_read a)) (entry_code (view_of a) (body_of a) ++ (copies ++ last))
+    (mapped rested_code (counters_read a) (λ c. set-still _ _))
+    (append-quiet (entry_code (view_of a) (body_of a)) (copies ++ last) (entry-quiet (view_of a) (body_of a))
+    (append-quiet copies last (mapped (c_copied (view_of a).site) (copied_in a) (λ j. set-still _ _))
+    (blocks-quiet (view_of a) (turns_in_source a) a.blocks (turns-quiet (view_of a) (callees_in (body_of a)) (rules_at a)))))
+
+pub quiet : NoneLoops
+quiet a = (whole a).none

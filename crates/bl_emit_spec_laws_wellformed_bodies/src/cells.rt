@@ -1,0 +1,34 @@
+//! How many cells the C of an activity needs. There is no code here. Laws, as contracts of functions that do nothing (`specs/Cells.antt`):
+//! the `run`s in the C of an activity call what the activity runs (`BodiesRun`); and where its callees need no more cells than rule Cells
+//! counts for them, what it rests at and remembers, its C function and the most that a callee reaches need no more than that rule counts
+//! for it (`ActivityCells`).
+
+ghost use Rattle.bl_emit_spec_laws_wellformed_bodies.specs.Cells.{ActivityCells, BodiesRun};
+
+use crate::signed::none_loops;
+use bl_emit_functions_laws_wellformed::numbered::{types_have_scalars, units_counted};
+use bl_emit_spec_laws_wellformed::costs::bodies_cost;
+use bl_limits_measures::laws::units_add_up;
+use bl_limits_measures_laws::laws::units_use_earlier_ones;
+use bl_machine_pass_laws::numbers::trees_stay_placed;
+use bl_tree::Program;
+
+/// The `run`s in the C of an activity call what the activity runs, in order.
+pub fn bodies_run(_program: &Program)
+    ensures { BodiesRun _program.now.structs _program.now.units _program.now.entry }
+{
+    trees_stay_placed();
+}
+
+/// The C of an activity needs no more cells than rule Cells counts for the activity.
+pub fn activity_cells(program: &Program)
+    ensures { ActivityCells program.now.structs program.now.units program.now.entry }
+{
+    bodies_run(program);
+    types_have_scalars(program);
+    units_counted(program);
+    bodies_cost(program);
+    none_loops();
+    units_add_up();
+    units_use_earlier_ones();
+}

@@ -1,0 +1,37 @@
+//! Laws of the C functions of the units that the entry of a program needs, one behind the other. None of these functions does anything: the
+//! contract is the law. No clause of a well-formed file fails in them, where the structs of the file stand before them, all is so that is
+//! asked of each activity (`specs/Lists.antt`, `AllConditions`) and neither rule Frames nor Cells fails: what fails in a list that begins with
+//! them fails in what stands behind them, where the functions of needed units are known (`PartsWellFormed`).
+
+ghost use Rattle.bl_emit_spec_laws_wellformed_bodies.specs.Lists.{PartsWellFormed};
+
+use crate::signed::{activities_signed, activities_well_formed};
+use bl_ctext_semantics_laws_calls::called::faults_follow;
+use bl_emit_functions_laws_wellformed::files::{chains_grow, chains_short};
+use bl_emit_functions_laws_wellformed::formed::{functions_signed, functions_well_formed};
+use bl_emit_spec_laws_wellformed::chains::{
+    activities_call_few, activity_chains_grow, activity_chains_short,
+};
+use bl_emit_spec_laws_wellformed::closed::needed_closed;
+use bl_limits_measures_laws::laws::units_use_earlier_ones;
+use bl_machine_pass_laws::numbers::trees_stay_placed;
+use bl_tree::Program;
+
+/// Nothing fails in the C functions of the units that the entry needs.
+pub fn parts_well_formed(program: &Program)
+    ensures { PartsWellFormed program.now.structs program.now.units program.now.entry }
+{
+    units_use_earlier_ones();
+    needed_closed(program);
+    trees_stay_placed();
+    faults_follow();
+    functions_well_formed(program);
+    functions_signed();
+    chains_grow(program);
+    chains_short(program);
+    activities_well_formed(program);
+    activities_signed();
+    activities_call_few();
+    activity_chains_grow();
+    activity_chains_short();
+}

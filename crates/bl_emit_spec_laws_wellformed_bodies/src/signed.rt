@@ -1,0 +1,29 @@
+//! Laws of the C functions of activities as a text: they are well formed. None of these functions does anything: the contract is the
+//! law. The C function of an activity has the parameters that are asked of it where it is called (`specs/Signed.antt`,
+//! `ActivitiesSigned`), and no loops (`NoneLoops`). No clause of a well-formed file fails in it (`ActivitiesWellFormed`), where what it
+//! needs stands before it, no function before it has its name and it heads no chain of more than 300 calls.
+
+ghost use Rattle.bl_emit_spec_laws_wellformed_bodies.specs.Signed.{ActivitiesSigned, ActivitiesWellFormed, NoneLoops};
+
+use crate::bodies::activity_bodies_well_formed;
+use bl_emit_spec_laws_wellformed::names::locals_differ;
+use bl_tree::Program;
+
+/// The C function of an activity has the parameters that are asked of it where it is called.
+pub fn activities_signed()
+    ensures { ActivitiesSigned }
+{}
+
+/// The C function of an activity has no loops.
+pub fn none_loops()
+    ensures { NoneLoops }
+{}
+
+/// Nothing fails in the C function of an activity of a typed program.
+pub fn activities_well_formed(program: &Program)
+    ensures { ActivitiesWellFormed program.now.structs program.now.units program.now.entry }
+{
+    activity_bodies_well_formed(program);
+    locals_differ();
+    none_loops();
+}

@@ -1,0 +1,45 @@
+//! The structs of the C file of an accepted program. Laws, as contracts of functions that do nothing. The structs of the units that the
+//! entry needs use those before them alone, and no two have one name (`specs/Structs/Laws.antt`, `PartsAreSound`). No clause of a
+//! well-formed file fails in the structs of the whole file, and each is declared (`FilesDeclare`).
+
+ghost use Rattle.bl_emit_spec_laws_wellformed_bodies.specs.Structs.Laws.{FilesDeclare, PartsAreSound};
+
+use bl_emit_functions_laws_wellformed::formed::memories_hold;
+use bl_emit_spec_laws_wellformed::closed::needed_closed;
+use bl_emit_spec_laws_wellformed::machines::{machines_differ, machines_spell};
+use bl_emit_spec_laws_wellformed::names::{frame_differs, memory_differs};
+use bl_emit_spec_laws_wellformed::needed::{needed_numbered, needed_small};
+use bl_emit_structs_laws_wellformed::formed::structs_there;
+use bl_emit_structs_laws_wellformed::names::{
+    members_differ, names_differ, types_apart, types_declared, uses_earlier,
+};
+use bl_machine_pass_laws::numbers::trees_stay_placed;
+use bl_tree::Program;
+
+/// The structs of the units that the entry needs stand in an order in which each uses earlier ones alone.
+pub fn parts_stand(program: &Program)
+    ensures { PartsAreSound program.now.structs program.now.units program.now.entry }
+{
+    trees_stay_placed();
+    types_declared(program);
+    memories_hold(program);
+    frame_differs();
+    memory_differs();
+    machines_spell(program);
+    machines_differ(program);
+    needed_small(program);
+    needed_numbered(program);
+    needed_closed(program);
+}
+
+/// No clause fails in the structs of the whole file, and each is declared.
+pub fn files_declare(program: &Program)
+    ensures { FilesDeclare program.now }
+{
+    names_differ(program);
+    members_differ(program);
+    uses_earlier(program);
+    types_apart(program);
+    structs_there(program);
+    parts_stand(program);
+}

@@ -1,7 +1,0 @@
-use Rattle.bl_emit_structs_laws.proofs.OnFormed.Whole as whole
-use Rattle.bl_emit_structs_laws.proofs.formed.structs_formed.Goals as goal
-
-pub returns : goal.returns
-returns c =
-    whole.structs_formed c.args.program.now.structs c.args.program.now.units c.args.program.now.entry c.members_differ.ensures c.uses_earlier.ensures
-    c.types_declared.ensures c.types_apart.ensures

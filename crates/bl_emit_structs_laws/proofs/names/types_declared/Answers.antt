@@ -1,5 +1,0 @@
-use Rattle.bl_emit_structs_laws.proofs.OnNames.Needed.{all_declared}
-use Rattle.bl_emit_structs_laws.proofs.names.types_declared.Goals as goal
-
-pub returns : goal.returns
-returns c = all_declared c.args._program.now.structs c.args._program.now.units c.args._program.now.entry

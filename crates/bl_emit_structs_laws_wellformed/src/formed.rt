@@ -1,0 +1,27 @@
+//! Laws of the C structs of a program as a text: they are well formed. None of these functions does anything: the contract is the
+//! law. Where no struct and no variable of a program is nested deeper than 299 (rule Cells allows 100), no clause of a
+//! well-formed file fails in the program's C structs, nor in structs behind them that have its variables as their members
+//! (`specs/Formed.antt`, `StructsWellFormed`); and a file that begins with the program's C structs declares each struct that its types
+//! need, with its members (`StructsThere`).
+
+ghost use Rattle.bl_emit_structs_laws_wellformed.specs.Formed.{StructsThere, StructsWellFormed};
+
+use crate::names::{members_differ, types_apart, types_declared, uses_earlier};
+use bl_tree::Program;
+
+/// No clause fails in the C structs of a program, nor in those of its variables behind them.
+pub fn structs_well_formed(program: &Program)
+    ensures { StructsWellFormed program.now.structs program.now.units program.now.entry }
+{
+    members_differ(program);
+    uses_earlier(program);
+    types_declared(program);
+    types_apart(program);
+}
+
+/// Each C struct that a program's types need is declared in a file that begins with the program's.
+pub fn structs_there(program: &Program)
+    ensures { StructsThere program.now.structs program.now.units program.now.entry }
+{
+    types_apart(program);
+}

@@ -1,0 +1,11 @@
+use Rattle.std.proofs.Common.{◌≡◌, ◌++◌, map, drop}
+use Rattle.bl_tree.specs.Reduce.{joined}
+use Rattle.bl_limits_measures.specs.Calls.{calls_in_expr, calls_in_part}
+use Rattle.bl_limits_measures.proofs.calls.+expressions.Given as goal
+
+abbrev pub invariant-in_exprs-loop-e : goal.invariant-in_exprs-loop-e
+invariant-in_exprs-loop-e l = l.into ++ joined (map calls_in_expr (drop l.e-index l.list)) ≡ l.initial.into ++ joined (map calls_in_expr l.list)
+
+abbrev pub invariant-in_path-loop-part : goal.invariant-in_path-loop-part
+invariant-in_path-loop-part l = l.into ++ joined (map calls_in_part (drop l.part-index l.part-items)) ≡ l.initial.into
+    ++ joined (map calls_in_part l.part-items)

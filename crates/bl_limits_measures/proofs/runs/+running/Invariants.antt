@@ -1,0 +1,14 @@
+use Rattle.std.proofs.Common.{◌≡◌, ◌++◌, map, drop}
+use Rattle.bl_tree.specs.Reduce.{joined}
+use Rattle.bl_limits_measures.specs.Runs.{runs_in, runs_in_arm, runs_in_branch}
+use Rattle.bl_limits_measures.proofs.runs.+running.Given as goal
+
+abbrev pub invariant-in_block-loop-s : goal.invariant-in_block-loop-s
+invariant-in_block-loop-s l = l.into ++ joined (map runs_in (drop l.s-index l.body)) ≡ l.initial.into ++ joined (map runs_in l.body)
+
+abbrev pub invariant-in_arms-loop-arm : goal.invariant-in_arms-loop-arm
+invariant-in_arms-loop-arm l = l.into ++ joined (map runs_in_arm (drop l.arm-index l.arms)) ≡ l.initial.into ++ joined (map runs_in_arm l.arms)
+
+abbrev pub invariant-in_branches-loop-branch : goal.invariant-in_branches-loop-branch
+invariant-in_branches-loop-branch l = l.into ++ joined (map runs_in_branch (drop l.branch-index l.branches)) ≡ l.initial.into
+    ++ joined (map runs_in_branch l.branches)

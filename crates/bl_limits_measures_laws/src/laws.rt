@@ -1,0 +1,38 @@
+//! Each law is the contract of a function that does nothing.
+
+ghost use Rattle.bl_limits_measures_laws.specs.Laws.{InstancesAreCounted, OrderedRunsStandApart, TypedInstancesAreCounted, UnitsUseEarlierOnes};
+
+use bl_limits_measures::laws::{missing_units_count_nothing, units_add_up};
+use bl_types_laws::kept::what_is_typed_keeps;
+use bl_types_laws::order::statements_begin_in_order;
+
+/// The units of a typed program call and run earlier ones alone.
+pub fn units_use_earlier_ones()
+    ensures { UnitsUseEarlierOnes }
+{}
+
+/// The number of instances is how many the list of them has, where the `run` statements of each unit stand at places of their
+/// own.
+pub fn instances_are_counted()
+    ensures { InstancesAreCounted }
+{
+    units_add_up();
+    missing_units_count_nothing();
+}
+
+/// Where the statements of units begin one after another, no two `run` statements have one place.
+pub fn ordered_runs_stand_apart()
+    ensures { OrderedRunsStandApart }
+{}
+
+/// The number of instances of a typed program that a raw tree has is how many the list of them has: its units use earlier ones, and its
+/// statements begin one after another.
+pub fn typed_instances_are_counted()
+    ensures { TypedInstancesAreCounted }
+{
+    what_is_typed_keeps();
+    statements_begin_in_order();
+    units_use_earlier_ones();
+    ordered_runs_stand_apart();
+    instances_are_counted();
+}

@@ -1,6 +1,0 @@
-use Rattle.std.proofs.Common.{◌≡◌, ◌+◌, ◌≤◌, drop}
-use Rattle.bl_listing.specs.Listing.{trues}
-use Rattle.bl_listing.proofs.counting.trues.Given as goal
-
-abbrev pub invariant-loop-k : goal.invariant-loop-k
-invariant-loop-k l = (l.count + trues (drop l.k l.flags) ≡ trues l.flags) × (l.count ≤ l.k)

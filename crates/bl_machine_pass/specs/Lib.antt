@@ -1,0 +1,4 @@
+pub mod SlotLayout
+pub mod Numbered
+pub mod Registers
+pub mod Transitions

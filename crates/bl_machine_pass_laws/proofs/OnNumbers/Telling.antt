@@ -1,0 +1,95 @@
+-- Counters follow the turns of a pass: the rule of the node is the one that acts.
+use Rattle.std.proofs.Common.{◌≡◌, ℕ, Bool, true, false, List, [], Some, Contains, map, option_map, slice_get}
+use Rattle.std.proofs.Common.{unwrap_or, refl, sym, ap, subst, ◌∙◌}
+use Rattle.std.proofs.lemmas.Option.{slice_get-get_or, slice_get-map}
+use Rattle.bl_tree.specs.declared.tree.Unit.{Unit as UnitDef}
+use Rattle.bl_graph_nodes.specs.Laws.{EachOnce, NodesDiffer}
+use Rattle.bl_graph_nodes.specs.Nodes.{Node, nodes_in}
+use Rattle.bl_graph_nodes.specs.Plain.{plain_body}
+use Rattle.bl_ctree.specs.Instances.{Setting}
+use Rattle.bl_ctree_laws.specs.Pending.{Deed}
+use Rattle.bl_ctree_laws.specs.Trees.{Tree, is_nil}
+use Rattle.bl_ctree_laws_traces.specs.Progress.Places.{whole}
+use Rattle.bl_machine.specs.Uses.{Slots, uses_in}
+use Rattle.bl_machine_laws.specs.Numbers.Numbers.{Over, numbers_of}
+use Rattle.bl_machine_laws.specs.Numbers.Turns as turns
+use Rattle.bl_machine_laws.specs.Numbers.Turns.{AnsweredDeed, InstancePoint, Turns}
+use Rattle.bl_machine_pass.specs.Registers.{all_changed}
+use Rattle.bl_machine_pass.specs.Transitions.{Finishes, Transition, rules}
+use Rattle.bl_machine_pass_laws.specs.Turns.Laws.{TurnsChangeNumbers, answer_of}
+use Rattle.bl_machine_pass_laws.proofs.OnNumbers.Acting.{Acts, changes_of, turn_acts}
+use Rattle.bl_machine_pass_laws.proofs.OnNumbers.Bools.{if_itself}
+use Rattle.bl_machine_pass_laws.proofs.OnNumbers.Changing.{finishes_go}
+
+-- ---- rules of one node are one
+
+-- where a member stands
+member_at : {A : Type 0} (xs : List A) (x : A) (h : Contains xs x) → slice_get xs h.0 ≡ Some x
+member_at xs x h = slice_get-get_or xs h.0 x h.1 ∙ ap Some h.2
+
+rules_once : (all : List Transition) (nodes : List Node) → map (λ (rule : Transition). rule.node) all ≡ nodes → EachOnce nodes → (x y : Transition) →
+    Contains all x →
+    Contains all y → x.node ≡ y.node → x ≡ y
+rules_once all nodes are once x y hx hy same =
+    ap (λ found. unwrap_or found x)
+    (sym (member_at all x hx) ∙ ap (λ k. slice_get all k) (once hx.0 hy.0 y.node (node_at x hx ∙ ap Some same) (node_at y hy)) ∙ member_at all y hy)
+  where
+    node_at : (z : Transition) (h : Contains all z) → slice_get nodes h.0 ≡ Some z.node
+    node_at z h =
+        ap (λ xs. slice_get xs h.0) (sym are) ∙ slice_get-map (λ (rule : Transition). rule.node) all h.0
+        ∙ ap (λ found. option_map (λ (rule : Transition). rule.node) found) (member_at all z h)
+
+-- ---- what has a turn hasn't ended
+
+point_open : {w : Setting} {i : ℕ} {c : Tree} {d : Bool} {a : Deed} {n : Node} {c' : Tree} → InstancePoint w i c d a n c' → is_nil c ≡ false
+point_open turns.acts = refl
+point_open turns.takes = refl
+point_open turns.passes = refl
+point_open turns.pauses = refl
+point_open turns.repeats = refl
+point_open turns.repeats_until = refl
+point_open turns.leaves = refl
+point_open turns.turns = refl
+point_open turns.enters = refl
+point_open turns.skips = refl
+point_open turns.forks = refl
+point_open turns.guards = refl
+point_open turns.goes_on = refl
+point_open turns.waits = refl
+point_open turns.lets = refl
+point_open (turns.aborts is) = refl
+point_open (turns.resets is) = refl
+point_open turns.guard_ends = refl
+point_open (turns.joins settled done) = refl
+
+turn_open : {w : Setting} {rank : ℕ → Node → ℕ} {i : ℕ} {c : Tree} {done : List AnsweredDeed} {n : Node} {c' : Tree} →
+    Turns w rank i c done n c' → is_nil c ≡ false
+turn_open (turns.point p) = point_open p
+turn_open (turns.runs called is passes unended) = refl
+turn_open (turns.resumes passes unended) = refl
+turn_open (turns.returns passes) = refl
+turn_open (turns.in_seq t) = refl
+turn_open (turns.in_par t) = refl
+turn_open (turns.in_guard t) = refl
+
+-- ---- the law
+
+pub turns_change_numbers : ((slots : Slots) (unit : UnitDef) →
+    map (λ (rule : Transition). rule.node) (rules slots (plain_body unit.body)) ≡ nodes_in (plain_body unit.body)) → NodesDiffer → TurnsChangeNumbers
+turns_change_numbers nodes differ w rank i slots unit stood c done n c' rule r turn turning counters over = (
+  λ j. subst (λ (x : Transition). (all_changed (rank i) (changes_of x (answer_of turn)) r).counters j ≡ numbers_of slots c' Over j) is
+      (acts.leads.numbers r j (counters j)),
+  subst (λ (x : Transition). (all_changed (rank i) (changes_of x (answer_of turn)) r).over ≡ is_nil c') is
+      (acts.leads.ends r (over ∙ turn_open turn) ∙ if_itself (is_nil c')),
+)
+  where
+    acts : Acts slots (rules slots (plain_body unit.body)) (rank i) (uses_in slots (plain_body unit.body)) c Over true n (answer_of turn) c'
+    acts =
+        turn_acts slots (rules slots (plain_body unit.body)) (rank i) (uses_in slots (plain_body unit.body)) Finishes Over true
+        (finishes_go (rank i) (uses_in slots (plain_body unit.body))) (whole stood (plain_body unit.body)) 0 turn turning.live
+        turning.placed.sits turning.placed.lies turning.placed.uses
+
+    is : acts.rule ≡ rule
+    is =
+        rules_once (rules slots (plain_body unit.body)) (nodes_in (plain_body unit.body)) (nodes slots unit) (differ.blocks unit.body [])
+        acts.rule rule acts.there turning.there (acts.of_node ∙ sym turning.of_node)

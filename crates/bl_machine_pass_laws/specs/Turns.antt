@@ -1,0 +1,5 @@
+pub mod Dozes
+pub mod Invariant
+pub mod Laws
+pub mod Rooted
+pub mod Sits

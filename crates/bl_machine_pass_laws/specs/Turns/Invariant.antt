@@ -1,0 +1,88 @@
+-- What holds between the turns of a pass: its registers tell where the tree stands, and at which nodes something waits.
+use Rattle.std.specs.Prelude.{◌≡◌, ◌≤◌, ℕ, Bool, true, not, Contains, None, ⊤}
+use Rattle.bl_graph_nodes.specs.Nodes.{ForkAt, Node, StartAt, are_instant, is_instant}
+use Rattle.bl_graph_nodes.specs.Plain.{Block}
+use Rattle.bl_ctree_laws.specs.Trees.{
+  Tree,
+  Trees,
+  Nil,
+  Wait,
+  Test,
+  Idle,
+  Do,
+  Seq,
+  Par,
+  Guard,
+  Run,
+  beside,
+  is_nil,
+  no_tree,
+}
+use Rattle.bl_ctree_laws_traces.specs.Progress.FitsGraph.{fork_stmt}
+use Rattle.bl_machine.specs.Uses.{Slots}
+use Rattle.bl_machine_laws.specs.Numbers.Numbers.{Over, numbers_of}
+use Rattle.bl_machine_laws.specs.Numbers.Waiting.{Waits}
+use Rattle.bl_machine_pass.specs.Registers.{Registers, is_due}
+use Rattle.bl_machine_pass.specs.Transitions.{Asked, Ended, Flagged, Rested, RestedIn, Transition, rules}
+
+-- whether a rule asks for the flag of its node
+abbrev pub IsFlagged : Asked → Type 0
+IsFlagged Flagged = ⊤
+IsFlagged (Rested slot) = ⊥
+IsFlagged (RestedIn slots) = ⊥
+IsFlagged (Ended age needed) = ⊥
+
+-- whether it asks where the instance rested when the tick began
+abbrev pub IsResume : Asked → Type 0
+IsResume Flagged = ⊥
+IsResume (Rested slot) = ⊤
+IsResume (RestedIn slots) = ⊤
+IsResume (Ended age needed) = ⊥
+
+-- whether it asks for the ends of branches
+abbrev pub IsJoin : Asked → Type 0
+IsJoin Flagged = ⊥
+IsJoin (Rested slot) = ⊥
+IsJoin (RestedIn slots) = ⊥
+IsJoin (Ended age needed) = ⊤
+
+abbrev mutual
+  -- each `cobegin` and `when` that stands in the tree, and may end in the tick in which it begins, is marked exactly where it has begun in
+  -- this one
+  pub Marked : (Node → ℕ) → (ℕ → Bool) → Tree → Type 0
+  Marked number marks Nil = ⊤
+  Marked number marks (Wait s) = ⊤
+  Marked number marks (Test s) = ⊤
+  Marked number marks (Idle body) = ⊤
+  Marked number marks (Do s) = ⊤
+  Marked number marks (Seq c rest) = Marked number marks c
+  Marked number marks (Par s stood branches) =
+      (is_instant (fork_stmt s) ≡ true → marks (number (ForkAt s.label s.place)) ≡ not stood) × MarkEach number marks branches
+  Marked number marks (Guard s phase stood c) =
+      (are_instant s.body ≡ true → marks (number (StartAt s.label s.place)) ≡ not stood) × Marked number marks c
+  Marked number marks (Run s callee phase stood c) = ⊤
+
+  -- in each branch
+  pub MarkEach : (Node → ℕ) → (ℕ → Bool) → Trees → Type 0
+  MarkEach number marks no_tree = ⊤
+  MarkEach number marks (beside weak c branches) = Marked number marks c × MarkEach number marks branches
+
+-- one holds exactly where the other does
+abbrev pub Exactly : Bool → Type 0 → Type 0
+Exactly test there = (test ≡ true → there) × (there → test ≡ true)
+
+-- PassInvariant slots number body k c r: before the node with number k has its turn the registers tell how the tree c stands in the body. What is
+-- passed below k doesn't matter any more
+pub record PassInvariant (slots : Slots) (number : Node → ℕ) (body : Block) (k : ℕ) (c : Tree) (r : Registers) : Type 0 where
+  -- each counter holds the number of the tree there
+  pub counters : (j : ℕ) → r.counters j ≡ numbers_of slots c Over j
+  -- what waits is still to have its turn
+  pub ahead : (n : Node) → Waits c None n → k ≤ number n
+  -- a node has its flag exactly where it waits
+  pub flags : (rule : Transition) → Contains (rules slots body) rule → IsFlagged rule.asked → k ≤ number rule.node →
+      Exactly (is_due number rule r) (Waits c None rule.node)
+  -- a node at which a later tick goes on is due exactly where what rested there still waits
+  pub resumes : (rule : Transition) → Contains (rules slots body) rule → IsResume rule.asked → k ≤ number rule.node →
+      Exactly (is_due number rule r) (Waits c None rule.node)
+  pub marks : Marked number r.marks c
+  pub over : r.over ≡ is_nil c

@@ -1,0 +1,29 @@
+//! How the counters of an instance follow the turns of a pass by registers. There is no code here. Laws, as contracts of functions
+//! that do nothing, each stated in `specs/Turns/Laws.antt`: the rules of a body are those of its nodes, and trees stay placed in their body,
+//! with its rules and counters (`StaysPlaced`); where counters tell the numbers of a tree before a turn, they do after the changes
+//! of the turn's rule, and so does the flag that tells whether the body has ended (`TurnsChangeNumbers`); and between ticks the
+//! first counter, by the numbers of a machine, holds 0 only where the instance isn't running (`FirstCounterTells`).
+
+ghost use Rattle.bl_machine_pass_laws.specs.Turns.Laws.{FirstCounterTells, StaysPlaced, TurnsChangeNumbers};
+
+use bl_graph_nodes::nodes_differ;
+
+/// The rules of a body are those of its nodes, in their order; a body begins placed, and waking and turns leave trees placed.
+pub fn trees_stay_placed()
+    ensures { StaysPlaced }
+{}
+
+/// Counters tell the numbers of the tree after each turn.
+pub fn turns_change_numbers()
+    ensures { TurnsChangeNumbers }
+{
+    trees_stay_placed();
+    nodes_differ();
+}
+
+/// Between ticks the first counter of an instance that is running doesn't hold 0.
+pub fn first_counter_tells()
+    ensures { FirstCounterTells }
+{
+    trees_stay_placed();
+}

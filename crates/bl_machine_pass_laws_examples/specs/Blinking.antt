@@ -1,0 +1,62 @@
+-- A loop that pauses twice a turn: `repeat on = true await true on = false await true end`, where on is an output.
+use Rattle.std.specs.Prelude.{ℕ, true, List, [], ◌∷◌, ◌++◌}
+use Rattle.bl_tree.specs.declared.tree.Expr.{Expr}
+use Rattle.bl_tree.specs.declared.tree.Stmt.{Stmt}
+use Rattle.bl_tree.specs.declared.tree.StmtKind.TheOpen.{StmtKind-F}
+use Rattle.bl_graph_nodes.specs.Nodes.{ActAt, HeadAt, Node, PauseAt, TestAt}
+use Rattle.bl_graph_nodes.specs.Plain.{Act, Await, Block, Done, Label, Plain, Repeat, Then, label_at}
+use Rattle.bl_ctree_laws.specs.Steps.{pause}
+use Rattle.bl_ctree_laws.specs.Trees.{Seq, Tree, Wait}
+use Rattle.bl_machine_laws.specs.Numbers.Turns.{AnsweredDeed}
+use Rattle.bl_ctree_laws_examples.specs.Trees.Made.{always, at, flag_path, stmt}
+use Rattle.bl_machine_pass_laws_examples.specs.Worked.{act, asked, never, still}
+
+-- `on = true`, or `on = false`
+abbrev pub sets_on : ℕ → Expr → Stmt
+sets_on place e = stmt place (StmtKind-F.Assign (flag_path 0) e)
+
+-- the statement with the number in the loop
+abbrev pub inside : ℕ → Label
+inside k = label_at (0 ∷ 0 ∷ k ∷ [])
+
+-- the loop
+abbrev pub loop : Plain
+loop = Repeat (label_at (0 ∷ [])) (at 1)
+    (Then (Act (inside 0) (sets_on 2 always))
+    (Then (Await (inside 1) (at 3) always)
+    (Then (Act (inside 2) (sets_on 4 never))
+    (Then (Await (inside 3) (at 5) always) Done))))
+
+-- the body
+abbrev pub body : Block
+body = Then loop Done
+
+-- what follows the first pause
+abbrev pub rest : Block
+rest = Then (Act (inside 2) (sets_on 4 never)) (Then (Await (inside 3) (at 5) always) (Then loop Done))
+
+-- between ticks, where on is true
+abbrev pub lit : Tree
+lit = Seq (Wait (pause (inside 1) (at 3) always)) rest
+
+-- and where it is false
+abbrev pub dark : Tree
+dark = Seq (Wait (pause (inside 3) (at 5) always)) (Then loop Done)
+
+-- the nodes in an order
+abbrev pub order : List Node
+order =
+    TestAt (inside 1) (at 3) always ∷ ActAt (inside 2) (sets_on 4 never) ∷ PauseAt (inside 3) (at 5)
+    ∷ TestAt (inside 3) (at 5) always ∷ HeadAt (label_at (0 ∷ [])) (at 1) ∷ ActAt (inside 0) (sets_on 2 always) ∷ PauseAt (inside 1) (at 3) ∷ []
+
+-- a turn begins, up to its first pause
+abbrev pub begins : List AnsweredDeed
+begins = still 0 1 ++ (act 0 (sets_on 2 always) ++ still 0 3)
+
+-- it goes on to its second pause
+abbrev pub goes_on : List AnsweredDeed
+goes_on = asked 0 3 always true ++ (act 0 (sets_on 4 never) ++ still 0 5)
+
+-- it ends, and the next one begins
+abbrev pub again : List AnsweredDeed
+again = asked 0 5 always true ++ begins

@@ -1,0 +1,98 @@
+-- Two branches that need each other by the fields of one struct: `cobegin repeat s.a = i + 1 o = s.b await true end with repeat s.b = s.a * 2
+-- await true end end`, where i is an input, o an output, and s a variable.
+use Rattle.std.specs.Prelude.{ℕ, Bool, false, true, List, [], ◌∷◌, ◌++◌, None}
+use Rattle.bl_tree.specs.declared.scalar.Op.TheVariants.{Add, Mul}
+use Rattle.bl_tree.specs.declared.tree.Expr.{Expr}
+use Rattle.bl_tree.specs.declared.tree.ExprKind.TheOpen.{ExprKind-F, Part-F}
+use Rattle.bl_tree.specs.declared.tree.Part.{roll-Part}
+use Rattle.bl_tree.specs.declared.tree.Path.{Path, roll-Path}
+use Rattle.bl_tree.specs.declared.tree.Stmt.{Stmt}
+use Rattle.bl_tree.specs.declared.tree.StmtKind.TheOpen.{StmtKind-F}
+use Rattle.bl_graph_nodes.specs.Nodes.{ActAt, DepthJoinAt, ForkAt, HeadAt, Node, PauseAt, TestAt}
+use Rattle.bl_graph_nodes.specs.Plain.{Act, Await, Block, Bodies, Body as BodyOf, Cobegin, Done, Label, Last, Plain, Position, Repeat, Then, label_at}
+use Rattle.bl_ctree_laws.specs.Steps.{fork, pause}
+use Rattle.bl_ctree_laws.specs.Trees.{Par, Seq, Tree, Wait, beside, no_tree}
+use Rattle.bl_machine_laws.specs.Numbers.Turns.{AnsweredDeed}
+use Rattle.bl_ctree_laws_examples.specs.Trees.Made.{always, at, expr, int32, number, stmt, two, value, variable}
+use Rattle.bl_machine_pass_laws_examples.specs.Worked.{act, asked, still}
+
+-- a field of s as a place
+abbrev pub field : ℕ → Path
+field k = roll-Path (record { place = at 0; root = 2; parts = roll-Part (Part-F.Field k) ∷ []; ty = int32 })
+
+-- its value
+abbrev pub field_value : ℕ → Expr
+field_value k = expr (ExprKind-F.Read (field k))
+
+-- `var s: S`
+abbrev pub declares_s : Stmt
+declares_s = stmt 8 (StmtKind-F.Declare 2 None)
+
+-- `s.a = i + 1`
+abbrev pub sets_a : Stmt
+sets_a = stmt 1 (StmtKind-F.Assign (field 0) (two Add (value 0) (number 1)))
+
+-- `o = s.b`
+abbrev pub sets_o : Stmt
+sets_o = stmt 2 (StmtKind-F.Assign (variable 1) (field_value 1))
+
+-- `s.b = s.a * 2`
+abbrev pub sets_b : Stmt
+sets_b = stmt 4 (StmtKind-F.Assign (field 1) (two Mul (field_value 0) (number 2)))
+
+-- the position of the first loop
+abbrev pub left : Position
+left = 1 ∷ 0 ∷ 0 ∷ []
+
+-- that of the second
+abbrev pub right : Position
+right = 1 ∷ 1 ∷ 0 ∷ []
+
+-- the statement with the number in the body of a loop
+abbrev pub inside : Position → ℕ → Label
+inside loop k = label_at (loop ++ 0 ∷ k ∷ [])
+
+-- the first loop
+abbrev pub left_loop : Plain
+left_loop = Repeat (label_at left) (at 6)
+    (Then (Act (inside left 0) sets_a) (Then (Act (inside left 1) sets_o) (Then (Await (inside left 2) (at 3) always) Done)))
+
+-- the second
+abbrev pub right_loop : Plain
+right_loop = Repeat (label_at right) (at 7) (Then (Act (inside right 0) sets_b) (Then (Await (inside right 1) (at 5) always) Done))
+
+-- the branches
+abbrev pub branches : Bodies
+branches = BodyOf false (Then left_loop Done) (BodyOf false (Then right_loop Done) Last)
+
+-- the body
+abbrev pub body : Block
+body = Then (Act (label_at (0 ∷ [])) declares_s) (Then (Cobegin (label_at (1 ∷ [])) (at 9) branches) Done)
+
+-- both branches between ticks, where they stood when the last tick began or not
+abbrev pub paused : Bool → Tree
+paused stood =
+    Par (fork (label_at (1 ∷ [])) (at 9) branches) stood
+    (beside false (Seq (Wait (pause (inside left 2) (at 3) always)) (Then left_loop Done))
+    (beside false (Seq (Wait (pause (inside right 1) (at 5) always)) (Then right_loop Done)) no_tree))
+
+-- the nodes in an order
+abbrev pub order : List Node
+order =
+    ActAt (label_at (0 ∷ [])) declares_s ∷ ForkAt (label_at (1 ∷ [])) (at 9)
+    ∷ TestAt (inside left 2) (at 3) always ∷ HeadAt (label_at left) (at 6)
+    ∷ TestAt (inside right 1) (at 5) always ∷ HeadAt (label_at right) (at 7)
+    ∷ ActAt (inside left 0) sets_a ∷ ActAt (inside right 0) sets_b ∷ ActAt (inside left 1) sets_o
+    ∷ PauseAt (inside left 2) (at 3) ∷ PauseAt (inside right 1) (at 5) ∷ DepthJoinAt (label_at (1 ∷ [])) (at 9) ∷ []
+
+-- what each tick ends with
+abbrev pub turns : List AnsweredDeed
+turns = act 0 sets_a ++ (act 0 sets_b ++ (act 0 sets_o ++ (still 0 3 ++ still 0 5)))
+
+-- the first tick
+abbrev pub begins : List AnsweredDeed
+begins = act 0 declares_s ++ (still 0 9 ++ (still 0 6 ++ (still 0 7 ++ turns)))
+
+-- a later one
+abbrev pub goes_on : List AnsweredDeed
+goes_on = asked 0 3 always true ++ (still 0 6 ++ (asked 0 5 always true ++ (still 0 7 ++ turns)))

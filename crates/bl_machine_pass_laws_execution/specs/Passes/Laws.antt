@@ -1,0 +1,95 @@
+-- A pass turn by turn is executed by rules, where each of its turns can be performed.
+use Rattle.std.specs.Prelude.{◌≡◌, ℕ, Bool, List, None}
+use Rattle.bl_tree.specs.declared.tree.Unit.{Unit as UnitDef}
+use Rattle.bl_tree.specs.declared.value.Value.{Value}
+use Rattle.bl_graph_nodes.specs.Nodes.{Node}
+use Rattle.bl_graph_nodes.specs.Plain.{plain_body}
+use Rattle.bl_ctree.specs.Instances.{Setting}
+use Rattle.bl_ctree.specs.Store.{Store}
+use Rattle.bl_ctree_laws.specs.Pending.{Deed}
+use Rattle.bl_ctree_laws.specs.Trees.{Tree, is_nil}
+use Rattle.bl_ctree_laws_confluence.specs.Apart.Seen.{InCall}
+use Rattle.bl_machine.specs.Uses.{Slots}
+use Rattle.bl_machine_laws.specs.Numbers.Turns.{AnsweredDeed, InstancePoint, Turns}
+use Rattle.bl_machine_laws.specs.Numbers.Waiting.{Waits}
+use Rattle.bl_machine_laws.specs.Passes.Follows.{Fails, Follows, TurnSteps, TurnTraps}
+use Rattle.bl_machine_pass.specs.Registers.{Registers}
+use Rattle.bl_machine_pass_laws.specs.Turns.Invariant.{PassInvariant}
+use Rattle.bl_machine_pass_laws.specs.Turns.Laws.{answer_of}
+use Rattle.bl_machine_pass_laws_turns.specs.Turns.{FitsBody, TurnContext}
+use Rattle.bl_machine_pass_laws_execution.specs.Frames.{ChangeOnly, CountersMatchTree, Frames}
+use Rattle.bl_machine_pass_laws_execution.specs.Fresh.Asks.{Asks}
+use Rattle.bl_machine_pass_laws_execution.specs.Fresh.Fresh.{Framed, locals}
+use Rattle.bl_machine_pass_laws_execution.specs.Fresh.Senses.{InstanceChanges, Senses}
+use Rattle.bl_machine_pass_laws_execution.specs.Executes.{CopiesMatch, Executes, IsPoint, NodeTraps, PassTraps, Performs, deed_at, recopied}
+use Rattle.bl_machine_pass_laws_execution.specs.Passes.Standing.{Standing}
+
+-- ---- one turn
+
+-- the deed of a point is that of its node, which is none of a `run`
+abbrev pub PointsAreOfNodes : Type 0
+PointsAreOfNodes =
+    (w : Setting) (i : ℕ) (c : Tree) (d : Bool) (a : Deed) (n : Node) (c' : Tree) → InstancePoint w i c d a n c' → (a ≡ deed_at i n) × IsPoint n
+
+-- a turn of the node is performed by rules, and leaves frames that hold what the next tree has called, and copies that hold what it asks for
+pub record Performed (w : Setting) (rank : ℕ → Node → ℕ) (slots : ℕ → Slots) (clear : ℕ → Frames → Frames) (i : ℕ)
+    (unit : UnitDef) (stood : Bool)
+    (frames : Frames) (c : Tree) (store : Store) (copies : List Value) (n : Node) (c' : Tree) (left : Store) : Type 0 where
+  pub done : List AnsweredDeed
+  pub turn : Turns w rank i c done n c'
+  pub inner : Frames
+  pub sees : CopiesMatch w i n store copies
+  pub performs : Performs w rank slots clear i n frames store (answer_of turn) inner left
+  -- only frames inside calls of the instance change
+  pub change : ChangeOnly (InCall w i) frames inner
+  pub standing : Standing w slots i unit stood inner c'
+  pub known : List ℕ
+  pub senses : Senses w i unit known left (recopied w i n left copies) c'
+  pub leaves : InstanceChanges w i store left
+
+-- so all turns of the instance are, and what begins a turn that traps stops
+pub record TurnsPerform (w : Setting) (rank : ℕ → Node → ℕ) (slots : ℕ → Slots) (clear : ℕ → Frames → Frames) (i : ℕ)
+    (unit : UnitDef)
+    (stood : Bool) : Type 0 where
+  pub takes : (frames : Frames) (c : Tree) (store : Store) (known : List ℕ) (copies : List Value) (n : Node) (c' : Tree) (left : Store) →
+      Standing w slots i unit stood frames c → Senses w i unit known store copies c → TurnSteps w rank i c store n c' left →
+      Performed w rank slots clear i unit stood frames c store copies n c' left
+  pub breaks : (frames : Frames) (c : Tree) (store : Store) (known : List ℕ) (copies : List Value) (n : Node) →
+      Standing w slots i unit stood frames c → Senses w i unit known store copies c → TurnTraps w rank i c store n →
+      Waits c None n × (CopiesMatch w i n store copies × NodeTraps w rank slots clear i n frames store)
+
+-- ---- a pass
+
+-- a pass by rules, from the number k on, that leaves the store so, and counters and frames that hold what is left of the tree
+pub record Executed (w : Setting) (rank : ℕ → Node → ℕ) (slots : ℕ → Slots) (clear : ℕ → Frames → Frames) (i k : ℕ)
+    (unit : UnitDef) (stood : Bool)
+    (frames : Frames) (store : Store) (copies : List Value) (r : Registers) (c' : Tree) (left : Store) : Type 0 where
+  pub inner : Frames
+  pub registers : Registers
+  pub executes : Executes w rank slots clear i k frames store copies r inner left registers
+  pub counters : CountersMatchTree (slots i) registers.counters c'
+  pub over : registers.over ≡ is_nil c'
+  pub change : ChangeOnly (InCall w i) frames inner
+  pub stands : FitsBody (slots i) (plain_body unit.body) c'
+  pub standing : Standing w slots i unit stood inner c'
+  -- what is left asks for no other variables than those that its body declares
+  pub asks : Asks w i unit (locals unit) c'
+  pub framed : Framed w left
+  pub leaves : InstanceChanges w i store left
+
+-- where all turns of an instance can be performed, the rules do what turns lead to, from registers that tell how the tree stands and copies that
+-- hold what it asks for; and where turns lead to a trap the rules do too
+pub record PassesExecute : Type 0 where
+  pub follows : (w : Setting) (rank : ℕ → Node → ℕ) (slots : ℕ → Slots) (clear : ℕ → Frames → Frames) (i : ℕ)
+      (unit : UnitDef) (stood : Bool)
+      (k : ℕ) (frames : Frames) (c : Tree) (store : Store) (known : List ℕ) (copies : List Value) (r : Registers) (c' : Tree) (left : Store) →
+      TurnContext w rank i (slots i) unit → TurnsPerform w rank slots clear i unit stood →
+      Follows w rank i k c store c' left → FitsBody (slots i) (plain_body unit.body) c → PassInvariant (slots i) (rank i) (plain_body unit.body) k c r →
+      Standing w slots i unit stood frames c → Senses w i unit known store copies c →
+      Executed w rank slots clear i k unit stood frames store copies r c' left
+  pub fails : (w : Setting) (rank : ℕ → Node → ℕ) (slots : ℕ → Slots) (clear : ℕ → Frames → Frames) (i : ℕ) (unit : UnitDef)
+      (stood : Bool)
+      (k : ℕ) (frames : Frames) (c : Tree) (store : Store) (known : List ℕ) (copies : List Value) (r : Registers) →
+      TurnContext w rank i (slots i) unit → TurnsPerform w rank slots clear i unit stood → Fails w rank i k c store →
+      FitsBody (slots i) (plain_body unit.body) c → PassInvariant (slots i) (rank i) (plain_body unit.body) k c r →
+      Standing w slots i unit stood frames c → Senses w i unit known store copies c → PassTraps w rank slots clear i k frames store copies r

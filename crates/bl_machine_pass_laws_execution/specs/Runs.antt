@@ -1,0 +1,77 @@
+-- Runs each tick of which is one pass by rules, from frames and a store.
+use Rattle.std.specs.Prelude.{◌≡◌, ℕ, ℤ, true, false, List, [], ◌∷◌, length, Some, ⊤}
+use Rattle.bl_tree.specs.declared.row.Last.TheVariants.{Open, Ended as HasEnded, Trap as HasTrapped}
+use Rattle.bl_tree.specs.declared.row.Trace.{Trace}
+use Rattle.bl_tree.specs.declared.tree.StructDef.{StructDef}
+use Rattle.bl_tree.specs.declared.tree.Unit.{Unit as UnitDef}
+use Rattle.bl_tree.specs.Program.{IsWellTyped}
+use Rattle.bl_effects.specs.Rules.{Passes}
+use Rattle.bl_graph_nodes.specs.Nodes.{Node}
+use Rattle.bl_machine_prevs.specs.Declared.{FromText}
+use Rattle.bl_cause.specs.Accepted.{AcceptedProgram, IsAccepted}
+use Rattle.bl_ctree.specs.Instances.{Setting, setting_of, unit_at}
+use Rattle.bl_ctree.specs.Store.{Store, first_store, outputs_row, view_at, woken_store}
+use Rattle.bl_machine.specs.declared.machine.Activity.{Activity}
+use Rattle.bl_machine.specs.Machines.{AreActivitiesOf}
+use Rattle.bl_machine.specs.Uses.{Slots}
+use Rattle.bl_machine_laws.specs.Traces.Positions.{GoBy}
+use Rattle.bl_machine_laws.specs.Traces.Runs.{OneRun, no_row, row_before}
+use Rattle.bl_machine_pass.specs.Registers.{Registers, with_at}
+use Rattle.bl_machine_pass_laws_execution.specs.Frames.{Frames}
+use Rattle.bl_machine_pass_laws_execution.specs.Fresh.Asks.{InputsFit}
+use Rattle.bl_machine_pass_laws_execution.specs.Executes.{ClearsInside, Executes, PassStart, PassTraps}
+use Rattle.bl_machine_pass_laws_execution.specs.Performs.{AllInContext}
+use Rattle.bl_machine_pass_laws_execution.specs.Machines.{slots_at}
+
+-- ---- runs
+
+-- each row has no more inputs than the entry's unit has parameters
+abbrev pub RowsFit : UnitDef → List (List ℤ) → Type 0
+RowsFit unit [] = ⊤
+RowsFit unit (row ∷ rows) = InputsFit (length row) unit × RowsFit unit rows
+
+-- RuleRun w rank slots clear unit rows frames store trace: from the frames and the store between ticks a run over the rows shows the trace, and
+-- each of its ticks is one pass by rules over the entry, which leaves its counters in the frames. It stops at the end of the rows, of the program,
+-- or at a trap
+pub data RuleRun (w : Setting) (rank : ℕ → Node → ℕ) (slots : ℕ → Slots) (clear : ℕ → Frames → Frames) (unit : UnitDef) :
+    List (List ℤ) → Frames → Store → Trace → Type 0 where
+  stays_open : {frames : Frames} {store : Store} → RuleRun w rank slots clear unit [] frames store (no_row Open)
+  traps : {row : List ℤ} {rows : List (List ℤ)} {frames : Frames} {store : Store} {r : Registers} → PassStart rank 0 unit frames r →
+      PassTraps w rank slots clear 0 0 frames (woken_store row store) (view_at w (woken_store row store) 0).now r →
+      RuleRun w rank slots clear unit (row ∷ rows) frames store (no_row HasTrapped)
+  ends : {row : List ℤ} {rows : List (List ℤ)} {frames : Frames} {store : Store} {r : Registers} {inner : Frames} {left : Store}
+      {r' : Registers} → PassStart rank 0 unit frames r →
+      Executes w rank slots clear 0 0 frames (woken_store row store) (view_at w (woken_store row store) 0).now r inner left r' →
+      r'.over ≡ true → RuleRun w rank slots clear unit (row ∷ rows) frames store (row_before (outputs_row w left) (no_row HasEnded))
+  lasts : {row : List ℤ} {rows : List (List ℤ)} {frames : Frames} {store : Store} {r : Registers} {inner : Frames} {left : Store}
+      {r' : Registers} {rest : Trace} → PassStart rank 0 unit frames r →
+      Executes w rank slots clear 0 0 frames (woken_store row store) (view_at w (woken_store row store) 0).now r inner left r' →
+      r'.over ≡ false → RuleRun w rank slots clear unit rows (with_at 0 r'.counters inner) left rest →
+      RuleRun w rank slots clear unit (row ∷ rows) frames store (row_before (outputs_row w left) rest)
+
+-- ---- traces
+
+-- the trace of a program over the rows, the only one that its meaning allows, and a run by rules that shows it
+pub record RunByRules (structs : List StructDef) (units : List UnitDef) (entry : ℕ) (rank : ℕ → Node → ℕ) (slots : ℕ → Slots)
+    (clear : ℕ → Frames → Frames) (unit : UnitDef) (rows : List (List ℤ)) (frames : Frames) : Type 0 where
+  pub one : OneRun structs units entry rank rows
+  pub run : let w = setting_of structs units entry in RuleRun w rank slots clear unit rows frames (first_store w) one.trace
+
+-- from frames in which all counters of the entry hold 0
+pub record RunsGoByRules : Type 0 where
+  -- in a program that is made of a source text and passes the rules, with numbers that tell nodes and resting places
+  pub runs : (structs : List StructDef) (units : List UnitDef) (entry : ℕ) (rank : ℕ → Node → ℕ) (slots : ℕ → Slots)
+      (clear : ℕ → Frames → Frames) (unit : UnitDef) (rows : List (List ℤ)) (frames : Frames) →
+      let w = setting_of structs units entry in
+      IsWellTyped structs units entry → Passes units → FromText units → AllInContext w rank slots → ClearsInside w clear →
+      unit_at w 0 ≡ Some unit → RowsFit unit rows → ((c : ℕ) → frames 0 c ≡ 0) →
+      RunByRules structs units entry rank slots clear unit rows frames
+  -- and so with those of the machine of an accepted program
+  pub machines : (accepted : AcceptedProgram) (machine : List Activity) (rank : ℕ → Node → ℕ) (clear : ℕ → Frames →
+      Frames) (unit : UnitDef)
+      (rows : List (List ℤ)) (frames : Frames) →
+      let program = accepted.tree in
+      let w = setting_of program.structs program.units program.entry in
+      IsWellTyped program.structs program.units program.entry → IsAccepted accepted → AreActivitiesOf program.units machine → GoBy w machine rank →
+      FromText program.units → ClearsInside w clear → unit_at w 0 ≡ Some unit → RowsFit unit rows → ((c : ℕ) → frames 0 c ≡ 0) →
+      RunByRules program.structs program.units program.entry rank (slots_at w machine) clear unit rows frames

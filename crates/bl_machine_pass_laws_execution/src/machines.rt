@@ -1,0 +1,20 @@
+//! The instances of an accepted program with the numbers of its machine. There is no code here. The law, as the contract of a
+//! function that does nothing (`specs/Machines.antt`): what the laws of a pass take as given of an instance holds of each instance
+//! of a program that passes the rules, where resting places have the numbers that the machine lists for its activity and nodes go
+//! by their positions in its blocks (`MachinesGiveContexts`).
+
+ghost use Rattle.bl_machine_pass_laws_execution.specs.Machines.{MachinesGiveContexts};
+
+use bl_ctree_laws_confluence::deeds::accepted_programs_are_orderly;
+use bl_machine_laws::traces::machines_give_orders;
+use bl_machine_pass_laws::slots::{numbers_are_laid, typed_have_branches};
+
+/// What the laws of a pass take as given holds of the instances of each machine.
+pub fn machines_give_contexts()
+    ensures { MachinesGiveContexts }
+{
+    accepted_programs_are_orderly();
+    machines_give_orders();
+    numbers_are_laid();
+    typed_have_branches();
+}

@@ -1,0 +1,35 @@
+//! A pass as the text of one call makes it: node by node in the order of their numbers, each where its rule is due
+//! (`specs/Executes.antt`). There is no code here. Laws, as contracts of functions that do nothing (`specs/Passes/Laws.antt`): the deed of a
+//! point is told by its node (`PointsAreOfNodes`); and where all turns of an instance can be performed, such a pass leaves the store
+//! that turns lead to, with counters and frames that hold the tree that is left, and copies that hold what its nodes ask for, and
+//! traps where they lead to a trap (`PassesExecute`). That turns can be performed, with all that is called, is a premise.
+
+ghost use Rattle.bl_machine_pass_laws_execution.specs.Passes.Laws.{PassesExecute, PointsAreOfNodes};
+
+use crate::fresh::trees_ask;
+use bl_graph::graphs_stay_within;
+use bl_machine_laws::numbers::turns_wait;
+use bl_machine_laws::waiting::{settled_is_quiet, waits_in_part};
+use bl_machine_pass_laws::numbers::trees_stay_placed;
+use bl_machine_pass_laws_turns::turns::{due_waits, numbers_pass, trees_stand, turns_keep};
+
+/// The deed of a point is told by its node.
+pub fn points_are_of_nodes()
+    ensures { PointsAreOfNodes }
+{}
+
+/// What turns lead to a pass by rules does.
+pub fn passes_execute()
+    ensures { PassesExecute }
+{
+    graphs_stay_within();
+    turns_wait();
+    settled_is_quiet();
+    waits_in_part();
+    trees_stay_placed();
+    due_waits();
+    numbers_pass();
+    trees_stand();
+    turns_keep();
+    trees_ask();
+}

@@ -1,0 +1,33 @@
+//! Marks and joins of a pass by registers. There is no code here. The laws, as contracts of functions that do nothing
+//! (`specs/Joins/Laws.antt`): a tree is left of the statements of its body, no two of which have a node in common, and stays so
+//! (`specs/Joins/Stems.antt`, `Stemmed`). Marks tell which `cobegin` and `when` of the tree have begun in this tick, as a pass begins
+//! and after each turn. A rule that asks for the ends of branches is due exactly where something waits at its node. Where the
+//! registers tell how the tree stands, the same is true of each rule that has not been passed.
+
+ghost use Rattle.bl_machine_pass_laws_turns.specs.Joins.Laws.{JoinsWait, MarksBegin, RulesWait, StaysStemmed, TurnsKeepMarks};
+
+/// A tree is left of its body, and stays so.
+pub fn stays_stemmed()
+    ensures { StaysStemmed }
+{}
+
+/// Nothing is marked as a pass begins, and all that stands in the tree stood when the tick began.
+pub fn marks_begin()
+    ensures { MarksBegin }
+{}
+
+/// Where a construct begins it is marked, and no other has its mark.
+pub fn turns_keep_marks()
+    ensures { TurnsKeepMarks }
+{}
+
+/// A join is due exactly where its `cobegin` stands in the tree, is as old as the join asks, and has as many ended branches as
+/// are needed.
+pub fn joins_wait()
+    ensures { JoinsWait }
+{}
+
+/// What is due is what waits, whatever its rule asks.
+pub fn rules_wait()
+    ensures { RulesWait }
+{}

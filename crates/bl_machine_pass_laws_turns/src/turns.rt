@@ -1,0 +1,61 @@
+//! A pass over an activity by registers, from its start through each of its turns (`specs/Turns.antt`). There is no code here. The
+//! laws, as contracts of functions that do nothing: as a pass begins the registers tell how the tree stands and what waits in it
+//! (`PassesBegin`); each turn leaves them so, as the rule of its node changes them (`TurnsKeepInvariant`); and whatever a rule asks, it is
+//! due exactly where something waits at its node (`DueWaits`). So what the counters hold between ticks is a function of the tree.
+
+ghost use Rattle.bl_machine_pass_laws_turns.specs.Turns.{DueWaits, NumbersPass, PassesBegin, TreesFitBodies, TurnsKeepInvariant};
+
+use crate::joins::{joins_wait, marks_begin, stays_stemmed, turns_keep_marks};
+use crate::waiting::{
+    bodies_begin, trees_stay_dozing, turns_keep_flags, turns_keep_resumes, turns_leave_more,
+};
+use bl_machine_laws::waiting::waking_keeps_numbers;
+use bl_machine_pass_laws::numbers::{trees_stay_placed, turns_change_numbers};
+use bl_machine_pass_laws::rooted::{only_resumes_begin, resumes_begin, stays_rooted};
+
+/// Trees stand in their bodies.
+pub fn trees_stand()
+    ensures { TreesFitBodies }
+{
+    trees_stay_placed();
+    trees_stay_dozing();
+    stays_rooted();
+    stays_stemmed();
+}
+
+/// As a pass begins the registers tell how the tree stands.
+pub fn passes_begin()
+    ensures { PassesBegin }
+{
+    trees_stay_placed();
+    bodies_begin();
+    marks_begin();
+    resumes_begin();
+    only_resumes_begin();
+    waking_keeps_numbers();
+}
+
+/// Each turn leaves them so.
+pub fn turns_keep()
+    ensures { TurnsKeepInvariant }
+{
+    trees_stay_placed();
+    turns_change_numbers();
+    turns_leave_more();
+    turns_keep_flags();
+    turns_keep_resumes();
+    turns_keep_marks();
+}
+
+/// What waits first is the next to have its turn.
+pub fn numbers_pass()
+    ensures { NumbersPass }
+{}
+
+/// What is due is what waits.
+pub fn due_waits()
+    ensures { DueWaits }
+{
+    trees_stay_placed();
+    joins_wait();
+}

@@ -1,0 +1,66 @@
+//! What waits after a turn of a pass by registers. There is no code here. Laws, as contracts of functions that do nothing
+//! (`specs/Waiting.antt`): all that waits after a turn has a greater number; each node that asks for its flag has it exactly where
+//! it waits, and each at which a later tick goes on is told so by what rested when the tick began; and a pass over a body that
+//! begins has the flag of its entry alone. Under a `when` whose condition is still to be tested nothing waits but what rested
+//! (`StaysDozing` of `bl_machine_pass_laws`). That trees stand in their body, with its rules and counters, is a premise
+//! (`StaysPlaced`).
+
+ghost use Rattle.bl_machine_pass_laws.specs.Turns.Dozes.{StaysDozing};
+ghost use Rattle.bl_machine_pass_laws_turns.specs.Waiting.{BodiesBegin, TurnsKeepFlags, TurnsKeepResumes, TurnsLeaveMore};
+
+use bl_ctree_laws::shrinking::steps_shrink;
+use bl_graph::graphs_stay_within;
+use bl_graph_nodes::nodes_differ;
+use bl_machine_laws::numbers::{sleepers_wait, turns_are_walks, turns_only_wake, turns_wait};
+use bl_machine_laws::waiting::{turns_lead_on, waits_in_part};
+
+/// All that waits after a turn has a greater number.
+pub fn turns_leave_more()
+    ensures { TurnsLeaveMore }
+{
+    turns_wait();
+    turns_lead_on();
+    waits_in_part();
+    graphs_stay_within();
+}
+
+/// Flags tell what waits after a turn.
+pub fn turns_keep_flags()
+    ensures { TurnsKeepFlags }
+{
+    steps_shrink();
+    turns_are_walks();
+    turns_wait();
+    turns_lead_on();
+    waits_in_part();
+    graphs_stay_within();
+    nodes_differ();
+}
+
+/// What rested tells it where a later tick goes on.
+pub fn turns_keep_resumes()
+    ensures { TurnsKeepResumes }
+{
+    steps_shrink();
+    turns_are_walks();
+    turns_wait();
+    sleepers_wait();
+    turns_only_wake();
+    turns_lead_on();
+    waits_in_part();
+    graphs_stay_within();
+    nodes_differ();
+}
+
+/// Under a `when` whose condition is still to be tested nothing waits but what rested.
+pub fn trees_stay_dozing()
+    ensures { StaysDozing }
+{}
+
+/// A pass over a body that begins has the flag of its entry alone.
+pub fn bodies_begin()
+    ensures { BodiesBegin }
+{
+    graphs_stay_within();
+    nodes_differ();
+}

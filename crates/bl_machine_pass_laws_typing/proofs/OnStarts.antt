@@ -1,0 +1,188 @@
+-- First stores and woken ones are typed.
+use Rattle.std.proofs.Common.{◌≡◌, ℕ, zero, suc, ◌+◌, Bool, true, ◌&&◌, List, [], ◌∷◌, length, map, take}
+use Rattle.std.proofs.Common.{Option, Some, None, refl, sym, ap, ◌∙◌, subst, arith}
+use Rattle.std.specs.Prelude.{ℤ, pos, is_none, is_some, option_and_then, option_map, slice_get, unwrap_or}
+use Rattle.std.specs.List.{list_all}
+use Rattle.bl_tree.specs.declared.scalar.Scalar.{Scalar as ScalarType}
+use Rattle.bl_tree.specs.declared.scalar.Scalar.TheVariants.{Bool as OfBool, Int, Nat, Bits}
+use Rattle.bl_tree.specs.declared.scalar.Width.TheVariants.{W8, W16, W32, W64}
+use Rattle.bl_tree.specs.declared.tree.StructDef.{StructDef}
+use Rattle.bl_tree.specs.declared.tree.Unit.{Unit as UnitDef}
+use Rattle.bl_tree.specs.declared.tree.Var.{Var}
+use Rattle.bl_tree.specs.declared.value.Value.TheVariants.{Number, outs-Number}
+use Rattle.bl_tree.specs.Ports.{column_type, columns_of, in_ranges, input_columns, row_fits, types_of}
+use Rattle.bl_tree.specs.Program.{IsWellTyped, is_entry, parameters_of}
+use Rattle.bl_tree.specs.Scalar.{in_range}
+use Rattle.bl_tree.specs.Types.{scalar, scalar_in, type_stands}
+use Rattle.bl_tree.specs.Typing.{inputs_of, is_activity}
+use Rattle.bl_eval.specs.Values.{is_number_of, tests_after, value_fits, values_fit, zero_of}
+use Rattle.bl_eval.proofs.FitLemmas.{fits_scalar, scalar_is, zero_fits}
+use Rattle.bl_eval.proofs.PassLemmas.{and_left, and_right, both, pass_each}
+use Rattle.bl_ctree.specs.declared.instance.Instance.{Instance}
+use Rattle.bl_ctree.specs.Instances.{Setting, expanded, instances_below, runs_of, setting_of, unit_at, unit_of}
+use Rattle.bl_ctree.specs.Store.{Frame, Store, aged, first_frame, first_store, frame_at_first, with_inputs, woken_store, zero_result}
+use Rattle.bl_ctree_laws_typing.specs.Fits.{FrameFits, HasFrame, StoreFits, result_fits}
+use Rattle.bl_ctree_laws_confluence.specs.Deeds.Origins.{InstancesHaveCallers}
+use Rattle.bl_ctree_laws_typing.proofs.OnViews.Running.{types_stand, unit_stands_at}
+use Rattle.bl_machine_pass_laws_typing.proofs.OnFits.Changing.{changed_fits, inputs_fit}
+use Rattle.bl_machine_pass_laws_typing.proofs.OnFits.Doing.{stands_at}
+use Rattle.bl_machine_pass_laws_typing.specs.Starts.{AllStartsFit, StartsFit}
+
+get_mapped : {A B : Type 0} (f : A → B) (xs : List A) (k : ℕ) → slice_get (map f xs) k ≡ option_map f (slice_get xs k)
+get_mapped f [] zero = refl
+get_mapped f [] (suc k) = refl
+get_mapped f (x ∷ xs) zero = refl
+get_mapped f (x ∷ xs) (suc k) = get_mapped f xs k
+
+-- ---- numbers
+
+number_fits : (structs : List StructDef) (s : ScalarType) (n : ℤ) → in_range s n ≡ true → value_fits structs (scalar s) (Number n) ≡ true
+number_fits structs s n within = fits_scalar (tests_after [] structs) s (Number n) ∙ ap (is_number_of s) (outs-Number n) ∙ within
+
+zero_within : (s : ScalarType) → in_range s (pos 0) ≡ true
+zero_within OfBool = refl
+zero_within (Int W8) = refl
+zero_within (Int W16) = refl
+zero_within (Int W32) = refl
+zero_within (Int W64) = refl
+zero_within (Nat W8) = refl
+zero_within (Nat W16) = refl
+zero_within (Nat W32) = refl
+zero_within (Nat W64) = refl
+zero_within (Bits W8) = refl
+zero_within (Bits W16) = refl
+zero_within (Bits W32) = refl
+zero_within (Bits W64) = refl
+
+-- a number of a column is one of the variable's type
+column_within : (s : ScalarType) (n : ℤ) → in_range (column_type s) n ≡ true → in_range s n ≡ true
+column_within OfBool n h = h
+column_within (Int w) n h = h
+column_within (Nat w) n h = h
+column_within (Bits W8) n h = h
+column_within (Bits W16) n h = h
+column_within (Bits W32) n h = h
+column_within (Bits W64) n h = h
+
+-- ---- rows
+
+some_scalar : (o : Option ScalarType) → is_some o ≡ true → (s : ScalarType) × (o ≡ Some s)
+some_scalar None h = absurd cc
+some_scalar (Some s) h = (s, refl)
+
+abbrev is_scalar : Var → Bool
+is_scalar var = is_some (scalar_in var.ty)
+
+row_typed : (structs : List StructDef) (vars : List Var) (row : List ℤ) → list_all is_scalar vars ≡ true →
+    in_ranges (types_of (columns_of vars)) row ≡ true → values_fit structs vars (map Number row) ≡ true
+row_typed structs [] [] scalars fits = refl
+row_typed structs [] (n ∷ row) scalars fits = absurd cc
+row_typed structs (var ∷ vars) [] scalars fits = absurd cc
+row_typed structs (var ∷ vars) (n ∷ row) scalars fits =
+    let found = some_scalar (scalar_in var.ty) (and_left (is_scalar var) (list_all is_scalar vars) scalars) in
+    let column : ScalarType = column_type (unwrap_or (scalar_in var.ty) OfBool) in
+    let here : in_range column n ≡ true = and_left (in_range column n) (in_ranges (types_of (columns_of vars)) row) fits in
+    let within : in_range found.0 n ≡ true =
+    column_within found.0 n (subst (λ o. in_range (column_type (unwrap_or o OfBool)) n ≡ true)
+    found.1 here) in
+    both (value_fits structs var.ty (Number n)) (values_fit structs vars (map Number row))
+    (subst (λ ty. value_fits structs ty (Number n) ≡ true) (sym (scalar_is var.ty found.0 found.1)) (number_fits structs found.0 n within))
+    (row_typed structs vars row (and_right (is_scalar var) (list_all is_scalar vars) scalars)
+    (and_right (in_range column n) (in_ranges (types_of (columns_of vars)) row) fits))
+
+-- the first of several
+first_all : (test : Var → Bool) (n m : ℕ) (vars : List Var) → list_all test (take (n + m) vars) ≡ true →
+    list_all test (take n vars) ≡ true
+first_all test zero m vars all = refl
+first_all test (suc n) m [] all = refl
+first_all test (suc n) m (var ∷ vars) all =
+    let one : ℕ = n + m in
+    let sum : suc n + m ≡ suc one = omega arith in
+    let whole : list_all test (take (suc one) (var ∷ vars)) ≡ true = subst (λ k. list_all test (take k (var ∷ vars)) ≡ true) sum all in
+    both (test var) (list_all test (take n vars)) (and_left (test var) (list_all test (take one vars)) whole)
+    (first_all test n m vars (and_right (test var) (list_all test (take one vars)) whole))
+
+-- ---- frames
+
+first_fits : (structs : List StructDef) (units : List UnitDef) (entry k : ℕ) (unit : UnitDef) → IsWellTyped structs units entry →
+    slice_get units k ≡ Some unit → FrameFits structs unit (first_frame structs unit)
+first_fits structs units entry k unit keeps there = record { now = zeros; before = zeros; result = by unit.result }
+  where
+    zeros : values_fit structs unit.vars (map (λ (var : Var). zero_of structs var.ty) unit.vars) ≡ true
+    zeros =
+        pass_each (λ (var : Var). value_fits structs var.ty) (λ (var : Var). zero_of structs var.ty)
+        (λ (var : Var). type_stands (length structs) var.ty)
+        (λ (var : Var) stands. zero_fits structs var.ty keeps.structs_stand stands) unit.vars
+        (types_stand structs (take k units) unit (unit_stands_at structs [] units k unit keeps.units_stand there))
+
+    by : (result : Option ScalarType) → result_fits structs result (zero_result result) ≡ true
+    by None = refl
+    by (Some s) = number_fits structs s (pos 0) (zero_within s)
+
+aged_fits : (structs : List StructDef) (unit : UnitDef) (frame : Frame) → FrameFits structs unit frame → FrameFits structs unit (aged frame)
+aged_fits structs unit frame fits = record { now = fits.now; before = fits.now; result = fits.result }
+
+-- ---- stores
+
+module _ (callers : InstancesHaveCallers) (structs : List StructDef) (units : List UnitDef) (entry : ℕ) (keeps : IsWellTyped structs units entry) where
+  abbrev W : Setting
+  W = setting_of structs units entry
+
+  first_typed : StoreFits W (first_store W)
+  first_typed = record { each = each }
+    where
+      each : (i : ℕ) (unit : UnitDef) → unit_at W i ≡ Some unit → HasFrame W (first_store W) i unit
+      each i unit is =
+          let at = stands_at structs units entry i unit is in
+          let empty : Frame = record { now = []; before = []; result = None } in record {
+            frame = first_frame structs unit;
+            is = get_mapped (frame_at_first W) W.instances i ∙ ap (option_map (frame_at_first W)) at.there
+                ∙ ap (λ (o : Option UnitDef). Some (unwrap_or (option_map (first_frame structs) o) empty)) at.of;
+            fits = first_fits structs units entry at.instance.unit unit keeps at.of;
+          }
+
+  aged_typed : (store : Store) → StoreFits W store → StoreFits W (map aged store)
+  aged_typed store fits = record { each = each }
+    where
+      each : (i : ℕ) (unit : UnitDef) → unit_at W i ≡ Some unit → HasFrame W (map aged store) i unit
+      each i unit is =
+          let has = fits.each i unit is in record {
+            frame = aged has.frame;
+            is = get_mapped aged store i ∙ ap (option_map aged) has.is;
+            fits = aged_fits structs unit has.frame has.fits;
+          }
+
+  -- the entry's instance is the first
+  entry_first : (unit : UnitDef) → slice_get units entry ≡ Some unit → unit_at W 0 ≡ Some unit
+  entry_first unit there =
+      let root : Instance = record { unit = entry; depth = 0; origin = None } in
+      let sum : entry + 1 ≡ suc entry = omega arith in
+      let first : slice_get W.instances 0 ≡ Some root =
+      ap (λ n. slice_get (expanded units n entry) 0) sum
+      ∙ ap (λ (o : Option UnitDef). slice_get (unwrap_or (option_map (λ (unit : UnitDef). root
+      ∷ instances_below (expanded units entry) 1 (runs_of unit)) o) []) 0) there in
+      ap (option_and_then (unit_of W)) first ∙ there
+
+  inputs_scalar : (unit : UnitDef) (o : Option UnitDef) → o ≡ Some unit → is_entry o ≡ true → list_all is_scalar (inputs_of unit) ≡ true
+  inputs_scalar unit None is stands = absurd cc
+  inputs_scalar unit (Some other) is stands =
+      let same : other ≡ unit = cc in
+      let all : Bool = list_all is_scalar (parameters_of other) in
+      let scalars : list_all is_scalar (take (other.inputs + other.outputs) other.vars) ≡ true =
+      and_right (is_none other.result) all (and_right (is_activity other.kind) (is_none other.result && all) stands) in
+      subst (λ (unit : UnitDef). list_all is_scalar (inputs_of unit) ≡ true) same
+      (first_all is_scalar other.inputs other.outputs other.vars scalars)
+
+  woken_typed : (unit : UnitDef) (row : List ℤ) (store : Store) → slice_get units entry ≡ Some unit →
+      row_fits (input_columns unit) row ≡ true → StoreFits W store → StoreFits W (woken_store row store)
+  woken_typed unit row store there fitting fits =
+      changed_fits callers structs units entry keeps (map aged store) 0 unit (with_inputs (map Number row)) (aged_typed store fits)
+      (entry_first unit there)
+      (λ frame one. inputs_fit structs unit (map Number row) frame
+      (row_typed structs (inputs_of unit) row (inputs_scalar unit (slice_get units entry) there keeps.entry_stands) fitting) one)
+
+  pub starts : StartsFit structs units entry
+  starts = record { first = first_typed; woken = woken_typed }
+
+pub starts_typed : InstancesHaveCallers → AllStartsFit
+starts_typed callers structs units entry keeps = starts callers structs units entry keeps

@@ -1,0 +1,20 @@
+-- The stores with which runs and ticks of a typed program begin are typed.
+use Rattle.std.specs.Prelude.{◌≡◌, ℕ, ℤ, true, List, Some, slice_get}
+use Rattle.bl_tree.specs.declared.tree.StructDef.{StructDef}
+use Rattle.bl_tree.specs.declared.tree.Unit.{Unit as UnitDef}
+use Rattle.bl_tree.specs.Ports.{input_columns, row_fits}
+use Rattle.bl_tree.specs.Program.{IsWellTyped}
+use Rattle.bl_ctree.specs.Instances.{setting_of}
+use Rattle.bl_ctree.specs.Store.{Store, first_store, woken_store}
+use Rattle.bl_ctree_laws_typing.specs.Fits.{StoreFits}
+
+-- that of a run, with 0 or false everywhere, and that of a tick whose row fits the inputs of the entry
+pub record StartsFit (structs : List StructDef) (units : List UnitDef) (entry : ℕ) : Type 0 where
+  pub first : StoreFits (setting_of structs units entry) (first_store (setting_of structs units entry))
+  pub woken : (unit : UnitDef) (row : List ℤ) (store : Store) → slice_get units entry ≡ Some unit →
+      row_fits (input_columns unit) row ≡ true → StoreFits (setting_of structs units entry) store →
+      StoreFits (setting_of structs units entry) (woken_store row store)
+
+-- so it is in each typed program
+abbrev pub AllStartsFit : Type 0
+AllStartsFit = (structs : List StructDef) (units : List UnitDef) (entry : ℕ) → IsWellTyped structs units entry → StartsFit structs units entry

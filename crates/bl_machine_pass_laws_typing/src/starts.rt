@@ -1,0 +1,14 @@
+//! Typed stores as runs and ticks begin. There is no code here. A law, as the contract of a function that does nothing: the store
+//! with which a run of a typed program begins has values of their variables' types alone, and so has a typed store in which a
+//! tick begins with a row that fits (`specs/Starts.antt`).
+
+ghost use Rattle.bl_machine_pass_laws_typing.specs.Starts.{AllStartsFit};
+
+use bl_ctree_laws_confluence::deeds::instances_have_callers;
+
+/// Runs and ticks begin with typed stores.
+pub fn starts_fit()
+    ensures { AllStartsFit }
+{
+    instances_have_callers();
+}

@@ -1,0 +1,108 @@
+-- Rules of a pass by numbers, and what of them tells the rules of nodes.
+use Rattle.std.specs.Prelude.{ℕ, List, [], ◌∷◌, map, option_map}
+use Rattle.bl_tree.specs.declared.tree.Expr.{Expr}
+use Rattle.bl_tree.specs.declared.tree.Stmt.{Stmt}
+use Rattle.bl_graph_nodes.specs.Nodes.{ActAt, Arguments, CheckAt, EnterAt, Node, ResumeAt, TestAt}
+use Rattle.bl_machine_pass.specs.Transitions as nodes
+use Rattle.bl_machine_pass.specs.Transitions.{ClearsBoth, ClearsCounter, Ended, EndsWhen, Finishes, Flagged, IsAny, IsNew, IsOld, Rested, RestedIn, SetsCounter, SetsFlag, SetsMark}
+use Rattle.bl_machine_transitions.specs.declared.transition.Age.{Age}
+use Rattle.bl_machine_transitions.specs.declared.transition.Age.TheVariants as age
+use Rattle.bl_machine_transitions.specs.declared.transition.Asked.{Asked}
+use Rattle.bl_machine_transitions.specs.declared.transition.Asked.TheVariants as asked
+use Rattle.bl_machine_transitions.specs.declared.transition.Change.{Change}
+use Rattle.bl_machine_transitions.specs.declared.transition.Change.TheVariants as change
+use Rattle.bl_machine_transitions.specs.declared.transition.Needed.{Needed}
+use Rattle.bl_machine_transitions.specs.declared.transition.Transition.{Transition as Kept}
+use Rattle.bl_machine_transitions.specs.declared.transition.Run.{Run as KeptRun}
+use Rattle.bl_machine_transitions.specs.declared.transition.Task.{Task as KeptTask}
+use Rattle.bl_machine_transitions.specs.declared.transition.Task.TheVariants as task
+
+-- ---- rules
+
+-- what is done at a node: of a `run` with the number of the node at which it begins, and the position of the activity that it calls
+pub data Task : Type 0 where
+  Nothing : Task
+  Acts : Stmt → Task
+  Tests : Expr → Task
+  Enters : ℕ → ℕ → Arguments → Task
+  Resumes : ℕ → ℕ → Arguments → Task
+
+-- the rule of a node, by numbers
+pub record NumberedTransition : Type 0 where
+  pub number : ℕ
+  pub asked : Asked
+  pub task : Task
+  pub so : List Change
+  pub otherwise : List Change
+
+-- ---- as the code has them
+
+-- the arguments of a `run`
+abbrev pub arguments_in : KeptRun → Arguments
+arguments_in run = record { target = option_map (λ path. path.now) run.target; inputs = run.inputs.now; outputs = run.outputs.now }
+
+-- what is done
+abbrev pub task_in : KeptTask → Task
+task_in task.Nothing = Nothing
+task_in (task.Act s) = Acts s.now
+task_in (task.Test e) = Tests e.now
+task_in (task.Enter run) = Enters run.begins run.unit (arguments_in run)
+task_in (task.Resume run) = Resumes run.begins run.unit (arguments_in run)
+
+-- the rule
+abbrev pub rule_in : Kept → NumberedTransition
+rule_in rule = record { number = rule.number; asked = rule.asked; task = task_in rule.task; so = rule.so; otherwise = rule.otherwise }
+
+-- ---- from the rules of nodes
+
+-- a change, where nodes have these numbers
+abbrev pub told_change : (Node → ℕ) → nodes.Change → Change
+told_change number (SetsFlag n) = change.SetFlag (number n)
+told_change number (SetsCounter slot) = change.SetCounter slot
+told_change number (ClearsCounter k) = change.ClearCounter k
+told_change number (ClearsBoth k) = change.ClearBoth k
+told_change number (SetsMark n) = change.SetMark (number n)
+told_change number (EndsWhen start surface depth) = change.EndWhen (number start) (number surface) (number depth)
+told_change number Finishes = change.Finish
+
+-- the age of a `cobegin`
+abbrev pub told_age : (Node → ℕ) → nodes.Age → Age
+told_age number (IsNew n) = age.New (number n)
+told_age number (IsOld n) = age.Old (number n)
+told_age number IsAny = age.Any
+
+-- the ends that a `cobegin` waits for
+abbrev pub told_needed : nodes.Needed → Needed
+told_needed needed = record { all = needed.all; slots = needed.slots }
+
+-- what is asked
+abbrev pub told_asked : (Node → ℕ) → nodes.Asked → Asked
+told_asked number Flagged = asked.Flagged
+told_asked number (Rested slot) = asked.Rested slot
+told_asked number (RestedIn slots) = asked.RestedIn slots
+told_asked number (Ended age needed) = asked.Ended (told_age number age) (told_needed needed)
+
+-- what is done at a node, which calls this activity where it is one of a `run`
+abbrev pub task_at : (Node → ℕ) → ℕ → Node → Task
+task_at number unit (ActAt l s) = Acts s
+task_at number unit (TestAt l at e) = Tests e
+task_at number unit (CheckAt l at e) = Tests e
+task_at number unit (EnterAt l at arguments) = Enters (number (EnterAt l at arguments)) unit arguments
+task_at number unit (ResumeAt l at arguments) = Resumes (number (EnterAt l at arguments)) unit arguments
+task_at number unit n = Nothing
+
+-- the rule of a node
+abbrev pub told : (Node → ℕ) → ℕ → nodes.Transition → NumberedTransition
+told number unit rule = record {
+  number = number rule.node;
+  asked = told_asked number rule.asked;
+  task = task_at number unit rule.node;
+  so = map (told_change number) rule.so;
+  otherwise = map (told_change number) rule.otherwise;
+}
+
+-- the rules of nodes, each with the activity that its node calls
+abbrev pub all_told : (Node → ℕ) → List ℕ → List nodes.Transition → List NumberedTransition
+all_told number [] rules = []
+all_told number units [] = []
+all_told number (unit ∷ units) (rule ∷ rules) = told number unit rule ∷ all_told number units rules

@@ -1,5 +1,0 @@
-use Rattle.bl_measures.proofs.LawLemmas.{limits_told}
-use Rattle.bl_measures.proofs.laws.limits_are_told.Goals as goal
-
-pub returns : goal.returns
-returns c = limits_told

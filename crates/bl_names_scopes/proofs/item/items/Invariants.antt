@@ -1,0 +1,8 @@
+use Rattle.std.proofs.Common.{◌≡◌, drop, map}
+use Rattle.bl_tree.specs.Reduce.{joined}
+use Rattle.bl_names_scopes.specs.inner.Judged.{judged_by}
+use Rattle.bl_names_scopes.specs.Marks.{item_marks}
+use Rattle.bl_names_scopes.proofs.item.items.Given as goal
+
+abbrev pub invariant-loop-one : goal.invariant-loop-one
+invariant-loop-one l = judged_by l.judge (joined (map item_marks (drop l.one-index l.all))) ≡ judged_by l.initial.judge (joined (map item_marks l.all))

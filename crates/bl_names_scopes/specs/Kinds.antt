@@ -1,0 +1,18 @@
+-- Which declarations the place of a use takes.
+use Rattle.std.specs.Prelude.{Bool, true, false}
+use Rattle.bl_names_scopes.specs.declared.kind.Kind.{Kind}
+use Rattle.bl_names_scopes.specs.declared.kind.Kind.TheVariants as kind
+use Rattle.bl_names_scopes.specs.declared.kind.Wanted.{Wanted}
+use Rattle.bl_names_scopes.specs.declared.kind.Wanted.TheVariants as wanted
+
+-- a type is a struct, a length a constant, a callee a function, what is run an activity, what is changed a variable, and what
+-- is read a variable or constant
+abbrev pub suits : Wanted → Kind → Bool
+suits wanted.Type kind.Struct = true
+suits wanted.Length kind.Constant = true
+suits wanted.Function kind.Function = true
+suits wanted.Activity kind.Activity = true
+suits wanted.Variable kind.Variable = true
+suits wanted.Value kind.Variable = true
+suits wanted.Value kind.Constant = true
+suits _ _ = false

@@ -1,0 +1,34 @@
+-- What a judge remembers after marks.
+use Rattle.std.specs.Prelude.{List, [], ◌∷◌, Option, Some, None}
+use Rattle.bl_tree.specs.declared.rule.Failure.{Failure}
+use Rattle.bl_tree.specs.Rules.{lesser}
+use Rattle.bl_parse_tree.specs.declared.item.RawItem.{RawItem}
+use Rattle.bl_names_scopes.specs.declared.judge.Judge.{Judge}
+use Rattle.bl_names_scopes.specs.inner.Failures.{failure_at}
+use Rattle.bl_names_scopes.specs.Marks.{Mark, Marks, marks_of}
+use Rattle.bl_names_scopes.specs.Scopes.{enter, file_scope}
+
+-- the first so far, and a failure where there is one
+abbrev pub kept : Option Failure → Option Failure → Option Failure
+kept first None = first
+kept first (Some failure) = lesser first failure
+
+-- the scopes after a mark, and the first failure so far
+abbrev pub judged : Judge → Mark → Judge
+judged judge mark = record {
+  scopes = enter judge.scopes mark;
+  first = kept judge.first (failure_at judge.scopes mark);
+}
+
+-- what a judge remembers after marks one after another
+abbrev pub judged_by : Judge → Marks → Judge
+judged_by judge [] = judge
+judged_by judge (mark ∷ rest) = judged_by (judged judge mark) rest
+
+-- a judge at the start of a file
+abbrev pub fresh : Judge
+fresh = record { scopes = file_scope; first = None }
+
+-- the first failure in a program
+abbrev pub first_failure : List RawItem → Option Failure
+first_failure items = (judged_by fresh (marks_of items)).first

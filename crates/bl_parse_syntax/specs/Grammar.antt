@@ -1,0 +1,359 @@
+-- The grammar over tokens (docs/LANGUAGE.md, "Grammar"), with common beginnings joined.
+use Rattle.std.specs.Prelude.{◌≡◌, ℕ, ◌==◌, Bool, true, false, not, ◌&&◌, nat_eq, List, [], ◌∷◌, Option, Some, None}
+use Rattle.std.specs.List.{list_any}
+use Rattle.bl_tree.specs.declared.token.Token.{Token}
+use Rattle.bl_tree.specs.declared.token.TokenKind.{TokenKind}
+use Rattle.bl_tree.specs.declared.token.TokenKind.TheVariants.{Name, Number, Word, Sign}
+use Rattle.bl_grammar.specs.declared.symbol.Symbol.{Symbol}
+use Rattle.bl_grammar.specs.declared.symbol.Symbol.TheVariants.{Terminal, Nonterminal}
+use Rattle.bl_grammar.specs.Derivations
+use Rattle.bl_lex.specs.declared.word.TheConstants.{
+  STRUCT,
+  END,
+  VAR,
+  CONST,
+  FUNCTION,
+  ACTIVITY,
+  RETURNS,
+  BOOL,
+  INT8,
+  INT16,
+  INT32,
+  INT64,
+  NAT8,
+  NAT16,
+  NAT32,
+  NAT64,
+  BITS8,
+  BITS16,
+  BITS32,
+  BITS64,
+  LET,
+  AWAIT,
+  RUN,
+  COBEGIN,
+  WHEN,
+  REPEAT,
+  WHILE,
+  IF,
+  THEN,
+  RETURN,
+  WEAK,
+  WITH,
+  ABORT,
+  RESET,
+  UNTIL,
+  ELSEIF,
+  ELSE,
+  OR,
+  AND,
+  AS,
+  NOT,
+  TRUE,
+  FALSE,
+  PREV,
+}
+use Rattle.bl_lex.specs.declared.sign.TheConstants.{
+  COLON,
+  ASSIGN,
+  AT,
+  OPEN_BRACKET,
+  CLOSE_BRACKET,
+  OPEN_PAREN,
+  CLOSE_PAREN,
+  COMMA,
+  DOT,
+  EQUAL,
+  NOT_EQUAL,
+  LESS,
+  LESS_OR_EQUAL,
+  GREATER,
+  GREATER_OR_EQUAL,
+  BAR,
+  CARET,
+  AMPERSAND,
+  SHIFT_LEFT,
+  SHIFT_RIGHT,
+  PLUS,
+  MINUS,
+  STAR,
+  SLASH,
+  PERCENT,
+  TILDE,
+}
+use Rattle.bl_parse_syntax.specs.declared.grammar.Class.{Class}
+use Rattle.bl_parse_syntax.specs.declared.grammar.Class.TheVariants.{AnyName, AnyNumber, Keyword, Mark}
+use Rattle.bl_parse_syntax.specs.declared.grammar.TokenView.{TokenView}
+use Rattle.bl_parse_syntax.specs.declared.grammar.Part.{Part}
+use Rattle.bl_parse_syntax.specs.declared.grammar.Part.TheVariants.{
+  Program,
+  Item,
+  Struct,
+  Field,
+  Fields,
+  Constant,
+  TypeMark,
+  Unit,
+  PlainUnit,
+  UnitTail,
+  Params,
+  SecondParams,
+  ParamList,
+  ParamRest,
+  Param,
+  Returns,
+  Ty,
+  Scalar,
+  Length,
+  Block,
+  Stmt,
+  VarTail,
+  Initial,
+  AfterName,
+  CallTail,
+  AssignTail,
+  Access,
+  Accesses,
+  RunTail,
+  RunTarget,
+  Weak,
+  Branches,
+  Guard,
+  Until,
+  Elseifs,
+  Else,
+  AfterReturn,
+  Inputs,
+  InputList,
+  InputRest,
+  Outputs,
+  SecondOutputs,
+  OutputList,
+  OutputRest,
+  Path,
+  PathRest,
+  Expr,
+  ExprRest,
+  And,
+  AndRest,
+  Comparison,
+  ComparisonRest,
+  BitOr,
+  BitOrRest,
+  BitXor,
+  BitXorRest,
+  BitAnd,
+  BitAndRest,
+  Shift,
+  ShiftRest,
+  Sum,
+  SumRest,
+  Product,
+  ProductRest,
+  Cast,
+  CastRest,
+  Unary,
+  Primary,
+  NameUse,
+  NoOutputs,
+}
+
+-- the class of a token of this kind
+abbrev pub class_of : TokenKind → Class
+class_of Name = AnyName
+class_of (Number value) = AnyNumber
+class_of (Word k) = Keyword k
+class_of (Sign k) = Mark k
+
+-- the line is not that of the token before
+abbrev pub is_fresh : Option ℕ → ℕ → Bool
+is_fresh None line = true
+is_fresh (Some before) line = not (before == line)
+
+-- the token as the grammar sees it, after a token on this line
+abbrev pub view_of : Option ℕ → Token → TokenView
+view_of before token = record { class = class_of token.kind; fresh = is_fresh before token.line }
+
+-- the tokens as the grammar sees them, after a token on this line
+abbrev pub views_after : Option ℕ → List Token → List TokenView
+views_after before [] = []
+views_after before (token ∷ tokens) = view_of before token ∷ views_after (Some token.line) tokens
+
+-- the tokens of a text as the grammar sees them
+abbrev pub views : List Token → List TokenView
+views tokens = views_after None tokens
+
+-- the line of the last token, if there is one, and else this one
+abbrev pub last_line : Option ℕ → List Token → Option ℕ
+last_line before [] = before
+last_line before (token ∷ tokens) = last_line (Some token.line) tokens
+
+-- two classes are the same
+abbrev pub same_class : Class → Class → Bool
+same_class AnyName AnyName = true
+same_class AnyNumber AnyNumber = true
+same_class (Keyword k) (Keyword n) = nat_eq k n
+same_class (Mark k) (Mark n) = nat_eq k n
+same_class _ _ = false
+
+-- the token is of the class
+abbrev pub matches : Class → TokenView → Bool
+matches class view = same_class class view.class
+
+-- one token or part of a production
+abbrev pub Piece : Type 0
+Piece = Symbol Class Part
+
+-- any name
+abbrev pub name : Piece
+name = Terminal AnyName
+
+-- any number
+abbrev pub number : Piece
+number = Terminal AnyNumber
+
+-- the keyword with this position
+abbrev pub word : ℕ → Piece
+word k = Terminal (Keyword k)
+
+-- the sign with this position
+abbrev pub sign : ℕ → Piece
+sign k = Terminal (Mark k)
+
+-- a part of the grammar
+abbrev pub the : Part → Piece
+the part = Nonterminal part
+
+-- the productions of each part; `[]` says that the part may be absent
+abbrev pub productions : Part → List (List Piece)
+productions Program = (the Item ∷ the Program ∷ []) ∷ [] ∷ []
+productions Item = (the Struct ∷ []) ∷ (the Constant ∷ []) ∷ (the Unit ∷ []) ∷ []
+productions Struct = (word STRUCT ∷ name ∷ the Field ∷ the Fields ∷ word END ∷ []) ∷ []
+productions Field = (word VAR ∷ name ∷ sign COLON ∷ the Ty ∷ []) ∷ []
+productions Fields = (the Field ∷ the Fields ∷ []) ∷ [] ∷ []
+productions Constant = (word CONST ∷ name ∷ the TypeMark ∷ sign ASSIGN ∷ the Expr ∷ []) ∷ []
+productions TypeMark = (sign COLON ∷ the Ty ∷ []) ∷ [] ∷ []
+-- the name is `EntryPoint`: rule Profile leaves out every other name after `@ [`
+productions Unit = (sign AT ∷ sign OPEN_BRACKET ∷ name ∷ sign CLOSE_BRACKET ∷ the PlainUnit ∷ []) ∷ (the PlainUnit ∷ []) ∷ []
+productions PlainUnit = (word FUNCTION ∷ name ∷ the UnitTail ∷ []) ∷ (word ACTIVITY ∷ name ∷ the UnitTail ∷ []) ∷ []
+productions UnitTail = (the Params ∷ the SecondParams ∷ the Returns ∷ the Block ∷ word END ∷ []) ∷ []
+productions Params = (sign OPEN_PAREN ∷ the ParamList ∷ sign CLOSE_PAREN ∷ []) ∷ []
+productions SecondParams = (the Params ∷ []) ∷ [] ∷ []
+productions ParamList = (the Param ∷ the ParamRest ∷ []) ∷ [] ∷ []
+productions ParamRest = (sign COMMA ∷ the Param ∷ the ParamRest ∷ []) ∷ [] ∷ []
+productions Param = (name ∷ sign COLON ∷ the Ty ∷ []) ∷ []
+productions Returns = (word RETURNS ∷ the Ty ∷ []) ∷ [] ∷ []
+productions Ty = (the Scalar ∷ []) ∷ (name ∷ []) ∷ (sign OPEN_BRACKET ∷ the Length ∷ sign CLOSE_BRACKET ∷ the Ty ∷ []) ∷ []
+productions Scalar =
+    (word BOOL ∷ []) ∷ (word INT8 ∷ []) ∷ (word INT16 ∷ []) ∷ (word INT32 ∷ []) ∷ (word INT64 ∷ []) ∷
+    (word NAT8 ∷ []) ∷ (word NAT16 ∷ []) ∷ (word NAT32 ∷ []) ∷ (word NAT64 ∷ []) ∷
+    (word BITS8 ∷ []) ∷ (word BITS16 ∷ []) ∷ (word BITS32 ∷ []) ∷ (word BITS64 ∷ []) ∷ []
+productions Length = (number ∷ []) ∷ (name ∷ []) ∷ []
+productions Block = (the Stmt ∷ the Block ∷ []) ∷ [] ∷ []
+productions Stmt =
+    (word VAR ∷ name ∷ the VarTail ∷ []) ∷
+    (word LET ∷ name ∷ the TypeMark ∷ sign ASSIGN ∷ the Expr ∷ []) ∷
+    (the Constant ∷ []) ∷
+    (name ∷ the AfterName ∷ []) ∷
+    (word AWAIT ∷ the Expr ∷ []) ∷
+    (word RUN ∷ name ∷ the RunTail ∷ []) ∷
+    (word COBEGIN ∷ the Weak ∷ the Block ∷ the Branches ∷ word END ∷ []) ∷
+    (word WHEN ∷ the Expr ∷ the Guard ∷ the Block ∷ word END ∷ []) ∷
+    (word REPEAT ∷ the Block ∷ the Until ∷ word END ∷ []) ∷
+    (word WHILE ∷ the Expr ∷ word REPEAT ∷ the Block ∷ word END ∷ []) ∷
+    (word IF ∷ the Expr ∷ word THEN ∷ the Block ∷ the Elseifs ∷ the Else ∷ word END ∷ []) ∷
+    (word RETURN ∷ the AfterReturn ∷ []) ∷ []
+productions VarTail = (sign COLON ∷ the Ty ∷ the Initial ∷ []) ∷ (sign ASSIGN ∷ the Expr ∷ []) ∷ []
+productions Initial = (sign ASSIGN ∷ the Expr ∷ []) ∷ [] ∷ []
+productions AfterName = (the CallTail ∷ []) ∷ (the AssignTail ∷ []) ∷ []
+productions CallTail = (the Inputs ∷ the SecondOutputs ∷ []) ∷ []
+productions AssignTail = (sign ASSIGN ∷ the Expr ∷ []) ∷ (the Access ∷ the AssignTail ∷ []) ∷ []
+productions Access = (sign DOT ∷ name ∷ []) ∷ (sign OPEN_BRACKET ∷ the Expr ∷ sign CLOSE_BRACKET ∷ []) ∷ []
+productions Accesses = (the Access ∷ the Accesses ∷ []) ∷ [] ∷ []
+productions RunTail = (the CallTail ∷ []) ∷ (the RunTarget ∷ []) ∷ []
+productions RunTarget = (sign DOT ∷ name ∷ the RunTarget ∷ []) ∷ (sign ASSIGN ∷ name ∷ the CallTail ∷ []) ∷ []
+productions Weak = (word WEAK ∷ []) ∷ [] ∷ []
+productions Branches = (word WITH ∷ the Weak ∷ the Block ∷ the Branches ∷ []) ∷ [] ∷ []
+productions Guard = (word ABORT ∷ []) ∷ (word RESET ∷ []) ∷ []
+productions Until = (word UNTIL ∷ the Expr ∷ []) ∷ [] ∷ []
+productions Elseifs = (word ELSEIF ∷ the Expr ∷ word THEN ∷ the Block ∷ the Elseifs ∷ []) ∷ [] ∷ []
+productions Else = (word ELSE ∷ the Block ∷ []) ∷ [] ∷ []
+productions AfterReturn = (the Expr ∷ []) ∷ [] ∷ []
+productions Inputs = (sign OPEN_PAREN ∷ the InputList ∷ sign CLOSE_PAREN ∷ []) ∷ []
+productions InputList = (the Expr ∷ the InputRest ∷ []) ∷ [] ∷ []
+productions InputRest = (sign COMMA ∷ the Expr ∷ the InputRest ∷ []) ∷ [] ∷ []
+productions Outputs = (sign OPEN_PAREN ∷ the OutputList ∷ sign CLOSE_PAREN ∷ []) ∷ []
+productions SecondOutputs = (the Outputs ∷ []) ∷ [] ∷ []
+productions OutputList = (the Path ∷ the OutputRest ∷ []) ∷ [] ∷ []
+productions OutputRest = (sign COMMA ∷ the Path ∷ the OutputRest ∷ []) ∷ [] ∷ []
+productions Path = (name ∷ the PathRest ∷ []) ∷ []
+productions PathRest = (sign DOT ∷ name ∷ the PathRest ∷ []) ∷ [] ∷ []
+productions Expr = (the And ∷ the ExprRest ∷ []) ∷ []
+productions ExprRest = (word OR ∷ the And ∷ the ExprRest ∷ []) ∷ [] ∷ []
+productions And = (the Comparison ∷ the AndRest ∷ []) ∷ []
+productions AndRest = (word AND ∷ the Comparison ∷ the AndRest ∷ []) ∷ [] ∷ []
+productions Comparison = (the BitOr ∷ the ComparisonRest ∷ []) ∷ []
+productions ComparisonRest =
+    (sign EQUAL ∷ the BitOr ∷ []) ∷ (sign NOT_EQUAL ∷ the BitOr ∷ []) ∷ (sign LESS ∷ the BitOr ∷ []) ∷
+    (sign LESS_OR_EQUAL ∷ the BitOr ∷ []) ∷ (sign GREATER ∷ the BitOr ∷ []) ∷ (sign GREATER_OR_EQUAL ∷ the BitOr ∷ []) ∷ [] ∷ []
+productions BitOr = (the BitXor ∷ the BitOrRest ∷ []) ∷ []
+productions BitOrRest = (sign BAR ∷ the BitXor ∷ the BitOrRest ∷ []) ∷ [] ∷ []
+productions BitXor = (the BitAnd ∷ the BitXorRest ∷ []) ∷ []
+productions BitXorRest = (sign CARET ∷ the BitAnd ∷ the BitXorRest ∷ []) ∷ [] ∷ []
+productions BitAnd = (the Shift ∷ the BitAndRest ∷ []) ∷ []
+productions BitAndRest = (sign AMPERSAND ∷ the Shift ∷ the BitAndRest ∷ []) ∷ [] ∷ []
+productions Shift = (the Sum ∷ the ShiftRest ∷ []) ∷ []
+productions ShiftRest = (sign SHIFT_LEFT ∷ the Sum ∷ the ShiftRest ∷ []) ∷ (sign SHIFT_RIGHT ∷ the Sum ∷ the ShiftRest ∷ []) ∷ [] ∷ []
+productions Sum = (the Product ∷ the SumRest ∷ []) ∷ []
+productions SumRest = (sign PLUS ∷ the Product ∷ the SumRest ∷ []) ∷ (sign MINUS ∷ the Product ∷ the SumRest ∷ []) ∷ [] ∷ []
+productions Product = (the Cast ∷ the ProductRest ∷ []) ∷ []
+productions ProductRest =
+    (sign STAR ∷ the Cast ∷ the ProductRest ∷ []) ∷ (sign SLASH ∷ the Cast ∷ the ProductRest ∷ []) ∷
+    (sign PERCENT ∷ the Cast ∷ the ProductRest ∷ []) ∷ [] ∷ []
+productions Cast = (the Unary ∷ the CastRest ∷ []) ∷ []
+productions CastRest = (word AS ∷ the Scalar ∷ the CastRest ∷ []) ∷ [] ∷ []
+-- a minus directly before a number makes one literal with it, which spells the same
+productions Unary =
+    (sign MINUS ∷ the Unary ∷ []) ∷ (sign TILDE ∷ the Unary ∷ []) ∷ (word NOT ∷ the Unary ∷ []) ∷ (the Primary ∷ []) ∷ []
+productions Primary =
+    (number ∷ []) ∷ (word TRUE ∷ []) ∷ (word FALSE ∷ []) ∷ (word PREV ∷ name ∷ []) ∷ (name ∷ the NameUse ∷ []) ∷
+    (sign OPEN_PAREN ∷ the Expr ∷ sign CLOSE_PAREN ∷ []) ∷ []
+productions NameUse = (the Inputs ∷ the NoOutputs ∷ []) ∷ (the Access ∷ the Accesses ∷ []) ∷ [] ∷ []
+productions NoOutputs = (sign OPEN_PAREN ∷ sign CLOSE_PAREN ∷ []) ∷ [] ∷ []
+
+-- the classes that an expression can begin with
+abbrev pub expression_starts : List Class
+expression_starts = Mark MINUS ∷ Mark TILDE ∷ Keyword NOT ∷ AnyNumber ∷ Keyword TRUE ∷ Keyword FALSE ∷ Keyword PREV ∷ AnyName
+    ∷ Mark OPEN_PAREN ∷ []
+
+-- a token of the class can begin an expression
+abbrev pub begins_expression : Class → Bool
+begins_expression class = list_any (λ start. same_class start class) expression_starts
+
+-- after `return`, the next token begins its expression: it stands on the same line and can begin one
+abbrev pub continues : Option TokenView → Bool
+continues None = false
+continues (Some next) = not next.fresh && begins_expression next.class
+
+-- the production may stand before this next token: a `return` has an expression exactly where the next token continues it
+abbrev pub may_stand : Part → Option TokenView → List Piece → Bool
+may_stand AfterReturn next [] = not (continues next)
+may_stand AfterReturn next (first ∷ rest) = continues next
+may_stand _ next production = true
+
+-- it is one of the productions
+pub data IsAmong (production : List Piece) : List (List Piece) → Type 0 where
+  here : {others : List (List Piece)} → IsAmong production (production ∷ others)
+  later : {other : List Piece} {others : List (List Piece)} → IsAmong production others → IsAmong production (other ∷ others)
+
+-- before this next token, the part may stand for these symbols
+abbrev pub Produces : Part → Option TokenView → List Piece → Type 0
+Produces part next production = IsAmong production (productions part) × (may_stand part next production ≡ true)
+
+-- the symbols stand for the tokens up to these that are left
+abbrev pub SourceDerives : List Piece → List TokenView → List TokenView → Type 0
+SourceDerives symbols tokens left = Derivations.Derives Produces matches symbols tokens left
+
+-- the tokens spell a program
+abbrev pub IsProgram : List TokenView → Type 0
+IsProgram tokens = SourceDerives (the Program ∷ []) tokens []

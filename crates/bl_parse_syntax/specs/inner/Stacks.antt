@@ -1,0 +1,10 @@
+-- How the stack of the recogniser goes on.
+use Rattle.std.specs.Prelude.{List}
+use Rattle.bl_grammar.specs.Runs
+use Rattle.bl_parse_syntax.specs.declared.grammar.TokenView.{TokenView}
+use Rattle.bl_parse_syntax.specs.Grammar.{Piece, Produces, matches}
+use Rattle.bl_parse_syntax.specs.Stack.{tables}
+
+-- before this token both stacks stand for the same
+abbrev pub StackExpands : TokenView → List Piece → List Piece → Type 0
+StackExpands next stack opened = Runs.StackExpands Produces matches tables next stack opened

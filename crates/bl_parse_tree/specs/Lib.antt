@@ -1,0 +1,4 @@
+pub mod Depths
+pub mod WellFormed
+pub mod Names
+pub mod Starts

@@ -1,4 +1,0 @@
-pub mod Laid
-pub mod Numbered
-pub mod Registers
-pub mod Rules

@@ -1,5 +1,0 @@
-pub mod Dozes
-pub mod Keeps
-pub mod Laws
-pub mod Rooted
-pub mod Sits

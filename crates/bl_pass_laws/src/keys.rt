@@ -1,8 +1,0 @@
-//! Label and sort tell the nodes of a body apart (`specs/Keys.antt`, `NodesHaveKeys`). There is no code here.
-
-ghost use Rattle.bl_pass_laws.specs.Keys.{NodesHaveKeys};
-
-/// Label and sort tell the nodes of a body apart, and none stands twice.
-pub fn nodes_have_keys()
-    ensures { NodesHaveKeys }
-{}

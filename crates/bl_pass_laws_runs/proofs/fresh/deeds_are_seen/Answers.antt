@@ -1,5 +1,0 @@
-use Rattle.bl_pass_laws_runs.proofs.OnFresh.Seeing.{deeds_are_seen}
-use Rattle.bl_pass_laws_runs.proofs.fresh.deeds_are_seen.Goals as goal
-
-pub returns : goal.returns
-returns c = deeds_are_seen c.instances_have_callers.ensures.homes

@@ -1,5 +1,0 @@
-use Rattle.bl_pass_laws_runs.proofs.OnKept.Ruling.{rules_run}
-use Rattle.bl_pass_laws_runs.proofs.kept.rules_run.Goals as goal
-
-pub returns : goal.returns
-returns c = rules_run c.trees_stay_placed.ensures

@@ -1,5 +1,0 @@
-use Rattle.bl_pass_laws_turns.proofs.OnJoins.Joining.{joins_wait}
-use Rattle.bl_pass_laws_turns.proofs.joins.joins_wait.Goals as goal
-
-pub returns : goal.returns
-returns c = joins_wait

@@ -1,6 +1,0 @@
-use Rattle.std.proofs.Common.{sym, ◌∙◌}
-use Rattle.bl_pass_listed.proofs.Loops.{block_empty}
-use Rattle.bl_pass_listed.proofs.size.is_bare.Goals as goal
-
-pub returns : goal.returns
-returns c = c.is_empty.ensures ∙ sym (block_empty c.args.body.now)

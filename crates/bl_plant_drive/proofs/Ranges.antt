@@ -1,0 +1,136 @@
+-- Numbers in the ranges of their inputs, and how many numbers the seats have.
+use Rattle.std.proofs.Common.{◌≡◌, ℕ, zero, suc, ◌+◌, ◌<◌, ◌≤◌, ℤ, pos, Bool, true, false, ◌&&◌, List, [], ◌∷◌, ◌++◌}
+use Rattle.std.proofs.Common.{length, map, get_or, take, drop, replicate, Some, refl, ap, sym, ◌∙◌, arith, length-append, take-suc, take_all}
+use Rattle.std.specs.List.{AllByRecursion, slice_get}
+use Rattle.std.proofs.lemmas.Grind.{flat_map-append}
+use Rattle.std.proofs.lemmas.List.{append-nil, length-replicate}
+use Rattle.bl_plant.specs.Plants.{PlantView}
+use Rattle.bl_plant_drive.specs.Drives.{width_of, widths_of}
+use Rattle.bl_plant_drive.specs.Roles.{Plays, Role, first_named, last_of}
+use Rattle.bl_plant_drive.specs.declared.driven.Gone.{Gone}
+use Rattle.bl_plant_drive.specs.declared.seat.Seat.{Seat}
+use Rattle.bl_plant_drive.specs.inner.Round.{FrontFits, numbers_in}
+use Rattle.bl_plant_drive.specs.inner.Stands.{AskedSoFar, Scene, seat_of}
+use Rattle.bl_tree.specs.declared.row.Column.{Column}
+use Rattle.bl_tree.specs.Ports.{in_ranges, types_of}
+use Rattle.bl_tree.specs.Scalar.{in_range}
+
+some-is : {A : Type 0} (a b : A) → Some a ≡ Some b → a ≡ b
+some-is a b e = cc
+
+and-left : (a b : Bool) → (a && b) ≡ true → a ≡ true
+and-left true b e = refl
+and-left false b e = e
+
+and-right : (a b : Bool) → (a && b) ≡ true → b ≡ true
+and-right true b e = e
+and-right false b e = cc
+
+and-both : (a b : Bool) → a ≡ true → b ≡ true → (a && b) ≡ true
+and-both a b ea eb = ap (λ z. z && b) ea ∙ eb
+
+-- one more number is in its range
+pub ranges-more : (k : ℕ) (inputs : List Column) (numbers : List ℤ) (c : Column) (n : ℤ) → slice_get inputs k ≡ Some c →
+    slice_get numbers k ≡ Some n → in_range c.ty n ≡ true → in_ranges (types_of (take k inputs)) (take k numbers) ≡ true →
+    in_ranges (types_of (take (suc k) inputs)) (take (suc k) numbers) ≡ true
+ranges-more k [] numbers c n input number holds before = cc
+ranges-more k (d ∷ inputs) [] c n input number holds before = cc
+ranges-more zero (d ∷ inputs) (m ∷ numbers) c n input number holds before =
+    and-both (in_range d.ty m) true
+    (ap (λ (x : Column). in_range x.ty m) (some-is d c input) ∙ ap (in_range c.ty) (some-is m n number) ∙ holds) refl
+ranges-more (suc k) (d ∷ inputs) (m ∷ numbers) c n input number holds before =
+    and-both (in_range d.ty m) (in_ranges (types_of (take (suc k) inputs)) (take (suc k) numbers))
+    (and-left (in_range d.ty m) (in_ranges (types_of (take k inputs)) (take k numbers)) before)
+    (ranges-more k inputs numbers c n input number holds
+    (and-right (in_range d.ty m) (in_ranges (types_of (take k inputs)) (take k numbers)) before))
+
+pub get-drop : {A : Type 0} (first k : ℕ) (xs : List A) → slice_get (drop first xs) k ≡ slice_get xs (first + k)
+get-drop zero k xs = ap (slice_get xs) (omega arith)
+get-drop (suc first) k [] = refl
+get-drop (suc first) k (x ∷ xs) =
+    get-drop first k xs ∙ sym (ap (slice_get (x ∷ xs)) (let e : suc first + k ≡ suc (first + k) = omega arith in e))
+
+-- numbers in the ranges of the first inputs, and further ones in those of the next
+pub ranges-both : (inputs : List Column) (xs ys : List ℤ) (b : ℕ) → in_ranges (types_of (take (length xs) inputs)) xs ≡ true →
+    in_ranges (types_of (take b (drop (length xs) inputs))) ys ≡ true → in_ranges (types_of (take (length xs + b) inputs)) (xs ++ ys) ≡ true
+ranges-both inputs [] ys b first then = let e : 0 + b ≡ b = omega arith in ap (λ n. in_ranges (types_of (take n inputs)) ys) e ∙ then
+ranges-both [] (x ∷ xs) ys b first then = cc
+ranges-both (c ∷ inputs) (x ∷ xs) ys b first then =
+    let e : suc (length xs) + b ≡ suc (length xs + b) = omega arith in
+    ap (λ n. in_ranges (types_of (take n (c ∷ inputs))) (x ∷ (xs ++ ys))) e
+    ∙ and-both (in_range c.ty x) (in_ranges (types_of (take (length xs + b) inputs)) (xs ++ ys))
+    (and-left (in_range c.ty x) (in_ranges (types_of (take (length xs) inputs)) xs) first)
+    (ranges-both inputs xs ys b (and-right (in_range c.ty x) (in_ranges (types_of (take (length xs) inputs)) xs) first) then)
+
+-- ---- the numbers of seats
+
+pub numbers-more : (seats : List Seat) (k : ℕ) (seat : Seat) → k < length seats → seat ≡ get_or seats k seat →
+    numbers_in (take (suc k) seats) ≡ numbers_in (take k seats) ++ seat.columns
+numbers-more seats k seat low is =
+    ap numbers_in (take-suc seats k seat low ∙ ap (λ x. take k seats ++ x ∷ []) (sym is))
+    ∙ flat_map-append (λ (x : Seat). x.columns) (take k seats) (seat ∷ [])
+    ∙ ap (λ z. numbers_in (take k seats) ++ z) (append-nil seat.columns)
+
+-- one more seat's numbers are in the ranges of their inputs
+pub front-more : (inputs : List Column) (seats : List Seat) (k : ℕ) (seat : Seat) → k < length seats → seat ≡ get_or seats k seat →
+    FrontFits inputs k seats →
+    in_ranges (types_of (take (length seat.columns) (drop (length (numbers_in (take k seats))) inputs))) seat.columns ≡ true →
+    FrontFits inputs (suc k) seats
+front-more inputs seats k seat low is before now =
+    let e = numbers-more seats k seat low is in
+    ap (λ z. in_ranges (types_of (take (length z) inputs)) z) e
+    ∙ ap (λ n. in_ranges (types_of (take n inputs)) (numbers_in (take k seats) ++ seat.columns)) (length-append (numbers_in (take k seats)) seat.columns)
+    ∙ ranges-both inputs (numbers_in (take k seats)) seat.columns (length seat.columns) before now
+
+-- the seats before one stay
+pub front-kept : (inputs : List Column) (k : ℕ) (seats now : List Seat) → take k now ≡ take k seats → FrontFits inputs k seats →
+    FrontFits inputs k now
+front-kept inputs k seats now same fit = ap (λ z. in_ranges (types_of (take (length (numbers_in z)) inputs)) (numbers_in z)) same ∙ fit
+
+-- all seats' numbers are
+pub front-all : (inputs : List Column) (k : ℕ) (seats : List Seat) → length seats ≤ k → length (numbers_in seats) ≡ length inputs →
+    FrontFits inputs k seats → in_ranges (types_of inputs) (numbers_in seats) ≡ true
+front-all inputs k seats past wide fit =
+    let all : take k seats ≡ seats = take_all k seats past in
+    let whole : take (length (numbers_in seats)) inputs ≡ inputs = take_all (length (numbers_in seats)) inputs (omega (arith, wide)) in
+    sym (ap (λ z. in_ranges (types_of z) (numbers_in seats)) whole)
+    ∙ sym (ap (λ z. in_ranges (types_of (take (length (numbers_in z)) inputs)) (numbers_in z)) all) ∙ fit
+
+-- ---- how many numbers seats have
+
+abbrev IsWide : Role → Type 0
+IsWide r = AllByRecursion (λ row. length row ≡ r.plant.width) r.part.given
+
+last-wide : (w : ℕ) (first : List ℤ) (rows : List (List ℤ)) → length first ≡ w → AllByRecursion (λ row. length row ≡ w) rows →
+    length (last_of first rows) ≡ w
+last-wide w first [] is all = is
+last-wide w first (row ∷ rows) is all = last-wide w row rows all.0 all.1
+
+all-wide : (outs told : List (List ℤ)) (a b : ℕ) (done rest : List Role) → AllByRecursion (Plays outs told a) done →
+    AllByRecursion (Plays outs told b) rest → AllByRecursion IsWide (done ++ rest)
+all-wide outs told a b [] [] earlier later = later
+all-wide outs told a b [] (r ∷ rest) earlier later = (later.0.widths, all-wide outs told a b [] rest earlier later.1)
+all-wide outs told a b (d ∷ done) rest earlier later = (earlier.0.widths, all-wide outs told a b done rest earlier.1 later)
+
+cast-wide : (plants : List PlantView) (cast : List Role) → AllByRecursion (λ (r : Role). first_named r.plant.name plants ≡ Some r.plant) cast →
+    AllByRecursion IsWide cast → length (numbers_in (map seat_of cast)) ≡ widths_of plants (map (λ (r : Role). r.plant.name) cast)
+cast-wide plants [] meant wide = refl
+cast-wide plants (r ∷ cast) meant wide =
+    length-append (seat_of r).columns (numbers_in (map seat_of cast))
+    ∙ ap (λ n. n + length (numbers_in (map seat_of cast)))
+    (last-wide r.plant.width (replicate r.plant.width (pos 0)) r.part.given (length-replicate r.plant.width (pos 0)) wide.0
+    ∙ sym (ap width_of meant.0))
+    ∙ ap (λ n. width_of (first_named r.plant.name plants) + n) (cast-wide plants cast meant.1 wide.1)
+
+pub wide-by : (s : Scene) (k : ℕ) (plants : List PlantView) (seats : List Seat) (gone : List Gone) → AskedSoFar s k plants seats gone →
+    length (numbers_in seats) ≡ widths_of s.plants s.names
+wide-by s k plants seats gone st =
+    ap (λ z. length (numbers_in z)) st.seats_are
+    ∙ cast-wide s.plants (st.done ++ st.rest) st.cast.meant
+    (all-wide s.outs s.outs (suc (length s.ins)) (length s.ins) st.done st.rest st.earlier st.later)
+    ∙ ap (widths_of s.plants) st.cast.named
+
+-- it stays while plants are asked
+pub wide-kept : (s : Scene) (j k : ℕ) (plants now : List PlantView) (seats next : List Seat) (gone later : List Gone) →
+    AskedSoFar s j plants seats gone → AskedSoFar s k now next later → length (numbers_in next) ≡ length (numbers_in seats)
+wide-kept s j k plants now seats next gone later before st = wide-by s k now next later st ∙ sym (wide-by s j plants seats gone before)

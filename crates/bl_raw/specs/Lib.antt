@@ -1,4 +1,0 @@
-pub mod Depths
-pub mod Keeps
-pub mod Names
-pub mod Starts

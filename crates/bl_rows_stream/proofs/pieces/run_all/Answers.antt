@@ -1,0 +1,16 @@
+use Rattle.std.proofs.Common.{arith, refl}
+use Rattle.bl_rows_stream.proofs.Steps.{going-here, going-within}
+use Rattle.bl_rows_stream.proofs.pieces.run_all.Goals as goal
+
+pub pieces-smaller : goal.pieces-smaller
+pieces-smaller g c =
+    let file = c.args.runner.now.parts in
+    let report = c.requires.begun.0 in
+    let start = c.requires.begun.1 in
+    let every = g.F.Files.left c.args.files.now c.args.name.now in
+    let before = c.requires.begun.2 in
+    let going = c.pieces.invariant.going report start before c.requires.begun.3 in
+    let next = c.in-Open.ensures.left report start every before (going-here report start file every before _ _ c.pieces.session c.pieces.runner going) in
+    let within = going-within report start c.pieces.runner.parts every before _ _ c.run_next.new.session c.run_next.new.runner next in
+    let further = c.in-Open.ensures.further refl in
+    omega arith

@@ -1,0 +1,22 @@
+//! Laws of runs over files of rows. None of these functions does anything: the contract is the law. What `count` writes
+//! are the counts of the ticks by what the file means (`specs/Counts.antt`, `counts_text`). A runner that goes on from
+//! numbers of the cells and writes nothing comes to what the trace from them comes to; where that is open it has the
+//! cells that the rows leave, and can be saved (`specs/Resumed.antt`, `RunsSilently`).
+#![tactic(auto)]
+
+ghost use Rattle.bl_ctext_semantics.specs.Parts.{Parts};
+ghost use Rattle.bl_rows_stream_laws.specs.Laws.{CountsAreTold, RunsAreSilent};
+
+use bl_save_laws::stays_ready;
+
+/// What `count` writes of a runner that was just loaded.
+pub fn counts_are_told()
+    ensures { (file : Parts) → CountsAreTold file }
+{}
+
+/// What a runner comes to that stands at numbers of the cells and writes nothing.
+pub fn silent_runs()
+    ensures { (file : Parts) → RunsAreSilent file }
+{
+    stays_ready();
+}

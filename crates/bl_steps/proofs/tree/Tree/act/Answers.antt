@@ -1,8 +1,0 @@
-use Rattle.bl_steps.specs.Running.{setting, state}
-use Rattle.bl_steps.proofs.TreeLemmas.{acts_nth}
-use Rattle.bl_steps.proofs.tree.Tree.act.Goals as goal
-
-pub returns-clause-step : goal.returns-clause-step
-returns-clause-step c =
-    acts_nth (setting c.args.self.now) (state c.args.self.now) (state c.perform.new.self) c.args.n c.in_ok-point.point c.perform.result
-    c.in_ok-point.ensures c.perform.ensures.step

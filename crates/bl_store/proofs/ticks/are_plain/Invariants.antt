@@ -1,7 +1,0 @@
-use Rattle.std.proofs.Common.{◌≡◌, drop}
-use Rattle.bl_store.specs.Ageing.{are_plain}
-use Rattle.bl_store.specs.Seen.{store_of}
-use Rattle.bl_store.proofs.ticks.are_plain.Given as goal
-
-abbrev pub invariant-loop-frame : goal.invariant-loop-frame
-invariant-loop-frame l = are_plain (store_of (drop l.frame-index l.frames)) ≡ are_plain (store_of l.frames)

@@ -1,5 +1,0 @@
-use Rattle.bl_stream.proofs.Fits.{lines-fit}
-use Rattle.bl_stream.proofs.laws.rows_of_lines_fit.Goals as goal
-
-pub returns : goal.returns
-returns c = lines-fit

@@ -1,5 +1,0 @@
-use Rattle.bl_stream_laws.proofs.Counting.{counts-told}
-use Rattle.bl_stream_laws.proofs.counts_are_told.Goals as goal
-
-pub returns : goal.returns
-returns c = counts-told

@@ -1,8 +1,0 @@
-//! Tests of `bl_stream` for what no command shows: the numbers of statements of ticks, a run that writes nothing, and
-//! a runner that goes on over a second file. There is nothing else here.
-#![tactic(auto)]
-
-#[cfg(test)]
-mod further;
-#[cfg(test)]
-mod hand;

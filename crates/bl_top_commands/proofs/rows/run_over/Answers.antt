@@ -1,0 +1,12 @@
+use Rattle.std.proofs.Common.{subst}
+use Rattle.bl_rows_stream.specs.Streams.{Streamed, course_from}
+use Rattle.bl_top_commands.proofs.Streams.{streams_end}
+use Rattle.bl_top_commands.proofs.rows.run_over.Goals as goal
+
+pub returns-clause-streams : goal.returns-clause-streams
+returns-clause-streams g c =
+    streams_end _ _ _ _ _ c.stream-finish.result c.end_of.result c.end_of.ensures
+    (subst (λ r. Streamed (course_from r) (g.F.Files.left c.args.files.now c.args.rows.now)
+    (g.F.Files.left c.stream-finish.new.files c.args.rows.now) (g.O.Sink.held c.args.out.now)
+    (g.O.Sink.held c.stream-finish.new.out) c.stream-finish.result) c.requires.fresh c.stream-finish.ensures.streamed)
+    c.stream-finish.ensures.read_fault c.stream-finish.ensures.write_fault

@@ -1,0 +1,44 @@
+-- What a call finds and leaves.
+use Rattle.std.specs.Prelude.{ℕ, List, Option}
+use Rattle.bl_io.specs.Count.{Rose}
+use Rattle.bl_top_args.specs.Jobs.{Word}
+
+-- a count of faults before and after the call
+pub record Count : Type 0 where
+  pub before : ℕ
+  pub after : ℕ
+
+-- a count rose, or stands where it can rise no more
+abbrev pub HasRisen : Count → Type 0
+HasRisen count = Rose count.before count.after
+
+-- a sink: its count of faults, and what it holds before the call and after it, where that is told
+pub record Output : Type 0 where
+  pub faults : Count
+  pub before : Option (List ℕ)
+  pub after : Option (List ℕ)
+
+-- a sink with these counts of its faults before and after the call, which holds this before it and this after it
+abbrev pub output_of : ℕ → ℕ → Option (List ℕ) → Option (List ℕ) → Output
+output_of before after held left = record { faults = record { before = before; after = after }; before = held; after = left }
+
+-- what a call of the program finds, and what it leaves
+pub record Call : Type 0 where
+  -- what is left of each file before the call and after it, where that is told
+  pub left : Word → Option (List ℕ)
+  pub rest : Word → Option (List ℕ)
+  -- the count of faults of each file
+  pub file : Word → Count
+  pub out : Output
+  pub notes : Output
+
+-- a call before which this is left of each file, and after it the rest, with these counts of the faults of each file before
+-- and after it, and these sinks
+abbrev pub call_of : (Word → Option (List ℕ)) → (Word → Option (List ℕ)) → (Word → ℕ) → (Word → ℕ) → Output → Output → Call
+call_of left rest before after out notes = record {
+  left = left;
+  rest = rest;
+  file = λ name. record { before = before name; after = after name };
+  out = out;
+  notes = notes;
+}

@@ -1,0 +1,72 @@
+-- The number and the line on `notes` that go with each status, and what a call writes there.
+use Rattle.std.specs.Prelude.{◌≢◌, ℕ, List, [], ◌∷◌, ◌++◌, codes, decimal}
+use Rattle.bl_top_commands.specs.Calls.{HasRisen, Output}
+use Rattle.bl_top_commands.specs.declared.status.Status.{Status}
+use Rattle.bl_top_commands.specs.declared.status.Status.TheVariants as status
+use Rattle.bl_io.specs.Held.{Appends, AppendsPart}
+use Rattle.bl_top_args.specs.Usage.{usage_line}
+
+-- the number that the process ends with
+abbrev pub code_of : Status → ℕ
+code_of status.Ok = 0
+code_of status.Refused = 1
+code_of status.Usage = 2
+code_of status.ReadFault = 3
+code_of status.WriteFault = 4
+code_of status.BadRows = 5
+code_of status.Trapped = 6
+code_of status.NoMemory = 7
+code_of status.NotSubset = 8
+code_of status.PlantFault = 9
+code_of status.PlantShape = 10
+code_of status.TooLarge = 11
+code_of status.SaveEnded = 14
+code_of status.BadState = 15
+
+-- ---- lines, each with its line feed
+
+-- the line of a status; none where it has none, or where what the job read decides it
+abbrev pub line_of : Status → List ℕ
+line_of status.Ok = []
+line_of status.Refused = []
+line_of status.Usage = usage_line
+line_of status.ReadFault = codes "read fault" ++ 10 ∷ []
+line_of status.WriteFault = []
+line_of status.BadRows = []
+line_of status.Trapped = []
+line_of status.NoMemory = codes "no memory" ++ 10 ∷ []
+line_of status.NotSubset = []
+line_of status.PlantFault = []
+line_of status.PlantShape = []
+line_of status.TooLarge = []
+line_of status.SaveEnded = codes "ended" ++ 10 ∷ []
+line_of status.BadState = []
+
+-- words and a number
+abbrev pub numbered_line : List ℕ → ℕ → List ℕ
+numbered_line words number = words ++ (decimal number ++ (10 ∷ []))
+
+-- the first bad line of a file of rows
+abbrev pub bad_rows_line : ℕ → List ℕ
+bad_rows_line line = numbered_line (codes "rows: line ") line
+
+-- where a text shows that it isn't one of the C subset
+abbrev pub not_subset_line : ℕ → List ℕ
+not_subset_line at = numbered_line (codes "not subset: at ") at
+
+-- how long a text is as far as it was read, how many cells a file needs, or how many stages a program would have
+abbrev pub too_large_line : ℕ → List ℕ
+too_large_line size = numbered_line (codes "too large: ") size
+
+-- where bytes show that they are no saved state
+abbrev pub bad_state_line : ℕ → List ℕ
+bad_state_line at = numbered_line (codes "bad state: at ") at
+
+-- ---- on `notes`
+
+-- the lines of a job that ends with this status were to be written: they were, or a write failed behind a front of them, and the call
+-- ends with that
+pub data Written (notes : Output) (lines : List ℕ) (meant : Status) : Status → Type 0 where
+  whole : Appends notes.before lines notes.after → Written notes lines meant meant
+  fault : lines ≢ [] → AppendsPart notes.before lines notes.after → HasRisen notes.faults → Written notes lines meant status.WriteFault
+  want : lines ≢ [] → AppendsPart notes.before lines notes.after → Written notes lines meant status.NoMemory
