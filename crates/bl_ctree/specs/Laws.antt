@@ -133,7 +133,7 @@ WokenTreeIsResidual = (w : Setting) (c : Control) → ResidualTree w c → Resid
 abbrev pub ReachedIsResidual : Type 0
 ReachedIsResidual = (w : Setting) (rows : List (List ℤ)) (c : Control) (store : Store) → Reaches w rows c store → ResidualTree w c
 
--- and inside ticks
+-- within ticks runs reach only a residual of the entry's body
 abbrev pub ReachedInsideIsResidual : Type 0
 ReachedInsideIsResidual =
     (w : Setting) (rows : List (List ℤ)) (row : List ℤ) (actions : List Action) (c : Control) (store : Store) →

@@ -41,7 +41,7 @@ pub record Seen : Type 0 where
   pub weak : Bool
   pub tree : Control
 
--- these branches, in order
+-- a list of branches as branches of a control tree, in order
 abbrev pub branches_of : List Seen → Branches
 branches_of [] = no_branch
 branches_of (b ∷ rest) = branch b.weak b.tree (branches_of rest)

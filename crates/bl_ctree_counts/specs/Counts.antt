@@ -3,7 +3,7 @@ use Rattle.std.specs.Prelude.{◌≡◌, ℕ, ◌+◌, ◌*◌, ◌<◌, ◌≤�
 use Rattle.std.specs.List.{sum}
 use Rattle.bl_ctree_counts.specs.declared.InCount.{InCount}
 
--- the sums are those of the first blocks of 64 counts, where they are known. No block that isn't whole has one; whether each whole one has isn't said
+-- the known sums are those of blocks of 64 counts, each of which is whole
 pub record HasSums (blocks : List (Option ℕ)) (counts : List ℕ) : Type 0 where
   pub whole : 64 * length blocks ≤ length counts
   pub sums : (b total : ℕ) → slice_get blocks b ≡ Some (Some total) →

@@ -25,7 +25,7 @@ mutual
     under_run : {i : ℕ} {s : Call} {callee : ℕ} {stood : Bool} {c : Tree} {a b : Deed} →
         Apart w callee c a b → Apart w i (Run s callee Body stood c) a b
 
-  -- the same among branches: in one of them, or in two
+  -- two deeds are of steps in different branches of a `cobegin`, either within one of the branches or across two of them
   pub data ApartIn (w : Setting) : ℕ → Trees → Deed → Deed → Type 0 where
     in_first : {i : ℕ} {weak : Bool} {c : Tree} {others : Trees} {a b : Deed} → Apart w i c a b → ApartIn w i (beside weak c others) a b
     in_others : {i : ℕ} {weak : Bool} {c : Tree} {others : Trees} {a b : Deed} → ApartIn w i others a b → ApartIn w i (beside weak c others) a b

@@ -36,8 +36,7 @@ pub data BlockSplitsAt (s : Plain) (rest : Block) : Block → Type 0 where
   there : {t : Plain} {body : Block} → BlockSplitsAt s rest body → BlockSplitsAt s rest (Then t body)
 
 mutual
-  -- what may be left of a block in an instance. What stood when the tick began has it said of what is around it too, so below
-  -- what has not stood nothing has
+  -- a plain tree is a residual of a block in an instance; nothing stands below what has not stood
   pub data PlainResidual (w : Setting) : (stood : Bool) → ℕ → Block → Tree → Type 0 where
     nothing : {stood : Bool} {i : ℕ} {body : Block} → PlainResidual w stood i body Nil
     -- what is left of its last statement
@@ -51,7 +50,7 @@ mutual
     to_begin : {stood : Bool} {i : ℕ} {s : Plain} → PlainResidualOf w stood i s (Do s)
     ended : {stood : Bool} {i : ℕ} {s : Plain} → PlainResidualOf w stood i s Nil
     paused : {stood : Bool} {i : ℕ} {l : Label} {at : Place} {e : Expr} → PlainResidualOf w stood i (Await l at e) (Wait (pause l at e))
-    -- only what stood has woken
+    -- a woken `await`, which only a part that stood has
     tested : {i : ℕ} {l : Label} {at : Place} {e : Expr} → PlainResidualOf w true i (Await l at e) (Test (pause l at e))
     of_then : {stood : Bool} {i : ℕ} {l : Label} {at : Place} {e : Expr} {body other : Block} {c : Tree} →
         PlainResidual w stood i body c → PlainResidualOf w stood i (If l at e body other) c
@@ -69,7 +68,7 @@ mutual
         PlainResidualOf w stood i (Until l at body e) c → PlainResidualOf w stood i (Again l at body e) c
     of_par : {around stood : Bool} {i : ℕ} {l : Label} {at : Place} {bodies : Bodies} {branches : Trees} → (stood ≡ true → around ≡ true) →
         PlainResidualEach w stood i bodies branches → PlainResidualOf w around i (Cobegin l at bodies) (Par (fork l at bodies) stood branches)
-    -- only what stood is still to be checked
+    -- a guard, which is still to be checked only where it stood
     of_guard : {around stood : Bool} {i : ℕ} {l : Label} {at : Place} {guard : GuardKind} {e : Expr} {body : Block} {phase : Phase} {c : Tree} →
         (stood ≡ true → around ≡ true) → (phase ≡ Check → stood ≡ true) → PlainResidual w stood i body c →
         PlainResidualOf w around i (When l at guard e body) (Guard (watch l at guard e body) phase stood c)

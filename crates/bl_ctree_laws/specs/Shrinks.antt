@@ -29,13 +29,13 @@ EndsShrink =
     (w : Setting) (i : ℕ) (c : Tree) (d : Bool) (a : Deed) (n : StepLabel) (c' : Tree) → Paces w → Moves Anyway w i c d a n c' →
     may_end c' ≡ true → may_end c ≡ true
 
--- what it may write after a step it might write before
+-- what a tree may write after a step it may write before the step
 abbrev pub WritesShrink : Type 0
 WritesShrink =
     (w : Setting) (i : ℕ) (c : Tree) (d : Bool) (a : Deed) (n : StepLabel) (c' : Tree) (at : Location) → Paces w → Moves Anyway w i c d a n c' →
     may_write w i c' at ≡ true → may_write w i c at ≡ true
 
--- so what it does not meet before a step it does not meet after it
+-- what a tree does not meet before a step it does not meet after the step
 abbrev pub MeetsShrink : Type 0
 MeetsShrink =
     (w : Setting) (i : ℕ) (c : Tree) (d : Bool) (a : Deed) (n : StepLabel) (c' : Tree) (other : Deed) → Paces w → Moves Anyway w i c d a n c' →

@@ -58,7 +58,7 @@ use Rattle.bl_ctree_laws.specs.Trees.{
 
 -- ---- the test of what stands beside
 
--- whatever the trees beside may write: steps are those that could act
+-- the test of a step that ignores what other branches may write
 abbrev pub Anyway : Bool → Type 0
 Anyway meets = ⊤
 
@@ -89,8 +89,7 @@ abbrev pub turn : Block → Plain → Block
 turn body next = before body (Then next Done)
 
 mutual
-  -- Moves T w i c d a n c': the tree c, which stands in the instance i, becomes c' by the deed a, where d is its answer and n
-  -- the label of the step; T is asked of what stands beside at each `cobegin` around
+  -- Moves T w i c d a n c': the tree c of instance i moves to c' by the deed a, answer d and label n; each `cobegin` around passes T
   pub data Moves (T : Bool → Type 0) (w : Setting) : ℕ → Tree → Bool → Deed → StepLabel → Tree → Type 0 where
     -- an assignment, a declaration, a call or a `return`
     acts : {i : ℕ} {l : Label} {s : Stmt} →
@@ -98,7 +97,7 @@ mutual
     -- the test of an `if` is true
     takes : {i : ℕ} {l : Label} {at : Place} {e : Expr} {body other : Block} →
         Moves T w i (Do (If l at e body other)) true (deed i at (Asks e)) (Here (TestAt l at e)) (do_block body)
-    -- it is false
+    -- the test of an `if` is false
     passes : {i : ℕ} {l : Label} {at : Place} {e : Expr} {body other : Block} →
         Moves T w i (Do (If l at e body other)) false (deed i at (Asks e)) (Here (TestAt l at e)) (do_block other)
     -- `await` always pauses when it is reached
@@ -138,10 +137,10 @@ mutual
     -- the condition of a guard is false: what is left of its body goes on
     lets : {i : ℕ} {s : Watch} {stood : Bool} {c : Tree} →
         Moves T w i (Guard s Check stood c) false (deed i s.place (Asks s.test)) (Here (CheckAt s.label s.place s.test)) (Guard s Body stood c)
-    -- it is true: `abort` drops the body
+    -- the condition of an `abort` guard is true: its body is dropped
     aborts : {i : ℕ} {s : Watch} {stood : Bool} {c : Tree} → s.guard ≡ Abort →
         Moves T w i (Guard s Check stood c) true (deed i s.place (Asks s.test)) (Here (CheckAt s.label s.place s.test)) Nil
-    -- and `reset` begins it anew
+    -- the condition of a `reset` guard is true: its body begins anew
     resets : {i : ℕ} {s : Watch} {stood : Bool} {c : Tree} → s.guard ≡ Reset →
         Moves T w i (Guard s Check stood c) true (deed i s.place (Asks s.test)) (Here (CheckAt s.label s.place s.test)) (Guard s Body stood (do_block s.body))
     -- a guard ends where its body has ended
@@ -172,7 +171,7 @@ mutual
         Moves T w callee c d a n c' → Moves T w i (Run s callee Body stood c) d a
         (Inside (run_node stood s.label s.place s.arguments) s.unit n) (Run s callee Body stood c')
 
-  -- one branch moves, where the others pass the test
+  -- a branch moves, where the others pass the test
   pub data OneMoves (T : Bool → Type 0) (w : Setting) : ℕ → Trees → Bool → Deed → StepLabel → Trees → Type 0 where
     first : {i : ℕ} {weak : Bool} {c : Tree} {others : Trees} {d : Bool} {a : Deed} {n : StepLabel} {c' : Tree} →
         Moves T w i c d a n c' → T (any_meets w i others a) → OneMoves T w i (beside weak c others) d a n (beside weak c' others)

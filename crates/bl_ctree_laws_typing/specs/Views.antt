@@ -14,7 +14,7 @@ pub record ViewTyped (structs : List StructDef) (unit : UnitDef) (view : View) :
   pub now : values_fit structs unit.vars view.now ≡ true
   pub before : values_fit structs unit.vars view.before ≡ true
 
--- in a typed program the statements of an instance see values of their variables' types, wherever these have their homes
+-- in a typed program each instance sees well-typed values of its variables, wherever their homes are
 abbrev pub ViewsAreTyped : Type 0
 ViewsAreTyped =
     (structs : List StructDef) (units : List UnitDef) (entry i : ℕ) (unit : UnitDef) (store : Store) → IsWellTyped structs units entry →

@@ -15,7 +15,7 @@ pub record Surface : Type 0 where
   pub instant : Bool
   pub writes : List Static
 
--- the same of a branch
+-- whether a branch may end in its first tick and is weak, and what it can write before it pauses
 pub record BranchSurface : Type 0 where
   pub ends : BranchInstant
   pub writes : List Static
@@ -105,6 +105,6 @@ stmt_layer_width s = s.what
 abbrev pub stmt_width : Stmt → ℕ
 stmt_width = fold-Stmt ℕ ℕ ℕ ℕ kind_width arm_width branch_width stmt_layer_width
 
--- the same of the body of an activity: how many counters its frame needs
+-- the most places of an activity's body that rest at once: the number of counters of its frame
 abbrev pub width : List Stmt → ℕ
 width body = greatest (map stmt_width body)

@@ -62,9 +62,7 @@ put_all [] values view now = now
 put_all (path ∷ paths) [] view now = now
 put_all (path ∷ paths) (value ∷ values) view now = put_all paths values view (put_back path value view now)
 
--- The outputs stand for the caller's paths. No two of them lead to one place, the inputs are copied, and the function
--- sees nothing else of its caller: so nobody else looks at these paths while it runs, and what they have when it ends
--- is all that a reference shows
+-- the caller's variables after a call: inputs and outputs are copied in, and outputs copied back, which alias-free paths make a reference
 abbrev pub outcome_of_call : List Meaning → List PathMeaning → View → Callee → Option (List Value)
 outcome_of_call inputs outputs view callee =
     option_and_then (λ values. option_map (λ left. put_all outputs left.outputs view view.now) (callee values))
@@ -84,7 +82,7 @@ acted scope _ view = None
 
 -- ---- the statements of a function, in order over the values of its own variables
 
--- how a statement ends: what follows goes on, or the function has returned
+-- the outcome of a statement of a function: go on with the next statement, or return
 pub data Flow : Type 0 where
   On : List Value → Flow
   Back : List Value → Option Datum → Flow
@@ -128,12 +126,11 @@ first_true_choice [] other now = other now
 first_true_choice (choice ∷ rest) other now =
     option_and_then (λ holds. if holds then choice.body now else first_true_choice rest other now) (choice.test now)
 
--- how many turns of a loop may begin since it was entered
+-- the greatest number of turns of a loop before it traps
 unfoldable pub most_turns : ℕ
 most_turns = 65536
 
--- a loop of which n turns may still begin: it ends where `goes` is false before a turn or `ends` is true after one, and
--- traps where a turn more would begin
+-- a loop with n turns left, a condition before and one after each turn; it traps where another turn would begin
 abbrev pub looped : (List Value → Option Bool) → StmtMeaning → (List Value → Option Bool) → ℕ → StmtMeaning
 looped goes body ends zero now = option_and_then (λ more. if more then None else Some (Flow.On now)) (goes now)
 looped goes body ends (suc n) now =
@@ -202,7 +199,7 @@ abbrev pub callee_of : List StructDef → List Callee → UnitDef → Callee
 callee_of structs callees unit arguments =
     option_map (left_by unit) (in_order (map (does (scope_among structs callees unit)) unit.body) (frame_of structs unit arguments))
 
--- the functions once these units have joined them, each of which sees those before it
+-- the functions with the units appended, each of which sees those before it
 abbrev pub callees_after : List StructDef → List Callee → List UnitDef → List Callee
 callees_after structs callees [] = callees
 callees_after structs callees (unit ∷ rest) = callees_after structs (callees ++ callee_of structs callees unit ∷ []) rest

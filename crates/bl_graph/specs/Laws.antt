@@ -27,7 +27,7 @@ pub record WayThrough (s : Plain) : Type 0 where
   pub walk : Walk (Edge s) (entry s) end
   pub leads_on : Out s end
 
--- the same of a block in which something stands
+-- a walk in a non-empty block leads from its entry to a node that leads on
 pub record WayThroughAll (body : Block) : Type 0 where
   pub end : Node
   pub is_reached : In false body end
@@ -75,7 +75,7 @@ abbrev pub EdgesAreListed : Type 0
 EdgesAreListed = (body : List Stmt) (at : Position) (n m : Node) →
     Contains (edges_in (plain_block body at)) (pair n m) ↔ EdgeAll (plain_block body at) n m
 
--- and the listed flows are its data edges
+-- the listed flows of a body are its data edges
 abbrev pub FlowsAreListed : Type 0
 FlowsAreListed = (body : List Stmt) (at : Position) (n m : Node) →
     Contains (flows_in (plain_block body at)) (pair n m) ↔ DataEdge (plain_block body at) n m

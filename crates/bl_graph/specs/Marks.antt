@@ -84,12 +84,12 @@ abbrev pub moved : Mark → List Marked → List Marked
 moved entry [] = []
 moved entry (m ∷ rest) = record { node = m.node; mark = inner entry m.mark } ∷ moved entry rest
 
--- how some of these are reached
+-- the ways in which some node of a list is reached
 abbrev pub some_of : List Marked → Mark
 some_of [] = unreached
 some_of (m ∷ rest) = either m.mark (some_of rest)
 
--- how some of these leave their branch
+-- the ways in which some node of a list leaves its branch
 abbrev pub leaves : List Marked → Mark
 leaves [] = unreached
 leaves (m ∷ rest) = either (leaving m.mark) (leaves rest)
@@ -141,7 +141,7 @@ abbrev pub join_mark : Mark → Mark
 join_mark left = record { surface = true; depth = left.surface }
 
 abbrev mutual
-  -- of a statement: its nodes with their marks in it
+  -- the nodes of a statement with their marks in it, and those that lead on
   pub part_of : Plain → GraphPart
   part_of (Act l s) = record { nodes = marked entered (ActAt l s) ∷ []; outs = marked entered (ActAt l s) ∷ [] }
   part_of (Await l at e) = record {
@@ -188,7 +188,7 @@ abbrev mutual
     outs = marked (again_by (some_of (part_in body).outs)) (TestAt l at e) ∷ [];
   }
 
-  -- of a block: what follows a statement is reached as some node is that leads on from it
+  -- the marked nodes of a block: what follows a statement is reached as some node that leads on from it
   pub part_in : Block → GraphPart
   part_in Done = record { nodes = []; outs = [] }
   part_in (Then s rest) = record {
@@ -196,7 +196,7 @@ abbrev mutual
     outs = if is_empty rest then (part_of s).outs else moved (some_of (part_of s).outs) (part_in rest).outs;
   }
 
-  -- of branches: each node has its mark in its own branch. A weak branch may be left at any node
+  -- the nodes of branches, each marked in its own branch; a weak branch may be left at any node
   pub parts_of : Bodies → BranchParts
   parts_of Last = record { nodes = []; left = unreached }
   parts_of (Body weak body rest) = record {

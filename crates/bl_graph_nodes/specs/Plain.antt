@@ -33,7 +33,7 @@ mutual
     Await : Label → Place → Expr → Plain
     -- the target, the activity, its inputs and its outputs
     Run : Label → Place → Option Path → ℕ → List Expr → List Path → Plain
-    -- one condition, what is done where it is true, and what else
+    -- an `if` with one condition, its block, and the block executed otherwise
     If : Label → Place → Expr → Block → Block → Plain
     Cobegin : Label → Place → Bodies → Plain
     When : Label → Place → Guard → Expr → Block → Plain

@@ -12,11 +12,11 @@ pub record IsNext (bytes : List ℕ) (n : ℕ) (room : List ℕ) (after : Option
 abbrev pub HandsOver : Option (List ℕ) → ℕ → List ℕ → Option (List ℕ) → Type 0
 HandsOver before n room after = IfSome before (λ bytes. IsNext bytes n room after)
 
--- where the bytes left are told, they are as before
+-- the bytes left stay as they are, where they are told
 abbrev pub IsKept : Option (List ℕ) → Option (List ℕ) → Type 0
 IsKept before after = IfSome before (λ bytes. after ≡ Some bytes)
 
--- what is left of each other name is as before, where it is told
+-- the bytes left of every other name stay as they are, where they are told
 abbrev pub KeepsOthers : List ℕ → (List ℕ → Option (List ℕ)) → (List ℕ → Option (List ℕ)) → Type 0
 KeepsOthers name before after = (other : List ℕ) → other ≢ name → IsKept (before other) (after other)
 

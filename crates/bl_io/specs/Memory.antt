@@ -32,7 +32,7 @@ no_files = record { files = map.empty; plan = no_plan }
 abbrev pub nothing_held : MemorySink
 nothing_held = record { held = []; plan = no_plan }
 
--- how many bytes the next call gives, if it does not fail
+-- the number of bytes that the next call gives, none if that call fails or the file is absent
 abbrev pub gives : MemoryFiles → List ℕ → ℕ → Option ℕ
 gives m name room = if fails_next m.plan then None else option_map (handed room m.plan.most) (map.get m.files name)
 

@@ -38,7 +38,7 @@ CellsAdd =
 abbrev pub NoChainIsLonger : Type 0
 NoChainIsLonger = (units : List UnitDef) (k : ℕ) (rest : List ℕ) → IsChain units (k ∷ rest) → length (k ∷ rest) ≤ chain_at units k
 
--- and one has that many
+-- some chain that begins with a unit has as many units as the number says
 abbrev pub SomeChainIsAsLong : Type 0
 SomeChainIsAsLong =
     (units : List UnitDef) (k : ℕ) → k < length units → (rest : List ℕ) × (IsChain units (k ∷ rest)) × (length (k ∷ rest) ≡ chain_at units k)

@@ -58,7 +58,7 @@ abbrev pub named_length : Scopes → RawLength → NamedLength
 named_length scopes (raw_length.Number n) = named_count.Number n
 named_length scopes (raw_length.Constant name) = named_count.Constant name.place (position scopes name)
 
--- one level of a type, from its element
+-- one layer of a type with positions in place of names, from its element
 abbrev pub named_type_level : Scopes → RawType-F NamedType → NamedType
 named_type_level scopes (RawType-F.Scalar s) = type.Scalar s
 named_type_level scopes (RawType-F.Struct name) = type.Struct (position scopes name)
@@ -70,7 +70,7 @@ named_type scopes = fold-RawType NamedType (named_type_level scopes)
 
 -- ---- expressions
 
--- one layer of an expression, from its operands
+-- one layer of an expression with positions in place of names, from its operands
 abbrev pub named_kind : Scopes → RawExprKind-F NamedExprKind NamedPart NamedExpr NamedTarget → NamedExprKind
 named_kind scopes (RawExprKind-F.Number minus n) = what.Number minus n
 named_kind scopes (RawExprKind-F.Truth b) = what.Truth b

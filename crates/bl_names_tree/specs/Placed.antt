@@ -49,7 +49,7 @@ use Rattle.bl_names_tree.specs.declared.types.NamedLength.TheVariants as count
 use Rattle.bl_names_tree.specs.declared.types.NamedType.{NamedType, fold-NamedType}
 use Rattle.bl_names_tree.specs.declared.types.NamedType.TheOpen.{NamedType-F}
 
--- how many structs, constants and units of the program, and variables of the unit, are declared before a place of the text
+-- the numbers of structs, constants and units of the program, and of variables of the unit, declared before a place
 pub record DeclaredBefore : Type 0 where
   pub structs : ℕ
   pub constants : ℕ
@@ -150,7 +150,7 @@ struct_placed earlier def = list_all (λ field. type_placed earlier field.ty) de
 abbrev pub PlacedStep : Type 0
 PlacedStep = DeclaredBefore → Option DeclaredBefore
 
--- one part after another
+-- the steps of several parts, one after another
 abbrev pub in_turn : List PlacedStep → PlacedStep
 in_turn [] earlier = Some earlier
 in_turn (step ∷ rest) earlier = option_and_then (in_turn rest) (step earlier)
@@ -175,8 +175,7 @@ arguments_placed earlier f inputs outputs = nat_lt f earlier.units && (list_all 
 abbrev pub tested : NamedExpr → List PlacedStep → PlacedStep
 tested e body earlier = if expr_placed earlier e then in_turn body earlier else None
 
--- the statements of a unit that has these variables in a program that has these constants: a variable is declared at the
--- next position, and so is a constant
+-- the step of one layer of a statement: a variable and a constant are declared at the next position
 abbrev pub stmt_kind_step : List NamedVar → List NamedConstant → NamedStmtKind-F PlacedStep PlacedStep PlacedStep PlacedStep → PlacedStep
 stmt_kind_step vars constants (NamedStmtKind-F.Declare k value) earlier =
     if nat_eq k earlier.variables && (holds_of (var_placed earlier) (slice_get vars k) && holds_if (expr_placed earlier) value)
@@ -214,7 +213,7 @@ stmt_step vars constants = fold-NamedStmt PlacedStep PlacedStep PlacedStep Place
 
 -- ---- items
 
--- how many parameters a unit has: they stand first among its variables
+-- the number of parameters of a unit, which stand first among its variables
 abbrev pub parameters : NamedUnit → ℕ
 parameters unit = unit.inputs + unit.outputs
 
@@ -226,7 +225,7 @@ roles_placed unit =
     && (list_all (λ var. is_output var.role) (take unit.outputs (drop unit.inputs unit.vars))
     && list_all (λ var. is_variable var.role || is_fixed var.role) (drop (parameters unit) unit.vars)))
 
--- whether the variables of a unit stand in order of their roles, and what the types of its parameters and of its result name is earlier
+-- whether the variables of a unit are ordered by role, and its parameters and result have types declared earlier
 abbrev pub head_placed : DeclaredBefore → NamedUnit → Bool
 head_placed earlier unit =
     roles_placed unit && (list_all (var_placed earlier) (take (parameters unit) unit.vars) && holds_if (type_placed earlier) unit.result)

@@ -101,7 +101,7 @@ constant_named constant = named constant.name && (optional type_named constant.t
 abbrev pub arguments_named : List RawExpr → List RawPath → Bool
 arguments_named inputs outputs = list_all expr_named inputs && list_all path_named outputs
 
--- whether every name in one layer of a statement is one and what the grammar wants is there, where all in its arms, branches and blocks stands
+-- whether one layer of a statement has names and parts where the grammar wants them, given its arms, branches and blocks
 abbrev pub stmt_kind_stands : RawStmtKind-F Bool Bool Bool Bool → Bool
 stmt_kind_stands (RawStmtKind-F.Var name ty value) =
     named name && (optional type_named ty && (optional expr_named value && (is_some ty || is_some value)))

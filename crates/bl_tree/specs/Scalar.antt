@@ -5,14 +5,14 @@ use Rattle.bl_tree.specs.declared.scalar.Width.TheVariants.{W8, W16, W32, W64}
 use Rattle.bl_tree.specs.declared.scalar.Scalar.{Scalar}
 use Rattle.bl_tree.specs.declared.scalar.Scalar.TheVariants.{Bool as OfBool, Int, Nat, Bits}
 
--- how many bits a width stands for
+-- the number of bits of a width
 abbrev pub bits_of : Width → ℕ
 bits_of W8 = 8
 bits_of W16 = 16
 bits_of W32 = 32
 bits_of W64 = 64
 
--- how many bits a number of the type has
+-- the number of bits of a scalar type
 abbrev pub width_of : Scalar → ℕ
 width_of OfBool = 1
 width_of (Int w) = bits_of w
@@ -38,7 +38,7 @@ pub record InRange (t : Scalar) (n : ℤ) : Type 0 where
   pub above : low_of t ≤ℤ n
   pub below : n ≤ℤ high_of t
 
--- the same, as a test
+-- whether n is a number of the type
 abbrev pub in_range : Scalar → ℤ → Bool
 in_range t n = int_le (low_of t) n && int_le n (high_of t)
 

@@ -99,7 +99,7 @@ path_reach path = record {
   indices = joined (map (λ step. step.reads) path.parts);
 }
 
--- the static paths that an expression reads, in source order: that of each path in it and what the indices of that path read; `prev x` reads nothing
+-- the static paths that an expression reads in source order, those of indices included; `prev x` reads none
 abbrev pub mentions : Expr → List Static
 mentions = fold-Expr (List Static) StaticStep (List Static) Reach kind_mentions part_step expr_mentions path_reach
 

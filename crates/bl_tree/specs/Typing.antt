@@ -185,7 +185,7 @@ type_of_path site = fold-Path (Option Ty) (Ty → Option Ty) (Option Ty) (Option
 
 -- ---- statements
 
--- whether both have types, and these are one
+-- whether two optional types are present and equal
 abbrev pub are_same : Option Ty → Option Ty → Bool
 are_same (Some a) (Some b) = same_type a b
 are_same _ _ = false
@@ -234,7 +234,7 @@ arguments_fit site inputs outputs callee =
 abbrev pub is_procedure : UnitDef → Bool
 is_procedure callee = is_function callee.kind && is_none callee.result
 
--- whether a call statement may call the unit at its position with these arguments; there must be one
+-- whether a call statement may call an optional unit with these arguments; an absent unit may not be called
 abbrev pub call_fits : TypingContext → List Expr → List Path → Option UnitDef → Bool
 call_fits site inputs outputs (Some callee) = is_procedure callee && arguments_fit site inputs outputs callee
 call_fits site inputs outputs None = false

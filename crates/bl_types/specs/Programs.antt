@@ -16,7 +16,7 @@ use Rattle.bl_types.specs.Units.{after_unit, entries, entry_among}
 abbrev pub fresh : Environment
 fresh = record { structs = []; constants = []; units = []; vars = []; kind = Function; result = None }
 
--- the same, where no rule fails so far
+-- the state of the judgement before a program, in which no rule fails
 abbrev pub start : State
 start = record { env = fresh; notes = record { first = None } }
 
@@ -34,7 +34,7 @@ after_item named item.Struct env = after_next after_struct (slice_get named.stru
 after_item named item.Constant env = after_next after_constant (slice_get named.constants (length env.constants)) env
 after_item named item.Unit env = after_next (after_unit named.constants) (slice_get named.units (length env.units)) env
 
--- after these items, one after another
+-- what is known after several items, one after another
 abbrev pub after_items : Named → List Item → Environment → Declaring
 after_items named [] env = unchanged env
 after_items named (item ∷ rest) env = and_then (after_item named item env) (after_items named rest)

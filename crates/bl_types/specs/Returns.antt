@@ -110,7 +110,7 @@ function_returns unit = is_none unit.result || (nat_eq unit.outputs 0 && last_of
 abbrev pub activity_returns : NamedUnit → Bool
 activity_returns unit = is_none unit.result || last_of (map is_return unit.body)
 
--- Return: at the name of a unit that doesn't return as its result asks; in an activity at each `return` that isn't last directly in its body
+-- the failures of rule Return: a unit that doesn't return as its result asks, or a stray `return` of an activity
 abbrev pub return_failures : NamedUnit → List Failure
 return_failures unit =
     if is_activity unit.kind

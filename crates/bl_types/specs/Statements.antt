@@ -82,19 +82,19 @@ use Rattle.bl_types.specs.Settled.{Settled}
 
 -- ---- what one statement or block comes to
 
--- what is known after a part of a body, what is made of it where what stands in it has types that fit, and what fails in it
+-- the judgement of a part of a body: what is known after it, its typed form if it has one, and its failures
 pub record Walked (A : Type 0) : Type 0 where
   pub env : Environment
   pub made : Option A
   pub failures : List Failure
 
--- the same of a list
+-- the judgement of a list of parts: what is known after it, the typed forms, and the failures
 pub record Block (A : Type 0) : Type 0 where
   pub env : Environment
   pub made : List A
   pub failures : List Failure
 
--- one part after another
+-- the judgement of several parts, one after another
 abbrev pub in_order : {A : Type 0} → List (Environment → Walked A) → Environment → Block A
 in_order [] env = record { env = env; made = []; failures = [] }
 in_order (part ∷ rest) env =

@@ -45,7 +45,7 @@ pub record EnvironmentWithin (env : Environment) (site : TypingContext) : Type 0
   pub constants : (k : ℕ) (constant : Constant) → slice_get env.constants k ≡ Some constant → ConstantStands constant
   pub heads : list_all has_parameters site.earlier ≡ true
 
--- how much is known
+-- the numbers of declarations that an environment knows
 abbrev pub known_in : Environment → DeclaredBefore
 known_in env = record { structs = length env.structs; constants = length env.constants; units = length env.units; variables = length env.vars }
 

@@ -25,11 +25,11 @@ abbrev pub near : Table → Location → ℕ → List Key
 near table at many =
     keys_between key_cmp (Included (at.instance, at.path.root, 0)) (Excluded (at.instance, at.path.root, many)) table.by_variable
 
--- the branch with number k is noted at the variable of each of these homes
+-- the branch with number k is noted at the variable of each home in the list
 abbrev pub Noted : Table → ℕ → List Location → Type 0
 Noted table k homes = (m : ℕ) (at : Location) → slice_get homes m ≡ Some at → is_noted table k at ≡ true
 
--- the same of each branch and its homes
+-- each branch is noted at the variables of all its homes
 abbrev pub AllNoted : Table → List (List Location) → Type 0
 AllNoted table all = (k : ℕ) (homes : List Location) → slice_get all k ≡ Some homes → Noted table k homes
 

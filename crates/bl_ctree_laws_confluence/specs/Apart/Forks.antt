@@ -43,12 +43,12 @@ abbrev mutual
   EachFork P (While l at e body) = EachForkIn P body
   EachFork P (Again l at body e) = EachForkIn P body
 
-  -- of those of each in the block
+  -- P holds of the branches of each `cobegin` in the block
   pub EachForkIn : (Bodies → Type 0) → Block → Type 0
   EachForkIn P Done = ⊤
   EachForkIn P (Then s rest) = EachFork P s × EachForkIn P rest
 
-  -- and in each of the branches
+  -- P holds of the branches of each `cobegin` inside the branches
   pub EachForkInEach : (Bodies → Type 0) → Bodies → Type 0
   EachForkInEach P Last = ⊤
   EachForkInEach P (BodyOf weak body rest) = EachForkIn P body × EachForkInEach P rest

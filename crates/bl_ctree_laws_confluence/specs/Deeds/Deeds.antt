@@ -61,7 +61,7 @@ abbrev pub effect_results : Effect → List ℕ
 effect_results (Gives callee target) = callee ∷ []
 effect_results _ = []
 
--- the home overlaps none of these
+-- the home overlaps none of the homes in the list
 abbrev pub ClearOf : Location → List Location → Type 0
 ClearOf at [] = ⊤
 ClearOf at (other ∷ rest) = (overlap at other ≡ false) × ClearOf at rest
@@ -71,12 +71,12 @@ abbrev pub Clear : List Location → List Location → Type 0
 Clear [] others = ⊤
 Clear (at ∷ rest) others = ClearOf at others × Clear rest others
 
--- the instance is none of these
+-- the instance is not in the list
 abbrev pub NoneOf : ℕ → List ℕ → Type 0
 NoneOf i [] = ⊤
 NoneOf i (j ∷ rest) = (nat_eq i j ≡ false) × NoneOf i rest
 
--- nor is it that of one of these homes
+-- the instance is that of none of the homes in the list
 abbrev pub NoHome : ℕ → List Location → Type 0
 NoHome i [] = ⊤
 NoHome i (at ∷ rest) = (nat_eq i at.instance ≡ false) × NoHome i rest
@@ -89,7 +89,7 @@ pub record Untouched (w : Setting) (i : ℕ) (e : Effect) (frame : ℕ) : Type 0
   pub results : NoneOf frame (effect_results e)
   pub frames : NoneOf frame (effect_frames i e)
 
--- nor is any of these
+-- the effect touches none of the frames in the list
 abbrev pub AllUntouched : Setting → ℕ → Effect → List ℕ → Type 0
 AllUntouched w i e [] = ⊤
 AllUntouched w i e (frame ∷ rest) = Untouched w i e frame × AllUntouched w i e rest

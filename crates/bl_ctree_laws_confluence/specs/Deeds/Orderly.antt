@@ -22,15 +22,15 @@ use Rattle.bl_ctree_laws_confluence.specs.Deeds.Homes.{OutputsAreApart}
 
 -- what holds of a unit that has an instance
 pub record OrderlyUnit (structs : List StructDef) (units : List UnitDef) (unit : UnitDef) : Type 0 where
-  -- it is a unit of the program
+  -- the unit is one of the program
   pub is_there : Contains units unit
-  -- and an activity, whose inputs stand first, then its outputs, then what its body declares
+  -- the unit is an activity, whose inputs stand first, then its outputs, then what its body declares
   pub activity : is_activity unit.kind ≡ true
   pub roles : roles_stand unit ≡ true
-  -- its statements are typed among the units before it
+  -- the unit's statements are typed among the units before it
   pub earlier : List UnitDef
   pub typed : all_of (map (fits (site_of structs earlier unit)) unit.body) ≡ true
-  -- its body can't end in the tick in which it begins
+  -- the unit's body can't end in the tick in which it begins
   pub pauses : is_instant_block unit.body ≡ false
   -- acts of two branches of one `cobegin` write static paths that don't overlap, a `run` its outputs and its target
   pub conflicts : (split : Split) (first second : Marked) (var : Var) → Contains (splits_of unit) split → Contains split.earlier first →
@@ -50,9 +50,9 @@ pub record Orderly (structs : List StructDef) (units : List UnitDef) (w : Settin
   pub each : (i : ℕ) (unit : UnitDef) → unit_at w i ≡ Some unit → OrderlyUnit structs units unit
   -- no body ends in the tick in which it begins
   pub paces : Paces w
-  -- and the bodies are typed
+  -- the bodies are typed
   pub fitted : Fitted w
-  -- and no two outputs of a call overlap
+  -- no two outputs of a call overlap
   pub outputs : OutputsAreApart w
 
 -- a typed program that passes the rules on pauses, writes and outputs is orderly

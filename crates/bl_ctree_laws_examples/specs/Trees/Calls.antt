@@ -44,7 +44,7 @@ caller =
 abbrev pub units : List UnitDef
 units = first_called ∷ second_called ∷ caller ∷ []
 
--- its instances: M itself, A with x as its output, and B with M's o
+-- the instances of the example: M itself, A with x as its output, and B with M's o
 abbrev pub instances : List Instance
 instances =
     record { unit = 2; depth = 0; origin = None }

@@ -108,10 +108,10 @@ tests_guard = deed 0 (at 9) (Asks (flag c))
 abbrev pub wakes : Deed
 wakes = deed 0 (at 5) (Asks always)
 
--- the label of the first of these steps
+-- the label of the guard's check
 abbrev pub at_guard : StepLabel
 at_guard = Here (CheckAt guard_label (at 9) (flag c))
 
--- that of the second
+-- the label of the `await`'s test in the second branch
 abbrev pub at_await : StepLabel
 at_await = Here (TestAt (label_at (0 ∷ 1 ∷ 1 ∷ 0 ∷ 0 ∷ [])) (at 5) always)

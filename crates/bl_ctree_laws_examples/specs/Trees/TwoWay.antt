@@ -46,7 +46,7 @@ left_repeat = stmt 6 (StmtKind-F.Repeat (sets_x ∷ sets_o ∷ pause 3 ∷ []))
 abbrev pub right_repeat : Stmt
 right_repeat = stmt 7 (StmtKind-F.Repeat (sets_y ∷ pause 5 ∷ []))
 
--- both beside each other
+-- the two loops as strong branches of a `cobegin`
 abbrev pub both_loops : Stmt
 both_loops = stmt 9 (StmtKind-F.Cobegin (strong (left_repeat ∷ []) ∷ strong (right_repeat ∷ []) ∷ []))
 
@@ -77,7 +77,7 @@ activity = record {
 abbrev pub left : Position
 left = 2 ∷ 0 ∷ 0 ∷ []
 
--- that of the second
+-- the position of the second loop
 abbrev pub right : Position
 right = 2 ∷ 1 ∷ 0 ∷ []
 

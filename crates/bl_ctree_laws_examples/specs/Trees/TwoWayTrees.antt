@@ -32,7 +32,7 @@ before_o = Seq (Do (Act (inside left 1) sets_o)) left_pause
 abbrev pub left_done : Tree
 left_done = Seq (Do (Await (inside left 2) (at 3) always)) (Then left_loop Done)
 
--- where it pauses
+-- the tree of the first loop where it pauses
 abbrev pub left_paused : Tree
 left_paused = Seq (Wait (pause (inside left 2) (at 3) always)) (Then left_loop Done)
 
@@ -48,7 +48,7 @@ before_y = Seq (Do (Act (inside right 0) sets_y)) right_pause
 abbrev pub right_done : Tree
 right_done = Seq (Do (Await (inside right 1) (at 5) always)) (Then right_loop Done)
 
--- where it pauses
+-- the tree of the second loop where it pauses
 abbrev pub right_paused : Tree
 right_paused = Seq (Wait (pause (inside right 1) (at 5) always)) (Then right_loop Done)
 

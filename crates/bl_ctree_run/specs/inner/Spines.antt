@@ -13,8 +13,7 @@ use Rattle.bl_ctree_enabled.specs.Spots.{spot_of}
 use Rattle.bl_ctree_run.specs.declared.listed.Kept.{Kept}
 use Rattle.bl_ctree_run.specs.declared.listed.Next.{Next}
 
--- the branches of the `cobegin` at the end of the spine of a tree that stands in the instance, and the instance in which they stand;
--- no branch where the spine ends in another node
+-- the fork at the end of a tree's spine and its instance, without branches where the spine ends in another node
 abbrev pub fork_at : ℕ → Control → Fork
 fork_at i Nil = fork_of i Nil
 fork_at i (Wait s) = fork_of i (Wait s)
@@ -85,12 +84,12 @@ pub record Fits (w : Setting) (c : Control) (l : EnabledView) (d : Control) (kep
   pub spots : map spot_of kept.found.points ≡ spots_in w (fork_at 0 c).instance kept.branch d
   pub free : kept.free ≡ flags_of l.homes kept.branch (map spot_of kept.found.points)
 
--- the same where something is kept, which is so only where something is listed
+-- an optional kept listing fits the tree; nothing is kept where nothing is listed
 abbrev pub FitsAny : Setting → Control → Option EnabledView → Control → Option Kept → Type 0
 FitsAny w c listed d None = Unit {0}
 FitsAny w c None d (Some kept) = ⊥
 FitsAny w c (Some l) d (Some kept) = Fits w c l d kept
 
--- the same of the tree to which an action leads
+-- the listing kept for the tree after an action fits that tree
 abbrev pub FitsListed : Setting → Control → Option EnabledView → Next → Type 0
 FitsListed w c listed next = FitsAny w c listed (control_of next.tree) next.kept

@@ -79,16 +79,16 @@ pub record Told : Type 0 where
 abbrev pub told_of : Act → Told
 told_of a = record { place = a.place; instance = a.instance; effect = effect_in a.effect; paths = a.reads }
 
--- the same, where there is such a point
+-- the view by the code of an optional point
 abbrev pub told_all : Option Act → List Told
 told_all None = []
 told_all (Some a) = told_of a ∷ []
 
--- the same of a point of the definition
+-- the view of a point of the semantics
 abbrev pub told_point : {A : Type 0} → Point A → Told
 told_point p = record { place = p.action.place; instance = p.action.instance; effect = p.action.effect; paths = effect_paths p.action.effect }
 
--- a point of a node to which these branches lead, where this is told of it
+-- the spot of a node's point with this path of branches and this view
 abbrev pub spot_told : Setting → List ℕ → Told → Spot
 spot_told w path t = record { place = t.place; instance = t.instance; effect = t.effect; reads = homes w t.instance t.paths; path = path }
 
@@ -96,7 +96,7 @@ spot_told w path t = record { place = t.place; instance = t.instance; effect = t
 abbrev pub telling : Place → ℕ → Effect → List Told
 telling place i effect = record { place = place; instance = i; effect = effect; paths = effect_paths effect } ∷ []
 
--- that of a `run` statement at the place
+-- the view of a `run` statement at the place
 abbrev pub told_run : Setting → ℕ → Place → List Expr → List Told
 told_run w i place inputs =
     or_nothing (option_and_then (λ callee. option_map (λ unit. telling place i (Copies callee inputs)) (unit_at w callee)) (callee_of w i place))
@@ -148,7 +148,7 @@ seen_begun position k (b ∷ rest) =
     record { weak = (out-Branch b).weak; tree = do_all (items_from (position ++ k ∷ []) 0 (out-Branch b).body) } ∷ seen_begun position (suc k) rest
 
 abbrev mutual
-  -- what the tree becomes by an answer of the point to which these branches lead
+  -- the tree after an answer of the point to which this path of branches leads
   pub after_by : Setting → ℕ → Control → List ℕ → Bool → Control
   after_by w i Nil path d = Nil
   after_by w i (Wait s) path d = Nil

@@ -6,7 +6,7 @@ use Rattle.bl_types.specs.declared.environment.State.{State}
 use Rattle.bl_types.specs.Declarations.{Declaring}
 use Rattle.bl_types.specs.Failures.{noted}
 
--- names stand for this, and these rules fail too
+-- the state with another environment and further failures noted
 abbrev pub passed : State → Environment → List Failure → State
 passed state env failures = record { env = env; notes = noted state.notes failures }
 
