@@ -7,7 +7,7 @@ abbrev pub EdgeWalk : List Edge → ℕ → List Edge → ℕ → Type 0
 EdgeWalk edges first [] last = first ≡ last
 EdgeWalk edges first (edge ∷ rest) last = Contains edges edge × (edge.from ≡ first) × EdgeWalk edges edge.to rest last
 
--- a walk of one edge or more that ends where it begins; an edge from a node to itself is one
+-- a walk of one or more edges that ends where it begins
 abbrev pub ClosedWalk : List Edge → List Edge → Type 0
 ClosedWalk edges [] = ⊥
 ClosedWalk edges (edge ∷ rest) = Contains edges edge × EdgeWalk edges edge.to rest edge.from

@@ -83,7 +83,7 @@ FrontsAreSteps =
     (w : Setting) (c : Control) (store : Store) (front rest : List Action) (end : End) →
     Steps w c store (front ++ rest) end → Taking w c store front
 
--- a list of steps and one from where it leads are one list of steps
+-- a list of steps followed by one from where it leads is a list of steps
 abbrev pub StepsFollow : Type 0
 StepsFollow =
     (w : Setting) (c : Control) (store : Store) (front rest : List Action) (c' : Control) (store' : Store) (end : End) →

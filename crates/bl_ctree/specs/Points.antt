@@ -81,7 +81,7 @@ one_on (k ∷ path) = suc k ∷ path
 abbrev pub in_later : (Branches → Branches) → Point Branches → Point Branches
 in_later around point = record { action = point.action; path = one_on point.path; after = λ d. around (point.after d) }
 
--- an action that has the one answer true
+-- the point of an action whose only answer is true
 abbrev pub sure : ℕ → Located → Effect → Control → List (Point Control)
 sure i s effect after = record { action = action i s effect; path = []; after = λ d. after } ∷ []
 

@@ -73,7 +73,7 @@ mutual
     of_guard : {around stood : Bool} {i : ℕ} {s : Located} {guard : GuardKind} {e : Expr} {body : List Stmt} {phase : Phase} {c : Control} →
         kind_of s ≡ StmtKind-F.When guard e body → (stood ≡ true → around ≡ true) → (phase ≡ Check → stood ≡ true) →
         Residual w stood i (block_items s 0 body) c → ResidualOf w around i (Begin s) (Guard s phase stood c)
-    -- the instance is the one that the `run` begins, and what is left of its body stands there
+    -- a Run over the instance that the `run` begins, with a residual of its body
     of_run : {around stood : Bool} {i : ℕ} {s : Located} {target : Option Path} {a : ℕ} {inputs : List Expr} {outputs : List Path}
         {callee : ℕ} {unit : UnitDef} {phase : Phase} {c : Control} →
         kind_of s ≡ StmtKind-F.Run target a inputs outputs → callee_of w i (place_of s) ≡ Some callee → unit_at w callee ≡ Some unit →

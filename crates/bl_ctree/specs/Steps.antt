@@ -48,7 +48,7 @@ else_items s other = block_items s (suc s.passed) other
 abbrev pub turn_items : Located → List Stmt → Item → List Item
 turn_items s body next = block_items s 0 body ++ next ∷ []
 
--- Moves w i c d a c': the tree c of instance i moves to c' by the action a with the answer d; constructors of own points come first
+-- Moves w i c d a c': the tree c of instance i moves to c' by the action a, whose answer is d
 mutual
   -- a point of the tree acts
   pub data Moves (w : Setting) : ℕ → Control → Bool → Action → Control → Type 0 where

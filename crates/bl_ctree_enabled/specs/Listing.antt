@@ -12,7 +12,7 @@ use Rattle.bl_ctree_enabled.specs.Spots.{Spot, homes_seen, is_free_of, moved, sp
 
 -- ---- lists of points, and which of them may act
 
--- whether one of those that are read overlaps one of the homes
+-- whether a location that is read overlaps a home in the list
 abbrev pub touches : List Location → List Location → Bool
 touches homes reads = list_any (λ at. list_any (overlap at) homes) reads
 

@@ -54,7 +54,7 @@ homes_seen w i b = homes w i (write_paths b.tree)
 abbrev pub meets_one : List (List Location) → Location → Bool
 meets_one others at = list_any (λ homes. list_any (overlap at) homes) others
 
--- whether one of the lists of homes overlaps one of those that are read
+-- whether a location that is read overlaps a home in one of the lists
 abbrev pub taken : List (List Location) → List Location → Bool
 taken others reads = list_any (meets_one others) reads
 

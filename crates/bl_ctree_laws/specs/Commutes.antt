@@ -17,7 +17,7 @@ pub record OneStep (A : Type 0) (d e : Bool) (a b : Deed) (n m : StepLabel) (aft
   pub leads : d ≡ e → after ≡ after'
 
 mutual
-  -- the deeds are those of two steps that may act in different branches of a `cobegin` in the tree
+  -- two deeds are of steps that may act in different branches of a `cobegin` in the tree
   pub data Apart (w : Setting) : ℕ → Tree → Deed → Deed → Type 0 where
     in_sequence : {i : ℕ} {c : Tree} {rest : Block} {a b : Deed} → Apart w i c a b → Apart w i (Seq c rest) a b
     in_branches : {i : ℕ} {s : Fork} {stood : Bool} {branches : Trees} {a b : Deed} → ApartIn w i branches a b → Apart w i (Par s stood branches) a b

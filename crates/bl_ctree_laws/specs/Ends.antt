@@ -60,7 +60,7 @@ pub record PlainTreeMaximal (w : Setting) (c : Tree) (store : Store) (end : Plai
 
 -- ---- deeds whose order does not matter
 
--- each does after the other what it did before it, and both orders leave one store
+-- two deeds commute in a store: each gives the same answer after the other, and both orders leave one store
 pub record BothDone (w : Setting) (a b : Deed) (x y : Performed) : Type 0 where
   pub store : Store
   pub second : done_by w b x.store ≡ Some (record { answer = y.answer; store = store })

@@ -57,7 +57,7 @@ StepsArePlain =
     (w : Setting) (stood : Bool) (i : ℕ) (items : List Item) (c : control.Control) (d : Bool) (a : Action) (c' : control.Control) →
     Residual w stood i items c → located.Moves w i c d a c' → PlainStep w i c d a c'
 
--- whether the statement is no `if` without an arm; no program has such an `if`
+-- whether a statement isn't an `if` without an arm, which no program has
 abbrev pub has_arm : {A B C D : Type 0} → StmtKind-F A B C D → Bool
 has_arm (StmtKind-F.If [] other) = false
 has_arm _ = true

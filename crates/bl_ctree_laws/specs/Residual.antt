@@ -72,7 +72,7 @@ mutual
     of_guard : {around stood : Bool} {i : ℕ} {l : Label} {at : Place} {guard : GuardKind} {e : Expr} {body : Block} {phase : Phase} {c : Tree} →
         (stood ≡ true → around ≡ true) → (phase ≡ Check → stood ≡ true) → PlainResidual w stood i body c →
         PlainResidualOf w around i (When l at guard e body) (Guard (watch l at guard e body) phase stood c)
-    -- the instance is the one that the `run` begins, and what is left of its body stands there
+    -- a Run over the instance that the `run` begins, with a residual of its body
     of_run : {around stood : Bool} {i : ℕ} {l : Label} {at : Place} {target : Option Path} {a : ℕ} {inputs : List Expr} {outputs : List Path}
         {callee : ℕ} {unit : UnitDef} {phase : Phase} {c : Tree} → callee_of w i at ≡ Some callee → unit_at w callee ≡ Some unit →
         (stood ≡ true → around ≡ true) → (phase ≡ Check → stood ≡ true) → PlainResidual w stood callee (plain_body unit.body) c →

@@ -62,7 +62,7 @@ use Rattle.bl_ctree_laws.specs.Trees.{
 abbrev pub Anyway : Bool → Type 0
 Anyway meets = ⊤
 
--- no tree beside may still write what is read: steps are those that may act
+-- the test of a step that may act: no tree beside may still write what is read
 abbrev pub Unmet : Bool → Type 0
 Unmet meets = meets ≡ false
 
@@ -89,7 +89,7 @@ abbrev pub turn : Block → Plain → Block
 turn body next = before body (Then next Done)
 
 mutual
-  -- Moves T w i c d a n c': the tree c of instance i moves to c' by the deed a, answer d and label n; each `cobegin` around passes T
+  -- Moves T w i c d a n c': the tree c of instance i moves to c' by the deed a, answer d and label n
   pub data Moves (T : Bool → Type 0) (w : Setting) : ℕ → Tree → Bool → Deed → StepLabel → Tree → Type 0 where
     -- an assignment, a declaration, a call or a `return`
     acts : {i : ℕ} {l : Label} {s : Stmt} →

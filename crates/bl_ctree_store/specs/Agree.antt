@@ -16,7 +16,7 @@ Agree (k ∷ rest) xs ys = (slice_get xs k ≡ slice_get ys k) × Agree rest xs 
 abbrev pub Same : List ℕ → View → View → Type 0
 Same roots a b = Agree roots a.now b.now × Agree roots a.before b.before
 
--- values that agree at the variables agree at those into which the paths lead
+-- values that are equal at the variables are equal at the roots of the paths
 abbrev pub Covers : List ℕ → List Static → Type 0
 Covers roots paths = (xs ys : List Value) → Agree roots xs ys → Agree (map (λ path. path.root) paths) xs ys
 

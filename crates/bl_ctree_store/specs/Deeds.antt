@@ -24,7 +24,7 @@ effect_of (DoesAct s) = Acts s.now
 effect_of (DoesCopy callee inputs) = Copies callee inputs.now
 effect_of (DoesGive callee target) = Gives callee target.now
 
--- the store that it leaves; none where it traps
+-- the store after a deed; none where it traps
 abbrev pub deed_on : Setting → ℕ → Deed → Store → Option Store
 deed_on w i IsSilent store = Some store
 deed_on w i (DoesAct s) store = acted_kind w i s.now (stmt_kind s.now) store

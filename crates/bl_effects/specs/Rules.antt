@@ -184,7 +184,7 @@ target_aliased outputs None = []
 abbrev pub aliases_of : Option Path → List Expr → List Path → List Aliased
 aliases_of target inputs outputs = target_aliased (map marked_path outputs) target ++ outputs_aliased (marked_inputs inputs) [] (map marked_path outputs)
 
--- the failures in a kind of statement, from those in its parts
+-- the alias failures in a kind of statement, from those in its parts
 abbrev pub kind_aliases : StmtKind-F (List Aliased) (List Aliased) (List Aliased) (List Aliased) → List Aliased
 kind_aliases (StmtKind-F.Declare k initial) = []
 kind_aliases (StmtKind-F.Assign path e) = []
@@ -199,15 +199,15 @@ kind_aliases (StmtKind-F.Until body e) = joined body
 kind_aliases (StmtKind-F.While e body) = joined body
 kind_aliases (StmtKind-F.Return e) = []
 
--- the failures in an arm, from those in its statements
+-- the alias failures in an arm, from those in its statements
 abbrev pub arm_aliases : Arm-F (List Aliased) (List Aliased) (List Aliased) (List Aliased) → List Aliased
 arm_aliases arm = joined arm.body
 
--- the failures in a branch, from those in its statements
+-- the alias failures in a branch, from those in its statements
 abbrev pub branch_aliases : Branch-F (List Aliased) (List Aliased) (List Aliased) (List Aliased) → List Aliased
 branch_aliases branch = joined branch.body
 
--- the failures in a statement are those of its kind
+-- the alias failures in a statement, from those of its kind
 abbrev pub stmt_aliases : Stmt-F (List Aliased) (List Aliased) (List Aliased) (List Aliased) → List Aliased
 stmt_aliases s = s.what
 

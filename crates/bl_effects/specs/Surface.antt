@@ -74,7 +74,7 @@ surface_writes s = set_of (surface_of s).writes
 
 -- ---- width
 
--- each branch counts at least one, since its end is a place where it rests
+-- the most places of a kind of statement that rest at once; each branch counts one or more, as its end rests too
 abbrev pub kind_width : StmtKind-F ℕ ℕ ℕ ℕ → ℕ
 kind_width (StmtKind-F.Declare k initial) = 0
 kind_width (StmtKind-F.Assign path e) = 0

@@ -87,7 +87,7 @@ pub data Flow : Type 0 where
   On : List Value → Flow
   Back : List Value → Option Datum → Flow
 
--- from the values before a statement; none where it traps
+-- the meaning of a statement of a function, from the variables before it; none where it traps
 abbrev pub StmtMeaning : Type 0
 StmtMeaning = List Value → Option Flow
 
@@ -106,7 +106,7 @@ abbrev pub in_order : List StmtMeaning → StmtMeaning
 in_order [] now = Some (Flow.On now)
 in_order (first ∷ rest) now = flow_then (first now) (in_order rest)
 
--- a condition, and what is done where it is true
+-- a condition and the block that is executed where it is true
 pub record GuardedBlock : Type 0 where
   pub test : List Value → Option Bool
   pub body : StmtMeaning
@@ -120,7 +120,7 @@ abbrev pub condition : Scope → Option Expr → Bool → List Value → Option 
 condition scope (Some e) without now = truth scope e now
 condition scope None without now = Some without
 
--- the first choice whose condition is true, and else the other
+-- the first block whose condition is true, and else the given one
 abbrev pub first_true_choice : List GuardedBlock → StmtMeaning → StmtMeaning
 first_true_choice [] other now = other now
 first_true_choice (choice ∷ rest) other now =
@@ -186,7 +186,7 @@ abbrev pub left_by : UnitDef → Flow → Left
 left_by unit (Flow.On now) = record { outputs = outputs_in unit now; result = None }
 left_by unit (Flow.Back now result) = record { outputs = outputs_in unit now; result = result }
 
--- the arguments stand in the parameters, and the other variables begin at zero
+-- the variables of a function as it begins: the arguments in its parameters, and zeros in the others
 abbrev pub frame_of : List StructDef → UnitDef → List Value → List Value
 frame_of structs unit arguments = arguments ++ map (λ var. zero_of structs var.ty) (locals_of unit)
 

@@ -91,7 +91,7 @@ datum_of None value = Whole value
 abbrev pub operand : Meaning → View → Option Operand
 operand e view = option_and_then operand_in (e view)
 
--- an operator at numbers of a type that it takes: what it gives, none where it traps
+-- the result of a unary operator at numbers of a type that it takes, none where it traps
 abbrev pub applied_one : Op → Operand → Option ℤ
 applied_one op a = if takes_one op a.ty && in_range a.ty a.n then checked_one_of op a.ty a.n else None
 

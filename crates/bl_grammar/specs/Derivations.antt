@@ -13,7 +13,7 @@ module _ {K P T : Type 0}
     (Produces : P → Option T → List (Symbol K P) → Type 0)
     -- the token is of the class
     (matches : K → T → Bool) where
-  -- the symbols, one after the other, stand for the tokens up to these that are left
+  -- the symbols derive the tokens up to those that are left
   pub data Derives : List (Symbol K P) → List T → List T → Type 0 where
     done : {left : List T} → Derives [] left left
     terminal : {class : K} {token : T} {symbols : List (Symbol K P)} {tokens left : List T}

@@ -60,7 +60,7 @@ abbrev pub BranchesPart : Type 0
 BranchesPart = (body : List Stmt) (at : Position) (n m : Node) → BesideAll (plain_block body at) n m → (label_of n).position ≡ (label_of m).position →
     ⊥
 
--- each node of a block is marked as reached exactly where it is
+-- each node of a block is marked as reached iff it is
 pub record MarksTellIn (body : Block) : Type 0 where
   pub in_order : map (λ m. m.node) (part_in body).nodes ≡ nodes_in body
   pub surface : (m : Marked) → Contains (part_in body).nodes m → (m.mark.surface ≡ true) ↔ In false body m.node

@@ -163,7 +163,7 @@ abbrev mutual
 abbrev pub together : Mark → Mark → Bool
 together a b = (a.surface && b.surface) || (a.depth && b.depth)
 
--- from the first to the second, where it writes what the second reads
+-- the data edge from the first node to the second, where the first writes what the second reads
 abbrev pub touching : Node → Node → List Pair
 touching from to = if meets (node_writes from) (node_reads to) then pair from to ∷ [] else []
 
@@ -172,7 +172,7 @@ abbrev pub between : Marked → List Marked → List Pair
 between a [] = []
 between a (b ∷ rest) = (if together a.mark b.mark then touching a.node b.node ++ touching b.node a.node else []) ++ between a rest
 
--- between the nodes of a branch and those of others
+-- the data edges between the nodes of a branch and those of other branches
 abbrev pub across : List Marked → List Marked → List Pair
 across [] others = []
 across (a ∷ rest) others = between a others ++ across rest others

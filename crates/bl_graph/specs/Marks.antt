@@ -44,7 +44,7 @@ use Rattle.bl_graph_nodes.specs.Plain.{
 -- a mark tells whether a node is reached from where a part begins, and whether from where it goes on in a later tick
 pub use Rattle.bl_graph.specs.declared.flow.Mark.{Mark}
 
--- reached from where the part begins alone, from where it goes on later alone, and not at all
+-- the mark of a node that is reached only from where the part begins
 abbrev pub entered : Mark
 entered = record { surface = true; depth = false }
 
@@ -56,7 +56,7 @@ resumed = record { surface = false; depth = true }
 abbrev pub unreached : Mark
 unreached = record { surface = false; depth = false }
 
--- reached by the one or by the other
+-- the ways in which a node is reached by either of two marks
 abbrev pub either : Mark → Mark → Mark
 either a b = record { surface = a.surface || b.surface; depth = a.depth || b.depth }
 

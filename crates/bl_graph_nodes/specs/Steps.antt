@@ -25,7 +25,7 @@ abbrev pub end_node : Bool → Label → Place → Node
 end_node true l at = DepthEndAt l at
 end_node false l at = SurfaceEndAt l at
 
--- a `run`: where its inputs are taken, where it ends, and around all that is done in it
+-- the node of a `run`: its resume node where it stood when the tick began, else its entry node
 abbrev pub run_node : Bool → Label → Place → Arguments → Node
 run_node true l at arguments = ResumeAt l at arguments
 run_node false l at arguments = EnterAt l at arguments

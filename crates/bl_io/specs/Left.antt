@@ -29,6 +29,6 @@ pub record IsUpTo (limit : ℕ) (bytes got : List ℕ) (after : Option (List ℕ
 abbrev pub GivesUpTo : ℕ → Option (List ℕ) → List ℕ → Option (List ℕ) → Type 0
 GivesUpTo limit before got after = IfSome before (λ bytes. IsUpTo limit bytes got after)
 
--- where the bytes left are told, they are those from some place on that is not past the limit
+-- the bytes left, where they are told, are a rest of those before, at most the limit shorter
 abbrev pub StandsFurther : ℕ → Option (List ℕ) → Option (List ℕ) → Type 0
 StandsFurther limit before after = IfSome before (λ bytes. (n : ℕ) × (n ≤ limit) × (after ≡ Some (drop n bytes)))

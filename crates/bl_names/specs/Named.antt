@@ -62,7 +62,7 @@ pub record Piece (A : Type 0) : Type 0 where
 abbrev pub marks_of_all : {A : Type 0} → List (Piece A) → Marks
 marks_of_all pieces = joined (map (λ piece. piece.marks) pieces)
 
--- the parts one after another, each where those before it are over
+-- the named forms of several parts, each in the scopes that those before it leave
 abbrev pub made_of_all : {A : Type 0} → List (Piece A) → Scopes → List A
 made_of_all [] scopes = []
 made_of_all (piece ∷ rest) scopes = piece.made scopes ∷ made_of_all rest (after scopes piece.marks)
@@ -300,7 +300,7 @@ units_of scopes (item.Struct def) = []
 units_of scopes (item.Constant constant) = []
 units_of scopes (item.Unit def) = named_unit scopes def ∷ []
 
--- what the items give, each where those before it are over
+-- what a function gives for each item, in the scopes that the items before it leave
 abbrev pub along : {A : Type 0} → (Scopes → RawItem → List A) → Scopes → List RawItem → List A
 along gives scopes [] = []
 along gives scopes (one ∷ rest) = gives scopes one ++ along gives (after scopes (item_marks one)) rest

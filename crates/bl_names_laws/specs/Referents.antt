@@ -28,7 +28,7 @@ use Rattle.bl_names_tree.specs.Placed.{DeclaredBefore, item_step, nothing_earlie
 abbrev pub Referents : Type 0
 Referents = List (Option Name)
 
--- the name of the struct at a position, of the constant, of the unit, and of the variable among those of its unit
+-- the name of the struct at a position
 abbrev pub struct_at : Named → ℕ → Option Name
 struct_at named k = option_map (λ def. def.name) (slice_get named.structs k)
 

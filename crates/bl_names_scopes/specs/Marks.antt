@@ -169,7 +169,7 @@ marks_of_branch = fold-RawBranch Marks Marks Marks Marks stmt_kind_marks arm_lay
 abbrev pub field_type_marks : RawField → Marks
 field_type_marks field = type_marks field.ty
 
--- a field is declared among those of its struct
+-- the mark of a field: a declaration among the fields of its struct
 abbrev pub field_mark : RawField → Mark
 field_mark field = declares field.name kind.Field
 

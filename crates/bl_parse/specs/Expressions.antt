@@ -48,8 +48,8 @@ pub data SpellsNone (tokens : List Token) (from to : ℕ) : Type 0 where
   empty : {a : ℕ} → Takes tokens (Sign OPEN_PAREN) from a → Takes tokens (Sign CLOSE_PAREN) a to → SpellsNone tokens from to
 
 mutual
-  -- The tokens between two positions spell an expression; operators outside of parentheses bind at least as tightly as the level, and outer parentheses
-  -- don't count to its place.
+  -- The tokens between two positions spell an expression whose operators outside of parentheses bind at least as tightly as the level. Outer parentheses
+  -- are outside of its place.
   pub data SpellsExpr (text : List ℕ) (tokens : List Token) : ℕ → RawExpr → ℕ → ℕ → Type 0 where
     -- operand, operator, operand, the right one binding more tightly
     two : {level own : ℕ} {e a b : RawExpr} {from m n to : ℕ} {op : Op} → level ≤ own

@@ -22,7 +22,7 @@ kind_roots (ExprKind-F.Two op a b) = a ++ b
 kind_roots (ExprKind-F.Cast target a) = a
 kind_roots (ExprKind-F.Call f inputs) = joined inputs
 
--- a field names no variable; an index names those of its expression
+-- the variables that a part of a path names: none for a field, those of its expression for an index
 abbrev pub part_roots : Part-F Roots Roots Roots Roots → Roots
 part_roots (Part-F.Field k) = []
 part_roots (Part-F.Index e) = e

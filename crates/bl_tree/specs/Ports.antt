@@ -25,7 +25,7 @@ column_of var = record { name = var.name; ty = column_type (unwrap_or (scalar_in
 abbrev pub columns_of : List Var → List Column
 columns_of vars = map column_of vars
 
--- the columns of a unit's inputs, and those of its outputs
+-- the columns of a unit's inputs
 abbrev pub input_columns : UnitDef → List Column
 input_columns unit = columns_of (inputs_of unit)
 

@@ -96,7 +96,7 @@ unit_stands structs earlier unit =
     && (list_all (fits (site_of structs earlier unit)) unit.body
     && (unit_returns unit && (is_shallow 200 unit.body && list_all is_apart unit.body))))
 
--- each unit sees those before it
+-- whether each unit of a list is well-formed, where the earlier ones stand before it
 abbrev pub units_stand_after : List StructDef → List UnitDef → List UnitDef → Bool
 units_stand_after structs earlier [] = true
 units_stand_after structs earlier (unit ∷ rest) =

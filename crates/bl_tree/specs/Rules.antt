@@ -116,7 +116,7 @@ tells_walk rule.Twice = true
 tells_walk rule.Cycle = true
 tells_walk _ = false
 
--- the places by which two failures of one rule are compared: all that its line names, and of a walk where it begins
+-- the places that order failures of one rule: all places of its line, and for a closed walk its first alone
 abbrev pub compared : Rule → Place → List Place → List Place
 compared rule at also = if tells_walk rule then at ∷ [] else at ∷ also
 
@@ -162,7 +162,7 @@ comes_before a b =
     then come_before (places_of a) (places_of b)
     else nat_lt (number_of a.rule) (number_of b.rule)
 
--- the failure, where it comes before the first so far, and else that
+-- the lesser of an optional failure and another failure
 abbrev pub lesser : Option Failure → Failure → Option Failure
 lesser None failure = Some failure
 lesser (Some first) failure = if comes_before failure first then Some failure else Some first

@@ -121,7 +121,7 @@ abbrev pub after_parts : List (Ty → Option Ty) → Ty → Option Ty
 after_parts [] ty = Some ty
 after_parts (part ∷ rest) ty = option_and_then (after_parts rest) (part ty)
 
--- the type itself, where it is the one that stands at the path
+-- the type, if it is equal to the type that stands at the path
 abbrev pub where_same : Ty → Ty → Option Ty
 where_same written found = if same_type written found then Some found else None
 
@@ -129,7 +129,7 @@ where_same written found = if same_type written found then Some found else None
 abbrev pub path_type : TypingContext → Path-F (Option Ty) (Ty → Option Ty) (Option Ty) (Option Ty) → Option Ty
 path_type site path = option_and_then (where_same path.ty) (option_and_then (λ var. after_parts path.parts var.ty) (var_at site path.root))
 
--- the type of what an operator gives, where it takes operands of this type
+-- the result type of a unary operator, where it takes operands of this type
 abbrev pub one_type : Op → ScalarType → Option Ty
 one_type op s = if takes_one op s then Some (scalar (type_of_result op s)) else None
 
@@ -137,7 +137,7 @@ one_type op s = if takes_one op s then Some (scalar (type_of_result op s)) else 
 abbrev pub two_type : Op → ScalarType → ScalarType → Option Ty
 two_type op s t = if same_scalar s t && takes_two op s then Some (scalar (type_of_result op s)) else None
 
--- a cast goes between whole-number types, and gives the one that it names
+-- the target type of a cast, where both types are whole-number types
 abbrev pub cast_type : ScalarType → ScalarType → Option Ty
 cast_type target s = if is_whole target && is_whole s then Some (scalar target) else None
 

@@ -141,7 +141,7 @@ and_then first then_ = record { env = (then_ first.env).env; failures = first.fa
 abbrev pub unchanged : Environment → Declaring
 unchanged env = record { env = env; failures = [] }
 
--- after one of a unit's variables, where it is a parameter
+-- what is known after a variable of a unit, if it is a parameter
 abbrev pub after_parameter : NamedVar → Environment → Declaring
 after_parameter var env = if is_parameter var.role then after_variable var env else unchanged env
 

@@ -319,7 +319,7 @@ pub record Led : Type 0 where
   pub parts : List Part
   pub failures : List Failure
 
--- the one, where it is made, and then the rest
+-- the list with one more element at its front, if there is one
 abbrev pub with_made : {A : Type 0} → Option A → List A → List A
 with_made one rest = cons_option one rest
 

@@ -44,7 +44,7 @@ arm_surely_returns = fold-NamedArm Bool Bool Bool Bool kind_returns arm_returns 
 
 -- ---- each `return` in a part of a body, where none may stand; at the `return`
 
--- the failures of a kind of statement at a place, from those of its blocks
+-- the failures of stray `return`s in a kind of statement at a place, from those of its blocks
 abbrev pub kind_strays : NamedStmtKind-F (Place → List Failure) (List Failure) (List Failure) (List Failure) → Place → List Failure
 kind_strays (NamedStmtKind-F.Return e) at = fails_at rule.Return at
 kind_strays (NamedStmtKind-F.If arms other) at = joined arms ++ joined other
@@ -55,15 +55,15 @@ kind_strays (NamedStmtKind-F.Until body e) at = joined body
 kind_strays (NamedStmtKind-F.While e body) at = joined body
 kind_strays _ at = []
 
--- the failures in an arm, from those in its statements
+-- the failures of stray `return`s in an arm, from those of its statements
 abbrev pub arm_layer_strays : NamedArm-F (Place → List Failure) (List Failure) (List Failure) (List Failure) → List Failure
 arm_layer_strays arm = joined arm.body
 
--- the failures in a branch, from those in its statements
+-- the failures of stray `return`s in a branch, from those of its statements
 abbrev pub branch_layer_strays : NamedBranch-F (Place → List Failure) (List Failure) (List Failure) (List Failure) → List Failure
 branch_layer_strays branch = joined branch.body
 
--- the failures in a statement are those of its kind at its place
+-- the failures of stray `return`s in a statement, from those of its kind
 abbrev pub layer_strays : NamedStmt-F (Place → List Failure) (List Failure) (List Failure) (List Failure) → List Failure
 layer_strays s = s.what s.place
 

@@ -126,7 +126,7 @@ pub record Grown (before after : Environment) : Type 0 where
   pub kind : after.kind ≡ before.kind
   pub result : after.result ≡ before.result
 
--- the judgement of a part of a body extends what is known as counted, and its typed form is good, and there where it must be
+-- the judgement of a part of a body extends what is known as counted; its typed form is good, and present where it must be
 pub record PartPassed {A : Type 0} (must : Bool) (site : TypingContext) (good : A → Bool) (before : Environment) (counts : DeclaredBefore) (after : Walked A) : Type 0 where
   pub grown : Grown before after.env
   pub known : Known after.env
@@ -134,7 +134,7 @@ pub record PartPassed {A : Type 0} (must : Bool) (site : TypingContext) (good : 
   pub is_good : VariablesThere after.env site → (a : A) → after.made ≡ Some a → good a ≡ true
   pub is_made : must ≡ true → VariablesThere after.env site → (a : A) × (after.made ≡ Some a)
 
--- the judgement of a list of parts extends what is known as counted, its typed forms are good, and there are some where there must be
+-- the judgement of a list of parts extends what is known as counted; its typed forms are good, and inhabited where the parts are
 pub record BlockPassed {A : Type 0} (site : TypingContext) (good : A → Bool) (inhabited : Bool) (before : Environment) (counts : DeclaredBefore) (after : Block A) : Type 0
   where
     pub grown : Grown before after.env

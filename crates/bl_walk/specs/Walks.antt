@@ -15,7 +15,7 @@ use Rattle.bl_ctree.specs.Ticks.{End, Ended, Maximal, Paused, Rests, Trapped, ou
 use Rattle.bl_walk.specs.declared.choice.Choice.{Choice}
 use Rattle.bl_walk.specs.Choices.{choice_of, moved, picked}
 
--- the point is the one that the choice picks among those of the tree that may act
+-- the point is the one that the choice picks among the enabled points of the tree
 abbrev pub IsPicked : Setting → Choice → Control → Point Control → Type 0
 IsPicked w choice c point = slice_get (points w 0 c) (picked choice (length (points w 0 c))) ≡ Some point
 

@@ -29,7 +29,7 @@ use Rattle.bl_cause.specs.declared.finishing.Search.{Search}
 use Rattle.bl_cause.specs.Walks.{EdgeWalk}
 use Rattle.bl_cause.specs.inner.Lists.{In, Rows, edges_from, unseen}
 
--- some walk leads from the one node to the other
+-- a walk leads from the first node to the second
 abbrev pub Reaches : List Edge → ℕ → ℕ → Type 0
 Reaches edges first last = (walk : List Edge) × EdgeWalk edges first walk last
 
@@ -72,7 +72,7 @@ entered_unless true node s = s
 entered_unless false node s =
     record { seen = slice_set s.seen node true; stack = s.stack ++ record { node = node; next = 0 } ∷ []; order = s.order }
 
--- the node is entered, where it wasn't seen before
+-- the search state after a node is entered, unless it was seen before
 abbrev pub entered : ℕ → SearchState → SearchState
 entered node s = entered_unless (slice_index_or s.seen node false) node s
 

@@ -43,7 +43,7 @@ gone_unless true before edge reached = reached
 gone_unless false before edge reached =
     record { seen = slice_set reached.seen edge.to true; steps = reached.steps ++ record { edge = edge; before = before } ∷ [] }
 
--- the edge is gone along, where it leads to a node not seen yet
+-- the nodes reached after an edge, which is followed unless its target was seen
 abbrev pub gone : ℕ → Edge → Reached → Reached
 gone before edge reached = gone_unless (slice_index_or reached.seen edge.to false) before edge reached
 

@@ -52,7 +52,7 @@ least_by failure best xs = first_of best (map failure xs)
 abbrev pub of_pause : Place → Failure
 of_pause at = record { rule = rule.Pause; at = at; further = Nothing }
 
--- the failure of a unit by the rule Pause, where it has one
+-- the failures of a unit by the rule Pause
 abbrev pub pause_of : UnitDef → List Failure
 pause_of unit = if is_activity unit.kind && is_instant_block unit.body then of_pause unit.place ∷ [] else []
 
@@ -110,7 +110,7 @@ clashes_under None earlier second = []
 abbrev pub clashes_with : List Var → List Marked → Marked → List Failure
 clashes_with vars earlier second = clashes_under (slice_get vars second.path.root) earlier second
 
--- a branch and those before it
+-- the conflicts of a branch with the branches before it
 abbrev pub clashes : List Var → Split → List Failure
 clashes vars split = joined (map (clashes_with vars split.earlier) split.writes)
 
@@ -169,6 +169,6 @@ written at path = record { place = at; path = path }
 abbrev pub marked_read : Place → Path → List Marked
 marked_read at path = if is_none (scalar_in (out-Path path).ty) then record { place = at; path = static_of path } ∷ [] else []
 
--- the place of the first of the others that overlaps the one
+-- the place of the first marked path in a list that overlaps the given one
 abbrev pub place_overlapping : List Marked → Marked → Option Place
 place_overlapping others one = option_map (λ other. other.place) (find (λ other. overlaps one.path other.path) others)

@@ -12,7 +12,7 @@ use Rattle.bl_ctree_enabled.specs.Spots.{Spot}
 abbrev pub Key : Type 0
 Key = ℕ × ℕ × ℕ
 
--- the order of such keys: by instance, then by variable, then by branch
+-- the order of keys: by instance, then by variable, then by branch
 abbrev pub key_cmp : Key → Key → Ordering
 key_cmp x y = ordering_then (ordering_then (nat_cmp x.0 y.0) (nat_cmp x.1 y.1)) (nat_cmp x.2 y.2)
 

@@ -53,11 +53,11 @@ abbrev mutual
   EachForkInEach P Last = ⊤
   EachForkInEach P (BodyOf weak body rest) = EachForkIn P body × EachForkInEach P rest
 
--- the effect names no variable that the other declares
+-- the first effect names no variable that the second declares
 abbrev pub Foreign : Effect → Effect → Type 0
 Foreign e other = (k : ℕ) → OneOf k (effect_declares other) → OneOf k (effect_roots e) → ⊥
 
--- no effect of a statement in the one branch names what one of another branch declares
+-- no effect in a branch names a variable that an effect in another branch declares
 abbrev pub KeepApart : Bodies → Type 0
 KeepApart Last = ⊤
 KeepApart (BodyOf weak body rest) =

@@ -37,7 +37,7 @@ pub record OrderlyUnit (structs : List StructDef) (units : List UnitDef) (unit :
       Contains split.writes second → slice_get unit.vars second.path.root ≡ Some var → overlaps first.path second.path ≡ false
   -- no output of a call or `run` overlaps another one, an aggregate input or the target
   pub aliases : joined (map aliases_in unit.body) ≡ []
-  -- what is declared in a branch is named in no other, nor by `prev`
+  -- variables declared in a branch are named in no other branch, `prev` included
   pub apart : list_all is_apart unit.body ≡ true
   -- a `return` is the last statement of the body, so none stands in a branch
   pub returns : activity_returns unit ≡ true
@@ -46,7 +46,7 @@ pub record OrderlyUnit (structs : List StructDef) (units : List UnitDef) (unit :
 
 -- what holds of a program's instances
 pub record Orderly (structs : List StructDef) (units : List UnitDef) (w : Setting) : Type 0 where
-  -- each is one of a unit of which the above holds
+  -- each instance is of an orderly unit
   pub each : (i : ℕ) (unit : UnitDef) → unit_at w i ≡ Some unit → OrderlyUnit structs units unit
   -- no body ends in the tick in which it begins
   pub paces : Paces w

@@ -18,7 +18,7 @@ use Rattle.bl_ctree.specs.Measure.{steps}
 use Rattle.bl_ctree.specs.Reaches.{Bounded}
 use Rattle.bl_ctree_laws_traces.specs.Bounded.Differ.{AllNumbered}
 
--- the `run` statements of each unit stand at places of their own, as those of a source do
+-- the `run` statements of each unit stand at distinct places
 abbrev pub RunsStandApart : List UnitDef → Type 0
 RunsStandApart units =
     (k : ℕ) (unit : UnitDef) → slice_get units k ≡ Some unit →

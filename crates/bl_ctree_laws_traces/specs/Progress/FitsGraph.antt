@@ -51,7 +51,7 @@ test_of s = TestAt s.label s.place s.test
 abbrev pub check_of : Watch → Node
 check_of s = CheckAt s.label s.place s.test
 
--- the end at a node may be reached: what begins and ends in one tick has one only where it is instant
+-- the end at a node may be reached; at once only where the statement is instant
 abbrev pub MayReachEnd : Bool → Bool → Node → Place → Type 0
 MayReachEnd stood instant n g = (stood ≡ false → instant ≡ true) × g.now n
 
@@ -101,7 +101,7 @@ pub record SeqFitsGraph (w : Setting) (i : ℕ) (rest : Block) (nil : Bool) (g :
   pub unended : nil ≡ false
 
 abbrev mutual
-  -- the tree of an instance fits the graph at a place: its statements' graphs are subgraphs, and its nodes may act there when they are due
+  -- the tree of an instance fits the graph at a place: its statements' graphs are subgraphs, and its due nodes may act there
   pub FitsGraph : Setting → ℕ → Tree → Place → Type 0
   FitsGraph w i Nil g = ⊤
   FitsGraph w i (Wait s) g = g.out (test_of s) × g.deep (test_of s)

@@ -16,7 +16,7 @@ use Rattle.bl_ctree_laws.specs.Trees.{Tree, do_block, is_nil, is_settled, woken}
 use Rattle.bl_ctree_laws_traces.specs.Progress.FitsGraph.{FitsGraph}
 use Rattle.bl_ctree_laws_traces.specs.Progress.Places.{AllCallable, whole}
 
--- a step that could be taken in a fitting tree is at a node of the body's depth if the tree stood, else of its surface
+-- a step that could be taken in a fitting tree is in the body's depth if the tree stood, else in its surface
 abbrev pub NodesAreInPart : Type 0
 NodesAreInPart =
     (w : Setting) (i : ℕ) (stood : Bool) (body : Block) (c : Tree) (d : Bool) (a : Deed) (n : StepLabel) (c' : Tree) →

@@ -36,7 +36,7 @@ pub record HasRanks (w : Setting) : Type 0 where
   pub rank : ℕ → Node → ℕ
   pub rising : Rising w rank
 
--- orders of tick graphs give such numbers
+-- orders of tick graphs give numbers that rise along all edges
 abbrev pub OrdersGiveRanks : Type 0
 OrdersGiveRanks = (w : Setting) → AllOrdered w → HasRanks w
 

@@ -68,7 +68,7 @@ listed_by listing = option_map enabled_view listing
 abbrev pub ListsEnd : Setting → Control → Option EnabledView → Type 0
 ListsEnd w c listed = listed ≡ option_map (λ l. listing_in w (fork_at 0 c)) listed
 
--- a tree, where it is a whole one, and the tree that has it as a branch, where something is kept of it
+-- the tree after a step, as a whole or as the branch of the listed tree of which something is kept
 abbrev pub led_by : Control → Control → Option Kept → Control
 led_by c d None = d
 led_by c d (Some kept) = with_fork c kept.branch d
@@ -77,7 +77,7 @@ led_by c d (Some kept) = with_fork c kept.branch d
 abbrev pub led : Control → Next → Control
 led c next = led_by c (control_of next.tree) next.kept
 
--- what is kept is that of a branch of those listed, once it is this tree
+-- the kept listing is that of a listed branch, which the given tree replaces
 pub record Fits (w : Setting) (c : Control) (l : EnabledView) (d : Control) (kept : Kept) : Type 0 where
   pub within : kept.branch < length l.homes
   pub homes : map location_of kept.found.homes ≡ homes w (fork_at 0 c).instance (write_paths d)

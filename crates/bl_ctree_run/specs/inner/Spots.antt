@@ -164,7 +164,7 @@ abbrev mutual
   after_by w i (Run s callee Check stood c) path d = first_after (copying i s callee stood c (kind_of s)) d
   after_by w i (Run s callee Body stood c) path d = if is_nil c then Nil else Run s callee Body stood (after_by w callee c path d)
 
-  -- what branches become, where the point is in the one with this number
+  -- branches after an answer of a point in the branch with this number
   pub after_in : Setting → ℕ → Branches → ℕ → List ℕ → Bool → Branches
   after_in w i no_branch k path d = no_branch
   after_in w i (branch weak c others) zero path d = branch weak (after_by w i c path d) others

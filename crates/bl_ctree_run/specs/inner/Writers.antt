@@ -51,7 +51,7 @@ write_of write = record { branch = write.branch; home = location_of write.home }
 abbrev pub key_at : Location → ℕ × ℕ
 key_at at = (at.instance, at.path.root)
 
--- the order of such keys: by instance, then by variable
+-- the order of keys: by instance, then by variable
 abbrev pub key_cmp : ℕ × ℕ → ℕ × ℕ → Ordering
 key_cmp x y = ordering_then (nat_cmp x.0 y.0) (nat_cmp x.1 y.1)
 

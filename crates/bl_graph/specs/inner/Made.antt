@@ -80,7 +80,7 @@ abbrev pub NamesEntry : Naming → ℕ → Block → Type 0
 NamesEntry naming n Done = ⊤
 NamesEntry naming n (Then s rest) = naming n ≡ Some (entry s)
 
--- the elements of the one list are as those of the other, one by one
+-- two lists are equally long, and their elements at one position are related
 abbrev pub Pairwise : {A B : Type 0} → (A → B → Type 0) → List A → List B → Type 0
 Pairwise R [] [] = ⊤
 Pairwise R [] (y ∷ ys) = ⊥
@@ -237,7 +237,7 @@ pub record MakesEach (naming : Naming) (bodies : Bodies) (l : Label) (at : Place
   pub control : Adds false naming (edges_in_each bodies l at instant) before.control after.control
   pub by_data : Adds true naming (flows_within bodies) before.by_data after.by_data
 
--- the numbers of the fork and the joins name them, and those from that after the join on name the nodes of the branches
+-- the numbers of the fork and the joins name them, and the numbers after the joins name the branches' nodes
 pub record NamesEach (naming : Naming) (bodies : Bodies) (l : Label) (at : Place) (instant : Bool) (first join : ℕ) : Type 0 where
   pub fork : naming first ≡ Some (ForkAt l at)
   pub surface : instant ≡ true → naming (first + 1) ≡ Some (SurfaceJoinAt l at)
