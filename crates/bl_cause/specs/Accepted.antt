@@ -17,7 +17,7 @@ pub record AcceptedProgram : Type 0 where
   pub program : Program
   -- the program of whose bodies the rest is
   pub tree : Program
-  -- what its statements read and write
+  -- the effects of the tree's statements
   pub effects : List Effect
   -- the tick graphs of its activities
   pub graphs : List Graph

@@ -18,7 +18,7 @@ use Rattle.bl_ctree.specs.Instances.{Setting}
 use Rattle.bl_ctree.specs.Positions.{Located, place_of, stmt_kind}
 use Rattle.bl_ctree.specs.Store.{Frame, Location, Store, home, homes, number_or_zero, put, put_written, remember, view_at, with_frame, with_inputs}
 
--- what an action does
+-- the effect of an action
 pub data Effect : Type 0 where
   -- the tree alone changes
   Silent : Effect

@@ -12,9 +12,9 @@ pub data Phase : Type 0 where
 mutual
   -- what of a statement, a list of statements or an activity is left
   pub data Control : Type 0 where
-    -- ended
+    -- a part that has ended
     Nil : Control
-    -- paused at an `await`
+    -- a part that paused at an `await`
     Wait : Located → Control
     -- an `await` that was woken
     Test : Located → Control
@@ -153,7 +153,7 @@ abbrev mutual
   forget (Guard s phase stood c) = Guard s phase false (forget c)
   forget (Run s i phase stood c) = Run s i phase false (forget c)
 
-  -- each branch without it
+  -- the branches without their `stood` marks
   pub all_forgotten : Branches → Branches
   all_forgotten no_branch = no_branch
   all_forgotten (branch weak c rest) = branch weak (forget c) (all_forgotten rest)

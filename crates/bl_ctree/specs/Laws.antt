@@ -105,7 +105,7 @@ PointsAct =
 abbrev pub BlocksFit : Type 0
 BlocksFit = (position : Position) (k : ℕ) (body : List Stmt) → TestsFit (items_from position k body)
 
--- what begins is left of its items
+-- the tree of items that begin is a residual of them
 abbrev pub ItemsBeginResidual : Type 0
 ItemsBeginResidual = (w : Setting) (stood : Bool) (i : ℕ) (items : List Item) → TestsFit items → Residual w stood i items (do_all items)
 

@@ -30,7 +30,7 @@ mutual
   -- a tree is a residual of items in an instance; nothing stands below what has not stood, and there is no Idle in it
   pub data Residual (w : Setting) : (stood : Bool) → ℕ → List Item → Control → Type 0 where
     nothing : {stood : Bool} {i : ℕ} {items : List Item} → Residual w stood i items Nil
-    -- what is left of the last item
+    -- a residual of the last item
     of_last : {stood : Bool} {i : ℕ} {item : Item} {items : List Item} {c : Control} →
         SplitsAt item [] items → ResidualOf w stood i item c → Residual w stood i items c
     -- what is left of an item that has still to end, and what follows it
@@ -38,7 +38,7 @@ mutual
         SplitsAt item (next ∷ rest) items → TestsFit (next ∷ rest) → ResidualOf w stood i item c → is_nil c ≡ false →
         Residual w stood i items (Seq c (next ∷ rest))
 
-  -- what may be left of an item
+  -- a tree is a residual of an item
   pub data ResidualOf (w : Setting) : (stood : Bool) → ℕ → Item → Control → Type 0 where
     to_begin : {stood : Bool} {i : ℕ} {s : Located} → ResidualOf w stood i (Begin s) (Do s)
     to_turn : {stood : Bool} {i : ℕ} {s : Located} {body : List Stmt} {e : Expr} →

@@ -126,10 +126,10 @@ mutual
     -- a `cobegin` ends where its branches are settled and so many have ended as are needed
     joins : {i : ℕ} {s : Located} {stood : Bool} {branches : Branches} →
         are_settled branches ≡ true → are_done branches ≡ true → Moves w i (Par s stood branches) true (action i s Silent) Nil
-    -- inside a sequence
+    -- a step inside a sequence
     in_seq : {i : ℕ} {c : Control} {rest : List Item} {d : Bool} {a : Action} {c' : Control} →
         Moves w i c d a c' → Moves w i (Seq c rest) d a (seq c' rest)
-    -- inside a branch
+    -- a step inside a branch
     in_par : {i : ℕ} {s : Located} {stood : Bool} {branches : Branches} {d : Bool} {a : Action} {branches' : Branches} →
         OneMoves w i branches d a branches' → Moves w i (Par s stood branches) d a (Par s stood branches')
     -- inside a guard that let its body go on

@@ -187,7 +187,7 @@ abbrev pub frame_at_first : Setting → Instance → Frame
 frame_at_first w instance =
     unwrap_or (option_map (first_frame w.structs) (unit_of w instance)) (record { now = []; before = []; result = None })
 
--- 0 or false everywhere
+-- the store at the start of a run: 0 or false everywhere
 abbrev pub first_store : Setting → Store
 first_store w = map (frame_at_first w) w.instances
 

@@ -25,7 +25,7 @@ abbrev pub flags_from : List (List Location) → ℕ → List (List Spot) → Li
 flags_from homes k [] = []
 flags_from homes k (spots ∷ rest) = flags_of homes k spots ∷ flags_from homes (suc k) rest
 
--- how many are true
+-- the number of flags that are true
 abbrev pub trues : List Bool → ℕ
 trues [] = 0
 trues (true ∷ rest) = suc (trues rest)
@@ -59,7 +59,7 @@ pub record EnabledView : Type 0 where
   pub free : List (List Bool)
   pub counts : List ℕ
 
--- what is kept
+-- the view of a listing
 abbrev pub enabled_view : Listing → EnabledView
 enabled_view l = record { homes = map (map location_of) l.homes; spots = map (map spot_of) l.points; free = l.free; counts = l.counts }
 
@@ -74,7 +74,7 @@ pub record IsRight (l : EnabledView) : Type 0 where
 
 -- ---- of the branches of a tree
 
--- the branches, in order
+-- the branches of a control tree as a list, in order
 abbrev pub each_branch : Branches → List Seen
 each_branch no_branch = []
 each_branch (branch weak c rest) = record { weak = weak; tree = c } ∷ each_branch rest

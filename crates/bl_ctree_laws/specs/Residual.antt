@@ -39,13 +39,13 @@ mutual
   -- a plain tree is a residual of a block in an instance; nothing stands below what has not stood
   pub data PlainResidual (w : Setting) : (stood : Bool) → ℕ → Block → Tree → Type 0 where
     nothing : {stood : Bool} {i : ℕ} {body : Block} → PlainResidual w stood i body Nil
-    -- what is left of its last statement
+    -- a residual of the block's last statement
     of_last : {stood : Bool} {i : ℕ} {s : Plain} {body : Block} {c : Tree} → BlockSplitsAt s Done body → PlainResidualOf w stood i s c → PlainResidual w stood i body c
     -- what is left of a statement, and what follows it
     of_one : {stood : Bool} {i : ℕ} {s next : Plain} {rest body : Block} {c : Tree} →
         BlockSplitsAt s (Then next rest) body → PlainResidualOf w stood i s c → is_nil c ≡ false → PlainResidual w stood i body (Seq c (Then next rest))
 
-  -- what may be left of a statement
+  -- a plain tree is a residual of a statement
   pub data PlainResidualOf (w : Setting) : (stood : Bool) → ℕ → Plain → Tree → Type 0 where
     to_begin : {stood : Bool} {i : ℕ} {s : Plain} → PlainResidualOf w stood i s (Do s)
     ended : {stood : Bool} {i : ℕ} {s : Plain} → PlainResidualOf w stood i s Nil

@@ -14,7 +14,7 @@ use Rattle.bl_ctree_laws.specs.Trees.{Tree, is_settled}
 abbrev pub Paces : Setting → Type 0
 Paces w = (i : ℕ) (unit : UnitDef) → unit_at w i ≡ Some unit → are_instant (plain_body unit.body) ≡ false
 
--- what may act could act
+-- a step that may act is one that could be taken
 abbrev pub MayIsCould : Type 0
 MayIsCould = (w : Setting) (i : ℕ) (c : Tree) (d : Bool) (a : Deed) (n : StepLabel) (c' : Tree) → Moves Unmet w i c d a n c' → Moves Anyway w i c d a n c'
 

@@ -72,15 +72,15 @@ Unmet meets = meets ≡ false
 abbrev pub pause : Label → Place → Expr → Pause
 pause l at e = record { label = l; place = at; test = e }
 
--- a `cobegin`
+-- the fork of a `cobegin`
 abbrev pub fork : Label → Place → Bodies → Fork
 fork l at bodies = record { label = l; place = at; bodies = bodies }
 
--- a `when`
+-- the watch of a `when`
 abbrev pub watch : Label → Place → GuardKind → Expr → Block → Watch
 watch l at guard e body = record { label = l; place = at; guard = guard; test = e; body = body }
 
--- a `run`
+-- the call of a `run`
 abbrev pub call : Label → Place → Option Path → ℕ → List Expr → List Path → Call
 call l at target a inputs outputs = record { label = l; place = at; unit = a; arguments = arguments_of target inputs outputs }
 
@@ -157,10 +157,10 @@ mutual
     -- a `cobegin` ends where its branches are settled and so many have ended as are needed
     joins : {i : ℕ} {s : Fork} {stood : Bool} {branches : Trees} → are_settled branches ≡ true → are_done branches ≡ true →
         Moves T w i (Par s stood branches) true (deed i s.place Silent) (Here (join_node stood s.label s.place)) Nil
-    -- inside a sequence
+    -- a step inside a sequence
     in_seq : {i : ℕ} {c : Tree} {rest : Block} {d : Bool} {a : Deed} {n : StepLabel} {c' : Tree} →
         Moves T w i c d a n c' → Moves T w i (Seq c rest) d a n (seq c' rest)
-    -- inside a branch
+    -- a step inside a branch
     in_par : {i : ℕ} {s : Fork} {stood : Bool} {branches : Trees} {d : Bool} {a : Deed} {n : StepLabel} {branches' : Trees} →
         OneMoves T w i branches d a n branches' → Moves T w i (Par s stood branches) d a n (Par s stood branches')
     -- inside a guard that let its body go on

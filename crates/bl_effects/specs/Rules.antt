@@ -65,7 +65,7 @@ pub record Parallel : Type 0 where
   pub writes : List Marked
   pub splits : List Split
 
--- statements one after another
+-- several parts of a body, one after another
 abbrev pub together : List Parallel → Parallel
 together parts = record { writes = joined (map (λ part. part.writes) parts); splits = joined (map (λ part. part.splits) parts) }
 
@@ -77,7 +77,7 @@ beside one other = record { writes = one.writes ++ other.writes; splits = one.sp
 abbrev pub acting : Place → List Static → Parallel
 acting place written = record { writes = map (λ path. record { place = place; path = path }) written; splits = [] }
 
--- nothing
+-- a part of a body without writes and `cobegin`s
 abbrev pub still : Parallel
 still = record { writes = []; splits = [] }
 
@@ -315,6 +315,6 @@ Fails units _ at also = ⊥
 abbrev pub FailsFirst : List UnitDef → Rule → Place → List Place → Type 0
 FailsFirst units = FirstOf (Fails units)
 
--- none of the four fails
+-- none of Pause, Conflict, Alias and Instant fails
 abbrev pub Passes : List UnitDef → Type 0
 Passes units = NoneOf (Fails units)

@@ -147,7 +147,7 @@ positions_of (part ∷ rest) view = option_and_then (λ k. option_map (λ ks. k 
 abbrev pub read_at : ℕ → List Value → List ℕ → Option Value
 read_at root now positions = option_and_then (value_at positions) (slice_get now root)
 
--- what the path names
+-- the meaning of a path as an expression: the value that it leads to
 abbrev pub reading : PathMeaning → Meaning
 reading path view = option_map (datum_of (scalar_in path.ty)) (option_and_then (read_at path.root view.now) (path.positions view))
 

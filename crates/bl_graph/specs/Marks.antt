@@ -48,11 +48,11 @@ pub use Rattle.bl_graph.specs.declared.flow.Mark.{Mark}
 abbrev pub entered : Mark
 entered = record { surface = true; depth = false }
 
--- reached from where the part goes on in a later tick alone
+-- the mark of a node that is reached only from where the part goes on in a later tick
 abbrev pub resumed : Mark
 resumed = record { surface = false; depth = true }
 
--- reached by neither
+-- the mark of a node that isn't reached
 abbrev pub unreached : Mark
 unreached = record { surface = false; depth = false }
 
@@ -115,7 +115,7 @@ abbrev pub begun_by : Guard → Mark
 begun_by Abort = entered
 begun_by Reset = record { surface = true; depth = true }
 
--- whether it is a reset
+-- whether a guard is a reset
 abbrev pub resets : Guard → Bool
 resets Abort = false
 resets Reset = true

@@ -91,7 +91,7 @@ place_of_node (ForkAt l at) = at
 place_of_node (SurfaceJoinAt l at) = at
 place_of_node (DepthJoinAt l at) = at
 
--- what kind of node it is
+-- the kind of a node
 abbrev pub kind_of_node : Node → NodeKind
 kind_of_node (ActAt l s) = kind.Act
 kind_of_node (TestAt l at e) = kind.Test
@@ -171,7 +171,7 @@ abbrev mutual
   strong_instant Last = true
   strong_instant (Body weak body rest) = (weak || are_instant body) && strong_instant rest
 
-  -- whether some branch may
+  -- whether some branch may end in the tick in which it begins
   pub some_instant : Bodies → Bool
   some_instant Last = false
   some_instant (Body weak body rest) = are_instant body || some_instant rest

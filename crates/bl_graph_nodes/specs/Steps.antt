@@ -41,13 +41,13 @@ pub data StepLabel : Type 0 where
   -- a step of the activity with this number, which is called by the `run` with this node
   Inside : Node → ℕ → StepLabel → StepLabel
 
--- the outermost node
+-- the outermost node of a step's label
 abbrev pub head_of : StepLabel → Node
 head_of (Here n) = n
 head_of (Gives n) = n
 head_of (Inside n unit step) = n
 
--- the node that acts
+-- the node of a step's label that acts
 abbrev pub leaf_of : StepLabel → Node
 leaf_of (Here n) = n
 leaf_of (Gives n) = n

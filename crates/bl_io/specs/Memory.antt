@@ -24,11 +24,11 @@ abbrev pub sink_code : Coded MemorySink
 sink_code = code_by (List ℕ × FaultPlan) (coded× (coded_list coded_ℕ) plan_code) (λ s. (s.held, s.plan)) (λ p. record { held = p.0; plan = p.1 })
     (λ _. refl)
 
--- no file was added
+-- files over memory to which no file was added
 abbrev pub no_files : MemoryFiles
 no_files = record { files = map.empty; plan = no_plan }
 
--- nothing was written
+-- a sink over memory to which nothing was written
 abbrev pub nothing_held : MemorySink
 nothing_held = record { held = []; plan = no_plan }
 

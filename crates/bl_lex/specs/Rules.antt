@@ -98,6 +98,6 @@ Fails text _ place also = ⊥
 abbrev pub FailsFirst : List ℕ → Rule → Place → List Place → Type 0
 FailsFirst text = FirstOf (Fails text)
 
--- none of the three fails
+-- none of the lexer's rules Size, Lex and Profile fails
 abbrev pub Passes : List ℕ → Type 0
 Passes text = NoneOf (Fails text)

@@ -58,7 +58,7 @@ pub record Piece (A : Type 0) : Type 0 where
   pub vars : Scopes → List NamedVar
   pub constants : Scopes → List NamedConstant
 
--- what parts do one after another
+-- the marks of several parts, one after another
 abbrev pub marks_of_all : {A : Type 0} → List (Piece A) → Marks
 marks_of_all pieces = joined (map (λ piece. piece.marks) pieces)
 
@@ -85,7 +85,7 @@ all pieces = record { marks = marks_of_all pieces; made = made_of_all pieces; va
 abbrev pub none : {A : Type 0} → Scopes → List A
 none scopes = []
 
--- where a scope begins
+-- the scopes after a new innermost one begins
 abbrev pub opened : Scopes → Scopes
 opened scopes = enter scopes opens
 
@@ -202,7 +202,7 @@ stmt_layer_piece s = record {
   constants = s.what.constants;
 }
 
--- a statement
+-- the naming of a statement
 abbrev pub stmt_piece : RawStmt → Piece NamedStmt
 stmt_piece = fold-RawStmt (Piece NamedStmtKind) (Piece NamedArm) (Piece NamedBranch) (Piece NamedStmt) kind_piece arm_piece branch_piece stmt_layer_piece
 
@@ -249,7 +249,7 @@ param_piece role param = record {
   constants = none;
 }
 
--- parameters of one role
+-- the naming of the parameters of one role
 abbrev pub role_piece : Role → List RawParam → Piece (List NamedVar)
 role_piece role params = all (map (param_piece role) params)
 
@@ -305,7 +305,7 @@ abbrev pub along : {A : Type 0} → (Scopes → RawItem → List A) → Scopes �
 along gives scopes [] = []
 along gives scopes (one ∷ rest) = gives scopes one ++ along gives (after scopes (item_marks one)) rest
 
--- a program
+-- the named program of a raw tree
 abbrev pub named_program : List RawItem → ℕ → Named
 named_program items bytes = record {
   structs = along structs_of file_scope items;

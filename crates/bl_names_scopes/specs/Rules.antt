@@ -67,6 +67,6 @@ Fails items of at also =
 abbrev pub FailsFirst : List RawItem → Rule → Place → List Place → Type 0
 FailsFirst items = rules.FailsFirst (Fails items)
 
--- none of the three rules fails
+-- none of Duplicate, Unknown and Kind fails
 abbrev pub Passes : List RawItem → Type 0
 Passes items = rules.Passes (Fails items)

@@ -14,7 +14,7 @@ use Rattle.bl_names_scopes.specs.Marks.{Mark, Marks, opens, closes, declares, us
 abbrev pub Declared : Type 0
 Declared = List (List ℕ × Declaration)
 
--- no name
+-- a scope without names
 abbrev pub nothing : Declared
 nothing = []
 
@@ -26,7 +26,7 @@ named entries = map (λ entry. (entry.0.now, entry.1)) entries
 abbrev pub found : Declared → List ℕ → Option Declaration
 found scope name = lookup (bytes_eq name) scope
 
--- nothing is declared yet
+-- the counts before any declaration
 abbrev pub no_counts : Counts
 no_counts = record { structs = 0; constants = 0; units = 0; variables = 0 }
 

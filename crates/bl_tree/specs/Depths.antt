@@ -57,7 +57,7 @@ pub record Depth : Type 0 where
   pub blocks : ℕ
   pub exprs : ℕ
 
--- what stands in no block
+-- the depth of a statement without blocks
 abbrev pub leaf : ℕ → Depth
 leaf exprs = record { blocks = 0; exprs = exprs }
 

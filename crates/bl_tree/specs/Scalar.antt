@@ -42,7 +42,7 @@ pub record InRange (t : Scalar) (n : ℤ) : Type 0 where
 abbrev pub in_range : Scalar → ℤ → Bool
 in_range t n = int_le (low_of t) n && int_le n (high_of t)
 
--- every type without parts but bool
+-- whether a scalar type has whole numbers: any type but bool
 abbrev pub is_whole : Scalar → Bool
 is_whole OfBool = false
 is_whole (Int w) = true
@@ -63,7 +63,7 @@ is_bits (Int w) = false
 is_bits (Nat w) = false
 is_bits (Bits w) = true
 
--- bool alone
+-- whether a scalar type is bool
 abbrev pub is_bool : Scalar → Bool
 is_bool OfBool = true
 is_bool (Int w) = false

@@ -73,12 +73,12 @@ may_change Output = true
 may_change Variable = true
 may_change Fixed = false
 
--- declared by `var`
+-- whether a variable is declared by `var`
 abbrev pub is_variable : Role → Bool
 is_variable Variable = true
 is_variable _ = false
 
--- declared by `let`
+-- whether a variable is declared by `let`
 abbrev pub is_fixed : Role → Bool
 is_fixed Fixed = true
 is_fixed _ = false

@@ -469,7 +469,7 @@ judged_layer e = let formed : Formed = e.what e.place in record { place = e.plac
 abbrev pub judged_target : Environment → NamedTarget-F (Place → Formed) (Option Ty → Stepped) Judged Targeted → Targeted
 judged_target env target = targeted_from env target.place target.root target.parts
 
--- an expression
+-- the judgement of an expression
 abbrev pub judged : Environment → NamedExpr → Judged
 judged env = fold-NamedExpr (Place → Formed) (Option Ty → Stepped) Judged Targeted (judged_kind env) (judged_part env) judged_layer (judged_target env)
 
@@ -481,6 +481,6 @@ call_judged env at name f inputs = call_formed at name f (fitted (map (judged en
 abbrev pub step_of : Environment → NamedPart → Option Ty → Stepped
 step_of env = fold-NamedPart (Place → Formed) (Option Ty → Stepped) Judged Targeted (judged_kind env) (judged_part env) judged_layer (judged_target env)
 
--- a target
+-- the judgement of a target
 abbrev pub targeted : Environment → NamedTarget → Targeted
 targeted env = fold-NamedTarget (Place → Formed) (Option Ty → Stepped) Judged Targeted (judged_kind env) (judged_part env) judged_layer (judged_target env)

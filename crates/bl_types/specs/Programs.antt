@@ -43,7 +43,7 @@ after_items named (item ∷ rest) env = and_then (after_item named item env) (af
 abbrev pub text_end : Named → Place
 text_end named = record { start = named.bytes; end = named.bytes }
 
--- after the whole program
+-- what is known after the whole program
 abbrev pub after_program : Named → Declaring
 after_program named = after_items named named.order fresh
 

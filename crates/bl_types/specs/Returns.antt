@@ -67,7 +67,7 @@ branch_layer_strays branch = joined branch.body
 abbrev pub layer_strays : NamedStmt-F (Place → List Failure) (List Failure) (List Failure) (List Failure) → List Failure
 layer_strays s = s.what s.place
 
--- in a statement, itself included
+-- the failures of stray `return`s in a statement, itself included
 abbrev pub strays_in : NamedStmt → List Failure
 strays_in = fold-NamedStmt (Place → List Failure) (List Failure) (List Failure) (List Failure) kind_strays arm_layer_strays branch_layer_strays layer_strays
 

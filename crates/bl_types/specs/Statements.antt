@@ -263,7 +263,7 @@ declare k (Some var) (Some e) env = declared_with var k (initial env var.ty e) e
 declare k (Some var) None env = declared_without k (after_variable var env)
 declare k None e env = walked env None []
 
--- after a constant, where there is one
+-- what is known after an optional constant
 abbrev pub after_optional_constant : Option NamedConstant → Environment → Declaring
 after_optional_constant (Some constant) env = after_constant constant env
 after_optional_constant None env = unchanged env

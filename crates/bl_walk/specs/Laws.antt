@@ -36,7 +36,7 @@ UnsettledGoOn = (structs : List StructDef) (units : List UnitDef) (entry : ℕ) 
     (rows : List (List ℤ)) (row : List ℤ) (actions : List Action) (c : Control) (store : Store) →
     ReachesInside w rows row actions (Rests c store) → points w 0 c ≡ [] → is_settled c ≡ true
 
--- what a walk shows the meaning allows
+-- the semantics allows what a walk shows
 abbrev pub WalksAreAllowed : Type 0
 WalksAreAllowed = (w : Setting) (choice : Choice) (rows : List (List ℤ)) (c : Control) (store : Store) (shows : ShownTrace) (lists : List (List Action)) →
     Walks w choice rows c store shows lists → Allows w rows c store shows

@@ -126,7 +126,7 @@ clashes_of_unit unit = all_clashes unit.vars (splits_of unit)
 abbrev pub conflict_failures : List UnitDef → List Failure
 conflict_failures units = joined (map clashes_of_unit units)
 
--- all failures of the four rules
+-- all failures of Pause, Conflict, Alias and Instant
 abbrev pub failures : List UnitDef → List Failure
 failures units =
     pause_failures units ++ (conflict_failures units ++ (map of_alias (alias_failures units) ++ map of_loop (instant_failures units)))

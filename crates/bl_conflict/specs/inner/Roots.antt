@@ -25,7 +25,7 @@ abbrev pub Knows : Touched → List Marked → Type 0
 Knows touched [] = ⊤
 Knows touched (write ∷ rest) = HasPath touched write.path × Knows touched rest
 
--- what was known still is
+-- what was known of roots and paths still is
 pub record Grows (old new : Touched) : Type 0 where
   pub roots : (q : ℕ) → contains nat_cmp old.roots q ≡ true → contains nat_cmp new.roots q ≡ true
   pub wholes : (q : ℕ) → contains nat_cmp old.wholes q ≡ true → contains nat_cmp new.wholes q ≡ true

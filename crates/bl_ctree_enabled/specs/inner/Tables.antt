@@ -33,7 +33,7 @@ Noted table k homes = (m : ℕ) (at : Location) → slice_get homes m ≡ Some a
 abbrev pub AllNoted : Table → List (List Location) → Type 0
 AllNoted table all = (k : ℕ) (homes : List Location) → slice_get all k ≡ Some homes → Noted table k homes
 
--- what was noted still is
+-- what was noted in the table still is
 abbrev pub Grows : Table → Table → Type 0
 Grows old new = (k : ℕ) (at : Location) → is_noted old k at ≡ true → is_noted new k at ≡ true
 

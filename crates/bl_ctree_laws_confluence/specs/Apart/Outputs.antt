@@ -23,7 +23,7 @@ RunsHaveOutputs w i body =
     (place : Place) (outputs : List Path) (callee : ℕ) → SomeIn (RunsWith place outputs) body → callee_of w i place ≡ Some callee →
     HasOutputs w callee (map static_of outputs)
 
--- each of the branches has
+-- each `run` in the branches has the outputs of the instance that it begins
 abbrev pub BranchesHaveOutputs : Setting → ℕ → Bodies → Type 0
 BranchesHaveOutputs w i bodies =
     (place : Place) (outputs : List Path) (callee : ℕ) → SomeInEach (RunsWith place outputs) bodies → callee_of w i place ≡ Some callee →

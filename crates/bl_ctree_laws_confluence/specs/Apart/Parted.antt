@@ -20,11 +20,11 @@ use Rattle.bl_ctree_laws_confluence.specs.Apart.Writing.{WriteApart}
 
 -- branches, which stand in the instance, that keep apart
 pub record StandApart (w : Setting) (i : ℕ) (bodies : Bodies) : Type 0 where
-  -- none names what another declares
+  -- no branch names what another declares
   pub names : KeepApart bodies
-  -- none returns
+  -- no branch returns
   pub returns : NoneReturns bodies
-  -- no two run at one place
+  -- no two branches have `run`s at one place
   pub runs : RunApart bodies
   -- no branch writes a path that overlaps one that another writes
   pub writes : WriteApart bodies

@@ -29,7 +29,7 @@ pub record IsOutput (w : Setting) (i c : ℕ) (at : Location) : Type 0 where
 abbrev pub BeginsInstance : List StructDef → List UnitDef → ℕ → ℕ → Place → ℕ → Type 0
 BeginsInstance structs units entry i place c = callee_of (setting_of structs units entry) i place ≡ Some c
 
--- in a program's instances
+-- the instances of a program nest: callees come later, and each has one caller
 pub record InstancesNest (structs : List StructDef) (units : List UnitDef) (entry : ℕ) : Type 0 where
   -- callees have greater numbers
   pub later : (i c : ℕ) (place : Place) → BeginsInstance structs units entry i place c → i < c

@@ -18,11 +18,11 @@ i = 0
 abbrev pub o : ℕ
 o = 1
 
--- what the first branch writes
+-- the variable that the first branch writes
 abbrev pub x : ℕ
 x = 2
 
--- what the second branch writes
+-- the variable that the second branch writes
 abbrev pub y : ℕ
 y = 3
 
@@ -42,7 +42,7 @@ sets_y = set 4 y (two Mul (value x) (number 2))
 abbrev pub left_repeat : Stmt
 left_repeat = stmt 6 (StmtKind-F.Repeat (sets_x ∷ sets_o ∷ pause 3 ∷ []))
 
--- the second
+-- the second loop
 abbrev pub right_repeat : Stmt
 right_repeat = stmt 7 (StmtKind-F.Repeat (sets_y ∷ pause 5 ∷ []))
 

@@ -60,7 +60,7 @@ pub record MayActAt (stood : Bool) (bodies : Bodies) (g : Place) : Type 0 where
   pub now : (n : Node) → InEach stood bodies n → g.now n
   pub deep : (n : Node) → InEach true bodies n → g.deep n
 
--- what a Par has beside its branches
+-- a Par fits the graph, its branches apart
 pub record ForkFitsGraph (w : Setting) (i : ℕ) (s : Fork) (stood ends : Bool) (g : Place) : Type 0 where
   pub fits : IsSubgraph w i (fork_stmt s) g
   pub holds : MayActAt stood s.bodies g
@@ -118,7 +118,7 @@ abbrev mutual
   FitsGraph w i (Run s callee Check stood c) g =
       (unit : UnitDef) × FitsGraph w callee c (whole stood (plain_body unit.body)) × CopyFitsGraph w i s callee unit stood (is_nil c) g
 
-  -- each tree stands in its branch
+  -- the tree of each branch fits the graph there
   pub AllFitGraph : Setting → ℕ → Trees → Bodies → Bool → Place → Type 0
   AllFitGraph w i no_tree Last stood g = ⊤
   AllFitGraph w i no_tree (BodyOf weak body rest) stood g = ⊥

@@ -60,7 +60,7 @@ leads_on (Run s callee Body stood c) = true
 
 -- ---- what is kept of the branches at the end of a spine
 
--- what is listed, where something is
+-- the view of an optional listing
 abbrev pub listed_by : Option Listing → Option EnabledView
 listed_by listing = option_map enabled_view listing
 

@@ -92,7 +92,7 @@ told_point p = record { place = p.action.place; instance = p.action.instance; ef
 abbrev pub spot_told : Setting → List ℕ → Told → Spot
 spot_told w path t = record { place = t.place; instance = t.instance; effect = t.effect; reads = homes w t.instance t.paths; path = path }
 
--- what is told of an effect alone
+-- the view of a point with the effect at the place
 abbrev pub telling : Place → ℕ → Effect → List Told
 telling place i effect = record { place = place; instance = i; effect = effect; paths = effect_paths effect } ∷ []
 
@@ -132,7 +132,7 @@ abbrev pub chosen : Located → List Arm → List Stmt → Bool → Control
 chosen s [] other d = Nil
 chosen s (arm ∷ arms) other d = if d then do_all (arm_items s arm) else passing s arms other
 
--- a `run` that begins
+-- the tree of a `run` that begins
 abbrev pub begun_as : Located → Option UnitInstance → Control
 begun_as s None = Nil
 begun_as s (Some called) = Run s called.instance Body false (do_all (body_items called.unit.body))

@@ -131,11 +131,11 @@ pub record Whole : Type 0 where
   pub edges : List Pair
   pub flows : List Pair
 
--- what a statement comes to
+-- the nodes, ends, resume nodes and edges of a statement
 abbrev pub whole_of : Plain → Whole
 whole_of p = record { nodes = (part_of p).nodes; outs = (part_of p).outs; resumes = resumes_of p; edges = edges_of p; flows = flows_of p }
 
--- what a block comes to
+-- the nodes, ends, resume nodes and edges of a block
 abbrev pub whole_in : Block → Whole
 whole_in body = record {
   nodes = (part_in body).nodes;

@@ -123,7 +123,7 @@ numbered n (flow ∷ rest) = record { node = n; mark = flow.mark } ∷ numbered 
 
 -- ---- parts
 
--- nothing
+-- a part without nodes
 abbrev pub nothing : Part
 nothing = record { flows = []; outs = []; resumes = [] }
 
@@ -148,7 +148,7 @@ followed part more = record {
   resumes = part.resumes ++ more.resumes;
 }
 
--- an act
+-- the part of an act
 abbrev pub act_part : Place → List Static → List Static → ℕ → Part
 act_part at reads writes first = record { flows = node at kind.Act entered reads writes ∷ []; outs = out first entered ∷ []; resumes = [] }
 

@@ -59,7 +59,7 @@ unit_variable_failures structs vars = joined (map (of_variable structs) vars)
 abbrev pub variable_failures : List StructDef → List UnitDef → List Failure
 variable_failures structs units = joined (map (λ (unit : UnitDef). unit_variable_failures structs unit.vars) units)
 
--- all failures of the two rules
+-- all failures of Frames and Cells
 abbrev pub failures : List StructDef → List UnitDef → ℕ → List Failure
 failures structs units entry =
     many_instances units entry

@@ -27,7 +27,7 @@ stmt_kind_scoped (NamedStmtKind-F.Return e) = naming (optional_roots e)
 abbrev pub arm_scoped : NamedArm-F Scoped Scoped Scoped Scoped → Scoped
 arm_scoped arm = beside (roots_in arm.test) arm.body
 
--- a branch: its block
+-- the scoping of a branch, which is that of its block
 abbrev pub branch_scoped : NamedBranch-F Scoped Scoped Scoped Scoped → Scoped
 branch_scoped branch = block branch.body
 

@@ -39,7 +39,7 @@ naming roots = record { declared = []; stands = λ known. are_known known roots 
 abbrev pub declaring : ℕ → Roots → Scoped
 declaring k roots = record { declared = k ∷ []; stands = λ known. are_known known roots }
 
--- a block
+-- the scoping of a block
 abbrev pub block : List Scoped → Scoped
 block body = record { declared = []; stands = in_turn body }
 
@@ -47,7 +47,7 @@ block body = record { declared = []; stands = in_turn body }
 abbrev pub beside : Roots → List Scoped → Scoped
 beside roots body = record { declared = []; stands = λ known. are_known known roots && in_turn body known }
 
--- branches beside one another
+-- the scoping of branches beside one another
 abbrev pub branches : List Scoped → Scoped
 branches parts = record { declared = []; stands = every parts }
 

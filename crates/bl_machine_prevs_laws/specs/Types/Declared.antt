@@ -25,7 +25,7 @@ stmt_kind_scoped (StmtKind-F.Return e) = naming (optional_roots e)
 abbrev pub arm_scoped : Arm-F Scoped Scoped Scoped Scoped → Scoped
 arm_scoped arm = beside (roots_in arm.test) arm.body
 
--- a branch: its block
+-- the scoping of a branch, which is that of its block
 abbrev pub branch_scoped : Branch-F Scoped Scoped Scoped Scoped → Scoped
 branch_scoped branch = block branch.body
 
