@@ -79,7 +79,7 @@ runs_in_arm = fold-Arm (Place → List Run) (List Run) (List Run) (List Run) kin
 abbrev pub runs_in_branch : Branch → List Run
 runs_in_branch = fold-Branch (Place → List Run) (List Run) (List Run) (List Run) kind_runs arm_runs branch_runs stmt_layer_runs
 
--- the first of each place
+-- the first `run` statement of each place
 abbrev pub one_a_place : List Run → List Run
 one_a_place [] = []
 one_a_place (run ∷ rest) = run ∷ filter (λ other. not (same_place run.place other.place)) (one_a_place rest)

@@ -129,7 +129,7 @@ WakingKeepsResidual = (w : Setting) (stood : Bool) (i : ℕ) (items : List Item)
 abbrev pub WokenTreeIsResidual : Type 0
 WokenTreeIsResidual = (w : Setting) (c : Control) → ResidualTree w c → Residual w true 0 (entry_items w) (woken c)
 
--- between ticks runs reach only what is left of the entry's body
+-- between ticks runs reach only residuals of the entry's body
 abbrev pub ReachedIsResidual : Type 0
 ReachedIsResidual = (w : Setting) (rows : List (List ℤ)) (c : Control) (store : Store) → Reaches w rows c store → ResidualTree w c
 

@@ -63,7 +63,7 @@ mutual
         kind_of s ≡ StmtKind-F.Until body e → Residual w stood i (turn_items s body (Again s)) c → ResidualOf w stood i (Begin s) c
     of_while : {stood : Bool} {i : ℕ} {s : Located} {e : Expr} {body : List Stmt} {c : Control} →
         kind_of s ≡ StmtKind-F.While e body → Residual w stood i (turn_items s body (Begin s)) c → ResidualOf w stood i (Begin s) c
-    -- after the test at the end of a turn the loop begins again
+    -- a loop that begins again after the test at the end of a turn
     of_again : {stood : Bool} {i : ℕ} {s : Located} {body : List Stmt} {e : Expr} {c : Control} →
         kind_of s ≡ StmtKind-F.Until body e → ResidualOf w stood i (Begin s) c → ResidualOf w stood i (Again s) c
     of_par : {around stood : Bool} {i : ℕ} {s : Located} {written : List Branch} {branches : Branches} →

@@ -132,10 +132,10 @@ mutual
     -- a step inside a branch
     in_par : {i : ℕ} {s : Located} {stood : Bool} {branches : Branches} {d : Bool} {a : Action} {branches' : Branches} →
         OneMoves w i branches d a branches' → Moves w i (Par s stood branches) d a (Par s stood branches')
-    -- inside a guard that let its body go on
+    -- a step inside a guard that let its body go on
     in_guard : {i : ℕ} {s : Located} {stood : Bool} {c : Control} {d : Bool} {a : Action} {c' : Control} →
         Moves w i c d a c' → Moves w i (Guard s Body stood c) d a (Guard s Body stood c')
-    -- inside a `run` that has its inputs: a step of the instance that it began
+    -- a step of a called instance, inside a `run` that has its inputs
     in_run : {i : ℕ} {s : Located} {callee : ℕ} {stood : Bool} {c : Control} {d : Bool} {a : Action} {c' : Control} →
         Moves w callee c d a c' → Moves w i (Run s callee Body stood c) d a (Run s callee Body stood c')
 

@@ -164,7 +164,7 @@ with_frame i change store = unwrap_or (option_map (λ frame. slice_set store i (
 abbrev pub remember : ℕ → Frame → Frame
 remember k frame = record frame { before = unwrap_or (option_map (slice_set frame.before k) (slice_get frame.now k)) frame.before }
 
--- the first values are the inputs
+-- the frame with the inputs as its first values
 abbrev pub with_inputs : List Value → Frame → Frame
 with_inputs inputs frame = record frame { now = inputs ++ drop (length inputs) frame.now }
 

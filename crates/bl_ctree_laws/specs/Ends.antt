@@ -73,7 +73,7 @@ pub record Independent (w : Setting) (a b : Deed) : Type 0 where
   pub traps : (store : Store) (y : Performed) → done_by w a store ≡ None → done_by w b store ≡ Some y → done_by w a y.store ≡ None
   pub trap_stays : (store : Store) (x : Performed) → done_by w b store ≡ None → done_by w a store ≡ Some x → done_by w b x.store ≡ None
 
--- in what may be left of the body the order of steps of different branches does not matter
+-- steps of different branches are independent in all residuals of the body
 abbrev pub BranchesAreIndependent : Setting → Bool → Block → Type 0
 BranchesAreIndependent w stood body = (c : Tree) (a b : Deed) → PlainResidual w stood 0 body c → Apart w 0 c a b → Independent w a b
 

@@ -63,7 +63,7 @@ mutual
         PlainResidual w stood i (turn body (Again l at body e)) c → PlainResidualOf w stood i (Until l at body e) c
     of_while : {stood : Bool} {i : ℕ} {l : Label} {at : Place} {e : Expr} {body : Block} {c : Tree} →
         PlainResidual w stood i (turn body (While l at e body)) c → PlainResidualOf w stood i (While l at e body) c
-    -- after the test at the end of a turn the loop begins again
+    -- a loop that begins again after the test at the end of a turn
     of_again : {stood : Bool} {i : ℕ} {l : Label} {at : Place} {body : Block} {e : Expr} {c : Tree} →
         PlainResidualOf w stood i (Until l at body e) c → PlainResidualOf w stood i (Again l at body e) c
     of_par : {around stood : Bool} {i : ℕ} {l : Label} {at : Place} {bodies : Bodies} {branches : Trees} → (stood ≡ true → around ≡ true) →

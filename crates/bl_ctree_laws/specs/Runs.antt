@@ -25,7 +25,7 @@ use Rattle.bl_ctree_laws.specs.Shrinks.{Paces}
 abbrev pub entry_block : Setting → Block
 entry_block w = plain_items (entry_items w)
 
--- between ticks runs reach trees that may be left of the entry's body alone
+-- between ticks runs reach only residuals of the entry's body, as plain trees
 abbrev pub ReachedIsPlainResidual : Type 0
 ReachedIsPlainResidual = (w : Setting) (rows : List (List ℤ)) (c : Control) (store : Store) → Reaches w rows c store → PlainResidualTree w (entry_block w) (plain_tree c)
 

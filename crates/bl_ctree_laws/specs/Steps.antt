@@ -89,7 +89,7 @@ abbrev pub turn : Block → Plain → Block
 turn body next = before body (Then next Done)
 
 mutual
-  -- Moves T w i c d a n c': the tree c of instance i moves to c' by the deed a, answer d and label n
+  -- Moves T w i c d a n c': tree c of instance i becomes c' by deed a with answer d and label n
   pub data Moves (T : Bool → Type 0) (w : Setting) : ℕ → Tree → Bool → Deed → StepLabel → Tree → Type 0 where
     -- an assignment, a declaration, a call or a `return`
     acts : {i : ℕ} {l : Label} {s : Stmt} →
@@ -163,10 +163,10 @@ mutual
     -- a step inside a branch
     in_par : {i : ℕ} {s : Fork} {stood : Bool} {branches : Trees} {d : Bool} {a : Deed} {n : StepLabel} {branches' : Trees} →
         OneMoves T w i branches d a n branches' → Moves T w i (Par s stood branches) d a n (Par s stood branches')
-    -- inside a guard that let its body go on
+    -- a step inside a guard that let its body go on
     in_guard : {i : ℕ} {s : Watch} {stood : Bool} {c : Tree} {d : Bool} {a : Deed} {n : StepLabel} {c' : Tree} →
         Moves T w i c d a n c' → Moves T w i (Guard s Body stood c) d a n (Guard s Body stood c')
-    -- inside a `run` that has its inputs: a step of the instance that it began
+    -- a step of a called instance, inside a `run` that has its inputs
     in_run : {i : ℕ} {s : Call} {callee : ℕ} {stood : Bool} {c : Tree} {d : Bool} {a : Deed} {n : StepLabel} {c' : Tree} →
         Moves T w callee c d a n c' → Moves T w i (Run s callee Body stood c) d a
         (Inside (run_node stood s.label s.place s.arguments) s.unit n) (Run s callee Body stood c')

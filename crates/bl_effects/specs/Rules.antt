@@ -125,7 +125,7 @@ parallel_of = fold-Stmt (Place → Parallel) Parallel Parallel Parallel kind_par
 abbrev pub splits_of : UnitDef → List Split
 splits_of unit = (together (map parallel_of unit.body)).splits
 
--- at the act in the earlier branch; also that in the later branch, and the declaration of a root that both write
+-- rule Conflict fails at an act of an earlier branch; its line names the later act and the declaration of their root
 pub record FailsConflict (units : List UnitDef) (at : Place) (also : List Place) : Type 0 where
   pub unit : UnitDef
   pub is_there : Contains units unit
@@ -215,7 +215,7 @@ stmt_aliases s = s.what
 abbrev pub aliases_in : Stmt → List Aliased
 aliases_in = fold-Stmt (List Aliased) (List Aliased) (List Aliased) (List Aliased) kind_aliases arm_aliases branch_aliases stmt_aliases
 
--- at the output or target; also what it overlaps, an output before an input and the first of several
+-- rule Alias fails at an output or target; its line names the first thing that overlaps, outputs before inputs
 pub record FailsAlias (units : List UnitDef) (at : Place) (also : List Place) : Type 0 where
   pub unit : UnitDef
   pub is_there : Contains units unit
@@ -291,7 +291,7 @@ loops_in = fold-Stmt (Place → Loops) Loops BranchLoops Loops kind_loops arm_lo
 abbrev pub instant_loops : UnitDef → List Place
 instant_loops unit = block_loops (map loops_in unit.body)
 
--- at the loop
+-- rule Instant fails at a loop whose body may end in the tick in which it begins
 pub record FailsInstant (units : List UnitDef) (at : Place) (also : List Place) : Type 0 where
   pub unit : UnitDef
   pub is_there : Contains units unit

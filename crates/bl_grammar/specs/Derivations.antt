@@ -9,7 +9,7 @@ next_of [] = None
 next_of (token ∷ tokens) = Some token
 
 module _ {K P T : Type 0}
-    -- before this next token (or the end), the part may stand for these symbols
+    -- the part may stand for these symbols before this next token (or the end)
     (Produces : P → Option T → List (Symbol K P) → Type 0)
     -- the token is of the class
     (matches : K → T → Bool) where

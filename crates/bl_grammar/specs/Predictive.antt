@@ -82,7 +82,7 @@ module _ {K P T : Type 0}
   IsForced A token (Terminal class ∷ rest) = matches class token ≡ true → tables.pick A token ≡ Some (Terminal class ∷ rest)
   IsForced A token (Nonterminal B ∷ rest) = tables.begins B token ≡ true → tables.pick A token ≡ Some (Nonterminal B ∷ rest)
 
-  -- after the production a token is read, or a part of less rank stands first, or the part is gone
+  -- a production begins with a token or with a part of less rank, or it is empty and its part absent
   abbrev pub Descends : P → List (Symbol K P) → Type 0
   Descends A [] = tables.absent A ≡ true
   Descends A (Terminal class ∷ rest) = ⊤

@@ -26,7 +26,7 @@ abbrev pub label_at : Position → Label
 label_at position = record { position = position; passed = 0 }
 
 mutual
-  -- each has its label, and the place of its statement; an `elseif` stands in the `else` part and has the place of its condition
+  -- A plain statement with its label and place. An `elseif` stands in the `else` part, at the place of its condition.
   pub data Plain : Type 0 where
     -- an assignment, a declaration, a call or a `return`, as it is written
     Act : Label → Stmt → Plain

@@ -76,7 +76,7 @@ pub record NamedIsWellFormed (named : Named) : Type 0 where
   pub distinct : IsTrue (are_distinct (all_names named))
   -- each struct has a field, and the names of its fields are names and differ
   pub structs : IsTrue (list_all struct_stands named.structs)
-  -- in each unit names are names, parameters differ, nothing is missing or nested too deep, and branches keep apart
+  -- each unit is well-formed: names, distinct parameters, complete statements, bounded nesting, and branches that keep apart
   pub units : IsTrue (list_all unit_stands named.units)
   -- statements and conditions of loops begin one after another, so no two of them have one place
   pub in_order : IsTrue (ascends (all_starts named))

@@ -39,7 +39,7 @@ count_of counts kind.Function = counts.units
 count_of counts kind.Activity = counts.units
 count_of counts kind.Field = 0
 
--- after one more declaration; the variables of each unit are counted anew
+-- the counts after one more declaration; the variables of each unit are counted anew
 abbrev pub counted : Counts → Kind → Counts
 counted counts kind.Struct = record counts { structs = counts.structs + 1 }
 counted counts kind.Constant = record counts { constants = counts.constants + 1 }

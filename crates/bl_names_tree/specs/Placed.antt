@@ -56,7 +56,7 @@ pub record DeclaredBefore : Type 0 where
   pub units : ℕ
   pub variables : ℕ
 
--- at the start of a program nothing is declared
+-- the counts at the start of a program, where nothing is declared
 abbrev pub nothing_earlier : DeclaredBefore
 nothing_earlier = record { structs = 0; constants = 0; units = 0; variables = 0 }
 
@@ -146,7 +146,7 @@ struct_placed earlier def = list_all (λ field. type_placed earlier field.ty) de
 
 -- ---- parts that may declare
 
--- from what is declared before a part to what is declared before the next; none where a position in it stands for nothing
+-- a step from what is declared before a part to what is declared after it; none at an unknown position
 abbrev pub PlacedStep : Type 0
 PlacedStep = DeclaredBefore → Option DeclaredBefore
 
@@ -155,11 +155,11 @@ abbrev pub in_turn : List PlacedStep → PlacedStep
 in_turn [] earlier = Some earlier
 in_turn (step ∷ rest) earlier = option_and_then (in_turn rest) (step earlier)
 
--- after one more variable of the unit
+-- the counts after one more variable of the unit
 abbrev pub with_variable : DeclaredBefore → DeclaredBefore
 with_variable earlier = record earlier { variables = earlier.variables + 1 }
 
--- after one more constant of the program
+-- the counts after one more constant of the program
 abbrev pub with_constant : DeclaredBefore → DeclaredBefore
 with_constant earlier = record earlier { constants = earlier.constants + 1 }
 
@@ -207,7 +207,7 @@ branch_step branch = in_turn branch.body
 abbrev pub stmt_layer_step : NamedStmt-F PlacedStep PlacedStep PlacedStep PlacedStep → PlacedStep
 stmt_layer_step s = s.what
 
--- from what is declared before a statement to what is declared before the next
+-- the step of a statement, from what is declared before it to what is declared after it
 abbrev pub stmt_step : List NamedVar → List NamedConstant → NamedStmt → PlacedStep
 stmt_step vars constants = fold-NamedStmt PlacedStep PlacedStep PlacedStep PlacedStep (stmt_kind_step vars constants) arm_step branch_step stmt_layer_step
 
@@ -234,7 +234,7 @@ head_placed earlier unit =
 abbrev pub with_parameters : DeclaredBefore → NamedUnit → DeclaredBefore
 with_parameters earlier unit = record earlier { variables = parameters unit }
 
--- behind a unit, where each of its variables is declared; the variables of the next are counted anew
+-- what is declared after a unit whose variables are all declared; the next unit's are counted anew
 abbrev pub behind_unit : NamedUnit → DeclaredBefore → Option DeclaredBefore
 behind_unit unit earlier =
     if nat_eq earlier.variables (length unit.vars) then Some (record earlier { units = earlier.units + 1; variables = 0 }) else None
@@ -258,6 +258,6 @@ item_step named item.Unit earlier = option_and_then (λ def. unit_step named.con
 abbrev pub all_earlier : Named → DeclaredBefore
 all_earlier named = record { structs = length named.structs; constants = length named.constants; units = length named.units; variables = 0 }
 
--- in the order of its items each position in a program is that of what is declared before, and everything is declared once
+-- each position in a program, in order of its items, is of something declared before, and everything is declared once
 abbrev pub IsPlaced : Named → Type 0
 IsPlaced named = in_turn (map (item_step named) named.order) nothing_earlier ≡ Some (all_earlier named)

@@ -330,7 +330,7 @@ expression_starts = Mark MINUS ∷ Mark TILDE ∷ Keyword NOT ∷ AnyNumber ∷ 
 abbrev pub begins_expression : Class → Bool
 begins_expression class = list_any (λ start. same_class start class) expression_starts
 
--- after `return`, the next token begins its expression: it stands on the same line and can begin one
+-- the token after `return` begins its expression: it stands on the same line and can begin one
 abbrev pub continues : Option TokenView → Bool
 continues None = false
 continues (Some next) = not next.fresh && begins_expression next.class
@@ -346,7 +346,7 @@ pub data IsAmong (production : List Piece) : List (List Piece) → Type 0 where
   here : {others : List (List Piece)} → IsAmong production (production ∷ others)
   later : {other : List Piece} {others : List (List Piece)} → IsAmong production others → IsAmong production (other ∷ others)
 
--- before this next token, the part may stand for these symbols
+-- the part may stand for these symbols before this next token
 abbrev pub Produces : Part → Option TokenView → List Piece → Type 0
 Produces part next production = IsAmong production (productions part) × (may_stand part next production ≡ true)
 

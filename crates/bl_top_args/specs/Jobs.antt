@@ -154,7 +154,7 @@ other_job name values = if bytes_eq (codes "check") name then of_one check value
 abbrev pub command_job : Word → List Word → Option JobSpec
 command_job name values = if bytes_eq (codes "drive") name then driven values else other_job name values
 
--- the first word names the command, and no word is empty or begins with a hyphen
+-- the job of a list of words: the first names the command, and no word is empty or begins with a hyphen
 abbrev pub job_of : List Word → Option JobSpec
 job_of [] = None
 job_of (name ∷ values) =

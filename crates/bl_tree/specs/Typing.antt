@@ -111,7 +111,7 @@ element_in _ = None
 abbrev pub where_whole : Option Ty → Option Ty → Option Ty
 where_whole index t = option_and_then (λ ty. option_and_then (λ s. if is_whole s then t else None) (scalar_in ty)) index
 
--- from the type of a place to that of its part
+-- the type of a part of a place, from the type of the place
 abbrev pub part_type : TypingContext → Part-F (Option Ty) (Ty → Option Ty) (Option Ty) (Option Ty) → Ty → Option Ty
 part_type site (Part-F.Field k) ty = field_in site.structs k (out-Ty ty)
 part_type site (Part-F.Index index) ty = where_whole index (element_in (out-Ty ty))

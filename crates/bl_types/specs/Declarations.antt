@@ -145,7 +145,7 @@ unchanged env = record { env = env; failures = [] }
 abbrev pub after_parameter : NamedVar → Environment → Declaring
 after_parameter var env = if is_parameter var.role then after_variable var env else unchanged env
 
--- after the parameters among the variables of a unit
+-- what is known after the parameters among the variables of a unit
 abbrev pub after_parameters : List NamedVar → Environment → Declaring
 after_parameters [] env = unchanged env
 after_parameters (var ∷ rest) env = and_then (after_parameter var env) (after_parameters rest)

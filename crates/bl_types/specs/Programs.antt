@@ -23,12 +23,12 @@ start = record { env = fresh; notes = record { first = None } }
 -- ---- the items of a program in source order. The constants in the body of a unit are among those of the program, and are over
 -- with the unit
 
--- after the next of a kind, where there is one
+-- what is known after the next item of a kind, if there is one
 abbrev pub after_next : {A : Type 0} → (A → Environment → Declaring) → Option A → Environment → Declaring
 after_next after (Some it) env = after it env
 after_next after None env = unchanged env
 
--- after an item of the program: its next struct, constant or unit
+-- what is known after an item of the program: its next struct, constant or unit
 abbrev pub after_item : Named → Item → Environment → Declaring
 after_item named item.Struct env = after_next after_struct (slice_get named.structs (length env.structs)) env
 after_item named item.Constant env = after_next after_constant (slice_get named.constants (length env.constants)) env

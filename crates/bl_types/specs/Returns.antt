@@ -95,7 +95,7 @@ abbrev pub stray : Bool → NamedStmt → List Failure
 stray true s = strays_in s
 stray false s = if is_return s then [] else strays_in s
 
--- in a body, but for a `return` that stands last directly in it
+-- the failures of stray `return`s in a body; one may stand last directly in it
 abbrev pub strays : List NamedStmt → List Failure
 strays [] = []
 strays (s ∷ rest) = stray (is_inhabited rest) s ++ strays rest

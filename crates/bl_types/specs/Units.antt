@@ -93,14 +93,14 @@ unit_of unit body env = record {
 abbrev pub environment_after : NamedUnit → List Stmt → Environment → Environment
 environment_after unit body env = record env { units = env.units ++ unit_of unit body env ∷ []; vars = []; result = None }
 
--- after the head of a unit: its parameters and its result
+-- what is known after the head of a unit: its parameters and its result
 abbrev pub after_head : NamedUnit → Environment → Declaring
 after_head unit env =
     let inside : Declaring = after_parameters unit.vars (entered unit env) in
     let result : Result = result_of inside.env unit.name.place unit.result in
     record { env = record inside.env { result = result.result }; failures = inside.failures ++ result.failures }
 
--- after a unit, where these are the constants of the program
+-- what is known after a unit in a program with these constants
 abbrev pub after_unit : List NamedConstant → NamedUnit → Environment → Declaring
 after_unit constants unit env =
     let head : Declaring = after_head unit env in

@@ -62,7 +62,7 @@ pub record TwoBranches (w : Setting) (a b : Deed) : Type 0 where
   pub first_unmet : any_meets w instance others a ≡ false
   pub second_unmet : meets w instance tree b ≡ false
 
--- in each unit that has an instance branches keep apart
+-- the branches of each unit that has an instance keep apart
 abbrev pub AllKeepApart : Setting → Type 0
 AllKeepApart w = (i : ℕ) (unit : UnitDef) → unit_at w i ≡ Some unit → EachForkIn (StandApart w i) (plain_body unit.body)
 

@@ -11,7 +11,7 @@ use Rattle.bl_ctree_laws.specs.Pending.{Deed}
 use Rattle.bl_ctree_laws.specs.Runs.{entry_block}
 use Rattle.bl_ctree_laws_confluence.specs.Apart.Parted.{TwoBranches}
 
--- in an accepted program the order of two steps of two branches doesn't matter
+-- two steps of different branches are independent in an accepted program
 abbrev pub TwoAreIndependent : Type 0
 TwoAreIndependent =
     (structs : List StructDef) (units : List UnitDef) (entry : ℕ) (a b : Deed) → IsWellTyped structs units entry → Passes units →

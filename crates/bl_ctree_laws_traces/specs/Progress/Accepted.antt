@@ -24,7 +24,7 @@ ProgramsAreCallable = (structs : List StructDef) (units : List UnitDef) (entry :
 
 -- what holds of the trees that runs reach
 pub record TreesFitGraphs (w : Setting) : Type 0 where
-  -- between ticks they stand at their places
+  -- between ticks the trees fit the graph of the entry's body
   pub trees : (rows : List (List ℤ)) (c : Control) (store : Store) → Reaches w rows c store → TreeFitsGraph w (entry_block w) (plain_tree c)
   -- within ticks, after any steps, the trees fit the graph of the entry's body
   pub inside : (rows : List (List ℤ)) (row : List ℤ) (actions : List Action) (c : Control) (store : Store) →

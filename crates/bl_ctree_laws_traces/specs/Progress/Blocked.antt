@@ -27,7 +27,7 @@ pub record Writer (w : Setting) (i : ℕ) (a : Deed) (E L : Node → Node → Ty
   pub beside : L writer node
   pub writes : WritesOver w i a writer
 
--- WaitsFor w n p i a E L: the deed with label n waits for a writer that step p leads to, beside or inside its call
+-- WaitsFor w n p i a E L: deed a with label n waits for a writer that a step labelled p leads to
 abbrev pub WaitsFor : Setting → StepLabel → StepLabel → ℕ → Deed → (Node → Node → Type 0) → (Node → Node → Type 0) → Type 0
 WaitsFor w (Here n) p i a E L = Writer w i a E L (head_of p) n
 WaitsFor w (Gives n) p i a E L = Writer w i a E L (head_of p) n

@@ -28,7 +28,7 @@ pub record Least (w : Setting) (rank : ℕ → Node → ℕ) (i : ℕ) (c : Tree
   pub least : (d : Bool) (a : Deed) (n : StepLabel) (c' : Tree) → Moves Anyway w i c d a n c' →
       ¬ Before (ranks_in w rank i n) (ranks_in w rank i could.label)
 
--- in a tree at its place in which something is left to do there is one, whatever the numbers
+-- a fitting tree that isn't settled has a least step that could be taken, whatever the numbers
 abbrev pub UnsettledHasLeast : Type 0
 UnsettledHasLeast =
     (w : Setting) (rank : ℕ → Node → ℕ) (i : ℕ) (stood : Bool) (body : Block) (c : Tree) → FitsGraph w i c (whole stood body) →

@@ -39,7 +39,7 @@ UnsettledMay =
     Rising w rank → OutputsAreApart w → unit_at w i ≡ Some unit → FitsGraph w i c (whole stood (plain_body unit.body)) → CallsMatchCallees w i c →
     is_settled c ≡ false → May w i c
 
--- in the trees that runs reach inside ticks each `run` has the callee that its place begins, with its own outputs
+-- the `run`s in trees that runs reach inside ticks have the callees that their places begin, with their outputs
 abbrev pub ReachedCallsMatch : Setting → Type 0
 ReachedCallsMatch w =
     (rows : List (List ℤ)) (row : List ℤ) (actions : List Action) (c : Control) (store : Store) → ReachesInside w rows row actions (Rests c store) →

@@ -15,11 +15,11 @@ use Rattle.bl_names.specs.Named.{Piece, constants_in_unit, named_struct, named_u
 abbrev pub begun : State
 begun = record { scopes = file_scope; structs = []; constants = []; units = []; vars = [] }
 
--- behind the declaration of a variable
+-- the state of naming after the declaration of a variable
 abbrev pub with_variable : State → Name → NamedVar → State
 with_variable state name var = record state { scopes = enter state.scopes (declares name kind.Variable); vars = state.vars ++ (var ∷ []) }
 
--- behind that of a constant
+-- the state of naming after the declaration of a constant
 abbrev pub with_constant : State → Name → NamedConstant → State
 with_constant state name constant = record state { scopes = enter state.scopes (declares name kind.Constant); constants = state.constants ++ (constant ∷ []) }
 

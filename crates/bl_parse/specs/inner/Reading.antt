@@ -52,7 +52,7 @@ use Rattle.bl_parse.specs.At.{kind_at, start_at, end_at}
 abbrev pub left : List Token → ℕ → List TokenView
 left tokens k = drop k (views tokens)
 
--- from the position on, up to the end, the tokens are expected to spell these symbols
+-- the tokens from the position to the end are expected to spell these symbols
 pub record Here (symbols : List Piece) (tokens : List Token) (at : ℕ) : Type 0 where
   pub within : at ≤ length tokens
   pub expects : Expects symbols (left tokens at)
