@@ -62,7 +62,7 @@ put_all [] values view now = now
 put_all (path ∷ paths) [] view now = now
 put_all (path ∷ paths) (value ∷ values) view now = put_all paths values view (put_back path value view now)
 
--- the caller's variables after a call: inputs and outputs are copied in, and outputs copied back, which alias-free paths make a reference
+-- the caller's variables after a call: outputs are copied in and back, which passes by reference, as their paths don't overlap
 abbrev pub outcome_of_call : List Meaning → List PathMeaning → View → Callee → Option (List Value)
 outcome_of_call inputs outputs view callee =
     option_and_then (λ values. option_map (λ left. put_all outputs left.outputs view view.now) (callee values))

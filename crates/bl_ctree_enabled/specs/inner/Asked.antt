@@ -27,7 +27,7 @@ asked_from all j changed [] free = free
 asked_from all j changed (spots ∷ rest) [] = []
 asked_from all j changed (spots ∷ rest) (flags ∷ free) = asked_flags all j changed spots flags ∷ asked_from all (suc j) changed rest free
 
--- the changed homes decide: reads that overlap gone and come homes alike overlap homes before and now alike
+-- if reads overlap the homes removed iff they overlap those added, they overlap the homes before iff they overlap those now
 abbrev pub DecidedBy : List Location → List Location → List Location → List Location → Type 0
 DecidedBy gone come before now =
     (reads : List Location) → touches gone reads ≡ touches come reads → touches before reads ≡ touches now reads

@@ -17,7 +17,7 @@ use Rattle.bl_ctree_laws.specs.Trees.{Tree, Trees, Nil, Wait, Test, Idle, Do, Se
 use Rattle.bl_ctree_laws_confluence.specs.Deeds.Deeds.{effect_writes}
 use Rattle.bl_ctree_laws_confluence.specs.Deeds.Nesting.{Inside}
 
--- the outputs with which the callee was begun are among the given ones, as far as any test tells
+-- each test that an output with which the callee was begun passes is passed by an output in the list
 abbrev pub HasOutputs : Setting → ℕ → List Static → Type 0
 HasOutputs w callee outputs =
     (instance : Instance) (origin : Origin) (test : Static → Bool) → slice_get w.instances callee ≡ Some instance → instance.origin ≡ Some origin →
