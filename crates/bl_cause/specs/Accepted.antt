@@ -17,14 +17,14 @@ pub record AcceptedProgram : Type 0 where
   pub program : Program
   -- the program of whose bodies the rest is
   pub tree : Program
-  -- what its statements read and write
+  -- the effects of the tree's statements
   pub effects : List Effect
   -- the tick graphs of its activities
   pub graphs : List Graph
-  -- and an order for each
+  -- an order of the nodes for each tick graph
   pub orders : List Order
 
--- these are the effects of the units' statements, the tick graphs of their activities, and orders of these
+-- the statements' effects, the activities' tick graphs, and an order of each graph
 pub record IsSchedule (units : List UnitDef) (effects : List Effect) (graphs : List Graph) (orders : List Order) : Type 0 where
   pub effects_told : TableTellsEffects effects units
   pub each_graph : AreGraphs units graphs
@@ -37,12 +37,12 @@ IsTreeOf program tree = tree ≡ program
 -- no rule fails for the program, and the rest is that of its tree. The rules from Type to Entry are kept by every `Program`
 pub record IsAccepted (accepted : AcceptedProgram) : Type 0 where
   pub is_tree : IsTreeOf accepted.program accepted.tree
-  -- neither of Pause, Conflict, Alias and Instant fails
+  -- none of Pause, Conflict, Alias and Instant fails for the program
   pub units_pass : UnitsPass accepted.program.units
-  -- neither of Frames and Cells fails
+  -- neither Frames nor Cells fails for the program
   pub limits : KeepsLimits accepted.program.structs accepted.program.units accepted.program.entry
-  -- and of the tree neither of Pause, Conflict, Alias and Instant
+  -- none of Pause, Conflict, Alias and Instant fails for the tree
   pub tree_passes : UnitsPass accepted.tree.units
-  -- nor Twice or Cycle
+  -- neither Twice nor Cycle fails for the tree
   pub no_walks : Passes accepted.tree.units
   pub schedule : IsSchedule accepted.tree.units accepted.effects accepted.graphs accepted.orders

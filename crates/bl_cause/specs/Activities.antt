@@ -16,7 +16,7 @@ activities units = filter (λ unit. is_activity unit.kind) units
 abbrev pub graph_position : List UnitDef → ℕ → ℕ
 graph_position units at = length (activities (take at units))
 
--- both lists have as many elements, and those at one position are related
+-- two lists are equally long, and elements at one position are related
 abbrev pub EachTwo : {A B : Type 0} → (A → B → Type 0) → List A → List B → Type 0
 EachTwo R [] [] = ⊤
 EachTwo R [] (y ∷ ys) = ⊥
@@ -27,7 +27,7 @@ EachTwo R (x ∷ xs) (y ∷ ys) = R x y × EachTwo R xs ys
 abbrev pub IsGraphOf : UnitDef → Graph → Type 0
 IsGraphOf unit graph = IsTickGraph (plain_body unit.body) graph.nodes graph.edges
 
--- these are tick graphs of the activities among the units, one for each, in their order
+-- the graphs are tick graphs of the activities among the units, one for each, in their order
 abbrev pub AreGraphs : List UnitDef → List Graph → Type 0
 AreGraphs units graphs = EachTwo IsGraphOf (activities units) graphs
 
@@ -35,6 +35,6 @@ AreGraphs units graphs = EachTwo IsGraphOf (activities units) graphs
 abbrev pub IsOrderOf : Graph → Order → Type 0
 IsOrderOf graph order = Ranks graph.edges order.ranks
 
--- these are orders of the graphs, one for each, in their order
+-- the orders are orders of the graphs, one for each, in their order
 abbrev pub AreOrders : List Graph → List Order → Type 0
 AreOrders graphs orders = EachTwo IsOrderOf graphs orders

@@ -19,8 +19,7 @@ place_at nodes at = (slice_index_or nodes at (record { place = record { start = 
 abbrev pub places_of : List Node → List Edge → List Place
 places_of nodes walk = map (λ edge. place_at nodes edge.from) walk
 
--- a closed walk along these edges begins at the place, with an edge that is by data or isn't, as told; the further places are
--- those of the nodes that the walk passes after the first, until it is back there
+-- a closed walk begins at the place with an edge of this kind, and the further places are those of its other nodes
 pub record BeginsWalk (nodes : List Node) (edges : List Edge) (by_data : Bool) (at : Place) (also : List Place) : Type 0 where
   pub edge : Edge
   pub rest : List Edge
@@ -33,8 +32,7 @@ pub record BeginsWalk (nodes : List Node) (edges : List Edge) (by_data : Bool) (
 abbrev pub FailsTwice : Graph → Place → List Place → Type 0
 FailsTwice graph = BeginsWalk graph.nodes (controls graph.edges) false
 
--- rule Cycle fails for the graph: a closed walk begins with a data edge, the place is that of the writer, and the further places
--- are the rest of the walk, from the reader on
+-- rule Cycle fails for the graph: a closed walk begins with a data edge, at the place of the writer
 abbrev pub FailsCycle : Graph → Place → List Place → Type 0
 FailsCycle graph = BeginsWalk graph.nodes graph.edges true
 

@@ -48,7 +48,7 @@ pub record HasOrder (graph : Graph) (orders : List Order) (at : ℕ) : Type 0 wh
   pub stands : slice_get orders at ≡ Some order
   pub of_graph : IsOrderOf graph order
 
--- and each tick graph its order
+-- each tick graph has an order at its position
 abbrev pub OrdersAreFound : Type 0
 OrdersAreFound = (graphs : List Graph) (orders : List Order) → AreOrders graphs orders → (at : ℕ) (graph : Graph) →
     slice_get graphs at ≡ Some graph →

@@ -25,10 +25,10 @@ Fails units rule.Twice at also = FailsInActivity FailsTwice units at also
 Fails units rule.Cycle at also = FailsInActivity FailsCycle units at also
 Fails units _ at also = ⊥
 
--- it is the first of the two that fails
+-- the rule is the first of Twice and Cycle that fails, and fails first at these places
 abbrev pub FailsFirst : List UnitDef → Rule → Place → List Place → Type 0
 FailsFirst units = FirstOf (Fails units)
 
--- neither fails
+-- neither Twice nor Cycle fails
 abbrev pub Passes : List UnitDef → Type 0
 Passes units = NoneOf (Fails units)

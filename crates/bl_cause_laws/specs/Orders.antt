@@ -13,7 +13,7 @@ pub record HasGraph (body : List Stmt) : Type 0 where
   pub graph : Graph
   pub is_graph : IsTickGraph (plain_body body) graph.nodes graph.edges
 
--- each body has one
+-- each body has a tick graph
 abbrev pub BodiesHaveGraphs : Type 0
 BodiesHaveGraphs = (body : List Stmt) → HasGraph body
 
@@ -22,6 +22,6 @@ pub record HasRanks (edges : List Edge) : Type 0 where
   pub ranks : List ℕ
   pub rises : Ranks edges ranks
 
--- where no closed walk leads along the edges there are such numbers
+-- without closed walks along the edges there are numbers that rise along each edge
 abbrev pub UnwalkedHaveRanks : Type 0
 UnwalkedHaveRanks = (edges : List Edge) → ((walk : List Edge) → ¬ ClosedWalk edges walk) → HasRanks edges

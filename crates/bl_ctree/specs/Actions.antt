@@ -18,7 +18,7 @@ use Rattle.bl_ctree.specs.Instances.{Setting}
 use Rattle.bl_ctree.specs.Positions.{Located, place_of, stmt_kind}
 use Rattle.bl_ctree.specs.Store.{Frame, Location, Store, home, homes, number_or_zero, put, put_written, remember, view_at, with_frame, with_inputs}
 
--- what an action does
+-- the effect of an action
 pub data Effect : Type 0 where
   -- the tree alone changes
   Silent : Effect
@@ -84,8 +84,7 @@ outcome_there w store i s =
 abbrev pub with_result : Value → Frame → Frame
 with_result value frame = record frame { result = Some value }
 
--- the store after an act of an instance; none where it traps. What the statement writes is put, and nothing else; a declaration
--- sets the value before too
+-- the store after an act of an instance: what the statement writes is put, a declared variable's former value too; none on a trap
 abbrev pub acted_kind : Setting → ℕ → Stmt → StmtKind-F StmtKind Arm Branch Stmt → Store → Option Store
 acted_kind w i s (StmtKind-F.Return None) store = Some store
 acted_kind w i s (StmtKind-F.Return (Some e)) store = option_map (λ value. with_frame i (with_result value) store) (value_there w store i e)

@@ -3,19 +3,18 @@ use Rattle.std.specs.Prelude.{ℕ, suc, Bool, true, false, not, ◌&&◌, ◌||�
 use Rattle.bl_tree.specs.declared.tree.Branch.{Branch, out-Branch}
 use Rattle.bl_ctree.specs.Positions.{Located, Item, Begin, Again, block_items}
 
--- how far a Guard or a Run is in this tick. Check: a Guard's condition is still to be tested, a Run's inputs are still to be copied
+-- the phase of a Guard or Run in a tick; Check: the condition or the inputs are still to be evaluated
 pub data Phase : Type 0 where
   Check : Phase
   Body : Phase
 
--- A node has the statement that it comes from. `stood` of a Par, a Guard and a Run says that it stood in the tree when the
--- tick began
+-- A control tree: each node has its statement; `stood` of a Par, Guard or Run says that it stood when the tick began.
 mutual
   -- what of a statement, a list of statements or an activity is left
   pub data Control : Type 0 where
-    -- ended
+    -- a part that has ended
     Nil : Control
-    -- paused at an `await`
+    -- a part that paused at an `await`
     Wait : Located → Control
     -- an `await` that was woken
     Test : Located → Control
@@ -67,7 +66,7 @@ abbrev pub branches_begun : Located → ℕ → List Branch → Branches
 branches_begun s k [] = no_branch
 branches_begun s k (b ∷ rest) = branch (out-Branch b).weak (do_all (block_items s k (out-Branch b).body)) (branches_begun s (suc k) rest)
 
--- ---- settled. What is due has only still to end: a Par whose branches are settled and done, a Guard or a Run in phase body over Nil
+-- ---- settled: all that is due only has to end, such as a Par of finished branches, or a Guard or Run over Nil
 
 -- whether the tree has ended
 abbrev pub is_nil : Control → Bool
@@ -141,8 +140,7 @@ abbrev mutual
 -- ---- between ticks
 
 abbrev mutual
-  -- the tree without what it has on where a node stood when the last tick began. Between ticks that tells nothing: waking sets
-  -- it anew. So two trees between ticks are the same where these are
+  -- the tree without its `stood` marks, which waking sets anew: trees between ticks are compared up to them
   pub forget : Control → Control
   forget Nil = Nil
   forget (Wait s) = Wait s
@@ -155,7 +153,7 @@ abbrev mutual
   forget (Guard s phase stood c) = Guard s phase false (forget c)
   forget (Run s i phase stood c) = Run s i phase false (forget c)
 
-  -- each branch without it
+  -- the branches without their `stood` marks
   pub all_forgotten : Branches → Branches
   all_forgotten no_branch = no_branch
   all_forgotten (branch weak c rest) = branch weak (forget c) (all_forgotten rest)

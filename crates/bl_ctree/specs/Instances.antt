@@ -40,7 +40,7 @@ use Rattle.bl_ctree.specs.declared.instance.Run.{Run}
 
 -- ---- the `run` statements of a unit
 
--- those of a kind of statement at the place, where those of its parts are given
+-- the `run` statements in one layer of a statement at the place, given those of its parts
 abbrev pub kind_runs : StmtKind-F (Place → List Run) (List Run) (List Run) (List Run) → Place → List Run
 kind_runs (StmtKind-F.Declare k initial) place = []
 kind_runs (StmtKind-F.Assign path e) place = []
@@ -55,15 +55,15 @@ kind_runs (StmtKind-F.Until body e) place = joined body
 kind_runs (StmtKind-F.While e body) place = joined body
 kind_runs (StmtKind-F.Return e) place = []
 
--- those of an arm, where those of its statements are given
+-- the `run` statements in an arm, given those of its statements
 abbrev pub arm_runs : Arm-F (Place → List Run) (List Run) (List Run) (List Run) → List Run
 arm_runs arm = joined arm.body
 
--- those of a branch, where those of its statements are given
+-- the `run` statements in a branch, given those of its statements
 abbrev pub branch_runs : Branch-F (Place → List Run) (List Run) (List Run) (List Run) → List Run
 branch_runs branch = joined branch.body
 
--- those of a statement, where those of its kind are given for each place
+-- the `run` statements in a statement, given those of its kind for each place
 abbrev pub stmt_layer_runs : Stmt-F (Place → List Run) (List Run) (List Run) (List Run) → List Run
 stmt_layer_runs s = s.what s.place
 
@@ -79,7 +79,7 @@ runs_in_arm = fold-Arm (Place → List Run) (List Run) (List Run) (List Run) kin
 abbrev pub runs_in_branch : Branch → List Run
 runs_in_branch = fold-Branch (Place → List Run) (List Run) (List Run) (List Run) kind_runs arm_runs branch_runs stmt_layer_runs
 
--- the first of each place
+-- the first `run` statement of each place
 abbrev pub one_a_place : List Run → List Run
 one_a_place [] = []
 one_a_place (run ∷ rest) = run ∷ filter (λ other. not (same_place run.place other.place)) (one_a_place rest)
@@ -106,8 +106,7 @@ instances_below alone n (run ∷ rest) =
     let inner = map (called_from n run) (alone run.unit) in
     inner ++ instances_below alone (n + length inner) rest
 
--- the instances that a unit expands to: itself, then those of each of its `run` statements. A unit runs earlier ones alone,
--- so chains of `run` statements are no longer than the unit's position
+-- the instances that a unit expands to, itself first; chains of `run`s are no longer than the unit's position, since units run earlier ones
 abbrev pub expanded : List UnitDef → ℕ → ℕ → List Instance
 expanded units zero k = []
 expanded units (suc longest) k =

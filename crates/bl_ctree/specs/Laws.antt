@@ -83,7 +83,7 @@ FrontsAreSteps =
     (w : Setting) (c : Control) (store : Store) (front rest : List Action) (end : End) →
     Steps w c store (front ++ rest) end → Taking w c store front
 
--- a list of steps and one from where it leads are one list of steps
+-- a list of steps followed by one from where it leads is a list of steps
 abbrev pub StepsFollow : Type 0
 StepsFollow =
     (w : Setting) (c : Control) (store : Store) (front rest : List Action) (c' : Control) (store' : Store) (end : End) →
@@ -105,7 +105,7 @@ PointsAct =
 abbrev pub BlocksFit : Type 0
 BlocksFit = (position : Position) (k : ℕ) (body : List Stmt) → TestsFit (items_from position k body)
 
--- what begins is left of its items
+-- the tree of items that begin is a residual of them
 abbrev pub ItemsBeginResidual : Type 0
 ItemsBeginResidual = (w : Setting) (stood : Bool) (i : ℕ) (items : List Item) → TestsFit items → Residual w stood i items (do_all items)
 
@@ -129,11 +129,11 @@ WakingKeepsResidual = (w : Setting) (stood : Bool) (i : ℕ) (items : List Item)
 abbrev pub WokenTreeIsResidual : Type 0
 WokenTreeIsResidual = (w : Setting) (c : Control) → ResidualTree w c → Residual w true 0 (entry_items w) (woken c)
 
--- between ticks runs reach only what is left of the entry's body
+-- between ticks runs reach only residuals of the entry's body
 abbrev pub ReachedIsResidual : Type 0
 ReachedIsResidual = (w : Setting) (rows : List (List ℤ)) (c : Control) (store : Store) → Reaches w rows c store → ResidualTree w c
 
--- and inside ticks
+-- within ticks runs reach only a residual of the entry's body
 abbrev pub ReachedInsideIsResidual : Type 0
 ReachedInsideIsResidual =
     (w : Setting) (rows : List (List ℤ)) (row : List ℤ) (actions : List Action) (c : Control) (store : Store) →

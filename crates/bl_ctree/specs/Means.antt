@@ -24,7 +24,7 @@ shown_trace trace = record { rows = trace.rows; last = Some trace.last }
 abbrev pub nothing_more : Option Last → ShownTrace
 nothing_more last = record { rows = []; last = last }
 
--- one more row before what is shown
+-- a shown trace with one more row at its front
 abbrev pub row_then : List ℤ → ShownTrace → ShownTrace
 row_then row rest = record { rows = row ∷ rest.rows; last = rest.last }
 

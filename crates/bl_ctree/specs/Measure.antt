@@ -31,7 +31,7 @@ arm_step_statements arm = total arm.body
 abbrev pub branch_step_statements : Branch-F ℕ ℕ ℕ ℕ → ℕ
 branch_step_statements branch = total branch.body
 
--- those of a statement, where the number for its kind is given
+-- the statements in a statement, given the number for its kind
 abbrev pub layer_step_statements : Stmt-F ℕ ℕ ℕ ℕ → ℕ
 layer_step_statements s = s.what
 
@@ -43,8 +43,7 @@ step_statements_in = fold-Stmt ℕ ℕ ℕ ℕ kind_step_statements arm_step_sta
 abbrev pub step_statements_of : UnitDef → ℕ
 step_statements_of unit = total (map step_statements_in unit.body)
 
--- an instance is passed at most once for itself and once for each of its callers. A statement has at most four nodes, of which
--- in a pass each acts at most once, and the resume of a `run` at most twice: so six for each statement is enough
+-- a bound on the steps of an instance in a tick: six for each of its statements, times its depth plus one
 abbrev pub instance_steps : Setting → Instance → ℕ
 instance_steps w instance = 6 * (instance.depth + 1) * unwrap_or (option_map step_statements_of (unit_of w instance)) 0
 

@@ -27,7 +27,7 @@ items_then (Until at) = Again (located at) ∷ []
 abbrev pub items_of : Rest → List Item
 items_of rest = items_from rest.block rest.next (drop rest.next rest.body.now) ++ items_then rest.then
 
--- what is left of an `if`
+-- the residual `if` of its remaining arms
 abbrev pub left_of_arms : Arms → Located
 left_of_arms a = left_of_if a.position a.passed a.arm.now a.arms.now a.other.now
 
@@ -41,7 +41,7 @@ pub record Seen : Type 0 where
   pub weak : Bool
   pub tree : Control
 
--- these branches, in order
+-- a list of branches as branches of a control tree, in order
 abbrev pub branches_of : List Seen → Branches
 branches_of [] = no_branch
 branches_of (b ∷ rest) = branch b.weak b.tree (branches_of rest)
@@ -64,7 +64,7 @@ node_control (Node-F.Run at callee phase stood inner) = Run (located at) callee 
 abbrev pub branch_seen : Branch-F Control Seen → Seen
 branch_seen b = record { weak = b.weak; tree = b.tree }
 
--- the plain tree
+-- the control tree of a node
 abbrev pub control_of : Node → Control
 control_of = fold-Node Control Seen node_control branch_seen
 

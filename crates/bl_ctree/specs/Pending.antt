@@ -85,7 +85,7 @@ abbrev mutual
   may_end (Guard s phase stood c) = guard_may_end phase s (may_end c)
   may_end (Run s i phase stood c) = run_may_end phase (may_end c)
 
-  -- of strong branches whether all of them may end, and where there are none whether some branch may
+  -- whether branches let their `cobegin` end: all strong ones may end, or some branch may where none is strong
   pub may_join : Bool → Branches → Bool
   may_join true no_branch = true
   may_join false no_branch = false
@@ -94,7 +94,7 @@ abbrev mutual
 
 -- ---- writes: whether one of the static paths that may still be written has a home that overlaps the location
 
--- whether one of these paths of the instance has a home that overlaps the location
+-- whether a path of the instance in the list has a home that overlaps the location
 abbrev pub lie_over : Setting → ℕ → List Static → Location → Bool
 lie_over w i paths at = list_any (overlap at) (homes w i paths)
 
@@ -107,7 +107,7 @@ abbrev pub item_surface : Setting → ℕ → Item → Location → Bool
 item_surface w i (Begin s) at = surface_over w i s at
 item_surface w i (Again s) at = surface_over w i s at
 
--- that of the first item and, where the first may end, that of the rest
+-- the surface writes of the first item and, where the first may end, of the rest
 abbrev pub items_surface : Setting → ℕ → List Item → Location → Bool
 items_surface w i [] at = false
 items_surface w i (item ∷ rest) at = item_surface w i item at || (item_may_end item && items_surface w i rest at)
@@ -122,8 +122,7 @@ abbrev pub target_of_kind : StmtKind-F StmtKind Arm Branch Stmt → List Static
 target_of_kind (StmtKind-F.Run target a inputs outputs) = target_static target
 target_of_kind _ = []
 
--- a `run` may write all its outputs while it is not settled, whatever its body still does: called activities are known by
--- their interface. The target is written where it ends
+-- an unsettled `run` may write all its outputs, whatever its body does, and its target where it may end
 abbrev pub run_writes : Setting → ℕ → Located → Bool → Bool → Location → Bool
 run_writes w i s settled may_end at =
     not settled && (lie_over w i (outputs_of_kind (kind_of s)) at || (may_end && lie_over w i (target_of_kind (kind_of s)) at))

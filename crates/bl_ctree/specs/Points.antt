@@ -58,8 +58,7 @@ use Rattle.bl_ctree.specs.Pending.{meets, any_meets}
 use Rattle.bl_ctree.specs.Positions.{Begin, Again, Located, kind_of, place_of, block_items, body_items, further}
 use Rattle.bl_ctree.specs.Steps.{arm_items, else_items, turn_items}
 
--- a point: its action, the numbers of the branches that lead to it, from the outermost Par inwards, and what the tree (or a
--- list of branches) becomes by each answer of the action
+-- a point: its action, the branch numbers that lead to it from the outermost Par inwards, and what each answer leads to
 pub record Point (A : Type 0) : Type 0 where
   pub action : Action
   pub path : List ℕ
@@ -82,7 +81,7 @@ one_on (k ∷ path) = suc k ∷ path
 abbrev pub in_later : (Branches → Branches) → Point Branches → Point Branches
 in_later around point = record { action = point.action; path = one_on point.path; after = λ d. around (point.after d) }
 
--- an action that has the one answer true
+-- the point of an action whose only answer is true
 abbrev pub sure : ℕ → Located → Effect → Control → List (Point Control)
 sure i s effect after = record { action = action i s effect; path = []; after = λ d. after } ∷ []
 
@@ -121,12 +120,12 @@ begins w i s (StmtKind-F.Repeat body) = sure i s Silent (do_all (turn_items s bo
 begins w i s (StmtKind-F.Until body e) = sure i s Silent (do_all (turn_items s body (Again s)))
 begins w i s (StmtKind-F.While e body) = asking i s (Asks e) (do_all (turn_items s body (Begin s))) Nil
 
--- that of an `await` that was woken
+-- the point of a woken `await`
 abbrev pub tests : ℕ → Located → StmtKind-F StmtKind Arm Branch Stmt → List (Point Control)
 tests i s (StmtKind-F.Await e) = asking i s (Asks e) Nil (Wait s)
 tests i s _ = []
 
--- that of the test of a `repeat .. until`
+-- the point of the test of a `repeat .. until`
 abbrev pub turns_on : ℕ → Located → StmtKind-F StmtKind Arm Branch Stmt → List (Point Control)
 turns_on i s (StmtKind-F.Until body e) = asking i s (Asks e) Nil (Do s)
 turns_on i s _ = []
@@ -136,22 +135,22 @@ abbrev pub guard_strikes : GuardKind → Located → Bool → List Stmt → Cont
 guard_strikes Abort s stood body = Nil
 guard_strikes Reset s stood body = Guard s Body stood (do_all (block_items s 0 body))
 
--- that of a guard whose condition is still to be tested
+-- the point of a guard whose condition is still to be tested
 abbrev pub checks : ℕ → Located → Bool → Control → StmtKind-F StmtKind Arm Branch Stmt → List (Point Control)
 checks i s stood c (StmtKind-F.When guard e body) = asking i s (Asks e) (guard_strikes guard s stood body) (Guard s Body stood c)
 checks i s stood c _ = []
 
--- that of a `run` that was woken
+-- the point of a woken `run`, which copies its inputs
 abbrev pub copying : ℕ → Located → ℕ → Bool → Control → StmtKind-F StmtKind Arm Branch Stmt → List (Point Control)
 copying i s callee stood c (StmtKind-F.Run target a inputs outputs) = sure i s (Copies callee inputs) (Run s callee Body stood c)
 copying i s callee stood c _ = []
 
--- that of a `run` whose body has ended
+-- the point of a `run` whose body has ended, which gives its result
 abbrev pub giving : ℕ → Located → ℕ → StmtKind-F StmtKind Arm Branch Stmt → List (Point Control)
 giving i s callee (StmtKind-F.Run target a inputs outputs) = sure i s (Gives callee target) Nil
 giving i s callee _ = []
 
--- those of a guard that let its body go on, and those in a `run`: the end, where the body has ended, and else the body's
+-- the points of a guard that let its body go on: its own end where the body has ended, else the body's
 abbrev pub guard_points : ℕ → Located → Bool → Control → List (Point Control) → List (Point Control)
 guard_points i s stood c inner = if is_nil c then sure i s Silent Nil else map (within (Guard s Body stood)) inner
 
@@ -168,7 +167,7 @@ in_phase Body checking inside = inside
 abbrev pub joining : ℕ → Located → Branches → List (Point Control)
 joining i s branches = if are_settled branches && are_done branches then sure i s Silent Nil else []
 
--- those that read nothing that the trees beside them may still write
+-- the points of a list whose actions don't meet the trees beside them
 abbrev pub free_of : {A : Type 0} → (Action → Bool) → List (Point A) → List (Point A)
 free_of meets points = filter (λ point. not (meets point.action)) points
 

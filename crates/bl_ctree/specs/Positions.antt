@@ -30,7 +30,7 @@ kind_of s = stmt_kind s.stmt
 abbrev pub place_of : Located → Place
 place_of s = (out-Stmt s.stmt).place
 
--- what can follow in a sequence: a statement that is to begin, or the test at the end of a turn of a `repeat .. until`
+-- an item of a sequence: a statement that is to begin, or the test after a turn of a `repeat .. until`
 pub data Item : Type 0 where
   Begin : Located → Item
   Again : Located → Item
@@ -53,8 +53,7 @@ body_items body = items_from [] 0 body
 abbrev pub block_items : Located → ℕ → List Stmt → List Item
 block_items s block body = items_from (s.position ++ block ∷ []) 0 body
 
--- what is left of the `if` at the position when so many arms are passed, of which the first that is left is given. It has
--- the place of that arm's condition, which is the place of no statement: no table by places tells of it
+-- the residual `if` after some arms are passed, placed at its first arm's condition, which is the place of no statement
 abbrev pub left_of_if : Position → ℕ → Arm → List Arm → List Stmt → Located
 left_of_if position passed arm arms other =
     record {

@@ -10,14 +10,14 @@ use Rattle.bl_ctree.specs.Steps.{IsStill}
 use Rattle.bl_ctree.specs.Store.{Store, first_store, woken_store}
 use Rattle.bl_ctree.specs.Ticks.{End, Rests, Steps, Tick, Paused, outcome_at}
 
--- a run over these rows can stand between ticks with this tree and this store: each of its ticks waited for the next one
+-- a run over the rows can stand between ticks with this tree and store: each tick waited for the next one
 pub data Reaches (w : Setting) : List (List ℤ) → Control → Store → Type 0 where
   at_first : Reaches w [] (Idle (entry_items w)) (first_store w)
   after_tick : {before : List (List ℤ)} {row : List ℤ} {c : Control} {store : Store} {c' : Control} {store' : Store} {rows : List (List ℤ)} →
       Reaches w before c store → Tick w row c store (Rests c' store') → outcome_at (Rests c' store') ≡ Paused → rows ≡ before ++ row ∷ [] →
       Reaches w rows c' store'
 
--- in the tick over the row that follows these rows, a run can take this list of steps, maximal or not, which leads to this end
+-- a run can take this list of steps, maximal or not, in the tick over the row after these rows
 pub record ReachesInside (w : Setting) (rows : List (List ℤ)) (row : List ℤ) (actions : List Action) (end : End) : Type 0 where
   pub tree : Control
   pub store : Store

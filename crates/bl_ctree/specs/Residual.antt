@@ -27,11 +27,10 @@ pub data SplitsAt (item : Item) (rest : List Item) : List Item → Type 0 where
   there : {other : Item} {items : List Item} → SplitsAt item rest items → SplitsAt item rest (other ∷ items)
 
 mutual
-  -- what may be left of items in an instance. What stood when the tick began has it said of what is around it too, so below
-  -- what has not stood nothing has. There is no Idle in it, since that is only a whole tree
+  -- a tree is a residual of items in an instance; nothing stands below what has not stood, and there is no Idle in it
   pub data Residual (w : Setting) : (stood : Bool) → ℕ → List Item → Control → Type 0 where
     nothing : {stood : Bool} {i : ℕ} {items : List Item} → Residual w stood i items Nil
-    -- what is left of the last item
+    -- a residual of the last item
     of_last : {stood : Bool} {i : ℕ} {item : Item} {items : List Item} {c : Control} →
         SplitsAt item [] items → ResidualOf w stood i item c → Residual w stood i items c
     -- what is left of an item that has still to end, and what follows it
@@ -39,22 +38,22 @@ mutual
         SplitsAt item (next ∷ rest) items → TestsFit (next ∷ rest) → ResidualOf w stood i item c → is_nil c ≡ false →
         Residual w stood i items (Seq c (next ∷ rest))
 
-  -- what may be left of an item
+  -- a tree is a residual of an item
   pub data ResidualOf (w : Setting) : (stood : Bool) → ℕ → Item → Control → Type 0 where
     to_begin : {stood : Bool} {i : ℕ} {s : Located} → ResidualOf w stood i (Begin s) (Do s)
     to_turn : {stood : Bool} {i : ℕ} {s : Located} {body : List Stmt} {e : Expr} →
         kind_of s ≡ StmtKind-F.Until body e → ResidualOf w stood i (Again s) (Turn s)
     ended : {stood : Bool} {i : ℕ} {item : Item} → ResidualOf w stood i item Nil
     paused : {stood : Bool} {i : ℕ} {s : Located} {e : Expr} → kind_of s ≡ StmtKind-F.Await e → ResidualOf w stood i (Begin s) (Wait s)
-    -- only what stood has woken
+    -- a woken `await`, which only a part that stood has
     tested : {i : ℕ} {s : Located} {e : Expr} → kind_of s ≡ StmtKind-F.Await e → ResidualOf w true i (Begin s) (Test s)
     -- the first arm of an `if`
     of_arm : {stood : Bool} {i : ℕ} {s : Located} {arm : Arm} {arms : List Arm} {other : List Stmt} {c : Control} →
         kind_of s ≡ StmtKind-F.If (arm ∷ arms) other → Residual w stood i (arm_items s arm) c → ResidualOf w stood i (Begin s) c
-    -- its further arms
+    -- the further arms of an `if`
     of_further : {stood : Bool} {i : ℕ} {s : Located} {arm next : Arm} {arms : List Arm} {other : List Stmt} {c : Control} →
         kind_of s ≡ StmtKind-F.If (arm ∷ next ∷ arms) other → ResidualOf w stood i (Begin (further s next arms other)) c → ResidualOf w stood i (Begin s) c
-    -- and its `else`, after the last arm
+    -- the `else` of an `if`, after its last arm
     of_else : {stood : Bool} {i : ℕ} {s : Located} {arm : Arm} {other : List Stmt} {c : Control} →
         kind_of s ≡ StmtKind-F.If (arm ∷ []) other → Residual w stood i (else_items s other) c → ResidualOf w stood i (Begin s) c
     -- the body of a loop, with what ends its turn
@@ -64,17 +63,17 @@ mutual
         kind_of s ≡ StmtKind-F.Until body e → Residual w stood i (turn_items s body (Again s)) c → ResidualOf w stood i (Begin s) c
     of_while : {stood : Bool} {i : ℕ} {s : Located} {e : Expr} {body : List Stmt} {c : Control} →
         kind_of s ≡ StmtKind-F.While e body → Residual w stood i (turn_items s body (Begin s)) c → ResidualOf w stood i (Begin s) c
-    -- after the test at the end of a turn the loop begins again
+    -- a loop that begins again after the test at the end of a turn
     of_again : {stood : Bool} {i : ℕ} {s : Located} {body : List Stmt} {e : Expr} {c : Control} →
         kind_of s ≡ StmtKind-F.Until body e → ResidualOf w stood i (Begin s) c → ResidualOf w stood i (Again s) c
     of_par : {around stood : Bool} {i : ℕ} {s : Located} {written : List Branch} {branches : Branches} →
         kind_of s ≡ StmtKind-F.Cobegin written → (stood ≡ true → around ≡ true) → ResidualEach w stood i s 0 written branches →
         ResidualOf w around i (Begin s) (Par s stood branches)
-    -- only what stood is still to be checked
+    -- a guard, which is still to be checked only where it stood
     of_guard : {around stood : Bool} {i : ℕ} {s : Located} {guard : GuardKind} {e : Expr} {body : List Stmt} {phase : Phase} {c : Control} →
         kind_of s ≡ StmtKind-F.When guard e body → (stood ≡ true → around ≡ true) → (phase ≡ Check → stood ≡ true) →
         Residual w stood i (block_items s 0 body) c → ResidualOf w around i (Begin s) (Guard s phase stood c)
-    -- the instance is the one that the `run` begins, and what is left of its body stands there
+    -- a Run over the instance that the `run` begins, with a residual of its body
     of_run : {around stood : Bool} {i : ℕ} {s : Located} {target : Option Path} {a : ℕ} {inputs : List Expr} {outputs : List Path}
         {callee : ℕ} {unit : UnitDef} {phase : Phase} {c : Control} →
         kind_of s ≡ StmtKind-F.Run target a inputs outputs → callee_of w i (place_of s) ≡ Some callee → unit_at w callee ≡ Some unit →

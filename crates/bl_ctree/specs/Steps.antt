@@ -48,8 +48,7 @@ else_items s other = block_items s (suc s.passed) other
 abbrev pub turn_items : Located → List Stmt → Item → List Item
 turn_items s body next = block_items s 0 body ++ next ∷ []
 
--- Moves w i c d a c': the tree c, which stands in the instance i, becomes c' by the action a, where d is the action's
--- answer. One constructor for each point of a tree that may act, and then those that lead to a point inside
+-- Moves w i c d a c': the tree c of instance i moves to c' by the action a, whose answer is d
 mutual
   -- a point of the tree acts
   pub data Moves (w : Setting) : ℕ → Control → Bool → Action → Control → Type 0 where
@@ -59,11 +58,11 @@ mutual
     takes_arm : {i : ℕ} {s : Located} {arm : Arm} {arms : List Arm} {other : List Stmt} →
         kind_of s ≡ StmtKind-F.If (arm ∷ arms) other →
         Moves w i (Do s) true (action i s (Asks (out-Arm arm).test)) (do_all (arm_items s arm))
-    -- it is false, and there are further arms
+    -- the first test of an `if` with further arms is false
     passes_arm : {i : ℕ} {s : Located} {arm next : Arm} {arms : List Arm} {other : List Stmt} →
         kind_of s ≡ StmtKind-F.If (arm ∷ next ∷ arms) other →
         Moves w i (Do s) false (action i s (Asks (out-Arm arm).test)) (Do (further s next arms other))
-    -- it is false, and there are none
+    -- the first test of an `if` without further arms is false
     takes_else : {i : ℕ} {s : Located} {arm : Arm} {other : List Stmt} →
         kind_of s ≡ StmtKind-F.If (arm ∷ []) other →
         Moves w i (Do s) false (action i s (Asks (out-Arm arm).test)) (do_all (else_items s other))
@@ -83,13 +82,13 @@ mutual
     -- the test after its body is true
     leaves : {i : ℕ} {s : Located} {body : List Stmt} {e : Expr} →
         kind_of s ≡ StmtKind-F.Until body e → Moves w i (Turn s) true (action i s (Asks e)) Nil
-    -- it is false
+    -- the test after the body of a `repeat .. until` is false
     turns : {i : ℕ} {s : Located} {body : List Stmt} {e : Expr} →
         kind_of s ≡ StmtKind-F.Until body e → Moves w i (Turn s) false (action i s (Asks e)) (Do s)
     -- `while e repeat S end`, where e is true
     enters : {i : ℕ} {s : Located} {e : Expr} {body : List Stmt} →
         kind_of s ≡ StmtKind-F.While e body → Moves w i (Do s) true (action i s (Asks e)) (do_all (turn_items s body (Begin s)))
-    -- and where it is false
+    -- `while e repeat S end`, where e is false
     skips : {i : ℕ} {s : Located} {e : Expr} {body : List Stmt} →
         kind_of s ≡ StmtKind-F.While e body → Moves w i (Do s) false (action i s (Asks e)) Nil
     -- all branches of a `cobegin` begin
@@ -101,16 +100,16 @@ mutual
     -- an `await` that was woken goes on
     goes_on : {i : ℕ} {s : Located} {e : Expr} →
         kind_of s ≡ StmtKind-F.Await e → Moves w i (Test s) true (action i s (Asks e)) Nil
-    -- or pauses again
+    -- an `await` that was woken pauses again
     waits : {i : ℕ} {s : Located} {e : Expr} →
         kind_of s ≡ StmtKind-F.Await e → Moves w i (Test s) false (action i s (Asks e)) (Wait s)
     -- the condition of a guard is false: what is left of its body goes on
     lets : {i : ℕ} {s : Located} {stood : Bool} {guard : GuardKind} {e : Expr} {body : List Stmt} {c : Control} →
         kind_of s ≡ StmtKind-F.When guard e body → Moves w i (Guard s Check stood c) false (action i s (Asks e)) (Guard s Body stood c)
-    -- it is true: `abort` drops the body
+    -- the condition of an `abort` guard is true: its body is dropped
     aborts : {i : ℕ} {s : Located} {stood : Bool} {e : Expr} {body : List Stmt} {c : Control} →
         kind_of s ≡ StmtKind-F.When Abort e body → Moves w i (Guard s Check stood c) true (action i s (Asks e)) Nil
-    -- and `reset` begins it anew
+    -- the condition of a `reset` guard is true: its body begins anew
     resets : {i : ℕ} {s : Located} {stood : Bool} {e : Expr} {body : List Stmt} {c : Control} →
         kind_of s ≡ StmtKind-F.When Reset e body → Moves w i (Guard s Check stood c) true (action i s (Asks e))
         (Guard s Body stood (do_all (block_items s 0 body)))
@@ -127,27 +126,27 @@ mutual
     -- a `cobegin` ends where its branches are settled and so many have ended as are needed
     joins : {i : ℕ} {s : Located} {stood : Bool} {branches : Branches} →
         are_settled branches ≡ true → are_done branches ≡ true → Moves w i (Par s stood branches) true (action i s Silent) Nil
-    -- inside a sequence
+    -- a step inside a sequence
     in_seq : {i : ℕ} {c : Control} {rest : List Item} {d : Bool} {a : Action} {c' : Control} →
         Moves w i c d a c' → Moves w i (Seq c rest) d a (seq c' rest)
-    -- inside a branch
+    -- a step inside a branch
     in_par : {i : ℕ} {s : Located} {stood : Bool} {branches : Branches} {d : Bool} {a : Action} {branches' : Branches} →
         OneMoves w i branches d a branches' → Moves w i (Par s stood branches) d a (Par s stood branches')
-    -- inside a guard that let its body go on
+    -- a step inside a guard that let its body go on
     in_guard : {i : ℕ} {s : Located} {stood : Bool} {c : Control} {d : Bool} {a : Action} {c' : Control} →
         Moves w i c d a c' → Moves w i (Guard s Body stood c) d a (Guard s Body stood c')
-    -- inside a `run` that has its inputs: a step of the instance that it began
+    -- a step of a called instance, inside a `run` that has its inputs
     in_run : {i : ℕ} {s : Located} {callee : ℕ} {stood : Bool} {c : Control} {d : Bool} {a : Action} {c' : Control} →
         Moves w callee c d a c' → Moves w i (Run s callee Body stood c) d a (Run s callee Body stood c')
 
-  -- one branch moves, where no other branch may still write what the action reads
+  -- a branch moves, where no other branch may still write what the action reads
   pub data OneMoves (w : Setting) : ℕ → Branches → Bool → Action → Branches → Type 0 where
     first : {i : ℕ} {weak : Bool} {c : Control} {others : Branches} {d : Bool} {a : Action} {c' : Control} →
         Moves w i c d a c' → any_meets w i others a ≡ false → OneMoves w i (branch weak c others) d a (branch weak c' others)
     later : {i : ℕ} {weak : Bool} {c : Control} {others : Branches} {d : Bool} {a : Action} {others' : Branches} →
         OneMoves w i others d a others' → meets w i c a ≡ false → OneMoves w i (branch weak c others) d a (branch weak c others')
 
--- one step of the whole tree, which stands in instance 0
+-- a step of the whole tree, which stands in instance 0
 pub record Step (w : Setting) (c : Control) (store : Store) (a : Action) (c' : Control) (store' : Store) : Type 0 where
   pub answer : Bool
   pub moves : Moves w 0 c answer a c'

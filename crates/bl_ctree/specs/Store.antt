@@ -50,7 +50,7 @@ pub record Frame : Type 0 where
   pub before : List Value
   pub result : Option Value
 
--- one frame for each instance
+-- the frames of all instances, in order
 abbrev pub Store : Type 0
 Store = List Frame
 
@@ -145,14 +145,13 @@ with_now store at value frame =
 abbrev pub put : Location → Value → Store → Store
 put at value store = unwrap_or (option_and_then (with_now store at value) (slice_get store at.instance)) store
 
--- the value that stands at a static path in these variables of an instance goes to the path's home
+-- the store with the value at a static path, among the given variables of an instance, put at the path's home
 abbrev pub put_path : Setting → ℕ → List Value → Static → Store → Store
 put_path w i variables path store =
     unwrap_or (option_map (λ value. put (home w (record { instance = i; path = path })) value store)
     (option_and_then (value_at path.fields) (slice_get variables path.root))) store
 
--- the store after an act that left these variables and wrote these static paths: at the home of each of them stands its
--- value, and all else is as before
+-- the store after an act: the values of the written static paths are put at their homes
 abbrev pub put_written : Setting → ℕ → List Value → List Static → Store → Store
 put_written w i variables [] store = store
 put_written w i variables (path ∷ rest) store = put_written w i variables rest (put_path w i variables path store)
@@ -165,7 +164,7 @@ with_frame i change store = unwrap_or (option_map (λ frame. slice_set store i (
 abbrev pub remember : ℕ → Frame → Frame
 remember k frame = record frame { before = unwrap_or (option_map (slice_set frame.before k) (slice_get frame.now k)) frame.before }
 
--- the first values are the inputs
+-- the frame with the inputs as its first values
 abbrev pub with_inputs : List Value → Frame → Frame
 with_inputs inputs frame = record frame { now = inputs ++ drop (length inputs) frame.now }
 
@@ -188,7 +187,7 @@ abbrev pub frame_at_first : Setting → Instance → Frame
 frame_at_first w instance =
     unwrap_or (option_map (first_frame w.structs) (unit_of w instance)) (record { now = []; before = []; result = None })
 
--- 0 or false everywhere
+-- the store at the start of a run: 0 or false everywhere
 abbrev pub first_store : Setting → Store
 first_store w = map (frame_at_first w) w.instances
 

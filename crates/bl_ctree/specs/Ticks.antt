@@ -28,12 +28,12 @@ pub record Maximal (w : Setting) (c : Control) (store : Store) (actions : List A
   pub steps : Steps w c store actions end
   pub over : IsOver w end
 
--- a tick over a row of inputs, from a tree and a store between ticks: any maximal list of steps from the woken ones may be taken
+-- a tick over a row of inputs between two trees and stores: any maximal list of steps from the woken ones
 pub record Tick (w : Setting) (row : List ℤ) (c : Control) (store : Store) (end : End) : Type 0 where
   pub actions : List Action
   pub maximal : Maximal w (woken c) (woken_store row store) actions end
 
--- how a tick ends: its run has ended, it waits for the next tick, no point may act though something is left to do, or it trapped
+-- the outcome of a tick: the run ended, it waits for the next tick, it is stuck, or it trapped
 pub data TickOutcome : Type 0 where
   Ended : TickOutcome
   Paused : TickOutcome

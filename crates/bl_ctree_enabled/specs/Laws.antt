@@ -14,7 +14,7 @@ abbrev pub ListedIsRight : Type 0
 ListedIsRight = (w : Setting) (fork : Fork) (l : EnabledView) → Lists w fork l
     → IsRight l × (length l.homes ≡ length fork.branches) × (length l.spots ≡ length fork.branches)
 
--- those that may act by a listing of branches are the points of these branches, in the same order
+-- the enabled points of a right listing of branches are the points of these branches, in order
 abbrev pub BranchesAreListed : Type 0
 BranchesAreListed = (w : Setting) (fork : Fork) (l : EnabledView) → Lists w fork l
     → enabled l ≡ map (spot_below w []) (branch_points w fork.instance (branches_of fork.branches))

@@ -12,33 +12,33 @@ use Rattle.bl_ctree_enabled.specs.Spots.{Spot, homes_seen, is_free_of, moved, sp
 
 -- ---- lists of points, and which of them may act
 
--- whether one of those that are read overlaps one of the homes
+-- whether a location that is read overlaps a home in the list
 abbrev pub touches : List Location → List Location → Bool
 touches homes reads = list_any (λ at. list_any (overlap at) homes) reads
 
--- which of the points of the branch with number k read nothing that the other branches may still write
+-- the flags of the points of branch k, true for those that read nothing that other branches may still write
 abbrev pub flags_of : List (List Location) → ℕ → List Spot → List Bool
 flags_of homes k spots = map (is_free_of homes k) spots
 
--- the same of branches one after another, the first of which has number k
+-- the flags of the points of several branches, the first of which has number k
 abbrev pub flags_from : List (List Location) → ℕ → List (List Spot) → List (List Bool)
 flags_from homes k [] = []
 flags_from homes k (spots ∷ rest) = flags_of homes k spots ∷ flags_from homes (suc k) rest
 
--- how many are true
+-- the number of flags that are true
 abbrev pub trues : List Bool → ℕ
 trues [] = 0
 trues (true ∷ rest) = suc (trues rest)
 trues (false ∷ rest) = trues rest
 
--- those whose flag is true
+-- the elements whose flags are true
 abbrev pub flagged : {A : Type 0} → List Bool → List A → List A
 flagged [] xs = []
 flagged (b ∷ bs) [] = []
 flagged (true ∷ bs) (x ∷ xs) = x ∷ flagged bs xs
 flagged (false ∷ bs) (x ∷ xs) = flagged bs xs
 
--- those of each list, one list after another
+-- the elements of several lists whose flags are true
 abbrev pub all_flagged : {A : Type 0} → List (List Bool) → List (List A) → List A
 all_flagged [] lists = []
 all_flagged (bs ∷ rest) [] = []
@@ -52,14 +52,14 @@ list_at (xs ∷ lists) (suc k) = list_at lists k
 
 -- ---- as they are kept
 
--- of each branch what it may still write, its points, which of these may act, and how many
+-- the pending writes of each branch, its points, their flags, and the number of enabled ones
 pub record EnabledView : Type 0 where
   pub homes : List (List Location)
   pub spots : List (List Spot)
   pub free : List (List Bool)
   pub counts : List ℕ
 
--- what is kept
+-- the view of a listing
 abbrev pub enabled_view : Listing → EnabledView
 enabled_view l = record { homes = map (map location_of) l.homes; spots = map (map spot_of) l.points; free = l.free; counts = l.counts }
 
@@ -74,7 +74,7 @@ pub record IsRight (l : EnabledView) : Type 0 where
 
 -- ---- of the branches of a tree
 
--- the branches, in order
+-- the branches of a control tree as a list, in order
 abbrev pub each_branch : Branches → List Seen
 each_branch no_branch = []
 each_branch (branch weak c rest) = record { weak = weak; tree = c } ∷ each_branch rest
@@ -118,19 +118,19 @@ with_branch (Run s callee phase stood c) k d = Run s callee phase stood c
 abbrev pub spots_in : Setting → ℕ → ℕ → Control → List Spot
 spots_in w i k c = map (spot_below w (k ∷ [])) (points w i c)
 
--- those of each of the branches, the first of which has number k
+-- the points of each of several branches, the first of which has number k
 abbrev pub spots_from : Setting → ℕ → ℕ → List Seen → List (List Spot)
 spots_from w i k [] = []
 spots_from w i k (b ∷ rest) = spots_in w i k b.tree ∷ spots_from w i (suc k) rest
 
--- what is kept of branches that may still write to these homes, and have these points each by itself
+-- the listing of branches with the given pending writes and points
 abbrev pub kept_of : List (List Location) → List (List Spot) → EnabledView
 kept_of homes spots = record { homes = homes; spots = spots; free = flags_from homes 0 spots; counts = map trues (flags_from homes 0 spots) }
 
--- what is kept of these branches
+-- the listing of the branches of a fork
 abbrev pub listing_in : Setting → Fork → EnabledView
 listing_in w fork = kept_of (map (homes_seen w fork.instance) fork.branches) (spots_from w fork.instance 0 fork.branches)
 
--- the listing is that of these branches
+-- the listing is that of the branches of the fork
 abbrev pub Lists : Setting → Fork → EnabledView → Type 0
 Lists w fork l = l ≡ listing_in w fork

@@ -17,8 +17,7 @@ use Rattle.bl_ctree_enabled.specs.declared.point.Point.{Point as PointNode}
 
 -- ---- points
 
--- what is told of a point: the place of its statement, its instance, its effect, the homes of what it reads, and the branches
--- that lead to it
+-- the view of a point: its statement's place, instance, effect, the homes that it reads, and the path of branches to it
 pub record Spot : Type 0 where
   pub place : Place
   pub instance : ℕ
@@ -35,7 +34,7 @@ effect_in (IsDone deed) = effect_of deed
 abbrev pub spot_of : PointNode → Spot
 spot_of p = record { place = p.place; instance = p.instance; effect = effect_in p.effect; reads = map location_of p.reads; path = p.path }
 
--- a point of a part of a tree to which these branches lead
+-- the view of a point in a part of a tree to which this path of branches leads
 abbrev pub spot_below : {A : Type 0} → Setting → List ℕ → Point A → Spot
 spot_below w path p = record {
   place = p.action.place;
@@ -55,7 +54,7 @@ homes_seen w i b = homes w i (write_paths b.tree)
 abbrev pub meets_one : List (List Location) → Location → Bool
 meets_one others at = list_any (λ homes. list_any (overlap at) homes) others
 
--- whether one of the lists of homes overlaps one of those that are read
+-- whether a location that is read overlaps a home in one of the lists
 abbrev pub taken : List (List Location) → List Location → Bool
 taken others reads = list_any (meets_one others) reads
 

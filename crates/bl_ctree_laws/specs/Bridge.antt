@@ -74,14 +74,14 @@ abbrev pub plain_item : Item → Plain
 plain_item (Begin s) = plain_at s
 plain_item (Again s) = again (plain_at s)
 
--- items as a block
+-- the plain block of a list of items
 abbrev pub plain_items : List Item → Block
 plain_items [] = Done
 plain_items (item ∷ rest) = Then (plain_item item) (plain_items rest)
 
 -- ---- trees. Each node stands for one of its own statement; over a statement of another kind no reached tree has it
 
--- paused at an `await`
+-- the plain tree of an `await` at which it pauses
 abbrev pub waiting : Plain → Tree
 waiting (Await l at e) = Wait (pause l at e)
 waiting s = Do s

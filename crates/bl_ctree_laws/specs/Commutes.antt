@@ -17,7 +17,7 @@ pub record OneStep (A : Type 0) (d e : Bool) (a b : Deed) (n m : StepLabel) (aft
   pub leads : d ≡ e → after ≡ after'
 
 mutual
-  -- the deeds are those of two steps that may act in different branches of a `cobegin` in the tree
+  -- two deeds are of steps that may act in different branches of a `cobegin` in the tree
   pub data Apart (w : Setting) : ℕ → Tree → Deed → Deed → Type 0 where
     in_sequence : {i : ℕ} {c : Tree} {rest : Block} {a b : Deed} → Apart w i c a b → Apart w i (Seq c rest) a b
     in_branches : {i : ℕ} {s : Fork} {stood : Bool} {branches : Trees} {a b : Deed} → ApartIn w i branches a b → Apart w i (Par s stood branches) a b
@@ -25,7 +25,7 @@ mutual
     under_run : {i : ℕ} {s : Call} {callee : ℕ} {stood : Bool} {c : Tree} {a b : Deed} →
         Apart w callee c a b → Apart w i (Run s callee Body stood c) a b
 
-  -- the same among branches: in one of them, or in two
+  -- two deeds are of steps in different branches of a `cobegin`, either within one of the branches or across two of them
   pub data ApartIn (w : Setting) : ℕ → Trees → Deed → Deed → Type 0 where
     in_first : {i : ℕ} {weak : Bool} {c : Tree} {others : Trees} {a b : Deed} → Apart w i c a b → ApartIn w i (beside weak c others) a b
     in_others : {i : ℕ} {weak : Bool} {c : Tree} {others : Trees} {a b : Deed} → ApartIn w i others a b → ApartIn w i (beside weak c others) a b

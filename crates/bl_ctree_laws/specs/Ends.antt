@@ -16,7 +16,7 @@ use Rattle.bl_ctree_laws.specs.Trees.{Tree}
 abbrev pub done_by : Setting → Deed → Store → Option Performed
 done_by w a store = effect_on w a.instance a.effect store
 
--- one step of the whole tree, which stands in instance 0
+-- a step of the whole plain tree, which stands in instance 0
 pub record PlainTreeStep (w : Setting) (c : Tree) (store : Store) (n : StepLabel) (c' : Tree) (store' : Store) : Type 0 where
   pub answer : Bool
   pub deed : Deed
@@ -60,7 +60,7 @@ pub record PlainTreeMaximal (w : Setting) (c : Tree) (store : Store) (end : Plai
 
 -- ---- deeds whose order does not matter
 
--- each does after the other what it did before it, and both orders leave one store
+-- two deeds commute in a store: each gives the same answer after the other, and both orders leave one store
 pub record BothDone (w : Setting) (a b : Deed) (x y : Performed) : Type 0 where
   pub store : Store
   pub second : done_by w b x.store ≡ Some (record { answer = y.answer; store = store })
@@ -69,15 +69,15 @@ pub record BothDone (w : Setting) (a b : Deed) (x y : Performed) : Type 0 where
 -- two deeds whose order makes no difference, in any store
 pub record Independent (w : Setting) (a b : Deed) : Type 0 where
   pub both : (store : Store) (x y : Performed) → done_by w a store ≡ Some x → done_by w b store ≡ Some y → BothDone w a b x y
-  -- and what traps before the other traps after it
+  -- a deed that traps before the other also traps after it
   pub traps : (store : Store) (y : Performed) → done_by w a store ≡ None → done_by w b store ≡ Some y → done_by w a y.store ≡ None
   pub trap_stays : (store : Store) (x : Performed) → done_by w b store ≡ None → done_by w a store ≡ Some x → done_by w b x.store ≡ None
 
--- in what may be left of the body the order of steps of different branches does not matter
+-- steps of different branches are independent in all residuals of the body
 abbrev pub BranchesAreIndependent : Setting → Bool → Block → Type 0
 BranchesAreIndependent w stood body = (c : Tree) (a b : Deed) → PlainResidual w stood 0 body c → Apart w 0 c a b → Independent w a b
 
--- then all maximal lists of steps from one tree and store have one end, be it a trap or a tree and a store
+-- ticks are confluent: if steps of different branches are independent, all maximal step lists have one end
 abbrev pub TicksAreConfluent : Type 0
 TicksAreConfluent =
     (w : Setting) (stood : Bool) (body : Block) (c : Tree) (store : Store) (end end' : PlainTreeEnd) → Paces w → BranchesAreIndependent w stood body →

@@ -22,7 +22,7 @@ pub record StatementsArePlain : Type 0 where
   pub statements : (s : Stmt) (position : Position) → plain s position ≡ plain_at (record { position = position; passed = 0; stmt = s })
   pub blocks : (body : List Stmt) (position : Position) → plain_block body position ≡ plain_items (items_from position 0 body)
 
--- what can be asked of what may be left of items in an instance is the same of its plain tree
+-- a residual tree and its plain tree agree on whether they ended, are settled, may end and may write
 pub record AnswersArePlain : Type 0 where
   pub ended : (c : control.Control) → is_nil (plain_tree c) ≡ control.is_nil c
   pub settled : (w : Setting) (stood : Bool) (i : ℕ) (items : List Item) (c : control.Control) → Residual w stood i items c →
@@ -34,7 +34,7 @@ pub record AnswersArePlain : Type 0 where
   pub meeting : (w : Setting) (stood : Bool) (i : ℕ) (items : List Item) (c : control.Control) (a : Action) → Residual w stood i items c →
       meets w i (plain_tree c) (deed_of a) ≡ pending.meets w i c a
 
--- and waking a whole tree wakes its plain tree
+-- waking commutes with taking the plain tree
 abbrev pub WakingIsPlain : Type 0
 WakingIsPlain = (w : Setting) (c : control.Control) → ResidualTree w c → plain_tree (control.woken c) ≡ woken (plain_tree c)
 
@@ -51,13 +51,13 @@ pub record LocatedStep (w : Setting) (i : ℕ) (c : control.Control) (d : Bool) 
   pub does : deed_of action ≡ a
   pub leads : plain_tree after ≡ c'
 
--- each step of what may be left of items is one of its plain tree, with the same deed
+-- each step of a residual tree is a step of its plain tree, with the same deed
 abbrev pub StepsArePlain : Type 0
 StepsArePlain =
     (w : Setting) (stood : Bool) (i : ℕ) (items : List Item) (c : control.Control) (d : Bool) (a : Action) (c' : control.Control) →
     Residual w stood i items c → located.Moves w i c d a c' → PlainStep w i c d a c'
 
--- whether the statement is no `if` without an arm; no program has such an `if`
+-- whether a statement isn't an `if` without an arm, which no program has
 abbrev pub has_arm : {A B C D : Type 0} → StmtKind-F A B C D → Bool
 has_arm (StmtKind-F.If [] other) = false
 has_arm _ = true
@@ -76,12 +76,12 @@ abbrev mutual
   Armed (control.Guard s phase stood c) = Armed c
   Armed (control.Run s callee phase stood c) = Armed c
 
-  -- and in each of the branches
+  -- each `if` that is to begin in the branches has an arm
   pub AllArmed : control.Branches → Type 0
   AllArmed control.no_branch = ⊤
   AllArmed (control.branch weak c rest) = Armed c × AllArmed rest
 
--- and there are no others
+-- each step of a plain tree is a step of the residual tree that it is made of
 abbrev pub PlainStepsAreSteps : Type 0
 PlainStepsAreSteps =
     (w : Setting) (stood : Bool) (i : ℕ) (items : List Item) (c : control.Control) (d : Bool) (a : Deed) (n : StepLabel) (c' : Tree) →

@@ -60,15 +60,14 @@ pub record Deed : Type 0 where
 abbrev pub deed : ℕ → Place → Effect → Deed
 deed i at effect = record { place = at; instance = i; effect = effect }
 
--- what it reads, as homes
+-- the homes that a deed reads
 abbrev pub deed_reads : Setting → Deed → List Location
 deed_reads w a = effect_reads w a.instance a.effect
 
 -- ---- what begins
 
 abbrev mutual
-  -- whether a statement that begins can write a static path that passes the test before it pauses. A `run` can write its
-  -- outputs; its target it writes when it ends, which it does in a later tick
+  -- whether a statement that begins can write a static path that passes the test before it pauses; a `run` writes its target later
   pub soon : (Static → Bool) → Plain → Bool
   soon test (Act l s) = list_any test (writes s)
   soon test (Await l at e) = false
@@ -116,7 +115,7 @@ abbrev mutual
   may_end (Guard s phase stood c) = guard_may_end phase s (may_end c)
   may_end (Run s callee phase stood c) = run_may_end phase (may_end c)
 
-  -- of strong branches whether all of them may end, and where there are none whether some branch may
+  -- whether branches let their `cobegin` end: all strong ones may end, or some branch may where none is strong
   pub may_join : Bool → Trees → Bool
   may_join true no_tree = true
   may_join false no_tree = false
@@ -129,8 +128,7 @@ abbrev mutual
 abbrev pub leads_over : Setting → ℕ → Location → Static → Bool
 leads_over w i at path = overlap at (home w (record { instance = i; path = path }))
 
--- a `run` may write all its outputs while it is not settled, whatever its body still does: called activities are known by
--- their interface. The target is written where it ends
+-- an unsettled `run` may write all its outputs, whatever its body does, and its target where it may end
 abbrev pub run_writes : (Static → Bool) → Call → Bool → Bool → Bool
 run_writes test s settled ends =
     not settled && (list_any test (map static_of s.arguments.outputs) || (ends && list_any test (target_static s.arguments.target)))
@@ -141,8 +139,7 @@ anew test s Check = is_reset_kind s.guard && soon_in test s.body
 anew test s Body = false
 
 abbrev mutual
-  -- whether the tree may still write in this tick a static path that passes the test. Those of a called instance don't
-  -- count: what they lead to are the outputs
+  -- whether the tree may still write a static path that passes the test in this tick; called instances count by their outputs
   pub may_write_path : (Static → Bool) → Tree → Bool
   may_write_path test Nil = false
   may_write_path test (Wait s) = false

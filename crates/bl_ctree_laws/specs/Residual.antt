@@ -36,22 +36,21 @@ pub data BlockSplitsAt (s : Plain) (rest : Block) : Block → Type 0 where
   there : {t : Plain} {body : Block} → BlockSplitsAt s rest body → BlockSplitsAt s rest (Then t body)
 
 mutual
-  -- what may be left of a block in an instance. What stood when the tick began has it said of what is around it too, so below
-  -- what has not stood nothing has
+  -- a plain tree is a residual of a block in an instance; nothing stands below what has not stood
   pub data PlainResidual (w : Setting) : (stood : Bool) → ℕ → Block → Tree → Type 0 where
     nothing : {stood : Bool} {i : ℕ} {body : Block} → PlainResidual w stood i body Nil
-    -- what is left of its last statement
+    -- a residual of the block's last statement
     of_last : {stood : Bool} {i : ℕ} {s : Plain} {body : Block} {c : Tree} → BlockSplitsAt s Done body → PlainResidualOf w stood i s c → PlainResidual w stood i body c
     -- what is left of a statement, and what follows it
     of_one : {stood : Bool} {i : ℕ} {s next : Plain} {rest body : Block} {c : Tree} →
         BlockSplitsAt s (Then next rest) body → PlainResidualOf w stood i s c → is_nil c ≡ false → PlainResidual w stood i body (Seq c (Then next rest))
 
-  -- what may be left of a statement
+  -- a plain tree is a residual of a statement
   pub data PlainResidualOf (w : Setting) : (stood : Bool) → ℕ → Plain → Tree → Type 0 where
     to_begin : {stood : Bool} {i : ℕ} {s : Plain} → PlainResidualOf w stood i s (Do s)
     ended : {stood : Bool} {i : ℕ} {s : Plain} → PlainResidualOf w stood i s Nil
     paused : {stood : Bool} {i : ℕ} {l : Label} {at : Place} {e : Expr} → PlainResidualOf w stood i (Await l at e) (Wait (pause l at e))
-    -- only what stood has woken
+    -- a woken `await`, which only a part that stood has
     tested : {i : ℕ} {l : Label} {at : Place} {e : Expr} → PlainResidualOf w true i (Await l at e) (Test (pause l at e))
     of_then : {stood : Bool} {i : ℕ} {l : Label} {at : Place} {e : Expr} {body other : Block} {c : Tree} →
         PlainResidual w stood i body c → PlainResidualOf w stood i (If l at e body other) c
@@ -64,16 +63,16 @@ mutual
         PlainResidual w stood i (turn body (Again l at body e)) c → PlainResidualOf w stood i (Until l at body e) c
     of_while : {stood : Bool} {i : ℕ} {l : Label} {at : Place} {e : Expr} {body : Block} {c : Tree} →
         PlainResidual w stood i (turn body (While l at e body)) c → PlainResidualOf w stood i (While l at e body) c
-    -- after the test at the end of a turn the loop begins again
+    -- a loop that begins again after the test at the end of a turn
     of_again : {stood : Bool} {i : ℕ} {l : Label} {at : Place} {body : Block} {e : Expr} {c : Tree} →
         PlainResidualOf w stood i (Until l at body e) c → PlainResidualOf w stood i (Again l at body e) c
     of_par : {around stood : Bool} {i : ℕ} {l : Label} {at : Place} {bodies : Bodies} {branches : Trees} → (stood ≡ true → around ≡ true) →
         PlainResidualEach w stood i bodies branches → PlainResidualOf w around i (Cobegin l at bodies) (Par (fork l at bodies) stood branches)
-    -- only what stood is still to be checked
+    -- a guard, which is still to be checked only where it stood
     of_guard : {around stood : Bool} {i : ℕ} {l : Label} {at : Place} {guard : GuardKind} {e : Expr} {body : Block} {phase : Phase} {c : Tree} →
         (stood ≡ true → around ≡ true) → (phase ≡ Check → stood ≡ true) → PlainResidual w stood i body c →
         PlainResidualOf w around i (When l at guard e body) (Guard (watch l at guard e body) phase stood c)
-    -- the instance is the one that the `run` begins, and what is left of its body stands there
+    -- a Run over the instance that the `run` begins, with a residual of its body
     of_run : {around stood : Bool} {i : ℕ} {l : Label} {at : Place} {target : Option Path} {a : ℕ} {inputs : List Expr} {outputs : List Path}
         {callee : ℕ} {unit : UnitDef} {phase : Phase} {c : Tree} → callee_of w i at ≡ Some callee → unit_at w callee ≡ Some unit →
         (stood ≡ true → around ≡ true) → (phase ≡ Check → stood ≡ true) → PlainResidual w stood callee (plain_body unit.body) c →

@@ -18,6 +18,6 @@ StepsKeepPlainResidual =
     (w : Setting) (stood : Bool) (i : ℕ) (body : Block) (c : Tree) (d : Bool) (a : Deed) (n : StepLabel) (c' : Tree) →
     PlainResidual w stood i body c → Moves Anyway w i c d a n c' → PlainResidual w stood i body c'
 
--- in a whole tree that is woken everything has stood
+-- waking a whole residual tree leaves a residual in which everything has stood
 abbrev pub WakingKeepsPlainResidual : Type 0
 WakingKeepsPlainResidual = (w : Setting) (body : Block) (c : Tree) → PlainResidualTree w body c → PlainResidual w true 0 body (woken c)

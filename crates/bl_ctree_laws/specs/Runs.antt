@@ -25,11 +25,11 @@ use Rattle.bl_ctree_laws.specs.Shrinks.{Paces}
 abbrev pub entry_block : Setting → Block
 entry_block w = plain_items (entry_items w)
 
--- between ticks runs reach trees that may be left of the entry's body alone
+-- between ticks runs reach only residuals of the entry's body, as plain trees
 abbrev pub ReachedIsPlainResidual : Type 0
 ReachedIsPlainResidual = (w : Setting) (rows : List (List ℤ)) (c : Control) (store : Store) → Reaches w rows c store → PlainResidualTree w (entry_block w) (plain_tree c)
 
--- and inside ticks, where what is left of the woken tree has stood
+-- within ticks runs reach only residuals of the entry's body, as of a woken tree
 abbrev pub ReachedInsideIsPlainResidual : Type 0
 ReachedInsideIsPlainResidual =
     (w : Setting) (rows : List (List ℤ)) (row : List ℤ) (actions : List Action) (c : Control) (store : Store) →
@@ -54,7 +54,7 @@ ListsArePlain =
     (w : Setting) (stood : Bool) (items : List Item) (c : Control) (store : Store) (actions : List Action) (end : ticks.End) →
     located_left.Residual w stood 0 items c → ticks.Steps w c store actions end → PlainList w c store actions end
 
--- and where nothing may act in a tree nothing may in its plain tree
+-- a still residual tree has a still plain tree
 abbrev pub StillIsPlain : Type 0
 StillIsPlain =
     (w : Setting) (stood : Bool) (items : List Item) (c : Control) → located_left.Residual w stood 0 items c → Armed c → located.IsStill w c →
@@ -67,15 +67,14 @@ pub record SameEnd (end end' : ticks.End) : Type 0 where
   pub plain : plain_end end ≡ plain_end end'
   pub outcome : ticks.outcome_at end ≡ ticks.outcome_at end'
 
--- where bodies are typed and pause, and the order of steps of different branches does not matter, two ticks of runs have one end when
--- they begin over one row with one store and one plain tree. So the next ticks begin alike too
+-- if steps of different branches are independent, ticks from one row, store and plain tree have the same end
 abbrev pub TicksEndAlikeByPlain : Type 0
 TicksEndAlikeByPlain =
     (w : Setting) (rows rows' : List (List ℤ)) (row : List ℤ) (c c' : Control) (store : Store) (end end' : ticks.End) → Fitted w → Paces w →
     BranchesAreIndependent w true (entry_block w) → Reaches w rows c store → Reaches w rows' c' store → plain_tree c ≡ plain_tree c' →
     ticks.Tick w row c store end → ticks.Tick w row c' store end' → SameEnd end end'
 
--- and then a program's meaning allows at most one trace over each list of rows
+-- if steps of different branches are independent, a program has at most one trace over a list of rows
 abbrev pub TracesAreOne : Type 0
 TracesAreOne =
     (structs : List StructDef) (units : List UnitDef) (entry : ℕ) (rows : List (List ℤ)) (one other : ShownTrace) →

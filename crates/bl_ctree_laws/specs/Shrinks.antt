@@ -14,7 +14,7 @@ use Rattle.bl_ctree_laws.specs.Trees.{Tree, is_settled}
 abbrev pub Paces : Setting → Type 0
 Paces w = (i : ℕ) (unit : UnitDef) → unit_at w i ≡ Some unit → are_instant (plain_body unit.body) ≡ false
 
--- what may act could act
+-- a step that may act is one that could be taken
 abbrev pub MayIsCould : Type 0
 MayIsCould = (w : Setting) (i : ℕ) (c : Tree) (d : Bool) (a : Deed) (n : StepLabel) (c' : Tree) → Moves Unmet w i c d a n c' → Moves Anyway w i c d a n c'
 
@@ -29,13 +29,13 @@ EndsShrink =
     (w : Setting) (i : ℕ) (c : Tree) (d : Bool) (a : Deed) (n : StepLabel) (c' : Tree) → Paces w → Moves Anyway w i c d a n c' →
     may_end c' ≡ true → may_end c ≡ true
 
--- what it may write after a step it might write before
+-- what a tree may write after a step it may write before the step
 abbrev pub WritesShrink : Type 0
 WritesShrink =
     (w : Setting) (i : ℕ) (c : Tree) (d : Bool) (a : Deed) (n : StepLabel) (c' : Tree) (at : Location) → Paces w → Moves Anyway w i c d a n c' →
     may_write w i c' at ≡ true → may_write w i c at ≡ true
 
--- so what it does not meet before a step it does not meet after it
+-- what a tree does not meet before a step it does not meet after the step
 abbrev pub MeetsShrink : Type 0
 MeetsShrink =
     (w : Setting) (i : ℕ) (c : Tree) (d : Bool) (a : Deed) (n : StepLabel) (c' : Tree) (other : Deed) → Paces w → Moves Anyway w i c d a n c' →

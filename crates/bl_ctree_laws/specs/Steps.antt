@@ -58,11 +58,11 @@ use Rattle.bl_ctree_laws.specs.Trees.{
 
 -- ---- the test of what stands beside
 
--- whatever the trees beside may write: steps are those that could act
+-- the test of a step that ignores what other branches may write
 abbrev pub Anyway : Bool → Type 0
 Anyway meets = ⊤
 
--- no tree beside may still write what is read: steps are those that may act
+-- the test of a step that may act: no tree beside may still write what is read
 abbrev pub Unmet : Bool → Type 0
 Unmet meets = meets ≡ false
 
@@ -72,15 +72,15 @@ Unmet meets = meets ≡ false
 abbrev pub pause : Label → Place → Expr → Pause
 pause l at e = record { label = l; place = at; test = e }
 
--- a `cobegin`
+-- the fork of a `cobegin`
 abbrev pub fork : Label → Place → Bodies → Fork
 fork l at bodies = record { label = l; place = at; bodies = bodies }
 
--- a `when`
+-- the watch of a `when`
 abbrev pub watch : Label → Place → GuardKind → Expr → Block → Watch
 watch l at guard e body = record { label = l; place = at; guard = guard; test = e; body = body }
 
--- a `run`
+-- the call of a `run`
 abbrev pub call : Label → Place → Option Path → ℕ → List Expr → List Path → Call
 call l at target a inputs outputs = record { label = l; place = at; unit = a; arguments = arguments_of target inputs outputs }
 
@@ -89,8 +89,7 @@ abbrev pub turn : Block → Plain → Block
 turn body next = before body (Then next Done)
 
 mutual
-  -- Moves T w i c d a n c': the tree c, which stands in the instance i, becomes c' by the deed a, where d is its answer and n
-  -- the label of the step; T is asked of what stands beside at each `cobegin` around
+  -- Moves T w i c d a n c': tree c of instance i becomes c' by deed a with answer d and label n
   pub data Moves (T : Bool → Type 0) (w : Setting) : ℕ → Tree → Bool → Deed → StepLabel → Tree → Type 0 where
     -- an assignment, a declaration, a call or a `return`
     acts : {i : ℕ} {l : Label} {s : Stmt} →
@@ -98,7 +97,7 @@ mutual
     -- the test of an `if` is true
     takes : {i : ℕ} {l : Label} {at : Place} {e : Expr} {body other : Block} →
         Moves T w i (Do (If l at e body other)) true (deed i at (Asks e)) (Here (TestAt l at e)) (do_block body)
-    -- it is false
+    -- the test of an `if` is false
     passes : {i : ℕ} {l : Label} {at : Place} {e : Expr} {body other : Block} →
         Moves T w i (Do (If l at e body other)) false (deed i at (Asks e)) (Here (TestAt l at e)) (do_block other)
     -- `await` always pauses when it is reached
@@ -138,10 +137,10 @@ mutual
     -- the condition of a guard is false: what is left of its body goes on
     lets : {i : ℕ} {s : Watch} {stood : Bool} {c : Tree} →
         Moves T w i (Guard s Check stood c) false (deed i s.place (Asks s.test)) (Here (CheckAt s.label s.place s.test)) (Guard s Body stood c)
-    -- it is true: `abort` drops the body
+    -- the condition of an `abort` guard is true: its body is dropped
     aborts : {i : ℕ} {s : Watch} {stood : Bool} {c : Tree} → s.guard ≡ Abort →
         Moves T w i (Guard s Check stood c) true (deed i s.place (Asks s.test)) (Here (CheckAt s.label s.place s.test)) Nil
-    -- and `reset` begins it anew
+    -- the condition of a `reset` guard is true: its body begins anew
     resets : {i : ℕ} {s : Watch} {stood : Bool} {c : Tree} → s.guard ≡ Reset →
         Moves T w i (Guard s Check stood c) true (deed i s.place (Asks s.test)) (Here (CheckAt s.label s.place s.test)) (Guard s Body stood (do_block s.body))
     -- a guard ends where its body has ended
@@ -158,21 +157,21 @@ mutual
     -- a `cobegin` ends where its branches are settled and so many have ended as are needed
     joins : {i : ℕ} {s : Fork} {stood : Bool} {branches : Trees} → are_settled branches ≡ true → are_done branches ≡ true →
         Moves T w i (Par s stood branches) true (deed i s.place Silent) (Here (join_node stood s.label s.place)) Nil
-    -- inside a sequence
+    -- a step inside a sequence
     in_seq : {i : ℕ} {c : Tree} {rest : Block} {d : Bool} {a : Deed} {n : StepLabel} {c' : Tree} →
         Moves T w i c d a n c' → Moves T w i (Seq c rest) d a n (seq c' rest)
-    -- inside a branch
+    -- a step inside a branch
     in_par : {i : ℕ} {s : Fork} {stood : Bool} {branches : Trees} {d : Bool} {a : Deed} {n : StepLabel} {branches' : Trees} →
         OneMoves T w i branches d a n branches' → Moves T w i (Par s stood branches) d a n (Par s stood branches')
-    -- inside a guard that let its body go on
+    -- a step inside a guard that let its body go on
     in_guard : {i : ℕ} {s : Watch} {stood : Bool} {c : Tree} {d : Bool} {a : Deed} {n : StepLabel} {c' : Tree} →
         Moves T w i c d a n c' → Moves T w i (Guard s Body stood c) d a n (Guard s Body stood c')
-    -- inside a `run` that has its inputs: a step of the instance that it began
+    -- a step of a called instance, inside a `run` that has its inputs
     in_run : {i : ℕ} {s : Call} {callee : ℕ} {stood : Bool} {c : Tree} {d : Bool} {a : Deed} {n : StepLabel} {c' : Tree} →
         Moves T w callee c d a n c' → Moves T w i (Run s callee Body stood c) d a
         (Inside (run_node stood s.label s.place s.arguments) s.unit n) (Run s callee Body stood c')
 
-  -- one branch moves, where the others pass the test
+  -- a branch moves, where the others pass the test
   pub data OneMoves (T : Bool → Type 0) (w : Setting) : ℕ → Trees → Bool → Deed → StepLabel → Trees → Type 0 where
     first : {i : ℕ} {weak : Bool} {c : Tree} {others : Trees} {d : Bool} {a : Deed} {n : StepLabel} {c' : Tree} →
         Moves T w i c d a n c' → T (any_meets w i others a) → OneMoves T w i (beside weak c others) d a n (beside weak c' others)

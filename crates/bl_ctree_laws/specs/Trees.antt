@@ -38,9 +38,9 @@ pub record Call : Type 0 where
 mutual
   -- a control tree
   pub data Tree : Type 0 where
-    -- ended
+    -- a part that has ended
     Nil : Tree
-    -- paused at an `await`
+    -- a part that paused at an `await`
     Wait : Pause → Tree
     -- an `await` that was woken
     Test : Pause → Tree
@@ -107,7 +107,7 @@ abbrev pub strong_ended : Trees → Bool
 strong_ended no_tree = true
 strong_ended (beside weak c rest) = (weak || is_nil c) && strong_ended rest
 
--- whether some branch has
+-- whether some branch has ended
 abbrev pub some_ended : Trees → Bool
 some_ended no_tree = false
 some_ended (beside weak c rest) = is_nil c || some_ended rest

@@ -16,11 +16,11 @@ use Rattle.bl_eval_laws.specs.Local.{Alike, LeftAlike, SameAt, named_by}
 abbrev pub now_of : Frame → List Value
 now_of frame = frame.now
 
--- and those before
+-- the values of a frame before
 abbrev pub before_of : Frame → List Value
 before_of frame = frame.before
 
--- both stores have the same values at these homes
+-- two stores have equal values at the homes in the list
 abbrev pub SameThere : (Frame → List Value) → List Location → Store → Store → Type 0
 SameThere values [] s t = ⊤
 SameThere values (at ∷ rest) s t = (value_among values s at ≡ value_among values t at) × SameThere values rest s t
@@ -37,21 +37,21 @@ onward at fields = record { instance = at.instance; path = record { root = at.pa
 abbrev pub HomesLeadOn : Type 0
 HomesLeadOn = (w : Setting) (i : ℕ) (path : Static) → home w (record { instance = i; path = path }) ≡ onward (home w (whole_of i path.root)) path.fields
 
--- stores that are the same at homes give the same there to the statements of the instance
+-- the view of an instance depends only on the store's values at the homes of the paths looked at
 pub record ViewsAreLocal : Type 0 where
   pub now : (w : Setting) (s t : Store) (i : ℕ) (paths : List Static) → SameThere now_of (homes w i paths) s t →
       Alike paths (view_at w s i).now (view_at w t i).now
   pub before : (w : Setting) (s t : Store) (i : ℕ) (variables : List ℕ) → SameThere before_of (homes_of w i variables) s t →
       SameAt variables (view_at w s i).before (view_at w t i).before
 
--- so an expression has the same value in both
+-- the value of an expression depends only on the store's values at the homes of what it mentions and names
 abbrev pub ValuesThereAreLocal : Type 0
 ValuesThereAreLocal =
     (w : Setting) (s t : Store) (i : ℕ) (e : Expr) → SameThere now_of (homes w i (mentions e)) s t →
     SameThere before_of (homes_of w i (roots_in e)) s t →
     value_there w s i e ≡ value_there w t i e
 
--- and an act traps in both or in neither, and leaves alike what it writes
+-- an act's outcome depends only on the store's values at the homes of what it reads, writes and names
 abbrev pub OutcomesThereAreLocal : Type 0
 OutcomesThereAreLocal =
     (w : Setting) (s t : Store) (i : ℕ) (act : Stmt) → SameThere now_of (homes w i (reads act ++ writes act)) s t →
@@ -64,7 +64,7 @@ OutcomesThereAreLocal =
 abbrev pub PutsCommute : Type 0
 PutsCommute = (a b : Location) (v u : Value) (store : Store) → overlap a b ≡ false → put a v (put b u store) ≡ put b u (put a v store)
 
--- and a value that is put at a home leaves what doesn't overlap it, all that was before, and all results
+-- a value put at a home leaves values at homes apart, all former values, and all results
 pub record PutsKeepOthers : Type 0 where
   pub now : (a b : Location) (v : Value) (store : Store) → overlap a b ≡ false → value_among now_of (put a v store) b ≡ value_among now_of store b
   pub before : (a b : Location) (v : Value) (store : Store) → value_among before_of (put a v store) b ≡ value_among before_of store b
@@ -81,8 +81,7 @@ pub record FramesKeepOthers : Type 0 where
   pub results : (i j : ℕ) (change : Frame → Frame) (store : Store) → nat_eq i j ≡ false →
       result_at (with_frame i change store) j ≡ result_at store j
 
--- that a declared variable had before what it has now is set in either order with what is put elsewhere and with what other
--- variables had before, and leaves all values, all results and what other variables had before
+-- setting a declared variable's former value commutes with puts elsewhere and with other variables' former values, and keeps the rest
 pub record RememberingKeepsOthers : Type 0 where
   pub puts : (i k : ℕ) (a : Location) (v : Value) (store : Store) → overlap a (whole_of i k) ≡ false →
       with_frame i (remember k) (put a v store) ≡ put a v (with_frame i (remember k) store)

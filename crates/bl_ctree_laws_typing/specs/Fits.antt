@@ -15,7 +15,7 @@ result_fits structs (Some s) (Some value) = value_fits structs (scalar s) value
 result_fits structs None None = true
 result_fits structs _ _ = false
 
--- the values of a frame are those of the unit's variables, now and before, and so is its result
+-- a frame has well-typed values of the unit's variables, now and before, and of its result
 pub record FrameFits (structs : List StructDef) (unit : UnitDef) (frame : Frame) : Type 0 where
   pub now : values_fit structs unit.vars frame.now ≡ true
   pub before : values_fit structs unit.vars frame.before ≡ true

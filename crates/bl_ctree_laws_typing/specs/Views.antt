@@ -9,12 +9,12 @@ use Rattle.bl_ctree.specs.Instances.{setting_of, unit_at}
 use Rattle.bl_ctree.specs.Store.{Store, view_at}
 use Rattle.bl_ctree_laws_typing.specs.Fits.{StoreFits}
 
--- the values that are seen are those of the unit's variables, now and before
+-- a view has well-typed values of the unit's variables, now and before
 pub record ViewTyped (structs : List StructDef) (unit : UnitDef) (view : View) : Type 0 where
   pub now : values_fit structs unit.vars view.now ≡ true
   pub before : values_fit structs unit.vars view.before ≡ true
 
--- in a typed program the statements of an instance see values of their variables' types, wherever these have their homes
+-- in a typed program each instance sees well-typed values of its variables, wherever their homes are
 abbrev pub ViewsAreTyped : Type 0
 ViewsAreTyped =
     (structs : List StructDef) (units : List UnitDef) (entry i : ℕ) (unit : UnitDef) (store : Store) → IsWellTyped structs units entry →

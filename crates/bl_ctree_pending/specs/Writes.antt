@@ -15,7 +15,7 @@ abbrev pub item_paths : Item → List Static
 item_paths (Begin s) = surface_paths s
 item_paths (Again s) = surface_paths s
 
--- those of the first item and, where the first may end, those of the rest
+-- the paths that the first item may write and, where the first may end, those of the rest
 abbrev pub items_paths : List Item → List Static
 items_paths [] = []
 items_paths (item ∷ rest) = item_paths item ++ (if item_may_end item then items_paths rest else [])

@@ -41,7 +41,7 @@ stepped_by w s p = option_map (λ done. record { control = p.after done.answer; 
 abbrev pub stepped : Setting → RunState → ℕ → Option RunState
 stepped w s n = option_and_then (stepped_by w s) (slice_get (points w 0 s.control) n)
 
--- how a step went: it leads to the state to which it is to lead, or it traps or memory is refused, and the state is as it was
+-- the outcome of a step: the state as meant, or the old state after a trap or a lack of memory
 abbrev pub Acted : Option RunState → RunState → RunState → Result Did NoMemory → Type 0
 Acted outcome old new (Ok Done) = outcome ≡ Some new
 Acted outcome old new (Ok Trap) = (outcome ≡ None) × (new ≡ old)
@@ -52,7 +52,7 @@ abbrev pub how_of : Result Step NoMemory → Result Did NoMemory
 how_of (Ok step) = Ok step.did
 how_of (Err e) = Err e
 
--- the state after an effect in an instance, at the point to which these branches lead
+-- the state after an effect in an instance, at the point to which this path of branches leads
 abbrev pub acted_at : Setting → RunState → ℕ → Effect → List ℕ → Option RunState
 acted_at w s i effect path = option_map (λ done. record { control = after_by w 0 s.control path done.answer; store = done.store })
     (effect_on w i effect s.store)

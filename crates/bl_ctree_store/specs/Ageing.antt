@@ -22,7 +22,7 @@ are_numbers (value ∷ rest) = is_number value && are_numbers rest
 abbrev pub is_plain : Frame → Bool
 is_plain frame = (length frame.before == length frame.now) && are_numbers frame.now
 
--- the same of each frame
+-- whether in each frame the values now are numbers, and the values before equally many
 abbrev pub are_plain : List Frame → Bool
 are_plain [] = true
 are_plain (frame ∷ rest) = is_plain frame && are_plain rest

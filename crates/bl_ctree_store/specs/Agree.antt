@@ -7,16 +7,16 @@ use Rattle.bl_tree.specs.Apart.{Roots, argument_roots, expr_layer_roots, kind_ro
 use Rattle.bl_tree.specs.declared.static_path.Static.{Static}
 use Rattle.bl_eval.specs.Meaning.{View}
 
--- both have the same values of these variables
+-- two lists of values are equal at each of these variables
 abbrev pub Agree : List ℕ → List Value → List Value → Type 0
 Agree [] xs ys = Unit {0}
 Agree (k ∷ rest) xs ys = (slice_get xs k ≡ slice_get ys k) × Agree rest xs ys
 
--- both views have the same values of these variables, now and before
+-- two views are equal at each of these variables, now and before
 abbrev pub Same : List ℕ → View → View → Type 0
 Same roots a b = Agree roots a.now b.now × Agree roots a.before b.before
 
--- values that agree at the variables agree at those into which the paths lead
+-- values that are equal at the variables are equal at the roots of the paths
 abbrev pub Covers : List ℕ → List Static → Type 0
 Covers roots paths = (xs ys : List Value) → Agree roots xs ys → Agree (map (λ path. path.root) paths) xs ys
 
@@ -31,7 +31,7 @@ roots_of_act (StmtKind-F.Assign path e) = roots_in_path path ++ roots_in e
 roots_of_act (StmtKind-F.Call f inputs outputs) = argument_roots inputs outputs
 roots_of_act _ = []
 
--- the values, those of these variables being given
+-- the values with those of the listed variables replaced by given ones
 abbrev pub filled : (ℕ → Value) → List ℕ → List Value → List Value
 filled value [] made = made
 filled value (k ∷ rest) made = filled value rest (slice_set made k (value k))

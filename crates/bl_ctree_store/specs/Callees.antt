@@ -12,7 +12,7 @@ use Rattle.bl_ctree.specs.Instances.{begins_at}
 abbrev pub key_at : ℕ → Place → ℕ × (ℕ × ℕ)
 key_at caller place = (caller, (place.start, place.end))
 
--- the order of such keys: by caller, then by the start and by the end of the place
+-- the order of callers and places: by caller, then by start and end of the place
 abbrev pub key_cmp : ℕ × (ℕ × ℕ) → ℕ × (ℕ × ℕ) → Ordering
 key_cmp x y = ordering_then (nat_cmp x.0 y.0) (ordering_then (nat_cmp x.1.0 y.1.0) (nat_cmp x.1.1 y.1.1))
 
@@ -20,7 +20,7 @@ key_cmp x y = ordering_then (nat_cmp x.0 y.0) (ordering_then (nat_cmp x.1.0 y.1.
 abbrev pub kept_callee : List ((ℕ × (ℕ × ℕ)) × ℕ) → ℕ → Place → Option ℕ
 kept_callee entries caller place = lookup (is_at (key_cmp (key_at caller place))) entries
 
--- for each `run` statement it is the first of the instances that it begins
+-- the table has for each `run` statement the first instance that it begins
 abbrev pub IndexesCallees : List ((ℕ × (ℕ × ℕ)) × ℕ) → List Instance → Type 0
 IndexesCallees entries instances = (caller : ℕ) (place : Place) →
     kept_callee entries caller place ≡ position (λ instance. begins_at caller place instance.origin) instances

@@ -24,14 +24,14 @@ effect_of (DoesAct s) = Acts s.now
 effect_of (DoesCopy callee inputs) = Copies callee inputs.now
 effect_of (DoesGive callee target) = Gives callee target.now
 
--- the store that it leaves; none where it traps
+-- the store after a deed; none where it traps
 abbrev pub deed_on : Setting → ℕ → Deed → Store → Option Store
 deed_on w i IsSilent store = Some store
 deed_on w i (DoesAct s) store = acted_kind w i s.now (stmt_kind s.now) store
 deed_on w i (DoesCopy callee inputs) store = option_map (λ values. with_frame callee (with_inputs values) store) (values_there w store i inputs.now)
 deed_on w i (DoesGive callee target) store = Some (given_to w i target.now (result_at store callee) store)
 
--- how an action went: it leaves the store that it is to leave, or it traps or memory is refused, and the store is as it was
+-- the outcome of an action: the store as meant, or the old store after a trap or a lack of memory
 abbrev pub Carried : Option Store → Store → Store → Result Did NoMemory → Type 0
 Carried outcome old new (Ok Done) = outcome ≡ Some new
 Carried outcome old new (Ok Trap) = (outcome ≡ None) × (new ≡ old)

@@ -11,7 +11,7 @@ pub record IsRoom (count : ℕ) (v : ViewNode) : Type 0 where
   pub now : length v.now.list ≡ count
   pub before : length v.before.list ≡ count
 
--- what is seen of an instance has its unit, and the values of the variables that are asked for; nothing is seen where there is no such instance
+-- the sight of an instance: its unit and the values of the variables asked for; none without such an instance
 abbrev pub Glimpses : List ℕ → Setting → Store → ℕ → Option Sight → Type 0
 Glimpses asked w store i None = slice_get w.instances i ≡ None
 Glimpses asked w store i (Some sight) =

@@ -3,11 +3,11 @@ use Rattle.std.specs.Prelude.{ℕ, Option, option_and_then, option_map, slice_ge
 use Rattle.bl_tree.specs.declared.value.Value.{Value}
 use Rattle.bl_ctree.specs.Store.{Frame, Store, with_frame}
 
--- a variable's own value
+-- the value of a variable in its own instance
 abbrev pub now_there : Store → ℕ → ℕ → Option Value
 now_there store i k = option_and_then (λ frame. slice_get frame.now k) (slice_get store i)
 
--- another value before for one variable
+-- the frame with another former value of one variable
 abbrev pub with_before : ℕ → Value → Frame → Frame
 with_before k value frame = record frame { before = slice_set frame.before k value }
 

@@ -28,7 +28,7 @@ location_of h = record { instance = h.instance; path = record { root = h.root; f
 abbrev pub frame_of : FrameNode → Frame
 frame_of frame = record { now = frame.now.items; before = frame.before.items; result = frame.result }
 
--- the store with these frames, one for each instance
+-- the store of a list of frames, one for each instance
 abbrev pub store_of : List FrameNode → Store
 store_of frames = map frame_of frames
 

@@ -65,19 +65,19 @@ pub record Parallel : Type 0 where
   pub writes : List Marked
   pub splits : List Split
 
--- statements one after another
+-- several parts of a body, one after another
 abbrev pub together : List Parallel → Parallel
 together parts = record { writes = joined (map (λ part. part.writes) parts); splits = joined (map (λ part. part.splits) parts) }
 
--- one after the other
+-- two parts of a body, one after the other
 abbrev pub beside : Parallel → Parallel → Parallel
 beside one other = record { writes = one.writes ++ other.writes; splits = one.splits ++ other.splits }
 
--- one act: an assignment, a call or a `run` at the place, which writes these
+-- one act at a place, which writes the given paths
 abbrev pub acting : Place → List Static → Parallel
 acting place written = record { writes = map (λ path. record { place = place; path = path }) written; splits = [] }
 
--- nothing
+-- a part of a body without writes and `cobegin`s
 abbrev pub still : Parallel
 still = record { writes = []; splits = [] }
 
@@ -125,7 +125,7 @@ parallel_of = fold-Stmt (Place → Parallel) Parallel Parallel Parallel kind_par
 abbrev pub splits_of : UnitDef → List Split
 splits_of unit = (together (map parallel_of unit.body)).splits
 
--- at the act in the earlier branch; also that in the later branch, and the declaration of a root that both write
+-- rule Conflict fails at an act of an earlier branch; its line names the later act and the declaration of their root
 pub record FailsConflict (units : List UnitDef) (at : Place) (also : List Place) : Type 0 where
   pub unit : UnitDef
   pub is_there : Contains units unit
@@ -170,21 +170,21 @@ abbrev pub aliased_with : List Marked → Marked → List Aliased
 aliased_with others one =
     option_to_list (option_map (λ other. record { at = one.place; also = other.place }) (find (λ other. overlaps one.path other.path) others))
 
--- those of outputs that come after these: each is compared with the outputs before it, and then with the aggregate inputs
+-- the alias failures of successive outputs, each compared with the outputs before it and the aggregate inputs
 abbrev pub outputs_aliased : List Marked → List Marked → List Marked → List Aliased
 outputs_aliased inputs before [] = []
 outputs_aliased inputs before (output ∷ rest) = aliased_with (before ++ inputs) output ++ outputs_aliased inputs (before ++ output ∷ []) rest
 
--- that of the target, which is compared with the outputs
+-- the alias failures of the target, which is compared with the outputs
 abbrev pub target_aliased : List Marked → Option Path → List Aliased
 target_aliased outputs (Some target) = aliased_with outputs (marked_path target)
 target_aliased outputs None = []
 
--- all failures of a call or `run` with this target, these inputs and these outputs
+-- the alias failures of a call or `run` with this target, these inputs and these outputs
 abbrev pub aliases_of : Option Path → List Expr → List Path → List Aliased
 aliases_of target inputs outputs = target_aliased (map marked_path outputs) target ++ outputs_aliased (marked_inputs inputs) [] (map marked_path outputs)
 
--- the failures in a kind of statement, from those in its parts
+-- the alias failures in a kind of statement, from those in its parts
 abbrev pub kind_aliases : StmtKind-F (List Aliased) (List Aliased) (List Aliased) (List Aliased) → List Aliased
 kind_aliases (StmtKind-F.Declare k initial) = []
 kind_aliases (StmtKind-F.Assign path e) = []
@@ -199,15 +199,15 @@ kind_aliases (StmtKind-F.Until body e) = joined body
 kind_aliases (StmtKind-F.While e body) = joined body
 kind_aliases (StmtKind-F.Return e) = []
 
--- the failures in an arm, from those in its statements
+-- the alias failures in an arm, from those in its statements
 abbrev pub arm_aliases : Arm-F (List Aliased) (List Aliased) (List Aliased) (List Aliased) → List Aliased
 arm_aliases arm = joined arm.body
 
--- the failures in a branch, from those in its statements
+-- the alias failures in a branch, from those in its statements
 abbrev pub branch_aliases : Branch-F (List Aliased) (List Aliased) (List Aliased) (List Aliased) → List Aliased
 branch_aliases branch = joined branch.body
 
--- the failures in a statement are those of its kind
+-- the alias failures in a statement, from those of its kind
 abbrev pub stmt_aliases : Stmt-F (List Aliased) (List Aliased) (List Aliased) (List Aliased) → List Aliased
 stmt_aliases s = s.what
 
@@ -215,7 +215,7 @@ stmt_aliases s = s.what
 abbrev pub aliases_in : Stmt → List Aliased
 aliases_in = fold-Stmt (List Aliased) (List Aliased) (List Aliased) (List Aliased) kind_aliases arm_aliases branch_aliases stmt_aliases
 
--- at the output or target; also what it overlaps, an output before an input and the first of several
+-- rule Alias fails at an output or target; its line names the first thing that overlaps, outputs before inputs
 pub record FailsAlias (units : List UnitDef) (at : Place) (also : List Place) : Type 0 where
   pub unit : UnitDef
   pub is_there : Contains units unit
@@ -226,12 +226,12 @@ pub record FailsAlias (units : List UnitDef) (at : Place) (also : List Place) : 
 
 -- ---- Instant: a loop of an activity has a body that may end in the tick in which it begins
 
--- a statement or an arm: whether it may end in the tick in which it begins, and the places of the loops in it whose bodies may
+-- whether a statement or arm may end in its first tick, and the loops in it whose bodies may
 pub record Loops : Type 0 where
   pub instant : Bool
   pub places : List Place
 
--- the same of a branch
+-- whether a branch may end in its first tick and is weak, and the loops in it whose bodies may end at once
 pub record BranchLoops : Type 0 where
   pub ends : BranchInstant
   pub places : List Place
@@ -244,7 +244,7 @@ block_loops body = joined (map (λ s. s.places) body)
 abbrev pub block_ends : List Loops → Bool
 block_ends body = all_of (map (λ s. s.instant) body)
 
--- those in the body of a loop at the place, and the loop itself where its body may end at once
+-- the loops in the body of a loop that may end at once, and the loop at the place where its body may
 abbrev pub loop_places : Place → List Loops → List Place
 loop_places place body = block_loops body ++ (if block_ends body then place ∷ [] else [])
 
@@ -291,7 +291,7 @@ loops_in = fold-Stmt (Place → Loops) Loops BranchLoops Loops kind_loops arm_lo
 abbrev pub instant_loops : UnitDef → List Place
 instant_loops unit = block_loops (map loops_in unit.body)
 
--- at the loop
+-- rule Instant fails at a loop whose body may end in the tick in which it begins
 pub record FailsInstant (units : List UnitDef) (at : Place) (also : List Place) : Type 0 where
   pub unit : UnitDef
   pub is_there : Contains units unit
@@ -311,10 +311,10 @@ Fails units rule.Alias at also = FailsAlias units at also
 Fails units rule.Instant at also = FailsInstant units at also
 Fails units _ at also = ⊥
 
--- it is the first of the four that fails
+-- the rule is the first of Pause, Conflict, Alias and Instant that fails, and fails first at these places
 abbrev pub FailsFirst : List UnitDef → Rule → Place → List Place → Type 0
 FailsFirst units = FirstOf (Fails units)
 
--- none of the four fails
+-- none of Pause, Conflict, Alias and Instant fails
 abbrev pub Passes : List UnitDef → Type 0
 Passes units = NoneOf (Fails units)

@@ -15,7 +15,7 @@ pub record Surface : Type 0 where
   pub instant : Bool
   pub writes : List Static
 
--- the same of a branch
+-- whether a branch may end in its first tick and is weak, and what it can write before it pauses
 pub record BranchSurface : Type 0 where
   pub ends : BranchInstant
   pub writes : List Static
@@ -74,7 +74,7 @@ surface_writes s = set_of (surface_of s).writes
 
 -- ---- width
 
--- each branch counts at least one, since its end is a place where it rests
+-- the most places of a kind of statement that rest at once; each branch counts one or more, as its end rests too
 abbrev pub kind_width : StmtKind-F ℕ ℕ ℕ ℕ → ℕ
 kind_width (StmtKind-F.Declare k initial) = 0
 kind_width (StmtKind-F.Assign path e) = 0
@@ -105,6 +105,6 @@ stmt_layer_width s = s.what
 abbrev pub stmt_width : Stmt → ℕ
 stmt_width = fold-Stmt ℕ ℕ ℕ ℕ kind_width arm_width branch_width stmt_layer_width
 
--- the same of the body of an activity: how many counters its frame needs
+-- the most places of an activity's body that rest at once: the number of counters of its frame
 abbrev pub width : List Stmt → ℕ
 width body = greatest (map stmt_width body)

@@ -49,14 +49,14 @@ abbrev pub all_changed : List Put → List Value → List Value
 all_changed [] now = now
 all_changed (put ∷ puts) now = all_changed puts (changed now put)
 
--- where the paths lead
+-- the targets to which several paths lead; none where a path traps
 abbrev pub targets_of : List PathMeaning → View → Option (List Target)
 targets_of [] view = Some []
 targets_of (path ∷ paths) view =
     option_and_then (λ positions. option_map (λ rest. record { root = path.root; positions = positions } ∷ rest) (targets_of paths view))
     (path.positions view)
 
--- what stands there
+-- the values at several targets; none where one is missing
 abbrev pub current_of : List Target → List Value → Option (List Value)
 current_of [] now = Some []
 current_of (target ∷ rest) now =
@@ -70,6 +70,6 @@ put_of pair = record { root = pair.0.root; positions = pair.0.positions; value =
 abbrev pub puts_of : List Target → List Value → List Put
 puts_of targets values = map put_of (zip targets values)
 
--- what an arm of an `if` does
+-- the meaning of an arm of an `if`
 abbrev pub choice_of : Scope → Arm → GuardedBlock
 choice_of scope = fold-Arm StmtMeaning GuardedBlock StmtMeaning StmtMeaning (kind_does scope) (arm_does scope) branch_does stmt_does

@@ -62,9 +62,7 @@ put_all [] values view now = now
 put_all (path ∷ paths) [] view now = now
 put_all (path ∷ paths) (value ∷ values) view now = put_all paths values view (put_back path value view now)
 
--- The outputs stand for the caller's paths. No two of them lead to one place, the inputs are copied, and the function
--- sees nothing else of its caller: so nobody else looks at these paths while it runs, and what they have when it ends
--- is all that a reference shows
+-- the caller's variables after a call: outputs are copied in and back, which passes by reference, as their paths don't overlap
 abbrev pub outcome_of_call : List Meaning → List PathMeaning → View → Callee → Option (List Value)
 outcome_of_call inputs outputs view callee =
     option_and_then (λ values. option_map (λ left. put_all outputs left.outputs view view.now) (callee values))
@@ -84,12 +82,12 @@ acted scope _ view = None
 
 -- ---- the statements of a function, in order over the values of its own variables
 
--- how a statement ends: what follows goes on, or the function has returned
+-- the outcome of a statement of a function: go on with the next statement, or return
 pub data Flow : Type 0 where
   On : List Value → Flow
   Back : List Value → Option Datum → Flow
 
--- from the values before a statement; none where it traps
+-- the meaning of a statement of a function, from the variables before it; none where it traps
 abbrev pub StmtMeaning : Type 0
 StmtMeaning = List Value → Option Flow
 
@@ -108,7 +106,7 @@ abbrev pub in_order : List StmtMeaning → StmtMeaning
 in_order [] now = Some (Flow.On now)
 in_order (first ∷ rest) now = flow_then (first now) (in_order rest)
 
--- a condition, and what is done where it is true
+-- a condition and the block that is executed where it is true
 pub record GuardedBlock : Type 0 where
   pub test : List Value → Option Bool
   pub body : StmtMeaning
@@ -122,18 +120,17 @@ abbrev pub condition : Scope → Option Expr → Bool → List Value → Option 
 condition scope (Some e) without now = truth scope e now
 condition scope None without now = Some without
 
--- the first choice whose condition is true, and else the other
+-- the first block whose condition is true, and else the given one
 abbrev pub first_true_choice : List GuardedBlock → StmtMeaning → StmtMeaning
 first_true_choice [] other now = other now
 first_true_choice (choice ∷ rest) other now =
     option_and_then (λ holds. if holds then choice.body now else first_true_choice rest other now) (choice.test now)
 
--- how many turns of a loop may begin since it was entered
+-- the greatest number of turns of a loop before it traps
 unfoldable pub most_turns : ℕ
 most_turns = 65536
 
--- a loop of which n turns may still begin: it ends where `goes` is false before a turn or `ends` is true after one, and
--- traps where a turn more would begin
+-- a loop with n turns left, a condition before and one after each turn; it traps where another turn would begin
 abbrev pub looped : (List Value → Option Bool) → StmtMeaning → (List Value → Option Bool) → ℕ → StmtMeaning
 looped goes body ends zero now = option_and_then (λ more. if more then None else Some (Flow.On now)) (goes now)
 looped goes body ends (suc n) now =
@@ -189,7 +186,7 @@ abbrev pub left_by : UnitDef → Flow → Left
 left_by unit (Flow.On now) = record { outputs = outputs_in unit now; result = None }
 left_by unit (Flow.Back now result) = record { outputs = outputs_in unit now; result = result }
 
--- the arguments stand in the parameters, and the other variables begin at zero
+-- the variables of a function as it begins: the arguments in its parameters, and zeros in the others
 abbrev pub frame_of : List StructDef → UnitDef → List Value → List Value
 frame_of structs unit arguments = arguments ++ map (λ var. zero_of structs var.ty) (locals_of unit)
 
@@ -202,7 +199,7 @@ abbrev pub callee_of : List StructDef → List Callee → UnitDef → Callee
 callee_of structs callees unit arguments =
     option_map (left_by unit) (in_order (map (does (scope_among structs callees unit)) unit.body) (frame_of structs unit arguments))
 
--- the functions once these units have joined them, each of which sees those before it
+-- the functions with the units appended, each of which sees those before it
 abbrev pub callees_after : List StructDef → List Callee → List UnitDef → List Callee
 callees_after structs callees [] = callees
 callees_after structs callees (unit ∷ rest) = callees_after structs (callees ++ callee_of structs callees unit ∷ []) rest

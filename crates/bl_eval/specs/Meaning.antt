@@ -43,8 +43,7 @@ pub record View : Type 0 where
   pub now : List Value
   pub before : List Value
 
--- a function: what it leaves when it is called with the values of its inputs and those that its outputs have at the
--- call; none where it traps
+-- the meaning of a function: from the values of inputs and outputs at the call to what it leaves, none where it traps
 abbrev pub Callee : Type 0
 Callee = List Value → Option Left
 
@@ -58,8 +57,7 @@ pub record Scope : Type 0 where
 abbrev pub Meaning : Type 0
 Meaning = View → Option Datum
 
--- a path: its variable, the type of what it names, and the positions that lead into the variable; none where an index
--- traps or is below 0
+-- the meaning of a path: its variable, its type, and its positions, none where an index traps or is negative
 pub record PathMeaning : Type 0 where
   pub root : ℕ
   pub ty : Ty
@@ -93,11 +91,11 @@ datum_of None value = Whole value
 abbrev pub operand : Meaning → View → Option Operand
 operand e view = option_and_then operand_in (e view)
 
--- an operator at numbers of a type that it takes: what it gives, none where it traps
+-- the result of a unary operator at numbers of a type that it takes, none where it traps
 abbrev pub applied_one : Op → Operand → Option ℤ
 applied_one op a = if takes_one op a.ty && in_range a.ty a.n then checked_one_of op a.ty a.n else None
 
--- the same of an operator with two operands, where the right one is this number
+-- the result of a binary operator at numbers of a type that it takes, none where it traps
 abbrev pub applied_two : Op → Operand → ℤ → Option ℤ
 applied_two op a n = if takes_two op a.ty && (in_range a.ty a.n && in_range a.ty n) then checked_of op a.ty a.n n else None
 
@@ -111,7 +109,7 @@ decides _ a = false
 abbrev pub one_datum : Op → Operand → Option Datum
 one_datum op a = option_map (OfScalar (type_of_result op a.ty)) (applied_one op a)
 
--- the same of an operator with two operands
+-- the result of a binary operator for two operands, with its type; none where it traps
 abbrev pub two_data : Op → Operand → Operand → Option Datum
 two_data op a b = option_map (OfScalar (type_of_result op a.ty)) (applied_two op a b.n)
 
@@ -119,7 +117,7 @@ two_data op a b = option_map (OfScalar (type_of_result op a.ty)) (applied_two op
 abbrev pub two_datum : Op → Option Operand → Operand → Option Datum
 two_datum op b a = if decides op a.n then Some (OfScalar a.ty a.n) else option_and_then (two_data op a) b
 
--- the same number, where the target has it
+-- the number cast to the target type, none where it is out of range
 abbrev pub cast_datum : ScalarType → Operand → Option Datum
 cast_datum target a = if in_range target a.n then Some (OfScalar target a.n) else None
 
@@ -149,7 +147,7 @@ positions_of (part ∷ rest) view = option_and_then (λ k. option_map (λ ks. k 
 abbrev pub read_at : ℕ → List Value → List ℕ → Option Value
 read_at root now positions = option_and_then (value_at positions) (slice_get now root)
 
--- what the path names
+-- the meaning of a path as an expression: the value that it leads to
 abbrev pub reading : PathMeaning → Meaning
 reading path view = option_map (datum_of (scalar_in path.ty)) (option_and_then (read_at path.root view.now) (path.positions view))
 

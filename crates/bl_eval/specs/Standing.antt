@@ -59,7 +59,7 @@ abbrev pub left_values : Did → Values → Option (List Value)
 left_values Done now = Some now.list
 left_values Did.Trap now = None
 
--- both lists have one value for each variable of the unit, of its type
+-- both lists of a view have one well-typed value for each variable of the unit
 pub record ViewFits (site : TypingContext) (view : View) : Type 0 where
   pub now : IsTrue (values_fit site.structs site.vars view.now)
   pub before : IsTrue (values_fit site.structs site.vars view.before)
@@ -71,7 +71,7 @@ pub record ExprStandsInUnit (structs : List StructDef) (units : List UnitDef) (k
   pub typed : IsTrue (is_some (type_of (site_of structs (take k units) unit) e))
   pub fitting : ViewFits (site_of structs (take k units) unit) view
 
--- the same of a statement
+-- the statement fits the unit at the position, and so does the view
 pub record ActStandsInUnit (structs : List StructDef) (units : List UnitDef) (k : ℕ) (view : View) (s : Stmt) : Type 0 where
   pub unit : UnitDef
   pub is_there : slice_get units k ≡ Some unit

@@ -155,7 +155,7 @@ abbrev pub value_at : List ℕ → Value → Option Value
 value_at [] value = Some value
 value_at (k ∷ rest) value = option_and_then (value_at rest) (part_of k value)
 
--- the same value but for the new one at the positions; none where one of them is outside
+-- the value with the part at the positions replaced, none where a position is out of range
 abbrev pub with_value_at : List ℕ → Value → Value → Option Value
 with_value_at [] new value = Some new
 with_value_at (k ∷ rest) new value =

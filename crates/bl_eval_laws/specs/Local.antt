@@ -17,19 +17,19 @@ use Rattle.bl_eval.specs.Values.{value_at}
 abbrev pub at_path : List Value → Static → Option Value
 at_path now path = option_and_then (value_at path.fields) (slice_get now path.root)
 
--- both have the same value at each of these paths
+-- two lists of values are equal at each of these static paths
 abbrev pub Alike : List Static → List Value → List Value → Type 0
 Alike [] xs ys = ⊤
 Alike (path ∷ rest) xs ys = (at_path xs path ≡ at_path ys path) × Alike rest xs ys
 
--- both lists are missing, or they are alike at these paths
+-- two optional lists of values are both missing, or both present and equal at these static paths
 abbrev pub LeftAlike : List Static → Option (List Value) → Option (List Value) → Type 0
 LeftAlike paths None None = ⊤
 LeftAlike paths (Some xs) (Some ys) = Alike paths xs ys
 LeftAlike paths None (Some ys) = ⊥
 LeftAlike paths (Some xs) None = ⊥
 
--- both have the same values of these variables
+-- two lists of values are equal at these variables
 abbrev pub SameAt : List ℕ → List Value → List Value → Type 0
 SameAt [] xs ys = ⊤
 SameAt (k ∷ rest) xs ys = (slice_get xs k ≡ slice_get ys k) × SameAt rest xs ys
@@ -38,13 +38,13 @@ SameAt (k ∷ rest) xs ys = (slice_get xs k ≡ slice_get ys k) × SameAt rest x
 abbrev pub seen : List Value → List Value → View
 seen now before = record { now = now; before = before }
 
--- an expression has the same value, or traps alike, where what it mentions is alike and what it names was the same before
+-- the value of an expression depends only on the paths that it mentions and the former values of variables it names
 abbrev pub ValuesAreLocal : Type 0
 ValuesAreLocal =
     (scope : Scope) (e : Expr) (xs ys before before' : List Value) → Alike (mentions e) xs ys → SameAt (roots_in e) before before' →
     value_in scope e (seen xs before) ≡ value_in scope e (seen ys before')
 
--- a path leads to the same positions where what its indices mention is alike, and there is the same where it is too
+-- the positions of a path depend only on what its indices mention, and the value there on what the path mentions
 pub record PathsAreLocal : Type 0 where
   pub leads : (scope : Scope) (path : Path) (xs ys before before' : List Value) → Alike (index_mentions path) xs ys →
       SameAt (roots_in_path path) before before' →
@@ -57,8 +57,7 @@ pub record PathsAreLocal : Type 0 where
 abbrev pub named_by : Stmt → List ℕ
 named_by s = (naming_of s).named
 
--- an act looks at nothing but what its statement reads and writes, and at what its variables were before: where these are alike
--- it traps in both cases or in neither, and leaves alike what it writes
+-- an act depends only on what its statement reads and writes, and on former values of the variables it names
 abbrev pub ActsAreLocal : Type 0
 ActsAreLocal =
     (scope : Scope) (s : Stmt) (xs ys before before' : List Value) → Alike (reads s ++ writes s) xs ys → SameAt (named_by s) before before' →

@@ -106,7 +106,7 @@ mutual
         → values_of (map (meaning_of (scope_at structs home)) inputs) view ≡ Some values → CallTraps structs home f values
         → ExprTraps structs home view e
 
-  -- one of the expressions traps
+  -- an expression of a list traps
   pub data SomeTraps (structs : List StructDef) : Home → View → List Expr → Type 0 where
     here : {home : Home} {view : View} {e : Expr} {es : List Expr} → ExprTraps structs home view e → SomeTraps structs home view (e ∷ es)
     there : {home : Home} {view : View} {e : Expr} {es : List Expr} → SomeTraps structs home view es → SomeTraps structs home view (e ∷ es)
@@ -132,7 +132,7 @@ mutual
     in_body : {home : Home} {f : ℕ} {callee : UnitDef} {values : List Value} → slice_get home.earlier f ≡ Some callee
         → BlockTraps structs (home_of home f callee) callee.body (frame_of structs callee values) → CallTraps structs home f values
 
-  -- the statements, done in order from these values of the variables, come to one that traps
+  -- a block of statements, executed from the given values of the variables, traps
   pub data BlockTraps (structs : List StructDef) : Home → List Stmt → List Value → Type 0 where
     first : {home : Home} {s : Stmt} {rest : List Stmt} {now : List Value} → StmtTraps structs home s now → BlockTraps structs home (s ∷ rest) now
     later : {home : Home} {s : Stmt} {rest : List Stmt} {now new : List Value} → does (scope_at structs home) s now ≡ Some (Flow.On new)
@@ -154,7 +154,7 @@ mutual
         says s ≡ StmtKind-F.Call f inputs outputs
         → arguments_at structs home view inputs outputs ≡ Some values → CallTraps structs home f values → ActTraps structs home view s
 
-  -- one of the paths traps
+  -- a path of a list traps
   pub data SomePathTraps (structs : List StructDef) : Home → View → List Path → Type 0 where
     here_path : {home : Home} {view : View} {path : Path} {paths : List Path} → PathTraps structs home view path →
         SomePathTraps structs home view (path ∷ paths)
@@ -187,8 +187,7 @@ mutual
         truth (scope_at structs home) (out-Arm arm).test now ≡ Some false
         → ArmsTrap structs home arms others now → ArmsTrap structs home (arm ∷ arms) others now
 
-  -- a loop of which so many turns may still begin traps: it goes on while the first condition is true, where there is one,
-  -- and ends after a turn where the last one is
+  -- a loop with a number of turns left traps, where it may have a condition before and one after each turn
   pub data LoopTraps (structs : List StructDef) : Home → Option Expr → List Stmt → Option Expr → ℕ → List Value → Type 0 where
     -- a turn more would begin
     spent : {home : Home} {goes ends : Option Expr} {body : List Stmt} {now : List Value} → condition (scope_at structs home) goes true now ≡ Some true

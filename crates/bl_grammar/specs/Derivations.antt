@@ -9,11 +9,11 @@ next_of [] = None
 next_of (token ∷ tokens) = Some token
 
 module _ {K P T : Type 0}
-    -- before this next token (or the end), the part may stand for these symbols
+    -- the part may stand for these symbols before this next token (or the end)
     (Produces : P → Option T → List (Symbol K P) → Type 0)
     -- the token is of the class
     (matches : K → T → Bool) where
-  -- the symbols, one after the other, stand for the tokens up to these that are left
+  -- the symbols derive the tokens up to those that are left
   pub data Derives : List (Symbol K P) → List T → List T → Type 0 where
     done : {left : List T} → Derives [] left left
     terminal : {class : K} {token : T} {symbols : List (Symbol K P)} {tokens left : List T}

@@ -34,7 +34,7 @@ pub record Tables (K P T : Type 0) : Type 0 where
   pub avoids : P → T → Bool
   -- the production that the next token decides on
   pub pick : P → T → Option (List (Symbol K P))
-  -- how many productions can be begun in turn before a token is read; less than `limit`, if the part isn't absent
+  -- the number of productions that can begin in turn before a token is read, below `limit` unless the part is absent
   pub rank : P → ℕ
   pub limit : ℕ
   -- a production that leads to an end, since its parts have less height, and tokens that such productions use
@@ -82,7 +82,7 @@ module _ {K P T : Type 0}
   IsForced A token (Terminal class ∷ rest) = matches class token ≡ true → tables.pick A token ≡ Some (Terminal class ∷ rest)
   IsForced A token (Nonterminal B ∷ rest) = tables.begins B token ≡ true → tables.pick A token ≡ Some (Nonterminal B ∷ rest)
 
-  -- after the production a token is read, or a part of less rank stands first, or the part is gone
+  -- a production begins with a token or with a part of less rank, or it is empty and its part absent
   abbrev pub Descends : P → List (Symbol K P) → Type 0
   Descends A [] = tables.absent A ≡ true
   Descends A (Terminal class ∷ rest) = ⊤
@@ -126,7 +126,7 @@ module _ {K P T : Type 0}
   Good (Terminal class ∷ symbols) = Good symbols
   Good (Nonterminal A ∷ symbols) = ((token : T) → Leads symbols (Some token) None → tables.avoids A token ≡ false) × Good symbols
 
-  -- how far the symbols are from the next token that is read
+  -- a bound on the expansions of a stack before its next token is read
   abbrev pub level : List (Symbol K P) → ℕ
   level [] = 0
   level (Terminal class ∷ symbols) = 0

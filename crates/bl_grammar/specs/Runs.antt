@@ -13,19 +13,19 @@ module _ {K P T : Type 0}
   abbrev pub Spells : List (Symbol K P) → List T → Type 0
   Spells symbols tokens = Derives Produces matches symbols tokens []
 
-  -- after these tokens the stack stands for just what completes a text of the part
+  -- the stack derives exactly the token lists that complete a text of the part after these tokens
   pub record StackCompletes (A : P) (front : List T) (stack : List (Symbol K P)) : Type 0 where
     pub good : Good Produces matches tables stack
     pub there : (more : List T) → Spells (Nonterminal A ∷ []) (front ++ more) → Spells stack more
     pub back : (more : List T) → Spells stack more → Spells (Nonterminal A ∷ []) (front ++ more)
 
-  -- before this token both stacks stand for the same
+  -- two stacks derive the same token lists that begin with this token
   pub record StackExpands (token : T) (stack opened : List (Symbol K P)) : Type 0 where
     pub good : Good Produces matches tables opened
     pub there : (more : List T) → Spells stack (token ∷ more) → Spells opened (token ∷ more)
     pub back : (more : List T) → Spells opened (token ∷ more) → Spells stack (token ∷ more)
 
-  -- the other stack stands for what the one stands for after this token
+  -- the second stack derives exactly what the first derives after this token
   pub record StackTakes (token : T) (stack rest : List (Symbol K P)) : Type 0 where
     pub good : Good Produces matches tables rest
     pub there : (more : List T) → Spells stack (token ∷ more) → Spells rest more

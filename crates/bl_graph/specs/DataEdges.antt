@@ -23,7 +23,7 @@ use Rattle.bl_graph_nodes.specs.Plain.{
 }
 use Rattle.bl_graph.specs.Edges.{In, InEach}
 
--- one node is of the one kind and the other of the other
+-- of two nodes one is of the first kind and the other of the second
 abbrev pub Across : (Node → Type 0) → (Node → Type 0) → Node → Node → Type 0
 Across F G n m = (F n × G m) ⊎ (G n × F m)
 
@@ -41,12 +41,12 @@ abbrev mutual
   Beside (While l at e body) n m = BesideAll body n m
   Beside (Again l at body e) n m = BesideAll body n m
 
-  -- the same in a block
+  -- two nodes in a block stand in different branches of one `cobegin`, both in their surfaces or both in their depths
   pub BesideAll : Block → Node → Node → Type 0
   BesideAll Done n m = ⊥
   BesideAll (Then s rest) n m = Beside s n m ⊎ BesideAll rest n m
 
-  -- in one of these branches, or in two of them
+  -- two nodes stand beside each other in one branch, or in two of the branches, both in surfaces or both in depths
   pub BesideEach : Bodies → Node → Node → Type 0
   BesideEach Last n m = ⊥
   BesideEach (Body weak body rest) n m = BesideAll body n m

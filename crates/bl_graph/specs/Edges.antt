@@ -103,19 +103,19 @@ abbrev mutual
   Resume (While l at e body) n = ResumeAll body n
   Resume (Again l at body e) n = ResumeAll body n
 
-  -- those of a block
+  -- the resume nodes of a block
   pub ResumeAll : Block → Node → Type 0
   ResumeAll Done n = ⊥
   ResumeAll (Then s rest) n = Resume s n ⊎ ResumeAll rest n
 
-  -- those of branches
+  -- the resume nodes of branches
   pub ResumeEach : Bodies → Node → Type 0
   ResumeEach Last n = ⊥
   ResumeEach (Body weak body rest) n = ResumeAll body n ⊎ ResumeEach rest n
 
 -- ---- edges
 
--- a node of a part of a branch has an edge to the join: each of a weak branch, and of a strong one where the branch ends
+-- a node of a branch has an edge to the join: any node of a weak branch, an end of a strong one
 abbrev pub Joins : Bool → (Node → Type 0) → (Node → Type 0) → Node → Type 0
 Joins weak Part Ends n = Part n × ((weak ≡ true) ⊎ Ends n)
 
@@ -151,8 +151,7 @@ abbrev mutual
   EdgeAll Done n m = ⊥
   EdgeAll (Then s rest) n m = Edge s n m ⊎ EdgeAll rest n m ⊎ (Out s n × Entry rest m)
 
-  -- the edges in the branches of a `cobegin`, from its fork to them and from them to its joins; of an instant one there is a
-  -- surface join
+  -- the edges in the branches of a `cobegin`, from its fork and to its joins; an instant one has a surface join
   pub EdgeEach : Bodies → Label → Place → Bool → Node → Node → Type 0
   EdgeEach Last l at instant n m = ⊥
   EdgeEach (Body weak body rest) l at instant n m = EdgeAll body n m
@@ -163,12 +162,12 @@ abbrev mutual
 
 -- ---- surface and depth
 
--- the surface of a branch is what may act in it in the tick in which it begins, its depth what may act in a later one
+-- the surface of a branch has the nodes of its first tick, its depth those of later ticks
 abbrev pub In : Bool → Block → Node → Type 0
 In false body = Reached (Entry body) (EdgeAll body)
 In true body = Reached (ResumeAll body) (EdgeAll body)
 
--- the same of one of these branches
+-- a node stands in the surface, or in the depth, of one of the branches
 abbrev pub InEach : Bool → Bodies → Node → Type 0
 InEach deep Last n = ⊥
 InEach deep (Body weak body rest) n = In deep body n ⊎ InEach deep rest n

@@ -23,7 +23,7 @@ pub record EdgeBetween (nodes : List Node) (E : Node → Node → Type 0) (i j :
   pub is_second : slice_get nodes j ≡ Some second
   pub edge : E first second
 
--- these are the nodes of the body in order, and between them its control edges and its data edges and no others
+-- the nodes and edges of the tick graph of a body: its nodes in order, its control edges and its data edges
 pub record IsTickGraph (body : Block) (nodes : List GraphNode) (edges : List GraphEdge) : Type 0 where
   pub in_order : nodes ≡ map graph_node (nodes_in body)
   pub control : (i j : ℕ) → Contains edges (edge_between i j false) ↔ EdgeBetween (nodes_in body) (EdgeAll body) i j

@@ -27,7 +27,7 @@ pub record WayThrough (s : Plain) : Type 0 where
   pub walk : Walk (Edge s) (entry s) end
   pub leads_on : Out s end
 
--- the same of a block in which something stands
+-- a walk in a non-empty block leads from its entry to a node that leads on
 pub record WayThroughAll (body : Block) : Type 0 where
   pub end : Node
   pub is_reached : In false body end
@@ -60,7 +60,7 @@ abbrev pub BranchesPart : Type 0
 BranchesPart = (body : List Stmt) (at : Position) (n m : Node) → BesideAll (plain_block body at) n m → (label_of n).position ≡ (label_of m).position →
     ⊥
 
--- each node of a block is marked as reached exactly where it is
+-- each node of a block is marked as reached iff it is
 pub record MarksTellIn (body : Block) : Type 0 where
   pub in_order : map (λ m. m.node) (part_in body).nodes ≡ nodes_in body
   pub surface : (m : Marked) → Contains (part_in body).nodes m → (m.mark.surface ≡ true) ↔ In false body m.node
@@ -75,7 +75,7 @@ abbrev pub EdgesAreListed : Type 0
 EdgesAreListed = (body : List Stmt) (at : Position) (n m : Node) →
     Contains (edges_in (plain_block body at)) (pair n m) ↔ EdgeAll (plain_block body at) n m
 
--- and the listed flows are its data edges
+-- the listed flows of a body are its data edges
 abbrev pub FlowsAreListed : Type 0
 FlowsAreListed = (body : List Stmt) (at : Position) (n m : Node) →
     Contains (flows_in (plain_block body at)) (pair n m) ↔ DataEdge (plain_block body at) n m

@@ -55,27 +55,27 @@ pub record Pair : Type 0 where
 abbrev pub pair : Node → Node → Pair
 pair from to = record { from = from; to = to }
 
--- from a node to each of these
+-- the edges from a node to each node of a list
 abbrev pub from_to : Node → List Node → List Pair
 from_to from [] = []
 from_to from (to ∷ rest) = pair from to ∷ from_to from rest
 
--- from each of these to a node
+-- the edges from each node of a list to a node
 abbrev pub each_to : List Marked → Node → List Pair
 each_to [] to = []
 each_to (m ∷ rest) to = pair m.node to ∷ each_to rest to
 
--- from each of these to each of those
+-- the edges from each node of the first list to each of the second
 abbrev pub each_to_all : List Marked → List Node → List Pair
 each_to_all ms [] = []
 each_to_all ms (to ∷ rest) = each_to ms to ++ each_to_all ms rest
 
--- from each of these that is in the surface to a node
+-- the edges to a node from each node of a list that is in the surface
 abbrev pub surface_to : List Marked → Node → List Pair
 surface_to [] to = []
 surface_to (m ∷ rest) to = (if m.mark.surface then pair m.node to ∷ [] else []) ++ surface_to rest to
 
--- from each of these that is in the depth to a node
+-- the edges to a node from each node of a list that is in the depth
 abbrev pub depth_to : List Marked → Node → List Pair
 depth_to [] to = []
 depth_to (m ∷ rest) to = (if m.mark.depth then pair m.node to ∷ [] else []) ++ depth_to rest to
@@ -99,12 +99,12 @@ abbrev mutual
   resumes_of (While l at e body) = resumes_in body
   resumes_of (Again l at body e) = resumes_in body
 
-  -- those of a block
+  -- the resume nodes of a block, as a list
   pub resumes_in : Block → List Node
   resumes_in Done = []
   resumes_in (Then s rest) = resumes_of s ++ resumes_in rest
 
-  -- those of branches
+  -- the resume nodes of branches, as a list
   pub resumes_in_each : Bodies → List Node
   resumes_in_each Last = []
   resumes_in_each (Body weak body rest) = resumes_in body ++ resumes_in_each rest
@@ -144,12 +144,12 @@ abbrev mutual
   edges_of (While l at e body) = edges_in body ++ turn_of body (TestAt l at e) (TestAt l at e)
   edges_of (Again l at body e) = edges_in body ++ (turn_of body (HeadAt l at) (TestAt l at e) ++ pair (TestAt l at e) (HeadAt l at) ∷ [])
 
-  -- those in a block, and from each statement to the next
+  -- the edges in the statements of a block, and from each statement to the next
   pub edges_in : Block → List Pair
   edges_in Done = []
   edges_in (Then s rest) = edges_of s ++ (edges_in rest ++ each_to_all (part_of s).outs (entry_of rest []))
 
-  -- those in branches, from their fork and to their joins
+  -- the edges in branches, from their fork and to their joins
   pub edges_in_each : Bodies → Label → Place → Bool → List Pair
   edges_in_each Last l at instant = []
   edges_in_each (Body weak body rest) l at instant = edges_in body
@@ -163,7 +163,7 @@ abbrev mutual
 abbrev pub together : Mark → Mark → Bool
 together a b = (a.surface && b.surface) || (a.depth && b.depth)
 
--- from the first to the second, where it writes what the second reads
+-- the data edge from the first node to the second, where the first writes what the second reads
 abbrev pub touching : Node → Node → List Pair
 touching from to = if meets (node_writes from) (node_reads to) then pair from to ∷ [] else []
 
@@ -172,7 +172,7 @@ abbrev pub between : Marked → List Marked → List Pair
 between a [] = []
 between a (b ∷ rest) = (if together a.mark b.mark then touching a.node b.node ++ touching b.node a.node else []) ++ between a rest
 
--- between the nodes of a branch and those of others
+-- the data edges between the nodes of a branch and those of other branches
 abbrev pub across : List Marked → List Marked → List Pair
 across [] others = []
 across (a ∷ rest) others = between a others ++ across rest others
@@ -191,12 +191,12 @@ abbrev mutual
   flows_of (While l at e body) = flows_in body
   flows_of (Again l at body e) = flows_in body
 
-  -- those in a block
+  -- the data edges in a block
   pub flows_in : Block → List Pair
   flows_in Done = []
   flows_in (Then s rest) = flows_of s ++ flows_in rest
 
-  -- those in branches and between them
+  -- the data edges in branches and between them
   pub flows_in_each : Bodies → List Pair
   flows_in_each Last = []
   flows_in_each (Body weak body rest) = flows_in body ++ (across (part_in body).nodes (parts_of rest).nodes ++ flows_in_each rest)

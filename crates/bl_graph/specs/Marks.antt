@@ -44,19 +44,19 @@ use Rattle.bl_graph_nodes.specs.Plain.{
 -- a mark tells whether a node is reached from where a part begins, and whether from where it goes on in a later tick
 pub use Rattle.bl_graph.specs.declared.flow.Mark.{Mark}
 
--- reached from where the part begins alone, from where it goes on later alone, and not at all
+-- the mark of a node that is reached only from where the part begins
 abbrev pub entered : Mark
 entered = record { surface = true; depth = false }
 
--- reached from where the part goes on in a later tick alone
+-- the mark of a node that is reached only from where the part goes on in a later tick
 abbrev pub resumed : Mark
 resumed = record { surface = false; depth = true }
 
--- reached by neither
+-- the mark of a node that isn't reached
 abbrev pub unreached : Mark
 unreached = record { surface = false; depth = false }
 
--- reached by the one or by the other
+-- the ways in which a node is reached by either of two marks
 abbrev pub either : Mark → Mark → Mark
 either a b = record { surface = a.surface || b.surface; depth = a.depth || b.depth }
 
@@ -84,12 +84,12 @@ abbrev pub moved : Mark → List Marked → List Marked
 moved entry [] = []
 moved entry (m ∷ rest) = record { node = m.node; mark = inner entry m.mark } ∷ moved entry rest
 
--- how some of these are reached
+-- the ways in which some node of a list is reached
 abbrev pub some_of : List Marked → Mark
 some_of [] = unreached
 some_of (m ∷ rest) = either m.mark (some_of rest)
 
--- how some of these leave their branch
+-- the ways in which some node of a list leaves its branch
 abbrev pub leaves : List Marked → Mark
 leaves [] = unreached
 leaves (m ∷ rest) = either (leaving m.mark) (leaves rest)
@@ -115,7 +115,7 @@ abbrev pub begun_by : Guard → Mark
 begun_by Abort = entered
 begun_by Reset = record { surface = true; depth = true }
 
--- whether it is a reset
+-- whether a guard is a reset
 abbrev pub resets : Guard → Bool
 resets Abort = false
 resets Reset = true
@@ -141,7 +141,7 @@ abbrev pub join_mark : Mark → Mark
 join_mark left = record { surface = true; depth = left.surface }
 
 abbrev mutual
-  -- of a statement: its nodes with their marks in it
+  -- the nodes of a statement with their marks in it, and those that lead on
   pub part_of : Plain → GraphPart
   part_of (Act l s) = record { nodes = marked entered (ActAt l s) ∷ []; outs = marked entered (ActAt l s) ∷ [] }
   part_of (Await l at e) = record {
@@ -188,7 +188,7 @@ abbrev mutual
     outs = marked (again_by (some_of (part_in body).outs)) (TestAt l at e) ∷ [];
   }
 
-  -- of a block: what follows a statement is reached as some node is that leads on from it
+  -- the marked nodes of a block: what follows a statement is reached as some node that leads on from it
   pub part_in : Block → GraphPart
   part_in Done = record { nodes = []; outs = [] }
   part_in (Then s rest) = record {
@@ -196,7 +196,7 @@ abbrev mutual
     outs = if is_empty rest then (part_of s).outs else moved (some_of (part_of s).outs) (part_in rest).outs;
   }
 
-  -- of branches: each node has its mark in its own branch. A weak branch may be left at any node
+  -- the nodes of branches, each marked in its own branch; a weak branch may be left at any node
   pub parts_of : Bodies → BranchParts
   parts_of Last = record { nodes = []; left = unreached }
   parts_of (Body weak body rest) = record {

@@ -2,7 +2,7 @@
 use Rattle.std.specs.Prelude.{ℕ, ◌<◌}
 use Rattle.bl_graph_nodes.specs.Nodes.{Node}
 
--- one edge after another leads from the first node to the second; none leads from a node to itself
+-- a walk of zero or more edges from the first node to the second
 pub data Walk (E : Node → Node → Type 0) : Node → Node → Type 0 where
   stay : (n : Node) → Walk E n n
   on : (n by m : Node) → E n by → Walk E by m → Walk E n m
@@ -13,7 +13,7 @@ pub record After (E : Node → Node → Type 0) (n m : Node) : Type 0 where
   pub edge : E n by
   pub rest : Walk E by m
 
--- what is reached from nodes of F, these nodes too
+-- a node is reached by a walk from a node of F, possibly without edges
 pub record Reached (F : Node → Type 0) (E : Node → Node → Type 0) (m : Node) : Type 0 where
   pub from : Node
   pub begins : F from

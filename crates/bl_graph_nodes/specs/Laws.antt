@@ -77,11 +77,11 @@ pub record PlainStatements : Type 0 where
 abbrev pub InstantIsKept : Type 0
 InstantIsKept = (s : Stmt) (at : Position) → is_instant (plain s at) ≡ instant s
 
--- and a block where the block may
+-- a plain block may end in the tick in which it begins iff its block may
 abbrev pub BlocksAreInstant : Type 0
 BlocksAreInstant = (body : List Stmt) (at : Position) → are_instant (plain_block body at) ≡ is_instant_block body
 
--- each statement is that of its place and its kind's parts, so what is said of these is said of it
+-- each statement is determined by its place and the parts of its kind
 abbrev pub MadeOfParts : Type 0
 MadeOfParts = (s : Stmt) → stmt (out-Stmt s).place (out-StmtKind (out-Stmt s).what) ≡ s
 
@@ -90,12 +90,12 @@ pub record Begins (front position : Position) : Type 0 where
   pub rest : List ℕ
   pub is : position ≡ front ++ rest
 
--- the label of each of these nodes has a position that begins with this one
+-- the labels of the nodes have positions that begin with the given one
 abbrev pub Below : Position → List Node → Type 0
 Below at [] = ⊤
 Below at (n ∷ nodes) = Begins at (label_of n).position × Below at nodes
 
--- the nodes of a statement at a position are labelled below it, and so are those of a block
+-- the nodes of a statement or block at a position are labelled below that position
 pub record LabelsAreBelow : Type 0 where
   pub statements : (s : Stmt) (at : Position) → Below at (nodes_of (plain s at))
   pub blocks : (body : List Stmt) (at : Position) → Below at (nodes_in (plain_block body at))

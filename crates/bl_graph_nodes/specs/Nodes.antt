@@ -47,7 +47,7 @@ pub data Node : Type 0 where
   EnterAt : Label → Place → Arguments → Node
   ResumeAt : Label → Place → Arguments → Node
   HeadAt : Label → Place → Node
-  -- a `when`: where it begins, its condition in a later tick, and its ends in the tick in which it began and in a later one
+  -- the nodes of a `when`: its begin, its check in a later tick, and its ends in the first and in a later tick
   StartAt : Label → Place → Node
   CheckAt : Label → Place → Expr → Node
   SurfaceEndAt : Label → Place → Node
@@ -91,7 +91,7 @@ place_of_node (ForkAt l at) = at
 place_of_node (SurfaceJoinAt l at) = at
 place_of_node (DepthJoinAt l at) = at
 
--- what kind of node it is
+-- the kind of a node
 abbrev pub kind_of_node : Node → NodeKind
 kind_of_node (ActAt l s) = kind.Act
 kind_of_node (TestAt l at e) = kind.Test
@@ -107,8 +107,7 @@ kind_of_node (ForkAt l at) = kind.Fork
 kind_of_node (SurfaceJoinAt l at) = kind.SurfaceJoin
 kind_of_node (DepthJoinAt l at) = kind.DepthJoin
 
--- what a node reads: an act what its statement does, a test and a check their condition, both nodes of a `run` its inputs and
--- outputs, and where it goes on or ends the indices of its target too
+-- the static paths that a node reads, such as those of its condition, and of a `run`'s inputs, outputs and, at its end, target indices
 abbrev pub node_reads : Node → List Static
 node_reads (ActAt l s) = reads s
 node_reads (TestAt l at e) = set_of (mentions e)
@@ -172,7 +171,7 @@ abbrev mutual
   strong_instant Last = true
   strong_instant (Body weak body rest) = (weak || are_instant body) && strong_instant rest
 
-  -- whether some branch may
+  -- whether some branch may end in the tick in which it begins
   pub some_instant : Bodies → Bool
   some_instant Last = false
   some_instant (Body weak body rest) = are_instant body || some_instant rest
@@ -182,8 +181,7 @@ abbrev pub where_so : Bool → Node → List Node
 where_so test node = if test then node ∷ [] else []
 
 abbrev mutual
-  -- the nodes of a statement and of all that stands in it. What begins and ends in one tick alone has a surface end or join; the
-  -- test after a turn goes on with its loop and has the nodes of it
+  -- the nodes of a statement and of all that stands in it; a surface end or join exists only where it may end at once
   pub nodes_of : Plain → List Node
   nodes_of (Act l s) = ActAt l s ∷ []
   nodes_of (Await l at e) = PauseAt l at ∷ TestAt l at e ∷ []

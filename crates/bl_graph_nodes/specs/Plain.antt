@@ -26,14 +26,14 @@ abbrev pub label_at : Position → Label
 label_at position = record { position = position; passed = 0 }
 
 mutual
-  -- each has its label, and the place of its statement; an `elseif` stands in the `else` part and has the place of its condition
+  -- A plain statement with its label and place. An `elseif` stands in the `else` part, at the place of its condition.
   pub data Plain : Type 0 where
     -- an assignment, a declaration, a call or a `return`, as it is written
     Act : Label → Stmt → Plain
     Await : Label → Place → Expr → Plain
     -- the target, the activity, its inputs and its outputs
     Run : Label → Place → Option Path → ℕ → List Expr → List Path → Plain
-    -- one condition, what is done where it is true, and what else
+    -- an `if` with one condition, its block, and the block executed otherwise
     If : Label → Place → Expr → Block → Block → Plain
     Cobegin : Label → Place → Bodies → Plain
     When : Label → Place → Guard → Expr → Block → Plain

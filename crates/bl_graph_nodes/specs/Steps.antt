@@ -25,7 +25,7 @@ abbrev pub end_node : Bool → Label → Place → Node
 end_node true l at = DepthEndAt l at
 end_node false l at = SurfaceEndAt l at
 
--- a `run`: where its inputs are taken, where it ends, and around all that is done in it
+-- the node of a `run`: its resume node where it stood when the tick began, else its entry node
 abbrev pub run_node : Bool → Label → Place → Arguments → Node
 run_node true l at arguments = ResumeAt l at arguments
 run_node false l at arguments = EnterAt l at arguments
@@ -41,13 +41,13 @@ pub data StepLabel : Type 0 where
   -- a step of the activity with this number, which is called by the `run` with this node
   Inside : Node → ℕ → StepLabel → StepLabel
 
--- the outermost node
+-- the outermost node of a step's label
 abbrev pub head_of : StepLabel → Node
 head_of (Here n) = n
 head_of (Gives n) = n
 head_of (Inside n unit step) = n
 
--- the node that acts
+-- the node of a step's label that acts
 abbrev pub leaf_of : StepLabel → Node
 leaf_of (Here n) = n
 leaf_of (Gives n) = n

@@ -36,12 +36,12 @@ abbrev mutual
   surface_writes (While l at e body) = surface_writes_in body
   surface_writes (Again l at body e) = surface_writes_in body
 
-  -- of a block: what its first statement may and, where that may end at once, what the rest may
+  -- what a block that begins may write before it pauses
   pub surface_writes_in : Block → List Static
   surface_writes_in Done = []
   surface_writes_in (Then s rest) = surface_writes s ++ (if is_instant s then surface_writes_in rest else [])
 
-  -- of branches: what each may
+  -- what branches that begin may write before they pause
   pub surface_writes_in_each : Bodies → List Static
   surface_writes_in_each Last = []
   surface_writes_in_each (Body weak body rest) = surface_writes_in body ++ surface_writes_in_each rest

@@ -12,11 +12,11 @@ pub record IsNext (bytes : List ℕ) (n : ℕ) (room : List ℕ) (after : Option
 abbrev pub HandsOver : Option (List ℕ) → ℕ → List ℕ → Option (List ℕ) → Type 0
 HandsOver before n room after = IfSome before (λ bytes. IsNext bytes n room after)
 
--- where the bytes left are told, they are as before
+-- the bytes left stay as they are, where they are told
 abbrev pub IsKept : Option (List ℕ) → Option (List ℕ) → Type 0
 IsKept before after = IfSome before (λ bytes. after ≡ Some bytes)
 
--- what is left of each other name is as before, where it is told
+-- the bytes left of every other name stay as they are, where they are told
 abbrev pub KeepsOthers : List ℕ → (List ℕ → Option (List ℕ)) → (List ℕ → Option (List ℕ)) → Type 0
 KeepsOthers name before after = (other : List ℕ) → other ≢ name → IsKept (before other) (after other)
 
@@ -29,6 +29,6 @@ pub record IsUpTo (limit : ℕ) (bytes got : List ℕ) (after : Option (List ℕ
 abbrev pub GivesUpTo : ℕ → Option (List ℕ) → List ℕ → Option (List ℕ) → Type 0
 GivesUpTo limit before got after = IfSome before (λ bytes. IsUpTo limit bytes got after)
 
--- where the bytes left are told, they are those from some place on that is not past the limit
+-- the bytes left, where they are told, are a rest of those before, at most the limit shorter
 abbrev pub StandsFurther : ℕ → Option (List ℕ) → Option (List ℕ) → Type 0
 StandsFurther limit before after = IfSome before (λ bytes. (n : ℕ) × (n ≤ limit) × (after ≡ Some (drop n bytes)))

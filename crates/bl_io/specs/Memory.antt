@@ -24,15 +24,15 @@ abbrev pub sink_code : Coded MemorySink
 sink_code = code_by (List ℕ × FaultPlan) (coded× (coded_list coded_ℕ) plan_code) (λ s. (s.held, s.plan)) (λ p. record { held = p.0; plan = p.1 })
     (λ _. refl)
 
--- no file was added
+-- files over memory to which no file was added
 abbrev pub no_files : MemoryFiles
 no_files = record { files = map.empty; plan = no_plan }
 
--- nothing was written
+-- a sink over memory to which nothing was written
 abbrev pub nothing_held : MemorySink
 nothing_held = record { held = []; plan = no_plan }
 
--- how many bytes the next call gives, if it does not fail
+-- the number of bytes that the next call gives, none if that call fails or the file is absent
 abbrev pub gives : MemoryFiles → List ℕ → ℕ → Option ℕ
 gives m name room = if fails_next m.plan then None else option_map (handed room m.plan.most) (map.get m.files name)
 

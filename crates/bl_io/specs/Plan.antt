@@ -24,7 +24,7 @@ plan_code =
 abbrev pub no_limit : ℕ
 no_limit = 2 ^ 64 - 1
 
--- no call was made, none fails, and each moves as much as it is asked for
+-- the plan of an object before any call: no call fails, and each moves as much as it is asked for
 abbrev pub no_plan : FaultPlan
 no_plan = record { failing = set.empty; calls = 0; most = no_limit; faults = 0 }
 

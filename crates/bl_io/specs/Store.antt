@@ -17,6 +17,6 @@ left_code = map.code (coded_list coded_ℕ) (coded_list coded_ℕ)
 abbrev pub left_at : LeftByName → List ℕ → List ℕ
 left_at files name = unwrap_or (map.get files name) []
 
--- how many of the bytes left a call moves: as many as the room, the limit and the file allow
+-- the number of bytes that a call moves: the least of the room, the limit and what is left
 abbrev pub handed : ℕ → ℕ → List ℕ → ℕ
 handed room most bytes = min room (min most (length bytes))

@@ -65,8 +65,7 @@ pub record FailsLex (text : List ℕ) (place : Place) : Type 0 where
   pub covers : Covers text 0 parts place.start
   pub fault : IsFault text place
 
--- a token, where `before` are those before it, that the profile leaves out: some words and numbers, braces,
--- and a name other than `EntryPoint` directly after `@ [`
+-- a token that the profile leaves out, such as some words, a brace, or a name after `@ [` other than `EntryPoint`
 pub data IsLeftOut (text : List ℕ) (before : List LexedPiece) (part : LexedPiece) : Type 0 where
   outside : part.form ≡ Outside → IsLeftOut text before part
   open_brace : part.form ≡ Token (Sign OPEN_BRACE) → IsLeftOut text before part
@@ -95,10 +94,10 @@ Fails text rule.Lex place also = FailsLex text place × (also ≡ [])
 Fails text rule.Profile place also = FailsProfile text place × (also ≡ [])
 Fails text _ place also = ⊥
 
--- it is the first of the three that fails
+-- the rule is the first of the lexer's rules that fails, and fails first at this place
 abbrev pub FailsFirst : List ℕ → Rule → Place → List Place → Type 0
 FailsFirst text = FirstOf (Fails text)
 
--- none of the three fails
+-- none of the lexer's rules Size, Lex and Profile fails
 abbrev pub Passes : List ℕ → Type 0
 Passes text = NoneOf (Fails text)

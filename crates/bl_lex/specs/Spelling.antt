@@ -51,7 +51,7 @@ abbrev pub digits_value : ℕ → List ℕ → ℕ
 digits_value base [] = 0
 digits_value base (c ∷ cs) = digit_value c * base ^ length cs + digits_value base cs
 
--- at least one digit, and digits of the base alone
+-- one or more bytes, all of them digits of the base
 pub record IsDigits (base : ℕ) (digits : List ℕ) : Type 0 where
   pub nonempty : 0 < length digits
   pub each : All (λ c. digit_value c < base) digits

@@ -60,7 +60,7 @@ tokens_of text parts = filter_map (token_of text) parts
 abbrev pub without_between : List LexedPiece → List LexedPiece
 without_between parts = filter (λ part. not (is_between part.form)) parts
 
--- these are the tokens of the text: with white space and comments they cover it, each as long as possible
+-- the tokens of a text: with white space and comments they cover it, each as long as possible
 pub record Lexes (text : List ℕ) (tokens : List Token) : Type 0 where
   pub parts : List LexedPiece
   pub covers : Covers text 0 parts (length text)

@@ -69,10 +69,10 @@ Fails structs units entry rule.Frames at also = FailsFrames units entry at × (a
 Fails structs units entry rule.Cells at also = FailsCells structs units entry at × (also ≡ [])
 Fails structs units entry _ at also = ⊥
 
--- it is the first of the two that fails
+-- the rule is the first of Frames and Cells that fails, and fails first at this place
 abbrev pub FailsFirst : List StructDef → List UnitDef → ℕ → Rule → Place → List Place → Type 0
 FailsFirst structs units entry = FirstOf (Fails structs units entry)
 
--- neither fails
+-- neither Frames nor Cells fails
 abbrev pub Passes : List StructDef → List UnitDef → ℕ → Type 0
 Passes structs units entry = NoneOf (Fails structs units entry)

@@ -26,7 +26,7 @@ InstancesAdd =
     (units : List UnitDef) (k : ℕ) (unit : UnitDef) → UsesEarlier units → slice_get units k ≡ Some unit
     → instances_at units k ≡ 1 + total (map (instances_at units) (runs_of unit))
 
--- the cells of a unit go by those of the activities that it runs and of the functions that it calls
+-- the cells of a unit by those of the activities that it runs and of the functions that it calls
 abbrev pub CellsAdd : Type 0
 CellsAdd =
     (structs : List StructDef) (units : List UnitDef) (k : ℕ) (unit : UnitDef) → UsesEarlier units → slice_get units k ≡ Some unit
@@ -38,7 +38,7 @@ CellsAdd =
 abbrev pub NoChainIsLonger : Type 0
 NoChainIsLonger = (units : List UnitDef) (k : ℕ) (rest : List ℕ) → IsChain units (k ∷ rest) → length (k ∷ rest) ≤ chain_at units k
 
--- and one has that many
+-- some chain that begins with a unit has as many units as the number says
 abbrev pub SomeChainIsAsLong : Type 0
 SomeChainIsAsLong =
     (units : List UnitDef) (k : ℕ) → k < length units → (rest : List ℕ) × (IsChain units (k ∷ rest)) × (length (k ∷ rest) ≡ chain_at units k)

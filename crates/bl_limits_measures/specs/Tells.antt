@@ -8,7 +8,7 @@ use Rattle.bl_limits_measures.specs.Statements.{cell_statements_of}
 use Rattle.bl_limits_measures.specs.Types.{struct_nestings, struct_sizes}
 use Rattle.bl_limits_measures.specs.Units.{all_cells, all_chains, all_instances, variables_of}
 
--- the measures are those of these structs and units, each as far as 64 bits tell it
+-- the measures of these structs and units, each saturated at 64 bits
 pub record MeasuresTell (measures : Measures) (structs : List StructDef) (units : List UnitDef) : Type 0 where
   -- how many scalars each struct has
   pub sizes : measures.struct_sizes ≡ map saturated (struct_sizes structs)

@@ -11,11 +11,11 @@ use Rattle.bl_limits_measures.specs.Runs.{runs_of}
 use Rattle.bl_limits_measures.specs.Statements.{cell_statements_of}
 use Rattle.bl_limits_measures.specs.Types.{size_by, struct_sizes}
 
--- the sum of what is known of the units at these positions
+-- the sum of the known measures of the units at the positions
 abbrev pub total_at : List ℕ → List ℕ → ℕ
 total_at known positions = total (map (slice_index known) positions)
 
--- the greatest of what is known of the units at these positions
+-- the greatest of the known measures of the units at the positions
 abbrev pub greatest_at : List ℕ → List ℕ → ℕ
 greatest_at known positions = greatest (map (slice_index known) positions)
 
@@ -59,7 +59,7 @@ chain_at units k = slice_index (all_chains units) k
 
 -- ---- cells
 
--- the cells of a unit, where those are given of the activities that it runs, all together, and the greatest of the functions that it calls
+-- the cells of a unit, from the total of the activities that it runs and the greatest of the functions that it calls
 abbrev pub cells_with : UnitKind → ℕ → ℕ → ℕ → ℕ → ℕ
 cells_with Function variables statements running calling = 2 * variables + statements + 1 + calling
 cells_with Activity variables statements running calling = 4 * variables + 4 * statements + 8 + running + calling

@@ -11,7 +11,7 @@ pub record Uses (units : List UnitDef) (k j : ℕ) : Type 0 where
   pub used : Contains (calls_of unit) j ⊎ Contains (runs_of unit) j
   pub earlier : j < k
 
--- the unit at the position stands before these: it is one that uses the first of them, or the last of all
+-- the unit at the position can stand before a chain: it uses the chain's first unit, or the chain is empty
 abbrev pub Heads : List UnitDef → ℕ → List ℕ → Type 0
 Heads units k [] = k < length units
 Heads units k (j ∷ rest) = Uses units k j
@@ -26,6 +26,6 @@ pub record UsesEarlierOnly (k : ℕ) (unit : UnitDef) : Type 0 where
   pub calls : All (λ j. j < k) (calls_of unit)
   pub runs : All (λ j. j < k) (runs_of unit)
 
--- and so does each of these units
+-- each of the units calls and runs earlier ones alone
 abbrev pub UsesEarlier : List UnitDef → Type 0
 UsesEarlier units = (k : ℕ) (unit : UnitDef) → slice_get units k ≡ Some unit → UsesEarlierOnly k unit

@@ -47,7 +47,7 @@ use Rattle.bl_machine_prevs.specs.Prevs.{prevs_in, prevs_in_expr}
 abbrev pub prevs_in_inputs : List Expr → List ℕ
 prevs_in_inputs inputs = joined (map prevs_in_expr inputs)
 
--- the variables of which a node asks what they were; the outputs and the target of a `run` have no index in which they could stand
+-- the variables under a `prev` of a node; outputs and target of a `run` have no index for one
 abbrev pub prevs_at : Node → List ℕ
 prevs_at (ActAt l s) = prevs_in s
 prevs_at (TestAt l at e) = prevs_in_expr e
@@ -72,13 +72,12 @@ abbrev pub declared_by : Plain → List ℕ
 declared_by (Act l s) = declared_in s
 declared_by _ = []
 
--- whether all of these variables are among the declared ones
+-- whether the variables are all among the declared ones
 abbrev pub are_known : List ℕ → List ℕ → Bool
 are_known known ks = list_all (λ k. list_any (nat_eq k) known) ks
 
 abbrev mutual
-  -- whether a statement, where these variables are declared before it, asks what they were for none that isn't declared there: neither
-  -- before it nor, in one of its blocks, before the statement that asks
+  -- whether each variable under a `prev` in a statement is declared before it, or before its statement in one of its blocks
   pub prevs_stand : List ℕ → Plain → Bool
   prevs_stand known (Act l s) = are_known known (prevs_in s)
   prevs_stand known (Await l at e) = are_known known (prevs_in_expr e)
@@ -91,12 +90,12 @@ abbrev mutual
   prevs_stand known (While l at e body) = are_known known (prevs_in_expr e) && prevs_stand_in known body
   prevs_stand known (Again l at body e) = are_known known (prevs_in_expr e) && prevs_stand_in known body
 
-  -- the same of the statements of a block
+  -- whether each variable under a `prev` in a block is declared before its statement
   pub prevs_stand_in : List ℕ → Block → Bool
   prevs_stand_in known Done = true
   prevs_stand_in known (Then s rest) = prevs_stand known s && prevs_stand_in (declared_by s ++ known) rest
 
-  -- and of branches
+  -- whether each variable under a `prev` in branches is declared before its statement
   pub prevs_stand_in_each : List ℕ → Bodies → Bool
   prevs_stand_in_each known Last = true
   prevs_stand_in_each known (BodyOf weak body rest) = prevs_stand_in known body && prevs_stand_in_each known rest

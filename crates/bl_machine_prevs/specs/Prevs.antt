@@ -40,25 +40,25 @@ path_layer_prevs path = joined path.parts
 abbrev pub prevs_in_expr : Expr → List ℕ
 prevs_in_expr = fold-Expr (List ℕ) (List ℕ) (List ℕ) (List ℕ) kind_prevs part_prevs expr_layer_prevs path_layer_prevs
 
--- those in the index of a part, where it is one
+-- the variables under a `prev` in the index of a part, if it has one
 abbrev pub prevs_in_part : Part → List ℕ
 prevs_in_part = fold-Part (List ℕ) (List ℕ) (List ℕ) (List ℕ) kind_prevs part_prevs expr_layer_prevs path_layer_prevs
 
--- those in the indices of a path
+-- the variables under a `prev` in the indices of a path
 abbrev pub prevs_in_path : Path → List ℕ
 prevs_in_path = fold-Path (List ℕ) (List ℕ) (List ℕ) (List ℕ) kind_prevs part_prevs expr_layer_prevs path_layer_prevs
 
--- those in an expression, where there is one
+-- the variables under a `prev` in an optional expression
 abbrev pub optional_prevs : Option Expr → List ℕ
 optional_prevs (Some e) = prevs_in_expr e
 optional_prevs None = []
 
--- those in the indices of a target, where there is one
+-- the variables under a `prev` in the indices of an optional target
 abbrev pub target_prevs : Option Path → List ℕ
 target_prevs (Some path) = prevs_in_path path
 target_prevs None = []
 
--- those in the arguments of a call or a `run`
+-- the variables under a `prev` in the arguments of a call or a `run`
 abbrev pub argument_prevs : List Expr → List Path → List ℕ
 argument_prevs inputs outputs = joined (map prevs_in_expr inputs) ++ joined (map prevs_in_path outputs)
 
@@ -91,18 +91,18 @@ branch_prevs branch = joined branch.body
 abbrev pub stmt_layer_prevs : Stmt-F (List ℕ) (List ℕ) (List ℕ) (List ℕ) → List ℕ
 stmt_layer_prevs s = s.what
 
--- those in a statement: in its conditions, arguments, indices and initial values, and in its blocks
+-- the variables under a `prev` in a statement: its conditions, arguments, indices, initial values and blocks
 abbrev pub prevs_in : Stmt → List ℕ
 prevs_in = fold-Stmt (List ℕ) (List ℕ) (List ℕ) (List ℕ) stmt_kind_prevs arm_prevs branch_prevs stmt_layer_prevs
 
--- those in an arm, in its condition too
+-- the variables under a `prev` in an arm, its condition included
 abbrev pub prevs_in_arm : Arm → List ℕ
 prevs_in_arm = fold-Arm (List ℕ) (List ℕ) (List ℕ) (List ℕ) stmt_kind_prevs arm_prevs branch_prevs stmt_layer_prevs
 
--- those in a branch
+-- the variables under a `prev` in a branch
 abbrev pub prevs_in_branch : Branch → List ℕ
 prevs_in_branch = fold-Branch (List ℕ) (List ℕ) (List ℕ) (List ℕ) stmt_kind_prevs arm_prevs branch_prevs stmt_layer_prevs
 
--- those in the body of a unit
+-- the variables under a `prev` in the body of a unit
 abbrev pub prevs_of : UnitDef → List ℕ
 prevs_of unit = joined (map prevs_in unit.body)

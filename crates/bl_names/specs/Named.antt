@@ -51,19 +51,18 @@ use Rattle.bl_names.specs.Naming.{named_expr, named_path, named_target, named_ty
 use Rattle.bl_names.specs.Order.{order_of}
 use Rattle.bl_names_scopes.specs.Scopes.{Scopes, after, enter, file_scope}
 
--- a part of a program: what it does to names, what it becomes where these scopes are open, and the variables and constants
--- that it declares there
+-- the naming of a part of a program: its marks, its named form in open scopes, and the variables and constants that it declares
 pub record Piece (A : Type 0) : Type 0 where
   pub marks : Marks
   pub made : Scopes → A
   pub vars : Scopes → List NamedVar
   pub constants : Scopes → List NamedConstant
 
--- what parts do one after another
+-- the marks of several parts, one after another
 abbrev pub marks_of_all : {A : Type 0} → List (Piece A) → Marks
 marks_of_all pieces = joined (map (λ piece. piece.marks) pieces)
 
--- the parts one after another, each where those before it are over
+-- the named forms of several parts, each in the scopes that those before it leave
 abbrev pub made_of_all : {A : Type 0} → List (Piece A) → Scopes → List A
 made_of_all [] scopes = []
 made_of_all (piece ∷ rest) scopes = piece.made scopes ∷ made_of_all rest (after scopes piece.marks)
@@ -86,7 +85,7 @@ all pieces = record { marks = marks_of_all pieces; made = made_of_all pieces; va
 abbrev pub none : {A : Type 0} → Scopes → List A
 none scopes = []
 
--- where a scope begins
+-- the scopes after a new innermost one begins
 abbrev pub opened : Scopes → Scopes
 opened scopes = enter scopes opens
 
@@ -112,7 +111,7 @@ own_scope piece = record {
 abbrev pub plain : {A : Type 0} → Marks → (Scopes → A) → Piece A
 plain marks made = record { marks = marks; made = made; vars = none; constants = none }
 
--- statements in a scope of their own, behind these marks
+-- statements in a scope of their own, entered after the given marks
 abbrev pub scoped : {A : Type 0} → Marks → Marks → List (Piece NamedStmt) → (Scopes → List NamedStmt → A) → Piece A
 scoped before marks body made = record {
   marks = marks;
@@ -147,7 +146,7 @@ constant_piece constant = record {
   constants = λ scopes. named_constant scopes constant ∷ [];
 }
 
--- what a statement does, from its arms, branches and blocks; each of these has a scope of its own
+-- the naming of one layer of a statement; each of its arms, branches and blocks has a scope of its own
 abbrev pub kind_piece : RawStmtKind-F (Piece NamedStmtKind) (Piece NamedArm) (Piece NamedBranch) (Piece NamedStmt) → Piece NamedStmtKind
 kind_piece (RawStmtKind-F.Var name ty value) =
     declaring name ty role.Variable value (declared_after (optional type_marks ty ++ optional expr_marks value) name kind.Variable)
@@ -203,11 +202,11 @@ stmt_layer_piece s = record {
   constants = s.what.constants;
 }
 
--- a statement
+-- the naming of a statement
 abbrev pub stmt_piece : RawStmt → Piece NamedStmt
 stmt_piece = fold-RawStmt (Piece NamedStmtKind) (Piece NamedArm) (Piece NamedBranch) (Piece NamedStmt) kind_piece arm_piece branch_piece stmt_layer_piece
 
--- the same of what a statement does, of an arm and of a branch
+-- the naming of the kind of a statement
 abbrev pub piece_of_kind : RawStmtKind → Piece NamedStmtKind
 piece_of_kind = fold-RawStmtKind (Piece NamedStmtKind) (Piece NamedArm) (Piece NamedBranch) (Piece NamedStmt) kind_piece arm_piece branch_piece stmt_layer_piece
 
@@ -250,7 +249,7 @@ param_piece role param = record {
   constants = none;
 }
 
--- parameters of one role
+-- the naming of the parameters of one role
 abbrev pub role_piece : Role → List RawParam → Piece (List NamedVar)
 role_piece role params = all (map (param_piece role) params)
 
@@ -258,11 +257,11 @@ role_piece role params = all (map (param_piece role) params)
 abbrev pub params_piece : RawUnit → Piece (List NamedVar)
 params_piece def = followed (role_piece role.Input def.inputs) (role_piece role.Output def.outputs)
 
--- its parameters, and then the statements directly in its body
+-- the naming of a unit's parameters, and then of the statements directly in its body
 abbrev pub inside_piece : RawUnit → Piece (List NamedStmt)
 inside_piece def = followed (params_piece def) (block_piece def.body)
 
--- a unit, where these scopes are open in it
+-- the named unit, where these scopes are open inside it
 abbrev pub unit_inside : Scopes → RawUnit → NamedUnit
 unit_inside scopes def = record {
   entry = def.entry;
@@ -275,7 +274,7 @@ unit_inside scopes def = record {
   body = (inside_piece def).made scopes;
 }
 
--- a unit, where these scopes are open before it
+-- the named unit, where these scopes are open before it
 abbrev pub named_unit : Scopes → RawUnit → NamedUnit
 named_unit scopes = unit_inside (opened scopes)
 
@@ -301,12 +300,12 @@ units_of scopes (item.Struct def) = []
 units_of scopes (item.Constant constant) = []
 units_of scopes (item.Unit def) = named_unit scopes def ∷ []
 
--- what the items give, each where those before it are over
+-- what a function gives for each item, in the scopes that the items before it leave
 abbrev pub along : {A : Type 0} → (Scopes → RawItem → List A) → Scopes → List RawItem → List A
 along gives scopes [] = []
 along gives scopes (one ∷ rest) = gives scopes one ++ along gives (after scopes (item_marks one)) rest
 
--- a program
+-- the named program of a raw tree
 abbrev pub named_program : List RawItem → ℕ → Named
 named_program items bytes = record {
   structs = along structs_of file_scope items;

@@ -58,19 +58,19 @@ abbrev pub named_length : Scopes → RawLength → NamedLength
 named_length scopes (raw_length.Number n) = named_count.Number n
 named_length scopes (raw_length.Constant name) = named_count.Constant name.place (position scopes name)
 
--- one level of a type, from its element
+-- one layer of a type with positions in place of names, from its element
 abbrev pub named_type_level : Scopes → RawType-F NamedType → NamedType
 named_type_level scopes (RawType-F.Scalar s) = type.Scalar s
 named_type_level scopes (RawType-F.Struct name) = type.Struct (position scopes name)
 named_type_level scopes (RawType-F.Array n element) = type.Array (named_length scopes n) element
 
--- a type
+-- a type with positions in place of names
 abbrev pub named_type : Scopes → RawType → NamedType
 named_type scopes = fold-RawType NamedType (named_type_level scopes)
 
 -- ---- expressions
 
--- one layer of an expression, from its operands
+-- one layer of an expression with positions in place of names, from its operands
 abbrev pub named_kind : Scopes → RawExprKind-F NamedExprKind NamedPart NamedExpr NamedTarget → NamedExprKind
 named_kind scopes (RawExprKind-F.Number minus n) = what.Number minus n
 named_kind scopes (RawExprKind-F.Truth b) = what.Truth b
@@ -94,11 +94,11 @@ named_expr_layer e = roll-NamedExpr (record { place = e.place; what = e.what })
 abbrev pub named_target_layer : Scopes → RawTarget-F NamedExprKind NamedPart NamedExpr NamedTarget → NamedTarget
 named_target_layer scopes target = roll-NamedTarget (record { place = target.place; root = named_root scopes target.root; parts = target.parts })
 
--- an expression
+-- an expression with positions in place of names
 abbrev pub named_expr : Scopes → RawExpr → NamedExpr
 named_expr scopes = fold-RawExpr NamedExprKind NamedPart NamedExpr NamedTarget (named_kind scopes) named_part named_expr_layer (named_target_layer scopes)
 
--- a target
+-- a target with positions in place of names
 abbrev pub named_target : Scopes → RawTarget → NamedTarget
 named_target scopes = fold-RawTarget NamedExprKind NamedPart NamedExpr NamedTarget (named_kind scopes) named_part named_expr_layer (named_target_layer scopes)
 
@@ -106,6 +106,6 @@ named_target scopes = fold-RawTarget NamedExprKind NamedPart NamedExpr NamedTarg
 abbrev pub named_step : Scopes → RawPart → NamedPart
 named_step scopes = fold-RawPart NamedExprKind NamedPart NamedExpr NamedTarget (named_kind scopes) named_part named_expr_layer (named_target_layer scopes)
 
--- a path
+-- a path with positions in place of names
 abbrev pub named_path : Scopes → RawPath → NamedPath
 named_path scopes path = record { place = path.place; root = position scopes path.root; fields = path.fields }

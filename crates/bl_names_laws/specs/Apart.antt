@@ -27,7 +27,7 @@ kind_roots (NamedExprKind-F.Two op a b) = a ++ b
 kind_roots (NamedExprKind-F.Cast s a) = a
 kind_roots (NamedExprKind-F.Call at f inputs) = joined inputs
 
--- a field names no variable; an index names those of its expression
+-- the variables that a part of a target names: none for a field, those of its expression for an index
 abbrev pub part_roots : NamedPart-F Roots Roots Roots Roots → Roots
 part_roots (NamedPart-F.Field name) = []
 part_roots (NamedPart-F.Index e) = e

@@ -9,7 +9,7 @@ use Rattle.bl_names_scopes.specs.Marks.{Marks, opens, closes, declares, uses, ma
 use Rattle.bl_names_scopes.specs.Rules.{Binds}
 use Rattle.bl_names_laws.specs.Referents.{Referents, program_leads}
 
--- a use of a name where this is wanted, behind these marks
+-- a use of a name behind these marks, and the kind of declaration wanted there
 pub record Use : Type 0 where
   pub before : Marks
   pub name : Name
@@ -28,15 +28,14 @@ uses_behind before (uses name wanted ∷ rest) =
 abbrev pub uses_of : List RawItem → List Use
 uses_of items = uses_behind [] (marks_of items)
 
--- a use is bound to a declaration, and its position leads there: what stands at it has the name that is used, at the place of that
--- declaration
+-- a use is bound to a declaration, and its position leads to the thing of that name declared there
 pub record LeadsToBound (items : List RawItem) (one : Use) (led : Option Name) : Type 0 where
   pub declaration : Declaration
   pub binds : Binds items one.name one.wanted declaration
   pub is_here : binds.stands.before ≡ one.before
   pub is_led : led ≡ Some (record { text = one.name.text; place = declaration.place })
 
--- there are as many uses as positions, and so it is with each use and the position in its place
+-- uses and positions are equally many, and each position leads to the declaration to which its use is bound
 abbrev pub EachLeads : List RawItem → List Use → Referents → Type 0
 EachLeads items [] [] = ⊤
 EachLeads items (one ∷ rest) (led ∷ leads) = LeadsToBound items one led × EachLeads items rest leads

@@ -8,7 +8,7 @@ use Rattle.bl_names_tree.specs.declared.expr.NamedTarget.{NamedTarget, fold-Name
 use Rattle.bl_names_tree.specs.declared.stmt.NamedStmt.{NamedStmt, fold-NamedStmt}
 use Rattle.bl_names_tree.specs.declared.stmt.NamedStmtKind.TheOpen.{NamedStmtKind-F, NamedArm-F, NamedBranch-F, NamedStmt-F}
 
--- the depth of one layer of an expression, from the depths of its operands: an operator, cast or call is one deeper than the deepest of them
+-- the depth of one layer of an expression: an operator, cast or call is one deeper than its deepest operand
 abbrev pub kind_depth : NamedExprKind-F ℕ ℕ ℕ ℕ → ℕ
 kind_depth (NamedExprKind-F.Number minus n) = 0
 kind_depth (NamedExprKind-F.Truth b) = 0
@@ -73,7 +73,7 @@ branch_depth branch = block 0 branch.body
 abbrev pub stmt_layer_depth : NamedStmt-F Depth Depth Depth Depth → Depth
 stmt_layer_depth s = s.what
 
--- how deep the blocks of a statement are nested, and how deep the expressions in it
+-- the depths of the blocks of a statement and of the expressions in it
 abbrev pub depth_of : NamedStmt → Depth
 depth_of = fold-NamedStmt Depth Depth Depth Depth stmt_kind_depth arm_depth branch_depth stmt_layer_depth
 

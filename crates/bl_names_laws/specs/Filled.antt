@@ -39,6 +39,6 @@ branch_filled branch = all_of branch.body
 abbrev pub layer_filled : NamedStmt-F Bool Bool Bool Bool → Bool
 layer_filled s = s.what
 
--- whether a statement, where these are the variables of its unit, has what the grammar wants
+-- whether a statement of a unit with these variables has the parts that the grammar wants
 abbrev pub is_filled : List NamedVar → NamedStmt → Bool
 is_filled vars = fold-NamedStmt Bool Bool Bool Bool (kind_filled vars) arm_filled branch_filled layer_filled

@@ -28,7 +28,7 @@ use Rattle.bl_names_tree.specs.Placed.{DeclaredBefore, item_step, nothing_earlie
 abbrev pub Referents : Type 0
 Referents = List (Option Name)
 
--- the name of the struct at a position, of the constant, of the unit, and of the variable among those of its unit
+-- the name of the struct at a position
 abbrev pub struct_at : Named → ℕ → Option Name
 struct_at named k = option_map (λ def. def.name) (slice_get named.structs k)
 
@@ -40,7 +40,7 @@ constant_at named k = option_map (λ constant. constant.name) (slice_get named.c
 abbrev pub unit_at : Named → ℕ → Option Name
 unit_at named k = option_map (λ unit. unit.name) (slice_get named.units k)
 
--- the name of the variable at a position among these, which are those of one unit
+-- the name of the variable at a position among the variables of a unit
 abbrev pub variable_at : List NamedVar → ℕ → Option Name
 variable_at vars k = option_map (λ var. var.name) (slice_get vars k)
 
@@ -101,7 +101,7 @@ target_layer_leads named vars target = at_root named vars target.root ∷ joined
 abbrev pub expr_leads : Named → List NamedVar → NamedExpr → Referents
 expr_leads named vars = fold-NamedExpr Referents Referents Referents Referents (kind_leads named vars) part_leads expr_layer_leads (target_layer_leads named vars)
 
--- of a target, its root first
+-- what the positions in a target lead to, its root first
 abbrev pub target_leads : Named → List NamedVar → NamedTarget → Referents
 target_leads named vars = fold-NamedTarget Referents Referents Referents Referents (kind_leads named vars) part_leads expr_layer_leads (target_layer_leads named vars)
 
@@ -174,13 +174,13 @@ unit_leads named unit =
     joined (map (var_leads named) (take (parameters unit) unit.vars))
     ++ (leads_if (type_leads named) unit.result ++ joined (map (stmt_leads named unit.vars) unit.body))
 
--- the same of the next struct, constant or unit, where so much is declared before it; no variable is visible outside of units
+-- what the positions in the next struct, constant or unit lead to; no variable is visible outside of units
 abbrev pub item_leads : Named → Item → DeclaredBefore → Referents
 item_leads named item.Struct earlier = leads_if (struct_leads named) (slice_get named.structs earlier.structs)
 item_leads named item.Constant earlier = leads_if (constant_leads named []) (slice_get named.constants earlier.constants)
 item_leads named item.Unit earlier = leads_if (unit_leads named) (slice_get named.units earlier.units)
 
--- of items one after another, as far as their positions are in place
+-- what the positions in successive items lead to, as far as they are declared before their use
 abbrev pub items_lead : Named → List Item → Option DeclaredBefore → Referents
 items_lead named [] earlier = []
 items_lead named (one ∷ rest) None = []

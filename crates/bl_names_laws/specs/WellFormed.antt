@@ -58,8 +58,7 @@ body_apart unit = list_all is_apart unit.body
 abbrev pub struct_stands : NamedStruct → Bool
 struct_stands def = fields_named def && fields_differ def
 
--- whether the names of a unit's variables are names and those of its parameters differ, its statements have what the grammar
--- wants, nothing in it is nested too deep, and branches keep apart
+-- whether a named unit is well-formed: names, distinct parameters, complete statements, bounded nesting, and branches that keep apart
 abbrev pub unit_stands : NamedUnit → Bool
 unit_stands unit = (variables_named unit && parameters_differ unit) && (body_filled unit && (body_shallow unit && body_apart unit))
 
@@ -73,11 +72,11 @@ pub record NamedIsWellFormed (named : Named) : Type 0 where
   pub placed : IsPlaced named
   -- the names of structs and units are names
   pub names : IsTrue (list_all is_name (all_names named))
-  -- and differ
+  -- the names of structs and units are distinct
   pub distinct : IsTrue (are_distinct (all_names named))
   -- each struct has a field, and the names of its fields are names and differ
   pub structs : IsTrue (list_all struct_stands named.structs)
-  -- in each unit names are names, parameters differ, nothing is missing or nested too deep, and branches keep apart
+  -- each unit is well-formed: names, distinct parameters, complete statements, bounded nesting, and branches that keep apart
   pub units : IsTrue (list_all unit_stands named.units)
   -- statements and conditions of loops begin one after another, so no two of them have one place
   pub in_order : IsTrue (ascends (all_starts named))

@@ -5,8 +5,7 @@ use Rattle.bl_names_scopes.specs.declared.kind.Kind.TheVariants as kind
 use Rattle.bl_names_scopes.specs.declared.kind.Wanted.{Wanted}
 use Rattle.bl_names_scopes.specs.declared.kind.Wanted.TheVariants as wanted
 
--- a type is a struct, a length a constant, a callee a function, what is run an activity, what is changed a variable, and what
--- is read a variable or constant
+-- whether a kind of declaration fits the place of its use, such as a struct for a type and a constant for a length
 abbrev pub suits : Wanted → Kind → Bool
 suits wanted.Type kind.Struct = true
 suits wanted.Length kind.Constant = true

@@ -155,7 +155,7 @@ stmt_layer_marks s = s.what
 abbrev pub stmt_marks : RawStmt → Marks
 stmt_marks = fold-RawStmt Marks Marks Marks Marks stmt_kind_marks arm_layer_marks branch_layer_marks stmt_layer_marks
 
--- the same of an arm and of a branch
+-- what an arm does to names
 abbrev pub marks_of_arm : RawArm → Marks
 marks_of_arm = fold-RawArm Marks Marks Marks Marks stmt_kind_marks arm_layer_marks branch_layer_marks stmt_layer_marks
 
@@ -169,7 +169,7 @@ marks_of_branch = fold-RawBranch Marks Marks Marks Marks stmt_kind_marks arm_lay
 abbrev pub field_type_marks : RawField → Marks
 field_type_marks field = type_marks field.ty
 
--- a field is declared among those of its struct
+-- the mark of a field: a declaration among the fields of its struct
 abbrev pub field_mark : RawField → Mark
 field_mark field = declares field.name kind.Field
 
@@ -181,7 +181,7 @@ struct_marks def = declared_after (joined (map field_type_marks def.fields) ++ i
 abbrev pub param_marks : RawParam → Marks
 param_marks param = declared_after (type_marks param.ty) param.name kind.Variable
 
--- as what the name of a unit is declared
+-- the kind of declaration of a unit's name
 abbrev pub kind_of_unit : UnitKind → Kind
 kind_of_unit unit.Function = kind.Function
 kind_of_unit unit.Activity = kind.Activity
@@ -191,7 +191,7 @@ abbrev pub inside_unit : RawUnit → Marks
 inside_unit def =
     joined (map param_marks def.inputs) ++ (joined (map param_marks def.outputs) ++ (optional type_marks def.result ++ joined (map stmt_marks def.body)))
 
--- these share one scope, and the unit is visible after it
+-- what a unit does to names: its parameters and body share one scope, and its name is visible after it
 abbrev pub unit_marks : RawUnit → Marks
 unit_marks def = declared_after (in_scope (inside_unit def)) def.name (kind_of_unit def.kind)
 

@@ -63,10 +63,10 @@ Fails items of at also =
     ((of ≡ rule.Duplicate) × FailsDuplicate items at also)
     ⊎ (((of ≡ rule.Unknown) × FailsUnknown items at also) ⊎ ((of ≡ rule.Kind) × FailsKind items at also))
 
--- the rule is the first of the three that fails, and these are its first places
+-- the rule is the first of Duplicate, Unknown and Kind that fails, and fails first at these places
 abbrev pub FailsFirst : List RawItem → Rule → Place → List Place → Type 0
 FailsFirst items = rules.FailsFirst (Fails items)
 
--- none of the three rules fails
+-- none of Duplicate, Unknown and Kind fails
 abbrev pub Passes : List RawItem → Type 0
 Passes items = rules.Passes (Fails items)

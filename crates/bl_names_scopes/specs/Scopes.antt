@@ -14,7 +14,7 @@ use Rattle.bl_names_scopes.specs.Marks.{Mark, Marks, opens, closes, declares, us
 abbrev pub Declared : Type 0
 Declared = List (List ℕ × Declaration)
 
--- no name
+-- a scope without names
 abbrev pub nothing : Declared
 nothing = []
 
@@ -26,11 +26,11 @@ named entries = map (λ entry. (entry.0.now, entry.1)) entries
 abbrev pub found : Declared → List ℕ → Option Declaration
 found scope name = lookup (bytes_eq name) scope
 
--- nothing is declared yet
+-- the counts before any declaration
 abbrev pub no_counts : Counts
 no_counts = record { structs = 0; constants = 0; units = 0; variables = 0 }
 
--- how many things that share positions with this kind are declared so far; fields have no positions
+-- the number of declarations so far that share positions with this kind; fields have no positions
 abbrev pub count_of : Counts → Kind → ℕ
 count_of counts kind.Struct = counts.structs
 count_of counts kind.Constant = counts.constants
@@ -39,7 +39,7 @@ count_of counts kind.Function = counts.units
 count_of counts kind.Activity = counts.units
 count_of counts kind.Field = 0
 
--- after one more declaration; the variables of each unit are counted anew
+-- the counts after one more declaration; the variables of each unit are counted anew
 abbrev pub counted : Counts → Kind → Counts
 counted counts kind.Struct = record counts { structs = counts.structs + 1 }
 counted counts kind.Constant = record counts { constants = counts.constants + 1 }
@@ -67,7 +67,7 @@ bound_around (scope ∷ outer) name = option_or (found scope name) (bound_around
 abbrev pub bound : Scopes → List ℕ → Option Declaration
 bound scopes name = option_or (found scopes.inner name) (bound_around scopes.outer name)
 
--- the scopes that are open after one ends: the next one around it is the innermost then, or an empty one where none is around it
+-- the open scopes after the innermost ends: its enclosing scope becomes the innermost, an empty one where there is none
 abbrev pub scopes_outside : List Declared → Counts → Scopes
 scopes_outside [] counts = record { inner = []; outer = []; counts = counts }
 scopes_outside (scope ∷ outer) counts = record { inner = scope; outer = outer; counts = counts }

@@ -49,14 +49,14 @@ use Rattle.bl_names_tree.specs.declared.types.NamedLength.TheVariants as count
 use Rattle.bl_names_tree.specs.declared.types.NamedType.{NamedType, fold-NamedType}
 use Rattle.bl_names_tree.specs.declared.types.NamedType.TheOpen.{NamedType-F}
 
--- how many structs, constants and units of the program, and variables of the unit, are declared before a place of the text
+-- the numbers of structs, constants and units of the program, and of variables of the unit, declared before a place
 pub record DeclaredBefore : Type 0 where
   pub structs : ℕ
   pub constants : ℕ
   pub units : ℕ
   pub variables : ℕ
 
--- at the start of a program nothing is declared
+-- the counts at the start of a program, where nothing is declared
 abbrev pub nothing_earlier : DeclaredBefore
 nothing_earlier = record { structs = 0; constants = 0; units = 0; variables = 0 }
 
@@ -146,20 +146,20 @@ struct_placed earlier def = list_all (λ field. type_placed earlier field.ty) de
 
 -- ---- parts that may declare
 
--- from what is declared before a part to what is declared before the next; none where a position in it stands for nothing
+-- a step from what is declared before a part to what is declared after it; none at an unknown position
 abbrev pub PlacedStep : Type 0
 PlacedStep = DeclaredBefore → Option DeclaredBefore
 
--- one part after another
+-- the steps of several parts, one after another
 abbrev pub in_turn : List PlacedStep → PlacedStep
 in_turn [] earlier = Some earlier
 in_turn (step ∷ rest) earlier = option_and_then (in_turn rest) (step earlier)
 
--- after one more variable of the unit
+-- the counts after one more variable of the unit
 abbrev pub with_variable : DeclaredBefore → DeclaredBefore
 with_variable earlier = record earlier { variables = earlier.variables + 1 }
 
--- after one more constant of the program
+-- the counts after one more constant of the program
 abbrev pub with_constant : DeclaredBefore → DeclaredBefore
 with_constant earlier = record earlier { constants = earlier.constants + 1 }
 
@@ -175,8 +175,7 @@ arguments_placed earlier f inputs outputs = nat_lt f earlier.units && (list_all 
 abbrev pub tested : NamedExpr → List PlacedStep → PlacedStep
 tested e body earlier = if expr_placed earlier e then in_turn body earlier else None
 
--- the statements of a unit that has these variables in a program that has these constants: a variable is declared at the
--- next position, and so is a constant
+-- the step of one layer of a statement: a variable and a constant are declared at the next position
 abbrev pub stmt_kind_step : List NamedVar → List NamedConstant → NamedStmtKind-F PlacedStep PlacedStep PlacedStep PlacedStep → PlacedStep
 stmt_kind_step vars constants (NamedStmtKind-F.Declare k value) earlier =
     if nat_eq k earlier.variables && (holds_of (var_placed earlier) (slice_get vars k) && holds_if (expr_placed earlier) value)
@@ -208,13 +207,13 @@ branch_step branch = in_turn branch.body
 abbrev pub stmt_layer_step : NamedStmt-F PlacedStep PlacedStep PlacedStep PlacedStep → PlacedStep
 stmt_layer_step s = s.what
 
--- from what is declared before a statement to what is declared before the next
+-- the step of a statement, from what is declared before it to what is declared after it
 abbrev pub stmt_step : List NamedVar → List NamedConstant → NamedStmt → PlacedStep
 stmt_step vars constants = fold-NamedStmt PlacedStep PlacedStep PlacedStep PlacedStep (stmt_kind_step vars constants) arm_step branch_step stmt_layer_step
 
 -- ---- items
 
--- how many parameters a unit has: they stand first among its variables
+-- the number of parameters of a unit, which stand first among its variables
 abbrev pub parameters : NamedUnit → ℕ
 parameters unit = unit.inputs + unit.outputs
 
@@ -226,7 +225,7 @@ roles_placed unit =
     && (list_all (λ var. is_output var.role) (take unit.outputs (drop unit.inputs unit.vars))
     && list_all (λ var. is_variable var.role || is_fixed var.role) (drop (parameters unit) unit.vars)))
 
--- whether the variables of a unit stand in order of their roles, and what the types of its parameters and of its result name is earlier
+-- whether the variables of a unit are ordered by role, and its parameters and result have types declared earlier
 abbrev pub head_placed : DeclaredBefore → NamedUnit → Bool
 head_placed earlier unit =
     roles_placed unit && (list_all (var_placed earlier) (take (parameters unit) unit.vars) && holds_if (type_placed earlier) unit.result)
@@ -235,7 +234,7 @@ head_placed earlier unit =
 abbrev pub with_parameters : DeclaredBefore → NamedUnit → DeclaredBefore
 with_parameters earlier unit = record earlier { variables = parameters unit }
 
--- behind a unit, where each of its variables is declared; the variables of the next are counted anew
+-- what is declared after a unit whose variables are all declared; the next unit's are counted anew
 abbrev pub behind_unit : NamedUnit → DeclaredBefore → Option DeclaredBefore
 behind_unit unit earlier =
     if nat_eq earlier.variables (length unit.vars) then Some (record earlier { units = earlier.units + 1; variables = 0 }) else None
@@ -259,6 +258,6 @@ item_step named item.Unit earlier = option_and_then (λ def. unit_step named.con
 abbrev pub all_earlier : Named → DeclaredBefore
 all_earlier named = record { structs = length named.structs; constants = length named.constants; units = length named.units; variables = 0 }
 
--- in the order of its items each position in a program is that of what is declared before, and everything is declared once
+-- each position in a program, in order of its items, is of something declared before, and everything is declared once
 abbrev pub IsPlaced : Named → Type 0
 IsPlaced named = in_turn (map (item_step named) named.order) nothing_earlier ≡ Some (all_earlier named)

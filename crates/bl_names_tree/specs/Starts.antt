@@ -35,7 +35,7 @@ stmt_kind_starts (NamedStmtKind-F.Return e) = []
 abbrev pub arm_starts : NamedArm-F NamedStartOffsets NamedStartOffsets NamedStartOffsets NamedStartOffsets → NamedStartOffsets
 arm_starts arm = joined arm.body
 
--- the same of a branch
+-- where the statements in a branch begin, and the conditions of loops there
 abbrev pub branch_starts : NamedBranch-F NamedStartOffsets NamedStartOffsets NamedStartOffsets NamedStartOffsets → NamedStartOffsets
 branch_starts branch = joined branch.body
 

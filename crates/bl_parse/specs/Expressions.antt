@@ -48,8 +48,8 @@ pub data SpellsNone (tokens : List Token) (from to : ℕ) : Type 0 where
   empty : {a : ℕ} → Takes tokens (Sign OPEN_PAREN) from a → Takes tokens (Sign CLOSE_PAREN) a to → SpellsNone tokens from to
 
 mutual
-  -- The tokens from a position up to another spell an expression in which no operator outside of parentheses binds more
-  -- loosely than the level. Its place goes from its first token to its last, without parentheses around the whole of it.
+  -- The tokens between two positions spell an expression whose operators outside of parentheses bind at least as tightly as the level. Outer parentheses
+  -- are outside of its place.
   pub data SpellsExpr (text : List ℕ) (tokens : List Token) : ℕ → RawExpr → ℕ → ℕ → Type 0 where
     -- operand, operator, operand, the right one binding more tightly
     two : {level own : ℕ} {e a b : RawExpr} {from m n to : ℕ} {op : Op} → level ≤ own
@@ -108,7 +108,7 @@ mutual
     some_inputs : {inputs : List RawExpr} {from m n to : ℕ} → Takes tokens (Sign OPEN_PAREN) from m → SpellsExprs text tokens inputs m n
         → Takes tokens (Sign CLOSE_PAREN) n to → SpellsInputs text tokens inputs from to
 
-  -- one expression or more, with commas between them
+  -- one or more expressions, separated by commas
   pub data SpellsExprs (text : List ℕ) (tokens : List Token) : List RawExpr → ℕ → ℕ → Type 0 where
     first_expr : {all : List RawExpr} {e : RawExpr} {from to : ℕ} → SpellsExpr text tokens 0 e from to → all ≡ e ∷ [] →
         SpellsExprs text tokens all from to

@@ -29,7 +29,7 @@ pub record SpellsField (text : List ℕ) (tokens : List Token) (field : RawField
   pub name : SpellsName text tokens field.name m n
   pub ty : SpellsTyping text tokens field.ty n to
 
--- one field or more
+-- one or more fields
 pub data SpellsFieldList (text : List ℕ) (tokens : List Token) : List RawField → ℕ → ℕ → Type 0 where
   first : {fields : List RawField} {field : RawField} {from to : ℕ} → SpellsField text tokens field from to → fields ≡ field ∷ []
       → SpellsFieldList text tokens fields from to
@@ -71,7 +71,7 @@ pub record SpellsParam (text : List ℕ) (tokens : List Token) (param : RawParam
   pub name : SpellsName text tokens param.name from m
   pub ty : SpellsTyping text tokens param.ty m to
 
--- one parameter or more, with commas between them
+-- one or more parameters, separated by commas
 pub data SpellsParamList (text : List ℕ) (tokens : List Token) : List RawParam → ℕ → ℕ → Type 0 where
   first : {params : List RawParam} {param : RawParam} {from to : ℕ} → SpellsParam text tokens param from to → params ≡ param ∷ []
       → SpellsParamList text tokens params from to

@@ -110,7 +110,7 @@ pub record SpellsPath (text : List ℕ) (tokens : List Token) (path : RawPath) (
   pub fields : SpellsFields text tokens path.fields m to
   pub place : path.place ≡ span tokens from to
 
--- one path or more, with commas between them
+-- one or more paths, separated by commas
 pub data SpellsPaths (text : List ℕ) (tokens : List Token) : List RawPath → ℕ → ℕ → Type 0 where
   first : {all : List RawPath} {path : RawPath} {from to : ℕ} → SpellsPath text tokens path from to → all ≡ path ∷ [] →
       SpellsPaths text tokens all from to

@@ -79,7 +79,7 @@ use Rattle.bl_lex.specs.declared.sign.TheConstants.{
   AT,
 }
 
--- the number is one of these
+-- whether the number is in the list
 abbrev pub is_one_of : List ℕ → ℕ → Bool
 is_one_of numbers k = list_any (λ n. nat_eq n k) numbers
 
@@ -126,8 +126,7 @@ is_last (Sign k) = nat_eq k CLOSE_PAREN || nat_eq k CLOSE_BRACKET
 abbrev pub is_inner_word : ℕ → Bool
 is_inner_word k = is_one_of counted_words k || nat_eq k TRUE || nat_eq k FALSE || nat_eq k PREV || is_one_of scalar_words k
 
--- after a token of the one kind, a token of the other begins a run: `=`, `@`, a keyword that can't stand in an expression, and a
--- name directly after what an expression can end with
+-- whether a token begins a run: `=`, `@`, a keyword that no expression has, or a name directly after an expression
 abbrev pub begins_run : Option TokenKind → TokenKind → Bool
 begins_run None Name = false
 begins_run (Some before) Name = is_last before

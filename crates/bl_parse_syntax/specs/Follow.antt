@@ -128,47 +128,47 @@ use Rattle.bl_parse_syntax.specs.Grammar.{Piece, productions, expression_starts}
 abbrev pub after_name : List Class
 after_name = Mark DOT ∷ Mark OPEN_BRACKET ∷ Mark OPEN_PAREN ∷ []
 
--- those that go on with an operand and its sign
+-- the classes that go on with an operand and its sign
 abbrev pub after_unary : List Class
 after_unary = after_name
 
--- those that go on with a cast
+-- the classes that go on with a cast
 abbrev pub after_cast : List Class
 after_cast = Keyword AS ∷ after_unary
 
--- those that go on with a product
+-- the classes that go on with a product
 abbrev pub after_product : List Class
 after_product = Mark STAR ∷ Mark SLASH ∷ Mark PERCENT ∷ after_cast
 
--- those that go on with a sum
+-- the classes that go on with a sum
 abbrev pub after_sum : List Class
 after_sum = Mark PLUS ∷ Mark MINUS ∷ after_product
 
--- those that go on with a shift
+-- the classes that go on with a shift
 abbrev pub after_shift : List Class
 after_shift = Mark SHIFT_LEFT ∷ Mark SHIFT_RIGHT ∷ after_sum
 
--- those that go on with a chain of `&`
+-- the classes that go on with a chain of `&`
 abbrev pub after_and : List Class
 after_and = Mark AMPERSAND ∷ after_shift
 
--- those that go on with a chain of `^`
+-- the classes that go on with a chain of `^`
 abbrev pub after_xor : List Class
 after_xor = Mark CARET ∷ after_and
 
--- those that go on with a chain of `|`
+-- the classes that go on with a chain of `|`
 abbrev pub after_bits : List Class
 after_bits = Mark BAR ∷ after_xor
 
--- those that go on with a comparison
+-- the classes that go on with a comparison
 abbrev pub after_comparison : List Class
 after_comparison = Mark EQUAL ∷ Mark NOT_EQUAL ∷ Mark LESS ∷ Mark LESS_OR_EQUAL ∷ Mark GREATER ∷ Mark GREATER_OR_EQUAL ∷ after_bits
 
--- those that go on with a chain of `and`
+-- the classes that go on with a chain of `and`
 abbrev pub after_both : List Class
 after_both = Keyword AND ∷ after_comparison
 
--- those that go on with an expression
+-- the classes that go on with an expression
 abbrev pub after_expression : List Class
 after_expression = Keyword OR ∷ after_both
 
@@ -178,15 +178,15 @@ statement_starts =
     Keyword VAR ∷ Keyword LET ∷ Keyword CONST ∷ AnyName ∷ Keyword AWAIT ∷ Keyword RUN ∷ Keyword COBEGIN ∷ Keyword WHEN
     ∷ Keyword REPEAT ∷ Keyword WHILE ∷ Keyword IF ∷ Keyword RETURN ∷ []
 
--- those that go on with a statement
+-- the classes that go on with a statement
 abbrev pub after_statement : List Class
 after_statement = Mark ASSIGN ∷ after_expression
 
--- those that go on with a block
+-- the classes that go on with a block
 abbrev pub after_block : List Class
 after_block = statement_starts ++ after_statement
 
--- those that go on with a program
+-- the classes that go on with a program
 abbrev pub after_program : List Class
 after_program = Keyword STRUCT ∷ Keyword CONST ∷ Mark AT ∷ Keyword FUNCTION ∷ Keyword ACTIVITY ∷ after_expression
 
@@ -250,7 +250,7 @@ avoided NameUse = after_unary
 avoided NoOutputs = Mark OPEN_PAREN ∷ []
 avoided _ = []
 
--- how many productions in turn a part needs at least to come to tokens alone
+-- the least height of a derivation from a part to tokens alone
 unfoldable pub height : Part → ℕ
 height Item = 3
 height Struct = 2
@@ -291,12 +291,12 @@ depth_of known ([] ∷ others) = depth_of known others
 depth_of known ((Terminal class ∷ rest) ∷ others) = depth_of known others
 depth_of known ((Nonterminal part ∷ rest) ∷ others) = max (known part + 1) (depth_of known others)
 
--- the same, as far as so many productions in turn show it
+-- the greatest number of productions in turn that begin a part before a token is read, computed up to n levels
 abbrev pub depth_within : ℕ → Part → ℕ
 depth_within zero part = 1
 depth_within (suc n) part = depth_of (depth_within n) (productions part)
 
--- how many productions in turn begin a part before a token is read
+-- the greatest number of productions in turn that begin a part before a token is read
 unfoldable pub depth : Part → ℕ
 depth part = depth_within 20 part
 

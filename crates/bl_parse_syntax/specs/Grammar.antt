@@ -188,7 +188,7 @@ abbrev pub last_line : Option ℕ → List Token → Option ℕ
 last_line before [] = before
 last_line before (token ∷ tokens) = last_line (Some token.line) tokens
 
--- two classes are the same
+-- whether two classes are equal
 abbrev pub same_class : Class → Class → Bool
 same_class AnyName AnyName = true
 same_class AnyNumber AnyNumber = true
@@ -200,7 +200,7 @@ same_class _ _ = false
 abbrev pub matches : Class → TokenView → Bool
 matches class view = same_class class view.class
 
--- one token or part of a production
+-- a symbol of a production: a token class or a part
 abbrev pub Piece : Type 0
 Piece = Symbol Class Part
 
@@ -330,7 +330,7 @@ expression_starts = Mark MINUS ∷ Mark TILDE ∷ Keyword NOT ∷ AnyNumber ∷ 
 abbrev pub begins_expression : Class → Bool
 begins_expression class = list_any (λ start. same_class start class) expression_starts
 
--- after `return`, the next token begins its expression: it stands on the same line and can begin one
+-- the token after `return` begins its expression: it stands on the same line and can begin one
 abbrev pub continues : Option TokenView → Bool
 continues None = false
 continues (Some next) = not next.fresh && begins_expression next.class
@@ -341,12 +341,12 @@ may_stand AfterReturn next [] = not (continues next)
 may_stand AfterReturn next (first ∷ rest) = continues next
 may_stand _ next production = true
 
--- it is one of the productions
+-- a production is one of a list
 pub data IsAmong (production : List Piece) : List (List Piece) → Type 0 where
   here : {others : List (List Piece)} → IsAmong production (production ∷ others)
   later : {other : List Piece} {others : List (List Piece)} → IsAmong production others → IsAmong production (other ∷ others)
 
--- before this next token, the part may stand for these symbols
+-- the part may stand for these symbols before this next token
 abbrev pub Produces : Part → Option TokenView → List Piece → Type 0
 Produces part next production = IsAmong production (productions part) × (may_stand part next production ≡ true)
 

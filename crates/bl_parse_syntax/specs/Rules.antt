@@ -26,7 +26,7 @@ pub record FailsDepth (tokens : List Token) (place : Place) : Type 0 where
 abbrev pub SpellsProgram : List Token → Type 0
 SpellsProgram tokens = IsProgram (views tokens)
 
--- some tokens can follow these so that all of them spell a program
+-- the tokens can be completed to those of a program
 abbrev pub BeginsProgram : List Token → Type 0
 BeginsProgram tokens = (more : List Token) × SpellsProgram (tokens ++ more)
 
@@ -58,7 +58,7 @@ Fails size tokens rule.Depth place also = FailsDepth tokens place × (also ≡ [
 Fails size tokens rule.Syntax place also = FailsSyntax size tokens place × (also ≡ [])
 Fails size tokens _ place also = ⊥
 
--- it is the first of the two that fails
+-- the rule is the first of the parser's rules that fails, and fails first at this place
 abbrev pub FailsFirst : ℕ → List Token → Rule → Place → List Place → Type 0
 FailsFirst size tokens = FirstOf (Fails size tokens)
 

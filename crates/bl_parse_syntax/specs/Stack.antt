@@ -36,7 +36,7 @@ tables = record {
 abbrev pub IsGood : List Piece → Type 0
 IsGood stack = Predictive.Good Produces matches tables stack
 
--- after these tokens the stack stands for just what completes a program
+-- the stack derives exactly the token lists that complete a program after these tokens
 abbrev pub SourceStackCompletes : List TokenView → List Piece → Type 0
 SourceStackCompletes front stack = Runs.StackCompletes Produces matches tables Program front stack
 
@@ -44,7 +44,7 @@ SourceStackCompletes front stack = Runs.StackCompletes Produces matches tables P
 abbrev pub StackAnswers : TokenView → List Piece → Bool → List Piece → Type 0
 StackAnswers next stack taken rest = Runs.StackAnswers Produces matches tables next stack taken rest
 
--- how far the stack is from the next token that is read
+-- a bound on the expansions of a stack before its next token is read
 abbrev pub level : List Piece → ℕ
 level stack = Predictive.level Produces matches tables stack
 

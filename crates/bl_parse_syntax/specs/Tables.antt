@@ -9,7 +9,7 @@ use Rattle.bl_parse_syntax.specs.declared.grammar.Part.TheVariants.{AfterReturn}
 use Rattle.bl_parse_syntax.specs.declared.choice.Choice.{Choice as Row}
 use Rattle.bl_parse_syntax.specs.Grammar.{Piece, productions, same_class}
 
--- the class is among these
+-- whether the class is in the list
 abbrev pub has : List Class → Class → Bool
 has classes class = list_any (λ one. same_class one class) classes
 
@@ -52,7 +52,7 @@ choices part = choices_of (productions part)
 abbrev pub shown : Row → Choice
 shown row = record { on = row.on.now; production = row.production.now }
 
--- one of the productions is empty
+-- whether one of the productions is empty
 abbrev pub has_empty : List (List Piece) → Bool
 has_empty [] = false
 has_empty ([] ∷ others) = true
@@ -67,7 +67,7 @@ abbrev pub chosen : List Choice → Class → Option (List Piece)
 chosen [] class = None
 chosen (choice ∷ others) class = cond (has choice.on class) (Some choice.production) (chosen others class)
 
--- the part may begin at this token, if its class allows it: what `return` gives stands on the same line
+-- whether the part may begin at a token whose class allows it: the value of `return` begins on the line of `return`
 abbrev pub permits : Part → TokenView → Bool
 permits AfterReturn next = not next.fresh
 permits _ next = true

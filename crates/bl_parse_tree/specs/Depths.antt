@@ -10,7 +10,7 @@ use Rattle.bl_parse_tree.specs.declared.item.RawItem.TheVariants.{Struct, Consta
 use Rattle.bl_parse_tree.specs.declared.stmt.RawStmt.{RawStmt, fold-RawStmt}
 use Rattle.bl_parse_tree.specs.declared.stmt.RawStmtKind.TheOpen.{RawStmtKind-F, RawArm-F, RawBranch-F, RawStmt-F}
 
--- the depth of one layer of an expression, from the depths of its operands: an operator, cast or call is one deeper than the deepest of them
+-- the depth of one layer of an expression: an operator, cast or call is one deeper than its deepest operand
 abbrev pub kind_depth : RawExprKind-F ℕ ℕ ℕ ℕ → ℕ
 kind_depth (RawExprKind-F.Number minus n) = 0
 kind_depth (RawExprKind-F.Truth b) = 0
@@ -76,7 +76,7 @@ branch_depth branch = block 0 branch.body
 abbrev pub stmt_layer_depth : RawStmt-F Depth Depth Depth Depth → Depth
 stmt_layer_depth s = s.what
 
--- how deep the blocks of a statement are nested, and how deep the expressions in it
+-- the depths of the blocks of a statement and of the expressions in it
 abbrev pub depth_of : RawStmt → Depth
 depth_of = fold-RawStmt Depth Depth Depth Depth stmt_kind_depth arm_depth branch_depth stmt_layer_depth
 

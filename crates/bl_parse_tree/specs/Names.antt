@@ -43,7 +43,7 @@ abbrev pub length_named : RawLength → Bool
 length_named (Number n) = true
 length_named (OfConstant name) = named name
 
--- whether every name in one level of a type is one, where those of its element are
+-- whether every name in one layer of a type is a name, given those of its element
 abbrev pub type_level_named : RawType-F Bool → Bool
 type_level_named (RawType-F.Scalar s) = true
 type_level_named (RawType-F.Struct name) = named name
@@ -55,7 +55,7 @@ type_named = fold-RawType Bool type_level_named
 
 -- ---- expressions
 
--- whether every name in one layer of an expression is one, where those of its operands are
+-- whether every name in one layer of an expression is a name, given those of its operands
 abbrev pub kind_named : RawExprKind-F Bool Bool Bool Bool → Bool
 kind_named (RawExprKind-F.Number minus n) = true
 kind_named (RawExprKind-F.Truth b) = true
@@ -66,16 +66,16 @@ kind_named (RawExprKind-F.Two op a b) = a && b
 kind_named (RawExprKind-F.Cast s a) = a
 kind_named (RawExprKind-F.Call f inputs) = named f && all_of inputs
 
--- whether the name of a field is one; an index is so where its expression is
+-- whether the name of a field is a name, or every name in an index is
 abbrev pub part_named : RawPart-F Bool Bool Bool Bool → Bool
 part_named (RawPart-F.Field name) = named name
 part_named (RawPart-F.Index e) = e
 
--- an expression is so where its kind is, wherever it stands
+-- whether every name in an expression is a name, given those of its kind
 abbrev pub expr_layer_named : RawExpr-F Bool Bool Bool Bool → Bool
 expr_layer_named e = e.what
 
--- a target is so where the name with which it begins is one and all of its parts are so
+-- whether every name in a target is a name, its root's included
 abbrev pub target_layer_named : RawTarget-F Bool Bool Bool Bool → Bool
 target_layer_named target = named target.root && all_of target.parts
 
@@ -101,7 +101,7 @@ constant_named constant = named constant.name && (optional type_named constant.t
 abbrev pub arguments_named : List RawExpr → List RawPath → Bool
 arguments_named inputs outputs = list_all expr_named inputs && list_all path_named outputs
 
--- whether every name in one layer of a statement is one and what the grammar wants is there, where all in its arms, branches and blocks stands
+-- whether one layer of a statement has names and parts where the grammar wants them, given its arms, branches and blocks
 abbrev pub stmt_kind_stands : RawStmtKind-F Bool Bool Bool Bool → Bool
 stmt_kind_stands (RawStmtKind-F.Var name ty value) =
     named name && (optional type_named ty && (optional expr_named value && (is_some ty || is_some value)))

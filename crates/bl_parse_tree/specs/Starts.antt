@@ -37,7 +37,7 @@ stmt_kind_starts (RawStmtKind-F.Return e) = []
 abbrev pub arm_starts : RawArm-F RawStartOffsets RawStartOffsets RawStartOffsets RawStartOffsets → RawStartOffsets
 arm_starts arm = joined arm.body
 
--- the same of a branch
+-- where the statements in a branch begin, and the conditions of loops there
 abbrev pub branch_starts : RawBranch-F RawStartOffsets RawStartOffsets RawStartOffsets RawStartOffsets → RawStartOffsets
 branch_starts branch = joined branch.body
 

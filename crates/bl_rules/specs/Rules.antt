@@ -27,45 +27,44 @@ pub record Parses (text : List ℕ) (raw : Raw) : Type 0 where
 
 -- the rule fails for a typed program at the place, with the further places
 pub data ProgramFails (structs : List StructDef) (units : List UnitDef) (entry : ℕ) (rule : Rule) (at : Place) (also : List Place) : Type 0 where
-  -- one of Pause, Conflict, Alias and Instant, on the units
+  -- a failure of Pause, Conflict, Alias or Instant, on the units
   in_units : UnitsFail units rule at also → ProgramFails structs units entry rule at also
-  -- one of Twice and Cycle, on the tick graphs of the activities
+  -- a failure of Twice or Cycle, on the tick graphs of the activities
   in_graphs : UnitsPass units → GraphsFail units rule at also → ProgramFails structs units entry rule at also
-  -- one of Frames and Cells, on the measures of the program
+  -- a failure of Frames or Cells, on the measures of the program
   in_limits : UnitsPass units → GraphsPass units → LimitsFail structs units entry rule at also → ProgramFails structs units entry rule at also
 
--- none of these rules fails for a typed program
+-- no rule on typed programs fails for the program
 abbrev pub ProgramPasses : List StructDef → List UnitDef → ℕ → Type 0
 ProgramPasses structs units entry = NoneOf (ProgramFails structs units entry)
 
--- the rule fails for a tree at the place, with the further places. Rules are judged in layers, each on what the layers before it make
--- where none of their rules fails
+-- the rule fails for a tree at the place; a layer of rules is judged only where the layers before pass
 pub data TreeFails (raw : Raw) (rule : Rule) (at : Place) (also : List Place) : Type 0 where
-  -- one of Duplicate, Unknown and Kind, on the tree
+  -- a failure of Duplicate, Unknown or Kind, on the tree
   in_names : NamesFail raw.items rule at also → TreeFails raw rule at also
-  -- one of Type, Literal, Immutable, Constant, Arity, Prev, Return, Where and Entry, on the tree with declarations for its names
+  -- a failure of Type, Literal, Immutable, Constant, Arity, Prev, Return, Where or Entry, on the tree with resolved names
   in_types : NamesPass raw.items → TypesFail (named_of raw) rule at also → TreeFails raw rule at also
-  -- one of the others, on its program
+  -- a failure of a rule on typed programs, on the tree's program
   in_program : NamesPass raw.items → TypesPass (named_of raw) →
       ProgramFails (typed_of raw).structs (typed_of raw).units (typed_of raw).entry rule at also → TreeFails raw rule at also
 
--- none of these rules fails for a tree
+-- no rule on trees or typed programs fails for the tree
 abbrev pub TreePasses : Raw → Type 0
 TreePasses raw = NoneOf (TreeFails raw)
 
 -- the rule fails for a text at the place, with the further places
 pub data Fails (text : List ℕ) (rule : Rule) (at : Place) (also : List Place) : Type 0 where
-  -- one of Size, Lex and Profile, on the bytes
+  -- a failure of Size, Lex or Profile, on the bytes
   in_bytes : TextFails text rule at also → Fails text rule at also
-  -- one of Depth and Syntax, on the tokens
+  -- a failure of Depth or Syntax, on the tokens
   in_tokens : (tokens : List Token) → TextPasses text → Lexes text tokens → TokensFail (length text) tokens rule at also → Fails text rule at also
-  -- one of the others, on the tree
+  -- a failure of a rule on trees or typed programs, on the tree
   in_tree : (raw : Raw) → TextPasses text → Parses text raw → TreeFails raw rule at also → Fails text rule at also
 
 -- no rule fails for a text
 abbrev pub Passes : List ℕ → Type 0
 Passes text = NoneOf (Fails text)
 
--- the rule of the least number that fails for a text, at its first place; its further places come first too, where they are no walk
+-- the rule is the first that fails for a text, at its first place, with the first further places unless they are a walk
 abbrev pub FirstFailing : List ℕ → Rule → Place → List Place → Type 0
 FirstFailing text = FailsFirst (Fails text)

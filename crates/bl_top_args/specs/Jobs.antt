@@ -34,9 +34,9 @@ pub data JobSpec : Type 0 where
   count : Word → Word → JobSpec
   -- run the C text of the first name over the file of rows of the second, and write the state after them
   save : Word → Word → JobSpec
-  -- the same from the state that the file of the second name holds, over the file of rows of the third
+  -- run a C text from a saved state over a file of rows, and write the state after them: names of text, state, rows
   save_from : Word → Word → Word → JobSpec
-  -- run the C text of the first name from the state that the file of the second name holds, over the file of rows of the third
+  -- run a C text from a saved state over a file of rows: names of text, state, rows
   resume : Word → Word → Word → JobSpec
 
 -- the files that the job reads, in the order of its words
@@ -122,7 +122,7 @@ ticks_of word = option_and_then ticks_in (seed_of word)
 abbrev pub plant_in : ℕ → Option ℕ
 plant_in number = if nat_lt number (2 ^ 32) then Some number else None
 
--- the number of the plant that a word names: the tank is plant 1, the ramp plant 2, and decimal digits write the number of any plant
+-- the plant that a word names: `tank` is plant 1, `ramp` is plant 2, and decimal digits write any number
 abbrev pub plant_of : Word → Option ℕ
 plant_of word = if bytes_eq (codes "tank") word then Some 1
     else (if bytes_eq (codes "ramp") word then Some 2 else option_and_then plant_in (seed_of word))
@@ -132,8 +132,7 @@ abbrev pub plants_of : List Word → Option (List ℕ)
 plants_of [] = Some []
 plants_of (word ∷ words) = option_and_then (λ plant. option_map (λ plants. plant ∷ plants) (plants_of words)) (plant_of word)
 
--- a run of a source against plants, where the second word is a number of ticks and each of the others, of which there is one or
--- more, names a plant
+-- the job of `drive`: a source, a number of ticks, and the names of one or more plants
 abbrev pub driven : List Word → Option JobSpec
 driven (source ∷ ticks ∷ first ∷ more) = option_and_then (λ count. option_map (drive source count) (plants_of (first ∷ more))) (ticks_of ticks)
 driven _ = None
@@ -155,7 +154,7 @@ other_job name values = if bytes_eq (codes "check") name then of_one check value
 abbrev pub command_job : Word → List Word → Option JobSpec
 command_job name values = if bytes_eq (codes "drive") name then driven values else other_job name values
 
--- the first word names the command, and no word is empty or begins with a hyphen
+-- the job of a list of words: the first names the command, and no word is empty or begins with a hyphen
 abbrev pub job_of : List Word → Option JobSpec
 job_of [] = None
 job_of (name ∷ values) =

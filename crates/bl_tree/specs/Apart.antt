@@ -22,7 +22,7 @@ kind_roots (ExprKind-F.Two op a b) = a ++ b
 kind_roots (ExprKind-F.Cast target a) = a
 kind_roots (ExprKind-F.Call f inputs) = joined inputs
 
--- a field names no variable; an index names those of its expression
+-- the variables that a part of a path names: none for a field, those of its expression for an index
 abbrev pub part_roots : Part-F Roots Roots Roots Roots → Roots
 part_roots (Part-F.Field k) = []
 part_roots (Part-F.Index e) = e
@@ -49,7 +49,7 @@ pub record Naming : Type 0 where
   pub named : Roots
   pub apart : Bool
 
--- what declares nothing and names these variables
+-- the naming of a part that declares nothing and names the given variables
 abbrev pub naming : Roots → Naming
 naming roots = record { declared = []; named = roots; apart = true }
 
@@ -61,7 +61,7 @@ together namings = record {
   apart = all_of (map (λ n. n.apart) namings);
 }
 
--- parts beside an expression that names these variables, such as the condition of a loop
+-- several parts and an expression beside them, such as the condition of a loop, as one part
 abbrev pub and_naming : Roots → List Naming → Naming
 and_naming roots namings = together (naming roots ∷ namings)
 
@@ -97,11 +97,11 @@ target_roots None = []
 abbrev pub argument_roots : List Expr → List Path → Roots
 argument_roots inputs outputs = joined (map roots_in inputs) ++ joined (map roots_in_path outputs)
 
--- what declares one variable, whose initial value names these
+-- the naming of a declaration of one variable, from the variables that its initial value names
 abbrev pub declares : ℕ → Roots → Naming
 declares k roots = record { declared = k ∷ []; named = k ∷ roots; apart = true }
 
--- one layer of a statement, from what its arms, branches and blocks declare and name
+-- the naming of one layer of a statement, from the namings of its arms, branches and blocks
 abbrev pub stmt_kind_naming : StmtKind-F Naming Naming Naming Naming → Naming
 stmt_kind_naming (StmtKind-F.Declare k initial) = declares k (optional_roots initial)
 stmt_kind_naming (StmtKind-F.Assign path e) = naming (roots_in_path path ++ roots_in e)

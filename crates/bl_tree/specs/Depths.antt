@@ -7,7 +7,7 @@ use Rattle.bl_tree.specs.declared.tree.Stmt.{Stmt, fold-Stmt}
 use Rattle.bl_tree.specs.declared.tree.StmtKind.TheOpen.{StmtKind-F, Arm-F, Branch-F, Stmt-F}
 use Rattle.bl_tree.specs.Reduce.{greatest}
 
--- the depth of one layer of an expression, from the depths of its operands: an operator, cast or call is one deeper than the deepest of them
+-- the depth of one layer of an expression: an operator, cast or call is one deeper than its deepest operand
 abbrev pub kind_depth : ExprKind-F ℕ ℕ ℕ ℕ → ℕ
 kind_depth (ExprKind-F.Literal n s) = 0
 kind_depth (ExprKind-F.Read path) = path
@@ -52,12 +52,12 @@ target_depth None = 0
 abbrev pub arguments_depth : List Expr → List Path → ℕ
 arguments_depth inputs outputs = max (greatest (map expr_depth inputs)) (greatest (map path_depth outputs))
 
--- how deep the blocks are nested, and how deep the expressions in them
+-- the nesting depth of blocks, and the depth of the expressions in them
 pub record Depth : Type 0 where
   pub blocks : ℕ
   pub exprs : ℕ
 
--- what stands in no block
+-- the depth of a statement without blocks
 abbrev pub leaf : ℕ → Depth
 leaf exprs = record { blocks = 0; exprs = exprs }
 
@@ -96,7 +96,7 @@ branch_depth branch = block 0 branch.body
 abbrev pub stmt_layer_depth : Stmt-F Depth Depth Depth Depth → Depth
 stmt_layer_depth s = s.what
 
--- how deep the blocks of a statement are nested, and how deep the expressions in it
+-- the depths of the blocks of a statement and of the expressions in it
 abbrev pub depth_of : Stmt → Depth
 depth_of = fold-Stmt Depth Depth Depth Depth stmt_kind_depth arm_depth branch_depth stmt_layer_depth
 

@@ -56,8 +56,7 @@ branch_paths branch = joined branch.body
 abbrev pub stmt_set : Stmt-F (List Static) (List Static) (List Static) (List Static) → List Static
 stmt_set s = set_of s.what
 
--- the set of the static paths that a statement reads: its expressions and the indices of its targets, and with blocks all that
--- stands in it, conditions included
+-- the static paths that a statement reads, in its expressions, the indices of its targets, its conditions and its blocks
 abbrev pub reads : Stmt → List Static
 reads = fold-Stmt (List Static) (List Static) (List Static) (List Static) kind_reads arm_reads branch_paths stmt_set
 

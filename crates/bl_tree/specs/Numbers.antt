@@ -133,7 +133,7 @@ number_of false = pos 0
 abbrev pub is_one : ℤ → Bool
 is_one z = int_eq z (pos 1)
 
--- an exact result in its type: bits keep its remainder by 2 to the width, 0 or more; the others have it where it is in their range, and trap elsewhere
+-- a result in its type: bits keep its remainder by 2 to the width; other types trap where it is out of range
 abbrev pub fitted : Scalar → ℤ → Option ℤ
 fitted (Bits w) z = Some (int_rem_euclid z (pos (2 ^ bits_of w)))
 fitted t z = if in_range t z then Some z else None
@@ -150,7 +150,7 @@ divided_by (pos zero) r = None
 divided_by (pos (suc n)) r = r
 divided_by (negsuc n) r = r
 
--- n with k zeros put behind its binary digits, of which the last w stay. The test goes first: no power of a large k is computed
+-- a shift left in a width of w bits; the first argument is the test that spares powers of a large k
 abbrev pub left_digits : Bool → ℕ → ℕ → ℕ → ℕ
 left_digits true w n k = n * 2 ^ k % 2 ^ w
 left_digits false w n k = 0
@@ -168,8 +168,7 @@ shifted_left w n k = left_digits (nat_lt k w) w n k
 abbrev pub shifted_right : ℕ → ℕ → ℕ → ℕ
 shifted_right w n k = right_digits (nat_lt k w) n k
 
--- what an operator gives for two numbers of a type that it takes; none where it traps.
--- A quotient is rounded toward 0, a remainder has the dividend's sign
+-- the result of a binary operator, none where it traps; quotients round toward 0, remainders have the dividend's sign
 abbrev pub checked_of : Op → Scalar → ℤ → ℤ → Option ℤ
 checked_of Add t a b = fitted t (a +ℤ b)
 checked_of Sub t a b = fitted t (a -ℤ b)
@@ -193,7 +192,7 @@ checked_of Minus t a b = None
 checked_of BitNot t a b = None
 checked_of Not t a b = None
 
--- the same for one operand
+-- the result of a unary operator for a number of a type that it takes, none where it traps
 abbrev pub checked_one_of : Op → Scalar → ℤ → Option ℤ
 checked_one_of Minus t a = fitted t (neg_ℤ a)
 checked_one_of BitNot t a = Some (pos (2 ^ width_of t - 1) -ℤ a)

@@ -25,7 +25,7 @@ column_of var = record { name = var.name; ty = column_type (unwrap_or (scalar_in
 abbrev pub columns_of : List Var → List Column
 columns_of vars = map column_of vars
 
--- the columns of a unit's inputs, and those of its outputs
+-- the columns of a unit's inputs
 abbrev pub input_columns : UnitDef → List Column
 input_columns unit = columns_of (inputs_of unit)
 
@@ -39,7 +39,7 @@ output_columns unit = columns_of (outputs_of unit)
 abbrev pub types_of : List Column → List ScalarType
 types_of columns = map (λ column. column.ty) columns
 
--- whether there is a number for each of these types, in its range
+-- whether the numbers are as many as the types, and each is in the range of its type
 abbrev pub in_ranges : List ScalarType → List ℤ → Bool
 in_ranges [] [] = true
 in_ranges (t ∷ ts) (n ∷ ns) = in_range t n && in_ranges ts ns

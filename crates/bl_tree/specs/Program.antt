@@ -51,7 +51,7 @@ struct_stands before def =
     && ((list_all is_name (field_names def) && are_distinct (field_names def))
     && list_all (λ field. type_stands before field.ty) def.fields)
 
--- whether each of these structs stands, the first at this position
+-- whether each struct of a list stands, where the first has this position
 abbrev pub structs_stand_from : ℕ → List StructDef → Bool
 structs_stand_from before [] = true
 structs_stand_from before (def ∷ rest) = struct_stands before def && structs_stand_from (before + 1) rest
@@ -88,8 +88,7 @@ parameters_of unit = take (unit.inputs + unit.outputs) unit.vars
 abbrev pub names_of : List Var → List (List ℕ)
 names_of vars = map (λ var. var.name) vars
 
--- whether the parameters stand first and differ, the variables have names and types, every statement fits, `return` stands
--- where it may, nothing is nested too deep, and branches keep apart
+-- whether a unit is well-formed: roles, names, types, statements, `return`s, nesting, and branches that keep apart
 abbrev pub unit_stands : List StructDef → List UnitDef → UnitDef → Bool
 unit_stands structs earlier unit =
     (roles_stand unit && (list_all is_name (names_of unit.vars) && are_distinct (names_of (parameters_of unit))))
@@ -97,7 +96,7 @@ unit_stands structs earlier unit =
     && (list_all (fits (site_of structs earlier unit)) unit.body
     && (unit_returns unit && (is_shallow 200 unit.body && list_all is_apart unit.body))))
 
--- each unit sees those before it
+-- whether each unit of a list is well-formed, where the earlier ones stand before it
 abbrev pub units_stand_after : List StructDef → List UnitDef → List UnitDef → Bool
 units_stand_after structs earlier [] = true
 units_stand_after structs earlier (unit ∷ rest) =
@@ -118,7 +117,7 @@ is_entry None = false
 pub record IsWellTyped (structs : List StructDef) (units : List UnitDef) (entry : ℕ) : Type 0 where
   -- the names of structs and units are names
   pub named : IsTrue (list_all is_name (all_names structs units))
-  -- and differ
+  -- the names of structs and units are distinct
   pub distinct : IsTrue (are_distinct (all_names structs units))
   -- each struct has a field, its fields' names are names and differ, lengths are from 1 to 65536, and it uses earlier ones alone
   pub structs_stand : IsTrue (structs_stand_from 0 structs)
@@ -126,7 +125,7 @@ pub record IsWellTyped (structs : List StructDef) (units : List UnitDef) (entry 
   pub units_stand : IsTrue (units_stand_after structs [] units)
   -- the entry is an activity that the environment can drive
   pub entry_stands : IsTrue (is_entry (slice_get units entry))
-  -- statements of one place read and write the same, and either all of them may end in the tick in which they begin or none
+  -- statements of one place have the same effects
   pub places_decide : PlacesDecide units
   -- `run` statements of one place are the same, and don't stand in two branches of one `cobegin`
   pub runs_decide : RunsDecide units

@@ -16,7 +16,7 @@ abbrev pub joined : {A : Type 0} → List (List A) → List A
 joined [] = []
 joined (xs ∷ rest) = xs ++ joined rest
 
--- the sum
+-- the sum of a list
 abbrev pub total : List ℕ → ℕ
 total [] = 0
 total (n ∷ ns) = n + total ns

@@ -81,7 +81,7 @@ returns_last_alone (s ∷ t ∷ rest) = not (has_return s) && returns_last_alone
 abbrev pub function_returns : UnitDef → Bool
 function_returns unit = is_none unit.result || (nat_eq unit.outputs 0 && last_of (map surely_returns unit.body))
 
--- an activity returns with its last statement alone, and does so where it has a result
+-- whether an activity returns only by its last statement, and does return if it has a result
 abbrev pub activity_returns : UnitDef → Bool
 activity_returns unit = returns_last_alone unit.body && (is_none unit.result || last_of (map is_return unit.body))
 

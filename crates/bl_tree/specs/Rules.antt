@@ -90,15 +90,15 @@ name_of rule.Cells = codes "Cells"
 
 -- ---- places in order
 
--- whether two places have the same start and the same end
+-- whether two places have equal starts and equal ends
 abbrev pub same_place : Place → Place → Bool
 same_place a b = nat_eq a.start b.start && nat_eq a.end b.end
 
--- by their starts, and then by their ends
+-- the strict lexicographic order of places by start, and then by end, as a test
 abbrev pub is_before : Place → Place → Bool
 is_before a b = nat_lt a.start b.start || (nat_eq a.start b.start && nat_lt a.end b.end)
 
--- the same as a relation
+-- the strict lexicographic order of places by start, and then by end, as a relation
 abbrev pub IsBefore : Place → Place → Type 0
 IsBefore one other = (one.start < other.start) ⊎ ((one.start ≡ other.start) × (one.end < other.end))
 
@@ -110,19 +110,17 @@ AreNoLater (one ∷ rest) (other ∷ others) = IsBefore one other ⊎ ((one ≡ 
 
 -- ---- the first rule that fails
 
--- whether the further places of the rule's line are a closed walk in a tick graph: there are many from one place, any will
--- do, and a least one needn't exist
+-- whether the further places of the rule's line are a closed walk in a tick graph, of which no least one is asked
 abbrev pub tells_walk : Rule → Bool
 tells_walk rule.Twice = true
 tells_walk rule.Cycle = true
 tells_walk _ = false
 
--- the places by which two failures of one rule are compared: all that its line names, and of a walk where it begins
+-- the places that order failures of one rule: all places of its line, and for a closed walk its first alone
 abbrev pub compared : Rule → Place → List Place → List Place
 compared rule at also = if tells_walk rule then at ∷ [] else at ∷ also
 
--- the rule fails at the place with the further places, no rule of a lesser number fails, and this rule fails at no earlier
--- place, and at this place with no earlier further places where they aren't a walk
+-- the rule has the least number of those that fail, and the least places at which it fails, closed walks not compared
 pub record FailsFirst (Fails : Rule → Place → List Place → Type 0) (rule : Rule) (at : Place) (also : List Place) : Type 0 where
   pub fails : Fails rule at also
   pub least_rule : (other : Rule) (elsewhere : Place) (further : List Place) → Fails other elsewhere further → number_of rule ≤ number_of other
@@ -164,17 +162,17 @@ comes_before a b =
     then come_before (places_of a) (places_of b)
     else nat_lt (number_of a.rule) (number_of b.rule)
 
--- the failure, where it comes before the first so far, and else that
+-- the lesser of an optional failure and another failure
 abbrev pub lesser : Option Failure → Failure → Option Failure
 lesser None failure = Some failure
 lesser (Some first) failure = if comes_before failure first then Some failure else Some first
 
--- the first of the first so far and of these
+-- the least of an optional failure and a list of failures
 abbrev pub first_of : Option Failure → List Failure → Option Failure
 first_of first [] = first
 first_of first (failure ∷ rest) = first_of (lesser first failure) rest
 
--- the rule fails at the place with the further places, as one of these failures says
+-- a list of failures has one with this rule, place and further places
 pub record FailsAmong (failures : List Failure) (rule : Rule) (at : Place) (also : List Place) : Type 0 where
   pub failure : Failure
   pub is_there : Contains failures failure

@@ -5,14 +5,14 @@ use Rattle.bl_tree.specs.declared.scalar.Width.TheVariants.{W8, W16, W32, W64}
 use Rattle.bl_tree.specs.declared.scalar.Scalar.{Scalar}
 use Rattle.bl_tree.specs.declared.scalar.Scalar.TheVariants.{Bool as OfBool, Int, Nat, Bits}
 
--- how many bits a width stands for
+-- the number of bits of a width
 abbrev pub bits_of : Width → ℕ
 bits_of W8 = 8
 bits_of W16 = 16
 bits_of W32 = 32
 bits_of W64 = 64
 
--- how many bits a number of the type has
+-- the number of bits of a scalar type
 abbrev pub width_of : Scalar → ℕ
 width_of OfBool = 1
 width_of (Int w) = bits_of w
@@ -38,11 +38,11 @@ pub record InRange (t : Scalar) (n : ℤ) : Type 0 where
   pub above : low_of t ≤ℤ n
   pub below : n ≤ℤ high_of t
 
--- the same, as a test
+-- whether n is a number of the type
 abbrev pub in_range : Scalar → ℤ → Bool
 in_range t n = int_le (low_of t) n && int_le n (high_of t)
 
--- every type without parts but bool
+-- whether a scalar type has whole numbers: any type but bool
 abbrev pub is_whole : Scalar → Bool
 is_whole OfBool = false
 is_whole (Int w) = true
@@ -63,7 +63,7 @@ is_bits (Int w) = false
 is_bits (Nat w) = false
 is_bits (Bits w) = true
 
--- bool alone
+-- whether a scalar type is bool
 abbrev pub is_bool : Scalar → Bool
 is_bool OfBool = true
 is_bool (Int w) = false

@@ -20,7 +20,7 @@ is_front [] ys = true
 is_front (x ∷ xs) [] = false
 is_front (x ∷ xs) (y ∷ ys) = nat_eq x y && is_front xs ys
 
--- whether two static paths name something in common: they have one root, and the fields of one are a front of the other's
+-- whether two static paths overlap: equal roots, and the fields of one are a front of the other's
 abbrev pub overlaps : Static → Static → Bool
 overlaps a b = nat_eq a.root b.root && (is_front a.fields b.fields || is_front b.fields a.fields)
 
@@ -41,7 +41,7 @@ fields_precede (x ∷ xs) (y ∷ ys) = nat_lt x y || (nat_eq x y && fields_prece
 abbrev pub precedes : Static → Static → Bool
 precedes a b = nat_lt a.root b.root || (nat_eq a.root b.root && fields_precede a.fields b.fields)
 
--- an ascending list with the static path in its place, where it isn't there already
+-- an ascending list of static paths with one more in its place, unless it is there already
 abbrev pub placed : Static → List Static → List Static
 placed a [] = a ∷ []
 placed a (b ∷ rest) = if precedes a b then a ∷ b ∷ rest else (if precedes b a then b ∷ placed a rest else b ∷ rest)
@@ -99,7 +99,7 @@ path_reach path = record {
   indices = joined (map (λ step. step.reads) path.parts);
 }
 
--- the static paths that an expression reads, in source order: that of each path in it and what the indices of that path read; `prev x` reads nothing
+-- the static paths that an expression reads in source order, those of indices included; `prev x` reads none
 abbrev pub mentions : Expr → List Static
 mentions = fold-Expr (List Static) StaticStep (List Static) Reach kind_mentions part_step expr_mentions path_reach
 

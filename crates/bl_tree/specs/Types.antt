@@ -18,7 +18,7 @@ same_scalar _ _ = false
 abbrev pub scalar : ScalarType → Ty
 scalar t = roll-Ty (Ty-F.Scalar t)
 
--- one level of a type, as the scalar that it is
+-- the scalar type of one layer of a type, where the layer is a scalar
 abbrev pub scalar_at : {A : Type 0} → Ty-F A → Option ScalarType
 scalar_at (Ty-F.Scalar t) = Some t
 scalar_at _ = None

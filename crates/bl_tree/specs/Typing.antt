@@ -73,12 +73,12 @@ may_change Output = true
 may_change Variable = true
 may_change Fixed = false
 
--- declared by `var`
+-- whether a variable is declared by `var`
 abbrev pub is_variable : Role → Bool
 is_variable Variable = true
 is_variable _ = false
 
--- declared by `let`
+-- whether a variable is declared by `let`
 abbrev pub is_fixed : Role → Bool
 is_fixed Fixed = true
 is_fixed _ = false
@@ -111,7 +111,7 @@ element_in _ = None
 abbrev pub where_whole : Option Ty → Option Ty → Option Ty
 where_whole index t = option_and_then (λ ty. option_and_then (λ s. if is_whole s then t else None) (scalar_in ty)) index
 
--- from the type of a place to that of its part
+-- the type of a part of a place, from the type of the place
 abbrev pub part_type : TypingContext → Part-F (Option Ty) (Ty → Option Ty) (Option Ty) (Option Ty) → Ty → Option Ty
 part_type site (Part-F.Field k) ty = field_in site.structs k (out-Ty ty)
 part_type site (Part-F.Index index) ty = where_whole index (element_in (out-Ty ty))
@@ -121,7 +121,7 @@ abbrev pub after_parts : List (Ty → Option Ty) → Ty → Option Ty
 after_parts [] ty = Some ty
 after_parts (part ∷ rest) ty = option_and_then (after_parts rest) (part ty)
 
--- the type itself, where it is the one that stands at the path
+-- the type, if it is equal to the type that stands at the path
 abbrev pub where_same : Ty → Ty → Option Ty
 where_same written found = if same_type written found then Some found else None
 
@@ -129,7 +129,7 @@ where_same written found = if same_type written found then Some found else None
 abbrev pub path_type : TypingContext → Path-F (Option Ty) (Ty → Option Ty) (Option Ty) (Option Ty) → Option Ty
 path_type site path = option_and_then (where_same path.ty) (option_and_then (λ var. after_parts path.parts var.ty) (var_at site path.root))
 
--- the type of what an operator gives, where it takes operands of this type
+-- the result type of a unary operator, where it takes operands of this type
 abbrev pub one_type : Op → ScalarType → Option Ty
 one_type op s = if takes_one op s then Some (scalar (type_of_result op s)) else None
 
@@ -137,7 +137,7 @@ one_type op s = if takes_one op s then Some (scalar (type_of_result op s)) else 
 abbrev pub two_type : Op → ScalarType → ScalarType → Option Ty
 two_type op s t = if same_scalar s t && takes_two op s then Some (scalar (type_of_result op s)) else None
 
--- a cast goes between whole-number types, and gives the one that it names
+-- the target type of a cast, where both types are whole-number types
 abbrev pub cast_type : ScalarType → ScalarType → Option Ty
 cast_type target s = if is_whole target && is_whole s then Some (scalar target) else None
 
@@ -185,7 +185,7 @@ type_of_path site = fold-Path (Option Ty) (Ty → Option Ty) (Option Ty) (Option
 
 -- ---- statements
 
--- whether both have types, and these are one
+-- whether two optional types are present and equal
 abbrev pub are_same : Option Ty → Option Ty → Bool
 are_same (Some a) (Some b) = same_type a b
 are_same _ _ = false
@@ -234,7 +234,7 @@ arguments_fit site inputs outputs callee =
 abbrev pub is_procedure : UnitDef → Bool
 is_procedure callee = is_function callee.kind && is_none callee.result
 
--- whether a call statement may call the unit at its position with these arguments; there must be one
+-- whether a call statement may call an optional unit with these arguments; an absent unit may not be called
 abbrev pub call_fits : TypingContext → List Expr → List Path → Option UnitDef → Bool
 call_fits site inputs outputs (Some callee) = is_procedure callee && arguments_fit site inputs outputs callee
 call_fits site inputs outputs None = false

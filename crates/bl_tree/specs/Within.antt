@@ -93,7 +93,7 @@ pub record RunsIn (outer : Stmt) (k : ℕ) (s : Stmt) : Type 0 where
   pub stands : StandsIn (out-Branch branch).body s
   pub runs : IsTrue (is_run s)
 
--- two `run` statements of one place are the same, and they don't stand in two branches of one `cobegin`
+-- `run` statements of one place are equal, and no two branches of a `cobegin` have `run`s of one place
 pub record RunsDecide (units : List UnitDef) : Type 0 where
   pub same : (s t : Stmt) → StandsInUnits units s → StandsInUnits units t → IsTrue (is_run s) → IsTrue (is_run t) →
       place_of s ≡ place_of t → ∥ s ≡ t ∥₁

@@ -20,7 +20,7 @@ keywords =
     codes "int64" ∷ codes "nat8" ∷ codes "nat16" ∷ codes "nat32" ∷ codes "nat64" ∷
     codes "bits8" ∷ codes "bits16" ∷ codes "bits32" ∷ codes "bits64" ∷ []
 
--- the words that the profile leaves out; which these are is this project's choice
+-- the words that the profile reserves and leaves out, a choice of this project
 abbrev pub outside_words : List (List ℕ)
 outside_words =
     codes "float32" ∷ codes "float64" ∷ codes "param" ∷ codes "extern" ∷ codes "singleton" ∷

@@ -102,7 +102,7 @@ constant_failures name e valued = not_scalar name valued.ty ++ not_constant e va
 abbrev pub with_constant : Environment → Constant → Environment
 with_constant env constant = record env { constants = env.constants ++ constant ∷ [] }
 
--- after a constant
+-- what is known after a constant
 abbrev pub after_constant : NamedConstant → Environment → Declaring
 after_constant constant env =
     let value : Initial = initial env constant.ty constant.value in
@@ -122,7 +122,7 @@ abbrev pub optional_lengths : Environment → Option NamedType → List Failure
 optional_lengths env (Some written) = bad_lengths env.constants written
 optional_lengths env None = []
 
--- after a variable without a value
+-- what is known after a variable without a value
 abbrev pub after_variable : NamedVar → Environment → Declaring
 after_variable var env = record { env = with_variable env var (option_map (written_type env.constants) var.ty); failures = optional_lengths env var.ty }
 
@@ -133,19 +133,19 @@ is_parameter Output = true
 is_parameter Var = false
 is_parameter Fixed = false
 
--- after one thing and then another
+-- what is known after one declaration and then another
 abbrev pub and_then : Declaring → (Environment → Declaring) → Declaring
 and_then first then_ = record { env = (then_ first.env).env; failures = first.failures ++ (then_ first.env).failures }
 
--- what is known stays, and nothing fails
+-- the environment as it is, without failures
 abbrev pub unchanged : Environment → Declaring
 unchanged env = record { env = env; failures = [] }
 
--- after one of a unit's variables, where it is a parameter
+-- what is known after a variable of a unit, if it is a parameter
 abbrev pub after_parameter : NamedVar → Environment → Declaring
 after_parameter var env = if is_parameter var.role then after_variable var env else unchanged env
 
--- after the parameters among the variables of a unit
+-- what is known after the parameters among the variables of a unit
 abbrev pub after_parameters : List NamedVar → Environment → Declaring
 after_parameters [] env = unchanged env
 after_parameters (var ∷ rest) env = and_then (after_parameter var env) (after_parameters rest)
@@ -164,7 +164,7 @@ field_lengths env field = bad_lengths env.constants field.ty
 abbrev pub struct_of : Environment → NamedStruct → StructDef
 struct_of env def = record { name = def.name.text; place = def.name.place; fields = map (field_of env) def.fields }
 
--- after a struct
+-- what is known after a struct
 abbrev pub after_struct : NamedStruct → Environment → Declaring
 after_struct def env = record {
   env = record env { structs = env.structs ++ struct_of env def ∷ [] };

@@ -121,8 +121,7 @@ after_failures earlier formed = record { form = formed.form; failures = earlier 
 
 -- ---- where a type is wanted
 
--- Type: an expression has another type than is wanted of it: the value of an assignment or a declaration, an argument, a condition or
--- what is returned; at the expression
+-- the expression, or a failure of rule Type at it where it doesn't have the type wanted of it
 abbrev pub same_or_unfit : Ty → Place → Ty → Expr → Settled
 same_or_unfit wanted at ty e = if same_type wanted ty then kept e else unfit at
 
@@ -166,7 +165,7 @@ one_formed at op Failing = failing
 one_formed at op (Open a) = if keeps_one_open op then record { form = Open (one at op a); failures = [] } else fails_type (out-Expr a).place
 one_formed at op (Of ty a) = formed_as (option_and_then (one_type op) (scalar_in ty)) at (one at op a)
 
--- the type of what the operator gives, where it takes operands of these types
+-- the result type of a binary operator, where it takes operands of the two types
 abbrev pub type_of_two : Op → Ty → Ty → Option Ty
 type_of_two op ty other = option_and_then (λ s. option_and_then (two_type op s) (scalar_in other)) (scalar_in ty)
 
@@ -179,7 +178,7 @@ operands_made at op ty _ _ = failing
 abbrev pub two_of : Place → Op → Option Ty → Settled → Settled → Formed
 two_of at op ty a b = after_failures a.failures (after_failures b.failures (operands_made at op ty a.made b.made))
 
--- an open operand beside one of this type, which it takes. Type: a logical operator wants a bool of it, which it never is; at the operand
+-- an open operand beside one of a type, which it takes; rule Type fails at it under a logical operator
 abbrev pub beside : Op → Ty → Expr → Settled
 beside op ty e = if is_logical op then unfit (out-Expr e).place else given ty e
 
@@ -191,8 +190,7 @@ settled_two at op a b = two_of at op (type_of_two op (scalar int32) (scalar int3
 abbrev pub open_two : Place → Op → Expr → Expr → Formed
 open_two at op a b = if keeps_two_open op then record { form = Open (two at op a b); failures = [] } else settled_two at op a b
 
--- a form with an operand that has no type has none either, and no clause compares its operands. Of an open operand nothing is wanted
--- there, but a bool by a logical operator: it takes `int32`
+-- a binary form with an operand without a type has none; an open operand takes `int32` in it
 abbrev pub beside_none : Op → Form → Formed
 beside_none op (Open e) = record { form = Failing; failures = (beside op (scalar int32) e).failures }
 beside_none op _ = failing
@@ -253,7 +251,7 @@ pub record FieldAt : Type 0 where
   pub position : ℕ
   pub ty : Ty
 
--- the field of the name among these, which begin at the position
+-- the first field of the name in a list of fields that begins at the position
 abbrev pub field_among : List ℕ → List Field → ℕ → Option FieldAt
 field_among name [] k = None
 field_among name (field ∷ rest) k = if bytes_eq field.name name then Some (record { position = k; ty = field.ty }) else field_among name rest (k + 1)
@@ -315,17 +313,17 @@ to_element at index reached = record {
 abbrev pub after_index : Judged → Stepped → Stepped
 after_index index step = record { ty = step.ty; part = step.part; failures = index.failures ++ step.failures }
 
--- how far parts lead, and what fails at them
+-- the type that a list of parts leads to, the typed parts, and the failures at them
 pub record Led : Type 0 where
   pub ty : Option Ty
   pub parts : List Part
   pub failures : List Failure
 
--- the one, where it is made, and then the rest
+-- the list with one more element at its front, if there is one
 abbrev pub with_made : {A : Type 0} → Option A → List A → List A
 with_made one rest = cons_option one rest
 
--- one part after another
+-- the steps of the parts of a target, one after another
 abbrev pub stepped : List (Option Ty → Stepped) → Option Ty → Led
 stepped [] ty = record { ty = ty; parts = []; failures = [] }
 stepped (step ∷ rest) ty =
@@ -471,7 +469,7 @@ judged_layer e = let formed : Formed = e.what e.place in record { place = e.plac
 abbrev pub judged_target : Environment → NamedTarget-F (Place → Formed) (Option Ty → Stepped) Judged Targeted → Targeted
 judged_target env target = targeted_from env target.place target.root target.parts
 
--- an expression
+-- the judgement of an expression
 abbrev pub judged : Environment → NamedExpr → Judged
 judged env = fold-NamedExpr (Place → Formed) (Option Ty → Stepped) Judged Targeted (judged_kind env) (judged_part env) judged_layer (judged_target env)
 
@@ -483,6 +481,6 @@ call_judged env at name f inputs = call_formed at name f (fitted (map (judged en
 abbrev pub step_of : Environment → NamedPart → Option Ty → Stepped
 step_of env = fold-NamedPart (Place → Formed) (Option Ty → Stepped) Judged Targeted (judged_kind env) (judged_part env) judged_layer (judged_target env)
 
--- a target
+-- the judgement of a target
 abbrev pub targeted : Environment → NamedTarget → Targeted
 targeted env = fold-NamedTarget (Place → Formed) (Option Ty → Stepped) Judged Targeted (judged_kind env) (judged_part env) judged_layer (judged_target env)

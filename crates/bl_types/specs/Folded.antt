@@ -33,7 +33,7 @@ constant_part part = tt
 abbrev pub constant_layer : NamedExpr-F Bool (Unit {0}) Bool Bool → Bool
 constant_layer e = e.what
 
--- whether a root with these parts is a constant without a part
+-- whether a root without parts is a constant
 abbrev pub whole_constant : Root → List (Unit {0}) → Bool
 whole_constant (root.Constant k) [] = true
 whole_constant _ _ = false
@@ -68,7 +68,7 @@ number_in e = operand (meaning_of nowhere e) no_values
 abbrev pub as_operand : Number → Operand
 as_operand a = record { ty = a.ty; n = a.n }
 
--- the number of a constant whose value is made of these; none where that has no type, or traps
+-- the number of a constant expression by its typed form; none where it isn't constant, has no type, or traps
 abbrev pub folded : NamedExpr → Option Expr → Option Operand
 folded e value = if is_constant e then option_and_then number_in value else None
 

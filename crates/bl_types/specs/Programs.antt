@@ -16,25 +16,25 @@ use Rattle.bl_types.specs.Units.{after_unit, entries, entry_among}
 abbrev pub fresh : Environment
 fresh = record { structs = []; constants = []; units = []; vars = []; kind = Function; result = None }
 
--- the same, where no rule fails so far
+-- the state of the judgement before a program, in which no rule fails
 abbrev pub start : State
 start = record { env = fresh; notes = record { first = None } }
 
 -- ---- the items of a program in source order. The constants in the body of a unit are among those of the program, and are over
 -- with the unit
 
--- after the next of a kind, where there is one
+-- what is known after the next item of a kind, if there is one
 abbrev pub after_next : {A : Type 0} → (A → Environment → Declaring) → Option A → Environment → Declaring
 after_next after (Some it) env = after it env
 after_next after None env = unchanged env
 
--- after an item of the program: its next struct, constant or unit
+-- what is known after an item of the program: its next struct, constant or unit
 abbrev pub after_item : Named → Item → Environment → Declaring
 after_item named item.Struct env = after_next after_struct (slice_get named.structs (length env.structs)) env
 after_item named item.Constant env = after_next after_constant (slice_get named.constants (length env.constants)) env
 after_item named item.Unit env = after_next (after_unit named.constants) (slice_get named.units (length env.units)) env
 
--- after these items, one after another
+-- what is known after several items, one after another
 abbrev pub after_items : Named → List Item → Environment → Declaring
 after_items named [] env = unchanged env
 after_items named (item ∷ rest) env = and_then (after_item named item env) (after_items named rest)
@@ -43,7 +43,7 @@ after_items named (item ∷ rest) env = and_then (after_item named item env) (af
 abbrev pub text_end : Named → Place
 text_end named = record { start = named.bytes; end = named.bytes }
 
--- after the whole program
+-- what is known after the whole program
 abbrev pub after_program : Named → Declaring
 after_program named = after_items named named.order fresh
 

@@ -44,7 +44,7 @@ arm_surely_returns = fold-NamedArm Bool Bool Bool Bool kind_returns arm_returns 
 
 -- ---- each `return` in a part of a body, where none may stand; at the `return`
 
--- the failures of a kind of statement at a place, from those of its blocks
+-- the failures of stray `return`s in a kind of statement at a place, from those of its blocks
 abbrev pub kind_strays : NamedStmtKind-F (Place → List Failure) (List Failure) (List Failure) (List Failure) → Place → List Failure
 kind_strays (NamedStmtKind-F.Return e) at = fails_at rule.Return at
 kind_strays (NamedStmtKind-F.If arms other) at = joined arms ++ joined other
@@ -55,19 +55,19 @@ kind_strays (NamedStmtKind-F.Until body e) at = joined body
 kind_strays (NamedStmtKind-F.While e body) at = joined body
 kind_strays _ at = []
 
--- the failures in an arm, from those in its statements
+-- the failures of stray `return`s in an arm, from those of its statements
 abbrev pub arm_layer_strays : NamedArm-F (Place → List Failure) (List Failure) (List Failure) (List Failure) → List Failure
 arm_layer_strays arm = joined arm.body
 
--- the failures in a branch, from those in its statements
+-- the failures of stray `return`s in a branch, from those of its statements
 abbrev pub branch_layer_strays : NamedBranch-F (Place → List Failure) (List Failure) (List Failure) (List Failure) → List Failure
 branch_layer_strays branch = joined branch.body
 
--- the failures in a statement are those of its kind at its place
+-- the failures of stray `return`s in a statement, from those of its kind
 abbrev pub layer_strays : NamedStmt-F (Place → List Failure) (List Failure) (List Failure) (List Failure) → List Failure
 layer_strays s = s.what s.place
 
--- in a statement, itself included
+-- the failures of stray `return`s in a statement, itself included
 abbrev pub strays_in : NamedStmt → List Failure
 strays_in = fold-NamedStmt (Place → List Failure) (List Failure) (List Failure) (List Failure) kind_strays arm_layer_strays branch_layer_strays layer_strays
 
@@ -95,7 +95,7 @@ abbrev pub stray : Bool → NamedStmt → List Failure
 stray true s = strays_in s
 stray false s = if is_return s then [] else strays_in s
 
--- in a body, but for a `return` that stands last directly in it
+-- the failures of stray `return`s in a body; one may stand last directly in it
 abbrev pub strays : List NamedStmt → List Failure
 strays [] = []
 strays (s ∷ rest) = stray (is_inhabited rest) s ++ strays rest
@@ -110,7 +110,7 @@ function_returns unit = is_none unit.result || (nat_eq unit.outputs 0 && last_of
 abbrev pub activity_returns : NamedUnit → Bool
 activity_returns unit = is_none unit.result || last_of (map is_return unit.body)
 
--- Return: at the name of a unit that doesn't return as its result asks; in an activity at each `return` that isn't last directly in its body
+-- the failures of rule Return: a unit that doesn't return as its result asks, or a stray `return` of an activity
 abbrev pub return_failures : NamedUnit → List Failure
 return_failures unit =
     if is_activity unit.kind

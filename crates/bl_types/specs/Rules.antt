@@ -15,7 +15,7 @@ Fails named = rules.FailsAmong (failures_of named)
 abbrev pub FailsFirst : Named → Rule → Place → List Place → Type 0
 FailsFirst named = rules.FailsFirst (Fails named)
 
--- none of the rules fails
+-- none of the rules from Type to Entry fails
 abbrev pub Passes : Named → Type 0
 Passes named = rules.Passes (Fails named)
 

@@ -69,7 +69,7 @@ two at op a b = roll-Expr (record { place = at; what = what.Two op a b })
 abbrev pub kept : Expr → Settled
 kept e = record { made = Some e; failures = [] }
 
--- one that has none
+-- an expression without a typed form and without failures
 abbrev pub nothing : Settled
 nothing = record { made = None; failures = [] }
 
@@ -84,7 +84,7 @@ abbrev pub one_made : ScalarType → Place → Op → Option Expr → Settled
 one_made s at op (Some a) = if takes_one op s then kept (one at op a) else unfit at
 one_made s at op None = nothing
 
--- the same of two operands
+-- a binary form with its typed operands; rule Type fails at it where the operator doesn't take their type
 abbrev pub two_made : ScalarType → Place → Op → Option Expr → Option Expr → Settled
 two_made s at op (Some a) (Some b) = if takes_two op s then kept (two at op a b) else unfit at
 two_made s at op _ _ = nothing

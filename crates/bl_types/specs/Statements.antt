@@ -82,19 +82,19 @@ use Rattle.bl_types.specs.Settled.{Settled}
 
 -- ---- what one statement or block comes to
 
--- what is known after a part of a body, what is made of it where what stands in it has types that fit, and what fails in it
+-- the judgement of a part of a body: what is known after it, its typed form if it has one, and its failures
 pub record Walked (A : Type 0) : Type 0 where
   pub env : Environment
   pub made : Option A
   pub failures : List Failure
 
--- the same of a list
+-- the judgement of a list of parts: what is known after it, the typed forms, and the failures
 pub record Block (A : Type 0) : Type 0 where
   pub env : Environment
   pub made : List A
   pub failures : List Failure
 
--- one part after another
+-- the judgement of several parts, one after another
 abbrev pub in_order : {A : Type 0} → List (Environment → Walked A) → Environment → Block A
 in_order [] env = record { env = env; made = []; failures = [] }
 in_order (part ∷ rest) env =
@@ -263,7 +263,7 @@ declare k (Some var) (Some e) env = declared_with var k (initial env var.ty e) e
 declare k (Some var) None env = declared_without k (after_variable var env)
 declare k None e env = walked env None []
 
--- after a constant, where there is one
+-- what is known after an optional constant
 abbrev pub after_optional_constant : Option NamedConstant → Environment → Declaring
 after_optional_constant (Some constant) env = after_constant constant env
 after_optional_constant None env = unchanged env

@@ -68,7 +68,7 @@ var_typed var ty = record { name = var.name; place = var.place; ty = ty; role = 
 abbrev pub var_of : Variable → Option Var
 var_of var = option_map (var_typed var) var.ty
 
--- those of the variables that have types
+-- the variables of a list that have types
 abbrev pub vars_of : List Variable → List Var
 vars_of vars = filter_map var_of vars
 
@@ -93,14 +93,14 @@ unit_of unit body env = record {
 abbrev pub environment_after : NamedUnit → List Stmt → Environment → Environment
 environment_after unit body env = record env { units = env.units ++ unit_of unit body env ∷ []; vars = []; result = None }
 
--- after the head of a unit: its parameters and its result
+-- what is known after the head of a unit: its parameters and its result
 abbrev pub after_head : NamedUnit → Environment → Declaring
 after_head unit env =
     let inside : Declaring = after_parameters unit.vars (entered unit env) in
     let result : Result = result_of inside.env unit.name.place unit.result in
     record { env = record inside.env { result = result.result }; failures = inside.failures ++ result.failures }
 
--- after a unit, where these are the constants of the program
+-- what is known after a unit in a program with these constants
 abbrev pub after_unit : List NamedConstant → NamedUnit → Environment → Declaring
 after_unit constants unit env =
     let head : Declaring = after_head unit env in
@@ -127,13 +127,13 @@ can_be_driven var = if is_parameter var.role then is_scalar var.ty else true
 abbrev pub drives : NamedUnit → Bool
 drives unit = is_activity unit.kind && (is_none unit.result && list_all can_be_driven unit.vars)
 
--- Entry: no unit has the mark, at the text's end; a second one has it, or it is no unit that the environment can drive, at its name
+-- the failures of rule Entry: a missing mark, at the text's end; a second one, or a unit that can't be driven
 abbrev pub entries : Bool → Place → List NamedUnit → List Failure
 entries seen end [] = unless seen rule.Entry end
 entries seen end (unit ∷ rest) =
     if unit.entry then unless (not seen && drives unit) rule.Entry unit.name.place ++ entries true end rest else entries seen end rest
 
--- the position of the first unit that has the mark, where these units begin at the position; 0 where none has it
+-- the position of the first marked unit of a list that begins at the position; 0 where none is marked
 abbrev pub entry_among : List NamedUnit → ℕ → ℕ
 entry_among [] k = 0
 entry_among (unit ∷ rest) k = if unit.entry then k else entry_among rest (k + 1)

@@ -80,8 +80,7 @@ branch_named branch = all_of branch.body
 abbrev pub stmt_layer_named : NamedStmt-F Bool Bool Bool Bool → Bool
 stmt_layer_named s = s.what
 
--- whether calls in a statement name functions and runs activities, each declaration without a value is of a `var` with a
--- type, and each `if` and `cobegin` has a part
+-- whether a statement's callees have the right kind, its declarations a type or value, and its `if`s and `cobegin`s a part
 abbrev pub stmt_named : List NamedConstant → List NamedVar → List UnitDef → NamedStmt → Bool
 stmt_named constants vars units = fold-NamedStmt Bool Bool Bool Bool (kind_named constants vars units) (arm_named units) branch_named stmt_layer_named
 
@@ -127,8 +126,7 @@ pub record Grown (before after : Environment) : Type 0 where
   pub kind : after.kind ≡ before.kind
   pub result : after.result ≡ before.result
 
--- what is known after a part of a body: as much as is counted, and what is made of the part is good where the variables are those
--- of the site; it is made, where it must be
+-- the judgement of a part of a body extends what is known as counted; its typed form is good, and present where it must be
 pub record PartPassed {A : Type 0} (must : Bool) (site : TypingContext) (good : A → Bool) (before : Environment) (counts : DeclaredBefore) (after : Walked A) : Type 0 where
   pub grown : Grown before after.env
   pub known : Known after.env
@@ -136,7 +134,7 @@ pub record PartPassed {A : Type 0} (must : Bool) (site : TypingContext) (good : 
   pub is_good : VariablesThere after.env site → (a : A) → after.made ≡ Some a → good a ≡ true
   pub is_made : must ≡ true → VariablesThere after.env site → (a : A) × (after.made ≡ Some a)
 
--- the same of a list of parts; something is made where something must be, and there are parts
+-- the judgement of a list of parts extends what is known as counted; its typed forms are good, and inhabited where the parts are
 pub record BlockPassed {A : Type 0} (site : TypingContext) (good : A → Bool) (inhabited : Bool) (before : Environment) (counts : DeclaredBefore) (after : Block A) : Type 0
   where
     pub grown : Grown before after.env
@@ -158,8 +156,7 @@ abbrev pub unit_named : List NamedConstant → List UnitDef → NamedUnit → Bo
 unit_named constants units unit = list_all (λ var. is_some var.ty) (take (parameters unit) unit.vars)
     && list_all (stmt_named constants unit.vars units) unit.body
 
--- what is known after a unit: as much as is counted, and the unit with its types, each of whose
--- statements fits, and whose variables have types that stand, and the names and roles that are named
+-- the judgement of a unit appends one typed unit with fitting statements, well-formed types, and the named unit's names and roles
 pub record UnitPassed (structs : List StructDef) (unit : NamedUnit) (before : Environment) (counts : DeclaredBefore) (after : Environment) : Type 0 where
   pub between : BetweenUnits after
   pub counts_are : known_in after ≡ counts

@@ -45,7 +45,7 @@ pub record EnvironmentWithin (env : Environment) (site : TypingContext) : Type 0
   pub constants : (k : ℕ) (constant : Constant) → slice_get env.constants k ≡ Some constant → ConstantStands constant
   pub heads : list_all has_parameters site.earlier ≡ true
 
--- how much is known
+-- the numbers of declarations that an environment knows
 abbrev pub known_in : Environment → DeclaredBefore
 known_in env = record { structs = length env.structs; constants = length env.constants; units = length env.units; variables = length env.vars }
 
@@ -62,7 +62,7 @@ kind_calls units (NamedExprKind-F.Two op a b) = a && b
 kind_calls units (NamedExprKind-F.Cast s a) = a
 kind_calls units (NamedExprKind-F.Call at f inputs) = holds_of (λ unit. is_function unit.kind) (slice_get units f) && all_of inputs
 
--- whether the calls in a part do: those of an index
+-- whether the calls in a part of a target, that is in its index, name functions
 abbrev pub part_calls : NamedPart-F Bool Bool Bool Bool → Bool
 part_calls (NamedPart-F.Field name) = true
 part_calls (NamedPart-F.Index e) = e

@@ -11,13 +11,13 @@ use Rattle.bl_types_program.specs.Programs.{named_of}
 
 -- the first of the rules on names and types that fails for a tree, with its place and its further places
 pub data FailsFirst (raw : Raw) : Rule → Place → List Place → Type 0 where
-  -- one of Duplicate, Unknown and Kind
+  -- the first failing rule is Duplicate, Unknown or Kind
   names : (rule : Rule) (place : Place) (also : List Place) → NamesFailFirst raw.items rule place also → FailsFirst raw rule place also
-  -- none of these, and one of Type, Literal, Immutable, Constant, Arity, Prev, Return, Where and Entry
+  -- the names pass, and the first failing rule is one on types, from Type to Entry
   types : (rule : Rule) (place : Place) (also : List Place) → NamesPass raw.items → TypesFailFirst (named_of raw) rule place also →
       FailsFirst raw rule place also
 
--- the refusal names the first of these; want of memory has no cause in the tree
+-- the refusal names the first failing rule; want of memory has no cause in the tree
 abbrev pub IsCause : Raw → Refusal → Type 0
 IsCause raw (refusal.Rule rule place also) = FailsFirst raw rule place also
 IsCause raw refusal.NoMemory = ⊤

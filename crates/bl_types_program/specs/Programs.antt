@@ -15,7 +15,7 @@ named_of raw = named_program raw.items raw.bytes
 abbrev pub typed_of : Raw → Typed
 typed_of raw = typed_program (named_of raw)
 
--- the program has exactly these
+-- the program has exactly the structs, units and entry of the typed tree
 pub record IsProgramOf (raw : Raw) (program : Program) : Type 0 where
   pub structs : program.structs ≡ (typed_of raw).structs
   pub units : program.units ≡ (typed_of raw).units

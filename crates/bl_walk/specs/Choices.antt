@@ -17,7 +17,7 @@ moved First = First
 moved Last = Last
 moved (ByWord word) = ByWord (next_word word)
 
--- the number, counted from 0, of the one that is picked of so many
+-- the index of the picked element among so many
 abbrev pub picked : Choice → ℕ → ℕ
 picked First count = 0
 picked Last count = count - 1

@@ -36,12 +36,12 @@ UnsettledGoOn = (structs : List StructDef) (units : List UnitDef) (entry : ℕ) 
     (rows : List (List ℤ)) (row : List ℤ) (actions : List Action) (c : Control) (store : Store) →
     ReachesInside w rows row actions (Rests c store) → points w 0 c ≡ [] → is_settled c ≡ true
 
--- what a walk shows the meaning allows
+-- the semantics allows what a walk shows
 abbrev pub WalksAreAllowed : Type 0
 WalksAreAllowed = (w : Setting) (choice : Choice) (rows : List (List ℤ)) (c : Control) (store : Store) (shows : ShownTrace) (lists : List (List Action)) →
     Walks w choice rows c store shows lists → Allows w rows c store shows
 
--- so for each seed the walk of a program has a trace that the meaning allows: where that is one alone, it is this one
+-- every walk of a program shows a trace that the semantics allows
 abbrev pub WalksAreMeant : Type 0
 WalksAreMeant = (structs : List StructDef) (units : List UnitDef) (entry seed : ℕ) (rows : List (List ℤ)) (trace : Trace) (lists : List (List Place)) →
     HasWalked structs units entry seed rows trace lists → Means structs units entry rows (shown_trace trace)
@@ -51,7 +51,7 @@ abbrev pub ShowsNoMoreRows : Type 0
 ShowsNoMoreRows = (w : Setting) (rows : List (List ℤ)) (c : Control) (store : Store) (shows : ShownTrace) → Allows w rows c store shows →
     length shows.rows ≤ length rows
 
--- and no more ticks are begun
+-- a walk begins no more ticks than there are rows
 abbrev pub BeginsNoMoreTicks : Type 0
 BeginsNoMoreTicks = (structs : List StructDef) (units : List UnitDef) (entry seed : ℕ) (rows : List (List ℤ)) (trace : Trace)
     (lists : List (List Place)) → HasWalked structs units entry seed rows trace lists → length lists ≤ length rows

@@ -15,12 +15,11 @@ use Rattle.bl_ctree.specs.Ticks.{End, Ended, Maximal, Paused, Rests, Trapped, ou
 use Rattle.bl_walk.specs.declared.choice.Choice.{Choice}
 use Rattle.bl_walk.specs.Choices.{choice_of, moved, picked}
 
--- the point is the one that the choice picks among those of the tree that may act
+-- the point is the one that the choice picks among the enabled points of the tree
 abbrev pub IsPicked : Setting → Choice → Control → Point Control → Type 0
 IsPicked w choice c point = slice_get (points w 0 c) (picked choice (length (points w 0 c))) ≡ Some point
 
--- a list of steps from a tree and a store, of which each is the one that is picked, and the choice moves before each: the choice after
--- the last one, and where the list leads. A trapping step is the last one
+-- a list of picked steps: the choice moves before each step, and a trapping step is the last one
 pub data Picks (w : Setting) : Choice → Control → Store → List Action → Choice → End → Type 0 where
   no_step : {choice : Choice} {c : Control} {store : Store} → Picks w choice c store [] choice (Rests c store)
   trap_step : {choice : Choice} {c : Control} {store : Store} (point : Point Control) →
@@ -29,14 +28,13 @@ pub data Picks (w : Setting) : Choice → Control → Store → List Action → 
       IsPicked w (moved choice) c point → perform w point.action store ≡ Some done →
       Picks w (moved choice) (point.after done.answer) done.store rest last end → Picks w choice c store (point.action ∷ rest) last end
 
--- a tick over a row of inputs, from a tree and a store between ticks: a maximal list of steps, of which each is the one that is picked
+-- a tick over a row of inputs by picked steps: a maximal list of them from the woken tree and store
 pub record PickedTick (w : Setting) (choice : Choice) (row : List ℤ) (c : Control) (store : Store) (actions : List Action) (last : Choice)
     (end : End) : Type 0 where
   pub picks : Picks w choice (woken c) (woken_store row store) actions last end
   pub maximal : Maximal w (woken c) (woken_store row store) actions end
 
--- a run over rows of inputs, from a tree and a store between ticks, whose ticks are picked, the choice going on from tick to tick: what
--- it shows, and the list of steps of each tick that it begins
+-- a run over rows of inputs by picked ticks: the trace shown, and the steps of each tick that it begins
 pub data Walks (w : Setting) : Choice → List (List ℤ) → Control → Store → ShownTrace → List (List Action) → Type 0 where
   stays_open : {choice : Choice} {c : Control} {store : Store} → Walks w choice [] c store (nothing_more (Some Open)) []
   traps : {choice last : Choice} {row : List ℤ} {rows : List (List ℤ)} {c : Control} {store : Store} {actions : List Action} →
@@ -53,7 +51,7 @@ pub data Walks (w : Setting) : Choice → List (List ℤ) → Control → Store 
 abbrev pub places_of : List Action → List Place
 places_of actions = map (λ a. a.place) actions
 
--- the steps of a program by the seed, over rows of inputs: the trace of its ticks, and for each tick begun the places of its steps
+-- the walk of a program by the seed over rows of inputs: its trace, and the places of each tick's steps
 pub record HasWalked (structs : List StructDef) (units : List UnitDef) (entry seed : ℕ) (rows : List (List ℤ)) (trace : Trace)
     (lists : List (List Place)) : Type 0 where
   pub steps : List (List Action)
@@ -61,7 +59,7 @@ pub record HasWalked (structs : List StructDef) (units : List UnitDef) (entry se
       let w = setting_of structs units entry in Walks w (choice_of seed) rows (Idle (entry_items w)) (first_store w) (shown_trace trace) steps
   pub places : lists ≡ map places_of steps
 
--- such lists were appended
+-- the lists of places of a walk were appended
 pub record Appended (structs : List StructDef) (units : List UnitDef) (entry seed : ℕ) (rows : List (List ℤ)) (trace : Trace)
     (before after : List (List Place)) : Type 0 where
   pub lists : List (List Place)

@@ -24,11 +24,11 @@ WalkFrom rows edge rest = InGraphs rows (λ edges. Contains edges edge → Close
 abbrev pub BeginsFrom : List Node → List (List Edge) → Edge → Place → List Place → Type 0
 BeginsFrom nodes rows edge at also = InGraphs rows (λ edges. Contains edges edge → BeginsWalk nodes edges edge.by_data at also)
 
--- of these candidates none begins a closed walk
+-- no candidate edge begins a closed walk
 abbrev pub NoneBegins : List Node → List (List Edge) → List Edge → Type 0
 NoneBegins nodes rows left = InGraphs rows (λ edges. (by_data : Bool) → Candidates edges by_data left → Never (BeginsWalk nodes edges by_data))
 
--- the first closed walk that one of these candidates begins is at the place, and has the further places
+-- the first closed walk that a candidate edge begins is at the place, with the further places
 abbrev pub FirstBegins : List Node → List (List Edge) → List Edge → Place → List Place → Type 0
 FirstBegins nodes rows left at also =
     InGraphs rows (λ edges. (by_data : Bool) → Candidates edges by_data left → IsFirst (BeginsWalk nodes edges by_data) at also)

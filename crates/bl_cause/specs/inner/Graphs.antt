@@ -8,7 +8,7 @@ use Rattle.bl_tree.specs.Rules.{is_before}
 use Rattle.bl_cause.specs.declared.first.Found.{Found}
 use Rattle.bl_cause.specs.Fails.{FailsCycle, FailsTwice, IsFirst, Never}
 
--- one of the graphs fails so
+-- a rule fails in one of the graphs at the place, with the further places
 pub record AnyFails (FailsIn : Graph → Place → List Place → Type 0) (graphs : List Graph) (at : Place) (also : List Place) : Type 0 where
   pub graph : Graph
   pub is_there : Contains graphs graph
@@ -24,7 +24,7 @@ GraphsFail graphs _ at also = ⊥
 abbrev pub Finds : (Place → List Place → Type 0) → Option Found → Type 0
 Finds Fails found = MatchOption found (Never Fails) (λ walk. IsFirst Fails walk.at walk.also)
 
--- of two walks the one that begins at the earlier place
+-- the walk of two that begins at the earlier place
 abbrev pub earlier_of : Option Found → Option Found → Option Found
 earlier_of None other = other
 earlier_of (Some one) None = Some one

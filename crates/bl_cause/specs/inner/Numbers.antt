@@ -7,7 +7,7 @@ use Rattle.bl_cause.specs.inner.Lists.{In, Rows, edges_into}
 abbrev pub NeverFall : List Edge → List ℕ → Type 0
 NeverFall edges numbers = (edge : Edge) → Contains edges edge → slice_index numbers edge.from ≤ slice_index numbers edge.to
 
--- they never fall but along edges to these nodes, and along these edges
+-- the numbers never fall along an edge, except along edges to the listed nodes and the edges left
 abbrev pub FallBefore : List Edge → List ℕ → List ℕ → List Edge → Type 0
 FallBefore edges numbers nodes left =
     (edge : Edge) → Contains edges edge → (slice_index numbers edge.from ≤ slice_index numbers edge.to) ⊎ (In edge.to nodes ⊎ Contains left edge)
@@ -17,7 +17,7 @@ pub record Lowered : Type 0 where
   pub numbers : List ℕ
   pub nodes : List ℕ
 
--- these numbers, and these nodes
+-- the state of numbers and of nodes at which they fell
 abbrev pub lowered_to : List ℕ → List ℕ → Lowered
 lowered_to numbers nodes = record { numbers = numbers; nodes = nodes }
 
@@ -30,12 +30,12 @@ lowered_if false edge s = s
 abbrev pub lowered : Edge → Lowered → Lowered
 lowered edge s = lowered_if (nat_lt (slice_index s.numbers edge.to) (slice_index s.numbers edge.from)) edge s
 
--- the same for the edges one after another
+-- the numbers lowered along several edges, one after another
 abbrev pub lowered_along : List Edge → Lowered → Lowered
 lowered_along [] s = s
 lowered_along (edge ∷ row) s = lowered_along row (lowered edge s)
 
--- numbers that never fall along the edges in these rows, by the nodes at which they end, still don't
+-- if the numbers before never fall along the edges of the rows, neither do the numbers after
 abbrev pub StayUp : List (List Edge) → List ℕ → List ℕ → Type 0
 StayUp rows before after =
     (edges : List Edge) → Rows (edges_into edges) (length before) rows → NeverFall edges before → NeverFall edges after

@@ -29,7 +29,7 @@ use Rattle.bl_cause.specs.declared.finishing.Search.{Search}
 use Rattle.bl_cause.specs.Walks.{EdgeWalk}
 use Rattle.bl_cause.specs.inner.Lists.{In, Rows, edges_from, unseen}
 
--- some walk leads from the one node to the other
+-- a walk leads from the first node to the second
 abbrev pub Reaches : List Edge → ℕ → ℕ → Type 0
 Reaches edges first last = (walk : List Edge) × EdgeWalk edges first walk last
 
@@ -39,7 +39,7 @@ Sorted edges [] = ⊤
 Sorted edges (node ∷ rest) =
     ((edge : Edge) → Contains edges edge → edge.from ≡ node → In edge.to rest ⊎ Reaches edges edge.to node) × Sorted edges rest
 
--- the node is that of one of these frames
+-- the node is that of a frame of the stack
 abbrev pub Open : ℕ → List Frame → Type 0
 Open node [] = ⊥
 Open node (frame ∷ rest) = (frame.node ≡ node) ⊎ Open node rest
@@ -50,7 +50,7 @@ Looked rows seen frame =
     (k : ℕ) (d : Edge) → k < frame.next → k < length (slice_index_or rows frame.node []) →
     slice_index_or seen (slice_index_or (slice_index_or rows frame.node []) k d).to false ≡ true
 
--- of the frames, the innermost first: each node leads to those further in
+-- the nodes of the stack's frames lead to those further in, innermost first
 abbrev pub Nested : List Edge → List (List Edge) → List Bool → List Frame → Type 0
 Nested edges rows seen [] = ⊤
 Nested edges rows seen (frame ∷ rest) =
@@ -72,7 +72,7 @@ entered_unless true node s = s
 entered_unless false node s =
     record { seen = slice_set s.seen node true; stack = s.stack ++ record { node = node; next = 0 } ∷ []; order = s.order }
 
--- the node is entered, where it wasn't seen before
+-- the search state after a node is entered, unless it was seen before
 abbrev pub entered : ℕ → SearchState → SearchState
 entered node s = entered_unless (slice_index_or s.seen node false) node s
 
@@ -82,7 +82,7 @@ at_edge frame None s = record { seen = s.seen; stack = s.stack; order = s.order 
 at_edge frame (Some edge) s =
     entered edge.to (record { seen = s.seen; stack = s.stack ++ record { node = frame.node; next = frame.next + 1 } ∷ []; order = s.order })
 
--- the same for the next edge of the row
+-- the search state after the frame's next edge of the row
 abbrev pub advanced : Frame → List Edge → SearchState → SearchState
 advanced frame row s = at_edge frame (slice_get row frame.next) s
 
@@ -93,7 +93,7 @@ pub record SearchInvariant (edges : List Edge) (rows : List (List Edge)) (s : Se
   pub held : (node : ℕ) → slice_index_or s.seen node false ≡ true → In node (reverse s.order) ⊎ Open node (reverse s.stack)
   pub counted : unseen s.seen + (length s.order + length s.stack) ≡ length s.seen
 
--- a search over these rows keeps what it kept, in every graph with so many nodes
+-- a search over the rows keeps its invariant, in every graph with that number of nodes
 abbrev pub SearchKeepsInvariant : ℕ → List (List Edge) → SearchState → SearchState → Type 0
 SearchKeepsInvariant count rows before after = (edges : List Edge) → Rows (edges_from edges) count rows → SearchInvariant edges rows before → SearchInvariant edges rows after
 

@@ -27,7 +27,7 @@ pub record Sees (seen : List Bool) (steps : List Step) : Type 0 where
   pub ends : (node : ℕ) → slice_index_or seen node false ≡ true → Ends node steps
   pub met : (node : ℕ) → Ends node steps → slice_index_or seen node false ≡ true
 
--- an edge that begins at a node seen ends at one, unless it begins where one of these steps ends, or is one of these edges
+-- each edge from a seen node leads to a seen node, starts where a listed step ends, or is listed itself
 abbrev pub Leaves : List Edge → List Bool → List Step → List Edge → Type 0
 Leaves edges seen steps row =
     (edge : Edge) → Contains edges edge → slice_index_or seen edge.from false ≡ true →
@@ -43,11 +43,11 @@ gone_unless true before edge reached = reached
 gone_unless false before edge reached =
     record { seen = slice_set reached.seen edge.to true; steps = reached.steps ++ record { edge = edge; before = before } ∷ [] }
 
--- the edge is gone along, where it leads to a node not seen yet
+-- the nodes reached after an edge, which is followed unless its target was seen
 abbrev pub gone : ℕ → Edge → Reached → Reached
 gone before edge reached = gone_unless (slice_index_or reached.seen edge.to false) before edge reached
 
--- the same for the edges one after another
+-- the nodes reached after several edges, one after another
 abbrev pub gone_along : ℕ → List Edge → Reached → Reached
 gone_along before [] reached = reached
 gone_along before (edge ∷ row) reached = gone_along before row (gone before edge reached)

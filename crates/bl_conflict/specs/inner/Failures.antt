@@ -42,17 +42,17 @@ use Rattle.bl_tree.specs.Rules.{first_of, lesser}
 
 -- ---- the first of several
 
--- the first of the best so far and the failures of these
+-- the least of the best failure so far and those of a list
 abbrev pub least_by : {A : Type 0} → (A → Failure) → Option Failure → List A → Option Failure
 least_by failure best xs = first_of best (map failure xs)
 
 -- ---- the failures of the rules
 
--- that of an activity that may never pause, at its name
+-- the failure of an activity that may never pause, at its name
 abbrev pub of_pause : Place → Failure
 of_pause at = record { rule = rule.Pause; at = at; further = Nothing }
 
--- the failure of a unit by the rule Pause, where it has one
+-- the failures of a unit by the rule Pause
 abbrev pub pause_of : UnitDef → List Failure
 pause_of unit = if is_activity unit.kind && is_instant_block unit.body then of_pause unit.place ∷ [] else []
 
@@ -60,7 +60,7 @@ pause_of unit = if is_activity unit.kind && is_instant_block unit.body then of_p
 abbrev pub pause_failures : List UnitDef → List Failure
 pause_failures units = joined (map pause_of units)
 
--- that of a loop
+-- the failure of a loop whose body may end at once
 abbrev pub of_loop : Place → Failure
 of_loop at = record { rule = rule.Instant; at = at; further = Nothing }
 
@@ -72,7 +72,7 @@ loops_of unit = if is_activity unit.kind then instant_loops unit else []
 abbrev pub instant_failures : List UnitDef → List Place
 instant_failures units = joined (map loops_of units)
 
--- that of an output or target, with what it overlaps
+-- the failure of an output or target, with what it overlaps
 abbrev pub of_alias : Aliased → Failure
 of_alias aliased = record { rule = rule.Alias; at = aliased.at; further = One aliased.also }
 
@@ -89,7 +89,7 @@ aliases_of_unit unit = joined (map aliases_in unit.body)
 abbrev pub alias_failures : List UnitDef → List Aliased
 alias_failures units = joined (map aliases_of_unit units)
 
--- that of two writes of branches, with the declaration of their root
+-- the failure of two writes of branches, with the declaration of their root
 abbrev pub of_clash : Place → Marked → Marked → Failure
 of_clash declared second first = record { rule = rule.Conflict; at = first.place; further = Two second.place declared }
 
@@ -101,16 +101,16 @@ clash_of declared second first = if overlaps first.path second.path then of_clas
 abbrev pub clashes_at : Place → List Marked → Marked → List Failure
 clashes_at declared earlier second = joined (map (clash_of declared second) earlier)
 
--- the same by the declaration of the root, where it has one
+-- the failures of a write with earlier ones, at the declaration of its root if there is one
 abbrev pub clashes_under : Option Var → List Marked → Marked → List Failure
 clashes_under (Some var) earlier second = clashes_at var.place earlier second
 clashes_under None earlier second = []
 
--- a write and the earlier ones, where the variables of the unit are these
+-- the failures of a write with earlier ones in a unit with these variables
 abbrev pub clashes_with : List Var → List Marked → Marked → List Failure
 clashes_with vars earlier second = clashes_under (slice_get vars second.path.root) earlier second
 
--- a branch and those before it
+-- the conflicts of a branch with the branches before it
 abbrev pub clashes : List Var → Split → List Failure
 clashes vars split = joined (map (clashes_with vars split.earlier) split.writes)
 
@@ -126,7 +126,7 @@ clashes_of_unit unit = all_clashes unit.vars (splits_of unit)
 abbrev pub conflict_failures : List UnitDef → List Failure
 conflict_failures units = joined (map clashes_of_unit units)
 
--- all failures of the four rules
+-- all failures of Pause, Conflict, Alias and Instant
 abbrev pub failures : List UnitDef → List Failure
 failures units =
     pause_failures units ++ (conflict_failures units ++ (map of_alias (alias_failures units) ++ map of_loop (instant_failures units)))
@@ -169,6 +169,6 @@ written at path = record { place = at; path = path }
 abbrev pub marked_read : Place → Path → List Marked
 marked_read at path = if is_none (scalar_in (out-Path path).ty) then record { place = at; path = static_of path } ∷ [] else []
 
--- the place of the first of the others that overlaps the one
+-- the place of the first marked path in a list that overlaps the given one
 abbrev pub place_overlapping : List Marked → Marked → Option Place
 place_overlapping others one = option_map (λ other. other.place) (find (λ other. overlaps one.path other.path) others)

@@ -16,7 +16,7 @@ abbrev pub HasFront : Touched → ℕ → List ℕ → Type 0
 HasFront touched root [] = contains nat_cmp touched.wholes root ≡ true
 HasFront touched root (field ∷ fields) = contains part_cmp touched.parts (root, field) ≡ true
 
--- the root of the path is known, and so is the path as a whole or its first field
+-- the root of the path is known, and the path is known as a whole or by its first field
 abbrev pub HasPath : Touched → Static → Type 0
 HasPath touched path = (contains nat_cmp touched.roots path.root ≡ true) × HasFront touched path.root path.fields
 
@@ -25,7 +25,7 @@ abbrev pub Knows : Touched → List Marked → Type 0
 Knows touched [] = ⊤
 Knows touched (write ∷ rest) = HasPath touched write.path × Knows touched rest
 
--- what was known still is
+-- what was known of roots and paths still is
 pub record Grows (old new : Touched) : Type 0 where
   pub roots : (q : ℕ) → contains nat_cmp old.roots q ≡ true → contains nat_cmp new.roots q ≡ true
   pub wholes : (q : ℕ) → contains nat_cmp old.wholes q ≡ true → contains nat_cmp new.wholes q ≡ true

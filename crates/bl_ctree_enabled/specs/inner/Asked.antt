@@ -21,13 +21,13 @@ asked_flags all j changed (spot ∷ spots) [] = []
 asked_flags all j changed (spot ∷ spots) (flag ∷ flags) =
     cond (touches changed spot.reads) (is_free_of all j spot) flag ∷ asked_flags all j changed spots flags
 
--- the same of branches one after another, the first of which has number j
+-- the flags of the points of several branches, renewed for points that read what overlaps the changed homes
 abbrev pub asked_from : List (List Location) → ℕ → List Location → List (List Spot) → List (List Bool) → List (List Bool)
 asked_from all j changed [] free = free
 asked_from all j changed (spots ∷ rest) [] = []
 asked_from all j changed (spots ∷ rest) (flags ∷ free) = asked_flags all j changed spots flags ∷ asked_from all (suc j) changed rest free
 
--- what is read overlaps both lists of homes or neither, where it does so with these two lists
+-- if reads overlap the homes removed iff they overlap those added, they overlap the homes before iff they overlap those now
 abbrev pub DecidedBy : List Location → List Location → List Location → List Location → Type 0
 DecidedBy gone come before now =
     (reads : List Location) → touches gone reads ≡ touches come reads → touches before reads ≡ touches now reads

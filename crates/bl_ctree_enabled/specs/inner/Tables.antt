@@ -12,7 +12,7 @@ use Rattle.bl_ctree_enabled.specs.Spots.{Spot}
 abbrev pub Key : Type 0
 Key = ℕ × ℕ × ℕ
 
--- the order of such keys: by instance, then by variable, then by branch
+-- the order of keys: by instance, then by variable, then by branch
 abbrev pub key_cmp : Key → Key → Ordering
 key_cmp x y = ordering_then (ordering_then (nat_cmp x.0 y.0) (nat_cmp x.1 y.1)) (nat_cmp x.2 y.2)
 
@@ -25,15 +25,15 @@ abbrev pub near : Table → Location → ℕ → List Key
 near table at many =
     keys_between key_cmp (Included (at.instance, at.path.root, 0)) (Excluded (at.instance, at.path.root, many)) table.by_variable
 
--- the branch with number k is noted at the variable of each of these homes
+-- the branch with number k is noted at the variable of each home in the list
 abbrev pub Noted : Table → ℕ → List Location → Type 0
 Noted table k homes = (m : ℕ) (at : Location) → slice_get homes m ≡ Some at → is_noted table k at ≡ true
 
--- the same of each branch and its homes
+-- each branch is noted at the variables of all its homes
 abbrev pub AllNoted : Table → List (List Location) → Type 0
 AllNoted table all = (k : ℕ) (homes : List Location) → slice_get all k ≡ Some homes → Noted table k homes
 
--- what was noted still is
+-- what was noted in the table still is
 abbrev pub Grows : Table → Table → Type 0
 Grows old new = (k : ℕ) (at : Location) → is_noted old k at ≡ true → is_noted new k at ≡ true
 

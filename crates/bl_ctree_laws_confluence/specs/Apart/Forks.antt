@@ -43,21 +43,21 @@ abbrev mutual
   EachFork P (While l at e body) = EachForkIn P body
   EachFork P (Again l at body e) = EachForkIn P body
 
-  -- of those of each in the block
+  -- P holds of the branches of each `cobegin` in the block
   pub EachForkIn : (Bodies → Type 0) → Block → Type 0
   EachForkIn P Done = ⊤
   EachForkIn P (Then s rest) = EachFork P s × EachForkIn P rest
 
-  -- and in each of the branches
+  -- P holds of the branches of each `cobegin` inside the branches
   pub EachForkInEach : (Bodies → Type 0) → Bodies → Type 0
   EachForkInEach P Last = ⊤
   EachForkInEach P (BodyOf weak body rest) = EachForkIn P body × EachForkInEach P rest
 
--- the effect names no variable that the other declares
+-- the first effect names no variable that the second declares
 abbrev pub Foreign : Effect → Effect → Type 0
 Foreign e other = (k : ℕ) → OneOf k (effect_declares other) → OneOf k (effect_roots e) → ⊥
 
--- no effect of a statement in the one branch names what one of another branch declares
+-- no effect in a branch names a variable that an effect in another branch declares
 abbrev pub KeepApart : Bodies → Type 0
 KeepApart Last = ⊤
 KeepApart (BodyOf weak body rest) =

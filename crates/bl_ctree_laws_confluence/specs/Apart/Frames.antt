@@ -7,7 +7,7 @@ use Rattle.bl_ctree_laws_confluence.specs.Deeds.Deeds.{effect_frames, effect_res
 use Rattle.bl_ctree_laws_confluence.specs.Apart.Owned.{HasEffect, IsInsideCall, SomeIn}
 use Rattle.bl_ctree_laws_confluence.specs.Apart.Returns.{Returns}
 
--- a frame that an effect of a statement in the body changes as a whole is the instance's own, by a `return` of the body, or that of one that it calls
+-- an effect in a body changes, as a whole, only its own frame by a `return`, or the frame of a called instance
 abbrev pub FramesAreOfCalls : Type 0
 FramesAreOfCalls =
     (w : Setting) (i : ℕ) (body : Block) (effect : Effect) (frame : ℕ) → SomeIn (HasEffect w i effect) body → Contains (effect_frames i effect) frame →

@@ -9,7 +9,7 @@ use Rattle.bl_ctree.specs.Actions.{Effect, Silent, Acts, Asks, Copies, Gives}
 use Rattle.bl_ctree.specs.Instances.{Setting}
 use Rattle.bl_ctree_laws_confluence.specs.Apart.Owned.{HasEffect, SomeIn}
 
--- the variable is one of these
+-- the variable is in the list
 abbrev pub OneOf : ℕ → Roots → Type 0
 OneOf k roots = list_any (nat_eq k) roots ≡ true
 

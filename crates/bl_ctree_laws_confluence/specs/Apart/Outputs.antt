@@ -23,19 +23,19 @@ RunsHaveOutputs w i body =
     (place : Place) (outputs : List Path) (callee : ℕ) → SomeIn (RunsWith place outputs) body → callee_of w i place ≡ Some callee →
     HasOutputs w callee (map static_of outputs)
 
--- each of the branches has
+-- each `run` in the branches has the outputs of the instance that it begins
 abbrev pub BranchesHaveOutputs : Setting → ℕ → Bodies → Type 0
 BranchesHaveOutputs w i bodies =
     (place : Place) (outputs : List Path) (callee : ℕ) → SomeInEach (RunsWith place outputs) bodies → callee_of w i place ≡ Some callee →
     HasOutputs w callee (map static_of outputs)
 
--- so it is in a typed program, in each unit that has an instance
+-- in a typed program each `run` of a unit with an instance has the outputs of the instance that it begins
 abbrev pub TypedRunsHaveOutputs : Type 0
 TypedRunsHaveOutputs =
     (structs : List StructDef) (units : List UnitDef) (entry i : ℕ) (unit : UnitDef) → IsWellTyped structs units entry →
     unit_at (setting_of structs units entry) i ≡ Some unit → RunsHaveOutputs (setting_of structs units entry) i (plain_body unit.body)
 
--- then the calls stand in what is left of such a body
+-- calls in residuals of a body whose `run`s have their instances' outputs match their callees
 abbrev pub ResidualCallsMatch : Type 0
 ResidualCallsMatch =
     (structs : List StructDef) (units : List UnitDef) (entry : ℕ) (stood : Bool) (i : ℕ) (body : Block) (c : Tree) → IsWellTyped structs units entry →

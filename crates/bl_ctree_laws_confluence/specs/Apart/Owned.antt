@@ -90,7 +90,7 @@ pub record IsInsideCall (w : Setting) (i : ℕ) (body : Block) (k : ℕ) : Type 
   pub begins : callee_of w i place ≡ Some callee
   pub inside : Inside w callee k
 
--- a deed of what is left of a body is that of a statement of it, or is done inside a call by one of its `run` statements
+-- a deed of a residual of a body is of a statement of the body, or inside a call by one of its `run`s
 abbrev pub DeedsAreOfBodies : Type 0
 DeedsAreOfBodies =
     (w : Setting) (stood : Bool) (i : ℕ) (body : Block) (c : Tree) (d : Bool) (a : Deed) (n : StepLabel) (c' : Tree) →

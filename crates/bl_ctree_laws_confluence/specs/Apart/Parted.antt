@@ -20,15 +20,15 @@ use Rattle.bl_ctree_laws_confluence.specs.Apart.Writing.{WriteApart}
 
 -- branches, which stand in the instance, that keep apart
 pub record StandApart (w : Setting) (i : ℕ) (bodies : Bodies) : Type 0 where
-  -- none names what another declares
+  -- no branch names what another declares
   pub names : KeepApart bodies
-  -- none returns
+  -- no branch returns
   pub returns : NoneReturns bodies
-  -- no two run at one place
+  -- no two branches have `run`s at one place
   pub runs : RunApart bodies
-  -- and none writes over what another writes
+  -- no branch writes a path that overlaps one that another writes
   pub writes : WriteApart bodies
-  -- their `run` statements have the outputs that the instances which they begin were begun with
+  -- the `run` statements of the branches have the outputs of the instances that they begin
   pub outputs : BranchesHaveOutputs w i bodies
 
 -- a step of what is left of a branch, which stands in the instance
@@ -47,7 +47,7 @@ pub record OneSteps (w : Setting) (stood : Bool) (i : ℕ) (bodies : Bodies) (br
   pub after : Trees
   pub moves : OneMoves Unmet w i branches answer a label after
 
--- the deeds are of a branch and of a later one, in branches that keep apart, and neither reads what the other's branch may still write
+-- two deeds are of different branches that keep apart, and neither reads what the other's branch may still write
 pub record TwoBranches (w : Setting) (a b : Deed) : Type 0 where
   pub stood : Bool
   pub instance : ℕ
@@ -62,17 +62,17 @@ pub record TwoBranches (w : Setting) (a b : Deed) : Type 0 where
   pub first_unmet : any_meets w instance others a ≡ false
   pub second_unmet : meets w instance tree b ≡ false
 
--- in each unit that has an instance branches keep apart
+-- the branches of each unit that has an instance keep apart
 abbrev pub AllKeepApart : Setting → Type 0
 AllKeepApart w = (i : ℕ) (unit : UnitDef) → unit_at w i ≡ Some unit → EachForkIn (StandApart w i) (plain_body unit.body)
 
--- then steps of different branches are of two branches of one `cobegin`, the one first or the other
+-- if branches keep apart, steps of different branches are of two branches of one `cobegin`, in either order
 abbrev pub ApartIsTwoBranches : Type 0
 ApartIsTwoBranches =
     (w : Setting) (stood : Bool) (i : ℕ) (body : Block) (c : Tree) (a b : Deed) → AllKeepApart w → EachForkIn (StandApart w i) body →
     PlainResidual w stood i body c → Apart w i c a b → TwoBranches w a b ⊎ TwoBranches w b a
 
--- and in an accepted program all branches keep apart
+-- in an accepted program the branches of each `cobegin` keep apart
 abbrev pub AcceptedKeepsApart : Type 0
 AcceptedKeepsApart =
     (structs : List StructDef) (units : List UnitDef) (entry : ℕ) → IsWellTyped structs units entry → Passes units →

@@ -24,7 +24,7 @@ NoneReturns bodies = SomeInEach Returns bodies → ⊥
 abbrev pub NoBranchReturns : Type 0
 NoBranchReturns = (body : List Stmt) (at : Position) → returns_last_alone body ≡ true → EachForkIn NoneReturns (plain_block body at)
 
--- and in an accepted program none does in a unit that has an instance
+-- in an accepted program no `return` stands in a branch of a unit that has an instance
 abbrev pub AcceptedReturnsLast : Type 0
 AcceptedReturnsLast =
     (structs : List StructDef) (units : List UnitDef) (entry i : ℕ) (unit : UnitDef) → IsWellTyped structs units entry → Passes units →

@@ -23,7 +23,7 @@ pub record RunStands (body : List Stmt) (place : Place) : Type 0 where
 abbrev pub RunsAreOfStatements : Type 0
 RunsAreOfStatements = (body : List Stmt) (at : Position) (place : Place) → SomeIn (RunsAt place) (plain_block body at) → RunStands body place
 
--- where a branch runs no other one runs
+-- no two branches have `run`s at one place
 abbrev pub RunApart : Bodies → Type 0
 RunApart Last = ⊤
 RunApart (BodyOf weak body rest) = ((place : Place) → SomeIn (RunsAt place) body → SomeInEach (RunsAt place) rest → ⊥) × RunApart rest
@@ -35,7 +35,7 @@ BranchesRunApart =
     ((outer s t : Stmt) (j k : ℕ) → StandsIn body outer → RunsIn outer j s → RunsIn outer k t → place_of s ≡ place_of t → j ≡ k) →
     EachForkIn RunApart (plain_block body at)
 
--- in an accepted program this holds in each unit that has an instance
+-- in an accepted program no two branches of a unit that has an instance have `run`s at one place
 abbrev pub AcceptedRunsApart : Type 0
 AcceptedRunsApart =
     (structs : List StructDef) (units : List UnitDef) (entry i : ℕ) (unit : UnitDef) → IsWellTyped structs units entry → Passes units →

@@ -17,7 +17,7 @@ use Rattle.bl_ctree_laws.specs.Trees.{Tree, Trees, Nil, Wait, Test, Idle, Do, Se
 use Rattle.bl_ctree_laws_confluence.specs.Deeds.Deeds.{effect_writes}
 use Rattle.bl_ctree_laws_confluence.specs.Deeds.Nesting.{Inside}
 
--- what is so of an output that the callee was begun with is so of one of these
+-- each test that an output with which the callee was begun passes is passed by an output in the list
 abbrev pub HasOutputs : Setting → ℕ → List Static → Type 0
 HasOutputs w callee outputs =
     (instance : Instance) (origin : Origin) (test : Static → Bool) → slice_get w.instances callee ≡ Some instance → instance.origin ≡ Some origin →
@@ -37,7 +37,7 @@ abbrev mutual
   CallsMatchCallees w i (Run s callee phase stood c) =
       (callee_of w i s.place ≡ Some callee) × (HasOutputs w callee (map static_of s.arguments.outputs) × CallsMatchCallees w callee c)
 
-  -- so does each in the branches
+  -- each `run` in the branches has the callee that its place begins, with its own outputs
   pub AllCallsMatchCallees : Setting → ℕ → Trees → Type 0
   AllCallsMatchCallees w i no_tree = ⊤
   AllCallsMatchCallees w i (beside weak c rest) = CallsMatchCallees w i c × AllCallsMatchCallees w i rest

@@ -24,7 +24,7 @@ WriteApart Last = ⊤
 WriteApart (BodyOf weak body rest) =
     ((path other : Static) → SomeIn (StatementWrites path) body → SomeInEach (StatementWrites other) rest → overlaps path other ≡ false) × WriteApart rest
 
--- so it is in an accepted program, of the branches of each `cobegin` of a unit that has an instance
+-- in an accepted program branches of a `cobegin` in a unit that has an instance write no overlapping paths
 abbrev pub AcceptedWritesApart : Type 0
 AcceptedWritesApart =
     (structs : List StructDef) (units : List UnitDef) (entry i : ℕ) (unit : UnitDef) → IsWellTyped structs units entry → Passes units →

@@ -20,7 +20,7 @@ effect_writes w i (Acts s) = homes w i (writes s)
 effect_writes w i (Gives callee target) = homes w i (target_static target)
 effect_writes w i _ = []
 
--- the homes that it looks at: those of what it reads and of what it writes
+-- the homes that an effect reads or writes
 abbrev pub effect_looks : Setting → ℕ → Effect → List Location
 effect_looks w i (Acts s) = homes w i (reads s ++ writes s)
 effect_looks w i (Asks e) = homes w i (mentions e)
@@ -61,22 +61,22 @@ abbrev pub effect_results : Effect → List ℕ
 effect_results (Gives callee target) = callee ∷ []
 effect_results _ = []
 
--- the home overlaps none of these
+-- the home overlaps none of the homes in the list
 abbrev pub ClearOf : Location → List Location → Type 0
 ClearOf at [] = ⊤
 ClearOf at (other ∷ rest) = (overlap at other ≡ false) × ClearOf at rest
 
--- no home of the one list overlaps one of the other
+-- no home of the first list overlaps one of the second
 abbrev pub Clear : List Location → List Location → Type 0
 Clear [] others = ⊤
 Clear (at ∷ rest) others = ClearOf at others × Clear rest others
 
--- the instance is none of these
+-- the instance is not in the list
 abbrev pub NoneOf : ℕ → List ℕ → Type 0
 NoneOf i [] = ⊤
 NoneOf i (j ∷ rest) = (nat_eq i j ≡ false) × NoneOf i rest
 
--- nor is it that of one of these homes
+-- the instance is that of none of the homes in the list
 abbrev pub NoHome : ℕ → List Location → Type 0
 NoHome i [] = ⊤
 NoHome i (at ∷ rest) = (nat_eq i at.instance ≡ false) × NoHome i rest
@@ -89,12 +89,12 @@ pub record Untouched (w : Setting) (i : ℕ) (e : Effect) (frame : ℕ) : Type 0
   pub results : NoneOf frame (effect_results e)
   pub frames : NoneOf frame (effect_frames i e)
 
--- nor is any of these
+-- the effect touches none of the frames in the list
 abbrev pub AllUntouched : Setting → ℕ → Effect → List ℕ → Type 0
 AllUntouched w i e [] = ⊤
 AllUntouched w i e (frame ∷ rest) = Untouched w i e frame × AllUntouched w i e rest
 
--- the one deed changes nothing that the other looks at: not what is there now, not what was before, and no frame
+-- the first deed changes nothing that the second looks at: no value, no former value, and no frame
 pub record Spares (w : Setting) (a b : Deed) : Type 0 where
   pub looks : Clear (effect_writes w a.instance a.effect) (effect_looks w b.instance b.effect)
   pub remembers : Clear (effect_writes w a.instance a.effect) (effect_remembers b.instance b.effect)
@@ -102,6 +102,6 @@ pub record Spares (w : Setting) (a b : Deed) : Type 0 where
   pub befores : Clear (effect_remembers a.instance a.effect) (effect_remembers b.instance b.effect)
   pub frames : AllUntouched w b.instance b.effect (effect_frames a.instance a.effect)
 
--- where neither changes what the other looks at, the order of two deeds does not matter, traps included
+-- deeds that spare each other are independent, traps included
 abbrev pub DeedsAreIndependent : Type 0
 DeedsAreIndependent = (w : Setting) (a b : Deed) → Spares w a b → Spares w b a → Independent w a b

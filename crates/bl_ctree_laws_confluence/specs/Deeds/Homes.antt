@@ -19,7 +19,7 @@ OutputsAreApart w =
     (i : ℕ) (instance : Instance) (origin : Origin) → slice_get w.instances i ≡ Some instance → instance.origin ≡ Some origin →
     AreApart origin.outputs
 
--- then homes overlap only where the paths do, so two variables have two homes
+-- if no outputs of a call overlap, homes of paths of one instance overlap only where the paths do
 abbrev pub HomesAreApart : Type 0
 HomesAreApart =
     (structs : List StructDef) (units : List UnitDef) (entry i : ℕ) (p q : Static) → OutputsAreApart (setting_of structs units entry) →

@@ -29,15 +29,15 @@ pub record IsOutput (w : Setting) (i c : ℕ) (at : Location) : Type 0 where
 abbrev pub BeginsInstance : List StructDef → List UnitDef → ℕ → ℕ → Place → ℕ → Type 0
 BeginsInstance structs units entry i place c = callee_of (setting_of structs units entry) i place ≡ Some c
 
--- in a program's instances
+-- the instances of a program nest: callees come later, and each has one caller
 pub record InstancesNest (structs : List StructDef) (units : List UnitDef) (entry : ℕ) : Type 0 where
   -- callees have greater numbers
   pub later : (i c : ℕ) (place : Place) → BeginsInstance structs units entry i place c → i < c
-  -- and so has what is inside
+  -- what is inside an instance has no smaller number
   pub inside : (i j : ℕ) → Inside (setting_of structs units entry) i j → i ≤ j
-  -- one caller has each
+  -- each instance has at most one caller
   pub one_caller : (i j c : ℕ) (place other : Place) → BeginsInstance structs units entry i place c → BeginsInstance structs units entry j other c → i ≡ j
-  -- so nothing is inside two calls of one instance
+  -- no instance is inside two calls of one instance
   pub apart : (i c d k : ℕ) (place other : Place) → BeginsInstance structs units entry i place c → BeginsInstance structs units entry i other d →
       Inside (setting_of structs units entry) c k → Inside (setting_of structs units entry) d k → c ≡ d
   -- no home of an instance is inside a call of it
@@ -48,6 +48,6 @@ pub record InstancesNest (structs : List StructDef) (units : List UnitDef) (entr
       Inside (setting_of structs units entry) c (home (setting_of structs units entry) (record { instance = k; path = path })).instance
       ⊎ IsOutput (setting_of structs units entry) i c (record { instance = k; path = path })
 
--- so it is in every program
+-- the instances of every program nest
 abbrev pub ProgramsNest : Type 0
 ProgramsNest = (structs : List StructDef) (units : List UnitDef) (entry : ℕ) → InstancesNest structs units entry

@@ -22,22 +22,22 @@ use Rattle.bl_ctree_laws_confluence.specs.Deeds.Homes.{OutputsAreApart}
 
 -- what holds of a unit that has an instance
 pub record OrderlyUnit (structs : List StructDef) (units : List UnitDef) (unit : UnitDef) : Type 0 where
-  -- it is a unit of the program
+  -- the unit is one of the program
   pub is_there : Contains units unit
-  -- and an activity, whose inputs stand first, then its outputs, then what its body declares
+  -- the unit is an activity, whose inputs stand first, then its outputs, then what its body declares
   pub activity : is_activity unit.kind ≡ true
   pub roles : roles_stand unit ≡ true
-  -- its statements are typed among the units before it
+  -- the unit's statements are typed among the units before it
   pub earlier : List UnitDef
   pub typed : all_of (map (fits (site_of structs earlier unit)) unit.body) ≡ true
-  -- its body can't end in the tick in which it begins
+  -- the unit's body can't end in the tick in which it begins
   pub pauses : is_instant_block unit.body ≡ false
   -- acts of two branches of one `cobegin` write static paths that don't overlap, a `run` its outputs and its target
   pub conflicts : (split : Split) (first second : Marked) (var : Var) → Contains (splits_of unit) split → Contains split.earlier first →
       Contains split.writes second → slice_get unit.vars second.path.root ≡ Some var → overlaps first.path second.path ≡ false
   -- no output of a call or `run` overlaps another one, an aggregate input or the target
   pub aliases : joined (map aliases_in unit.body) ≡ []
-  -- what is declared in a branch is named in no other, nor by `prev`
+  -- variables declared in a branch are named in no other branch, `prev` included
   pub apart : list_all is_apart unit.body ≡ true
   -- a `return` is the last statement of the body, so none stands in a branch
   pub returns : activity_returns unit ≡ true
@@ -46,13 +46,13 @@ pub record OrderlyUnit (structs : List StructDef) (units : List UnitDef) (unit :
 
 -- what holds of a program's instances
 pub record Orderly (structs : List StructDef) (units : List UnitDef) (w : Setting) : Type 0 where
-  -- each is one of a unit of which the above holds
+  -- each instance is of an orderly unit
   pub each : (i : ℕ) (unit : UnitDef) → unit_at w i ≡ Some unit → OrderlyUnit structs units unit
   -- no body ends in the tick in which it begins
   pub paces : Paces w
-  -- and the bodies are typed
+  -- the bodies are typed
   pub fitted : Fitted w
-  -- and no two outputs of a call overlap
+  -- no two outputs of a call overlap
   pub outputs : OutputsAreApart w
 
 -- a typed program that passes the rules on pauses, writes and outputs is orderly

@@ -22,19 +22,18 @@ pub record CalledBy (units : List UnitDef) (instances : List Instance) (i : ℕ)
   pub outputs : origin.outputs ≡ run.outputs
   pub names : instance.unit ≡ run.unit
 
--- only the first instance has no caller; it is of the entry's unit
+-- the instance has a caller, or it is the first one, of the entry's unit
 abbrev pub HasCaller : List UnitDef → ℕ → List Instance → ℕ → Instance → Option Origin → Type 0
 HasCaller units entry instances i instance None = (i ≡ 0) × (instance.depth ≡ 0) × (instance.unit ≡ entry)
 HasCaller units entry instances i instance (Some origin) = CalledBy units instances i instance origin
 
--- so it is of each instance of a program
+-- each instance of a program but the first, which is the entry's, has a caller
 abbrev pub InstancesHaveCallers : Type 0
 InstancesHaveCallers =
     (units : List UnitDef) (entry i : ℕ) (instance : Instance) → slice_get (instances_of units entry) i ≡ Some instance →
     HasCaller units entry (instances_of units entry) i instance instance.origin
 
--- what stands for a path of the caller has the caller's home, and what doesn't is its own home. So homes lead out: no home of
--- an instance is that of an instance with a greater number, as those that it calls have
+-- a path that stands for a caller's path has the caller's home, any other its own; homes have no greater instance numbers
 pub record HomesLeadOut : Type 0 where
   pub own : (w : Setting) (at : Location) → led w at ≡ None → home w at ≡ at
   pub out : (structs : List StructDef) (units : List UnitDef) (entry : ℕ) (at next : Location) → led (setting_of structs units entry) at ≡ Some next →

@@ -11,19 +11,19 @@ use Rattle.bl_ctree_laws.specs.Pending.{Deed}
 use Rattle.bl_ctree_laws.specs.Runs.{entry_block}
 use Rattle.bl_ctree_laws_confluence.specs.Apart.Parted.{TwoBranches}
 
--- in an accepted program the order of two steps of two branches doesn't matter
+-- two steps of different branches are independent in an accepted program
 abbrev pub TwoAreIndependent : Type 0
 TwoAreIndependent =
     (structs : List StructDef) (units : List UnitDef) (entry : ℕ) (a b : Deed) → IsWellTyped structs units entry → Passes units →
     TwoBranches (setting_of structs units entry) a b → Independent (setting_of structs units entry) a b × Independent (setting_of structs units entry) b a
 
--- so it doesn't matter in any tree that may be left of the entry's body
+-- in an accepted program steps of different branches are independent in all residuals of the entry's body
 abbrev pub AcceptedIsIndependent : Type 0
 AcceptedIsIndependent =
     (structs : List StructDef) (units : List UnitDef) (entry : ℕ) (stood : Bool) → IsWellTyped structs units entry → Passes units →
     BranchesAreIndependent (setting_of structs units entry) stood (entry_block (setting_of structs units entry))
 
--- and the program's meaning allows at most one trace over each list of rows
+-- an accepted program has at most one trace over each list of rows
 abbrev pub AcceptedTracesAreOne : Type 0
 AcceptedTracesAreOne =
     (structs : List StructDef) (units : List UnitDef) (entry : ℕ) (rows : List (List ℤ)) (one other : ShownTrace) →

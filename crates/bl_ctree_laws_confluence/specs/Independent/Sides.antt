@@ -32,7 +32,7 @@ pub record KeptApart (w : Setting) (i : ℕ) (one other : Block) : Type 0 where
   pub names : (effect effect' : Effect) → SomeIn (HasEffect w i effect) one → SomeIn (HasEffect w i effect') other →
       Foreign effect effect' × Foreign effect' effect
 
--- a deed of what is left of the one changes nothing that a deed of the other looks at, where this reads nothing that the first may still write
+-- a deed of one branch spares a deed of the other, if the second reads nothing that the first may still write
 abbrev pub SidesSpare : Type 0
 SidesSpare =
     (structs : List StructDef) (units : List UnitDef) (entry : ℕ) (stood stood' : Bool) (i : ℕ) (one other : Block) (c c' : Tree) (a b : Deed) →

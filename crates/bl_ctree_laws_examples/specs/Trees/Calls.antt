@@ -17,11 +17,11 @@ use Rattle.bl_ctree_laws_examples.specs.Trees.Made.{at, number, pause, set, stmt
 abbrev pub activity_of : List Var → List Stmt → UnitDef
 activity_of vars body = record { name = []; place = at 0; kind = Activity; vars = vars; inputs = 1; outputs = 1; result = None; body = body }
 
--- A
+-- the activity A of the example
 abbrev pub first_called : UnitDef
 first_called = activity_of (var Input ∷ var Output ∷ []) (set 1 1 (value 0) ∷ pause 2 ∷ set 3 1 (two Add (value 1) (number 10)) ∷ [])
 
--- B
+-- the activity B of the example
 abbrev pub second_called : UnitDef
 second_called =
     activity_of (var Input ∷ var Output ∷ []) (set 4 1 (two Add (value 1) (value 0)) ∷ pause 5 ∷ set 6 1 (two Add (value 1) (number 100)) ∷ [])
@@ -30,11 +30,11 @@ second_called =
 abbrev pub runs : ℕ → ℕ → ℕ → ℕ → Stmt
 runs place a input output = stmt place (StmtKind-F.Run None a (value input ∷ []) (variable output ∷ []))
 
--- what M does in each turn
+-- the statement that M executes in each turn
 abbrev pub turn : Stmt
 turn = stmt 7 (StmtKind-F.Cobegin (strong (runs 8 0 0 2 ∷ []) ∷ strong (runs 9 1 2 1 ∷ []) ∷ []))
 
--- M
+-- the activity M of the example
 abbrev pub caller : UnitDef
 caller =
     activity_of (var Input ∷ var Output ∷ var Variable ∷ [])
@@ -44,7 +44,7 @@ caller =
 abbrev pub units : List UnitDef
 units = first_called ∷ second_called ∷ caller ∷ []
 
--- its instances: M itself, A with x as its output, and B with M's o
+-- the instances of the example: M itself, A with x as its output, and B with M's o
 abbrev pub instances : List Instance
 instances =
     record { unit = 2; depth = 0; origin = None }

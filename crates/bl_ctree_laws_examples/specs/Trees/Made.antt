@@ -43,7 +43,7 @@ always = expr (ExprKind-F.Literal (pos 1) OfBool)
 abbrev pub variable : ℕ → Path
 variable k = roll-Path (record { place = at 0; root = k; parts = []; ty = int32 })
 
--- its value
+-- the value of a whole variable
 abbrev pub value : ℕ → Expr
 value k = expr (ExprKind-F.Read (variable k))
 
@@ -51,7 +51,7 @@ value k = expr (ExprKind-F.Read (variable k))
 abbrev pub flag_path : ℕ → Path
 flag_path k = roll-Path (record { place = at 0; root = k; parts = []; ty = roll-Ty (Ty-F.Scalar OfBool) })
 
--- its value
+-- the value of a whole variable of type `bool`
 abbrev pub flag : ℕ → Expr
 flag k = expr (ExprKind-F.Read (flag_path k))
 
@@ -79,6 +79,6 @@ strong body = roll-Branch (record { weak = false; body = body })
 abbrev pub named : List ℕ → Role → Var
 named name role = record { name = name; place = at 0; ty = int32; role = role }
 
--- one without
+-- a variable of type `int32` without a name
 abbrev pub var : Role → Var
 var role = named [] role

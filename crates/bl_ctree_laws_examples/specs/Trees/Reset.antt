@@ -15,15 +15,15 @@ use Rattle.bl_ctree_laws.specs.Steps.{fork, pause, watch}
 use Rattle.bl_ctree_laws.specs.Trees.{Do, Guard, Par, Seq, Test, Tree, beside, no_tree}
 use Rattle.bl_ctree_laws_examples.specs.Trees.Made.{always, at, flag, number, set, two, value}
 
--- the input
+-- the input of the example
 abbrev pub c : ℕ
 c = 0
 
--- what the first branch writes
+-- the variable that the first branch writes
 abbrev pub a : ℕ
 a = 1
 
--- what the second branch writes
+-- the variable that the second branch writes
 abbrev pub b : ℕ
 b = 2
 
@@ -43,7 +43,7 @@ raises_b = set 6 b (two Add (value b) (number 1))
 abbrev pub guard_label : Label
 guard_label = label_at (0 ∷ 0 ∷ 0 ∷ [])
 
--- the loop in it
+-- the loop in the body of the `when`
 abbrev pub loop_a : Plain
 loop_a = Repeat (label_at (0 ∷ 0 ∷ 0 ∷ 0 ∷ 1 ∷ [])) (at 7)
     (Then (Await (label_at (0 ∷ 0 ∷ 0 ∷ 0 ∷ 1 ∷ 0 ∷ 0 ∷ [])) (at 2) always)
@@ -62,7 +62,7 @@ abbrev pub loop_b : Plain
 loop_b = Repeat (label_at (0 ∷ 1 ∷ 1 ∷ [])) (at 8)
     (Then (Await (label_at (0 ∷ 1 ∷ 1 ∷ 0 ∷ 0 ∷ [])) (at 5) always) (Then (Act (label_at (0 ∷ 1 ∷ 1 ∷ 0 ∷ 1 ∷ [])) raises_b) Done))
 
--- what follows the pause in it
+-- what follows the pause in the second branch
 abbrev pub rest_b : Block
 rest_b = Then (Act (label_at (0 ∷ 1 ∷ 1 ∷ 0 ∷ 1 ∷ [])) raises_b) (Then loop_b Done)
 
@@ -83,7 +83,7 @@ abbrev pub to_check : Tree
 to_check = Guard (watch guard_label (at 9) Reset (flag c) guarded_body) Check true
     (Seq (Test (pause (label_at (0 ∷ 0 ∷ 0 ∷ 0 ∷ 1 ∷ 0 ∷ 0 ∷ [])) (at 2) always)) rest_a)
 
--- after a test that was true: its body begins anew
+-- the first branch after a test that was true: its body begins anew
 abbrev pub begun_anew : Tree
 begun_anew = Guard (watch guard_label (at 9) Reset (flag c) guarded_body) Body true
     (Seq (Do (Act (label_at (0 ∷ 0 ∷ 0 ∷ 0 ∷ 0 ∷ [])) begins_a)) (Then loop_a Done))
@@ -92,7 +92,7 @@ begun_anew = Guard (watch guard_label (at 9) Reset (flag c) guarded_body) Body t
 abbrev pub to_wake : Tree
 to_wake = Seq (Test (pause (label_at (0 ∷ 1 ∷ 1 ∷ 0 ∷ 0 ∷ [])) (at 5) always)) rest_b
 
--- after its `await`
+-- the second branch after its `await`
 abbrev pub woken_up : Tree
 woken_up = Seq (Do (Act (label_at (0 ∷ 1 ∷ 1 ∷ 0 ∷ 1 ∷ [])) raises_b)) (Then loop_b Done)
 
@@ -108,10 +108,10 @@ tests_guard = deed 0 (at 9) (Asks (flag c))
 abbrev pub wakes : Deed
 wakes = deed 0 (at 5) (Asks always)
 
--- the label of the first of these steps
+-- the label of the guard's check
 abbrev pub at_guard : StepLabel
 at_guard = Here (CheckAt guard_label (at 9) (flag c))
 
--- that of the second
+-- the label of the `await`'s test in the second branch
 abbrev pub at_await : StepLabel
 at_await = Here (TestAt (label_at (0 ∷ 1 ∷ 1 ∷ 0 ∷ 0 ∷ [])) (at 5) always)

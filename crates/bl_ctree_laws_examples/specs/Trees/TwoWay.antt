@@ -18,11 +18,11 @@ i = 0
 abbrev pub o : ℕ
 o = 1
 
--- what the first branch writes
+-- the variable that the first branch writes
 abbrev pub x : ℕ
 x = 2
 
--- what the second branch writes
+-- the variable that the second branch writes
 abbrev pub y : ℕ
 y = 3
 
@@ -42,11 +42,11 @@ sets_y = set 4 y (two Mul (value x) (number 2))
 abbrev pub left_repeat : Stmt
 left_repeat = stmt 6 (StmtKind-F.Repeat (sets_x ∷ sets_o ∷ pause 3 ∷ []))
 
--- the second
+-- the second loop
 abbrev pub right_repeat : Stmt
 right_repeat = stmt 7 (StmtKind-F.Repeat (sets_y ∷ pause 5 ∷ []))
 
--- both beside each other
+-- the two loops as strong branches of a `cobegin`
 abbrev pub both_loops : Stmt
 both_loops = stmt 9 (StmtKind-F.Cobegin (strong (left_repeat ∷ []) ∷ strong (right_repeat ∷ []) ∷ []))
 
@@ -77,7 +77,7 @@ activity = record {
 abbrev pub left : Position
 left = 2 ∷ 0 ∷ 0 ∷ []
 
--- that of the second
+-- the position of the second loop
 abbrev pub right : Position
 right = 2 ∷ 1 ∷ 0 ∷ []
 

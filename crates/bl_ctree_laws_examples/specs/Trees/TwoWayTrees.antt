@@ -24,15 +24,15 @@ left_pause = Then (Await (inside left 2) (at 3) always) (Then left_loop Done)
 abbrev pub before_x : Tree
 before_x = Seq (Do (Act (inside left 0) sets_x)) (Then (Act (inside left 1) sets_o) left_pause)
 
--- where `o = y` is
+-- the tree of the first loop where `o = y` is next
 abbrev pub before_o : Tree
 before_o = Seq (Do (Act (inside left 1) sets_o)) left_pause
 
--- where its pause is
+-- the tree of the first loop where its pause is next
 abbrev pub left_done : Tree
 left_done = Seq (Do (Await (inside left 2) (at 3) always)) (Then left_loop Done)
 
--- where it pauses
+-- the tree of the first loop where it pauses
 abbrev pub left_paused : Tree
 left_paused = Seq (Wait (pause (inside left 2) (at 3) always)) (Then left_loop Done)
 
@@ -44,11 +44,11 @@ right_pause = Then (Await (inside right 1) (at 5) always) (Then right_loop Done)
 abbrev pub before_y : Tree
 before_y = Seq (Do (Act (inside right 0) sets_y)) right_pause
 
--- where its pause is
+-- the tree of the second loop where its pause is next
 abbrev pub right_done : Tree
 right_done = Seq (Do (Await (inside right 1) (at 5) always)) (Then right_loop Done)
 
--- where it pauses
+-- the tree of the second loop where it pauses
 abbrev pub right_paused : Tree
 right_paused = Seq (Wait (pause (inside right 1) (at 5) always)) (Then right_loop Done)
 

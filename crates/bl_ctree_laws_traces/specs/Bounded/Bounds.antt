@@ -18,20 +18,19 @@ use Rattle.bl_ctree.specs.Measure.{steps}
 use Rattle.bl_ctree.specs.Reaches.{Bounded}
 use Rattle.bl_ctree_laws_traces.specs.Bounded.Differ.{AllNumbered}
 
--- the `run` statements of each unit stand at places of their own, as those of a source do
+-- the `run` statements of each unit stand at distinct places
 abbrev pub RunsStandApart : List UnitDef → Type 0
 RunsStandApart units =
     (k : ℕ) (unit : UnitDef) → slice_get units k ≡ Some unit →
     AllPairs (λ (one : Run) (other : Run). same_place one.place other.place ≡ false) (joined (map runs_in unit.body))
 
--- in a typed program that passes the rules, whose `run` statements stand at places of their own, and whose activities' nodes have numbers that
--- rise along control edges, every list of steps in one tick is bounded
+-- an accepted program with distinct `run` places and node numbers that rise along control edges has bounded ticks
 abbrev pub AcceptedIsBounded : Type 0
 AcceptedIsBounded =
     (structs : List StructDef) (units : List UnitDef) (entry : ℕ) → IsWellTyped structs units entry → Passes units → RunsStandApart units →
     AllNumbered (setting_of structs units entry) → Bounded (steps structs units entry) structs units entry
 
--- and in each program that a raw tree has in which no rule fails, where `run` statements do stand at places of their own
+-- the program of a raw tree in which no rule fails has bounded ticks, if its nodes are numbered
 abbrev pub TypedIsBounded : Type 0
 TypedIsBounded =
     (items : List RawItem) (bytes : ℕ) → RawIsWellFormed items → NamesPass items → TypesPass (named_program items bytes) →

@@ -19,7 +19,7 @@ pub record Numbered (body : Block) : Type 0 where
   pub number : Node → ℕ
   pub rises : Rises number (EdgeAll body)
 
--- the body of each unit that has an instance has such numbers
+-- the body of each unit that has an instance has node numbers that rise along its control edges
 abbrev pub AllNumbered : Setting → Type 0
 AllNumbered w = (i : ℕ) (unit : UnitDef) → unit_at w i ≡ Some unit → Numbered (plain_body unit.body)
 

@@ -17,23 +17,23 @@ use Rattle.bl_ctree_laws_traces.specs.Progress.Laws.{Could}
 use Rattle.bl_ctree_laws_traces.specs.Progress.Places.{AllCallable}
 use Rattle.bl_ctree_laws_traces.specs.Progress.Reached.{TreeFitsGraph, TreeFitsGraphNow}
 
--- so it is in each typed program
+-- in each typed program each `run` begins an instance of a unit
 abbrev pub ProgramsAreCallable : Type 0
 ProgramsAreCallable = (structs : List StructDef) (units : List UnitDef) (entry : ℕ) → IsWellTyped structs units entry →
     AllCallable (setting_of structs units entry)
 
 -- what holds of the trees that runs reach
 pub record TreesFitGraphs (w : Setting) : Type 0 where
-  -- between ticks they stand at their places
+  -- between ticks the trees fit the graph of the entry's body
   pub trees : (rows : List (List ℤ)) (c : Control) (store : Store) → Reaches w rows c store → TreeFitsGraph w (entry_block w) (plain_tree c)
-  -- and inside ticks, after any steps
+  -- within ticks, after any steps, the trees fit the graph of the entry's body
   pub inside : (rows : List (List ℤ)) (row : List ℤ) (actions : List Action) (c : Control) (store : Store) →
       ReachesInside w rows row actions (Rests c store) → TreeFitsGraphNow w (entry_block w) (plain_tree c)
   -- where something is left to do something could act
   pub could : (rows : List (List ℤ)) (row : List ℤ) (actions : List Action) (c : Control) (store : Store) →
       ReachesInside w rows row actions (Rests c store) → is_settled (plain_tree c) ≡ false → Could w 0 (plain_tree c)
 
--- so it is in each typed program that passes the rules
+-- in each typed program that passes the rules the trees that runs reach fit their graphs
 abbrev pub AcceptedTreesFitGraphs : Type 0
 AcceptedTreesFitGraphs =
     (structs : List StructDef) (units : List UnitDef) (entry : ℕ) → IsWellTyped structs units entry → Passes units →

@@ -27,8 +27,7 @@ pub record Writer (w : Setting) (i : ℕ) (a : Deed) (E L : Node → Node → Ty
   pub beside : L writer node
   pub writes : WritesOver w i a writer
 
--- WaitsFor w n p i a E L: the deed, whose step has the label n, waits for a writer to which a step with the label p leads. What waits inside
--- a call does so for a writer beside the call or for one in it, in the instance that the place of the call's node begins
+-- WaitsFor w n p i a E L: deed a with label n waits for a writer that a step labelled p leads to
 abbrev pub WaitsFor : Setting → StepLabel → StepLabel → ℕ → Deed → (Node → Node → Type 0) → (Node → Node → Type 0) → Type 0
 WaitsFor w (Here n) p i a E L = Writer w i a E L (head_of p) n
 WaitsFor w (Gives n) p i a E L = Writer w i a E L (head_of p) n

@@ -51,16 +51,16 @@ test_of s = TestAt s.label s.place s.test
 abbrev pub check_of : Watch → Node
 check_of s = CheckAt s.label s.place s.test
 
--- the end at a node may be reached: what begins and ends in one tick has one only where it is instant
+-- the end at a node may be reached; at once only where the statement is instant
 abbrev pub MayReachEnd : Bool → Bool → Node → Place → Type 0
 MayReachEnd stood instant n g = (stood ≡ false → instant ≡ true) × g.now n
 
--- what may act in these branches may act at the place
+-- the nodes of the branches' surface or depth may act at the place, and those of their depth later
 pub record MayActAt (stood : Bool) (bodies : Bodies) (g : Place) : Type 0 where
   pub now : (n : Node) → InEach stood bodies n → g.now n
   pub deep : (n : Node) → InEach true bodies n → g.deep n
 
--- what a Par has beside its branches
+-- a Par fits the graph, its branches apart
 pub record ForkFitsGraph (w : Setting) (i : ℕ) (s : Fork) (stood ends : Bool) (g : Place) : Type 0 where
   pub fits : IsSubgraph w i (fork_stmt s) g
   pub holds : MayActAt stood s.bodies g
@@ -78,7 +78,7 @@ pub record CheckFitsGraph (w : Setting) (i : ℕ) (s : Watch) (stood nil : Bool)
   pub checks : g.now (check_of s)
   pub unended : nil ≡ false
 
--- what a Run has beside its body: the instance that its place begins, the unit of that, and its node; one that ends or copies its inputs has stood
+-- a Run fits the graph: its place begins the callee, an instance of the unit; one that ends or copies has stood
 pub record CallFitsGraph (w : Setting) (i : ℕ) (s : Call) (callee : ℕ) (unit : UnitDef) (stood ends : Bool) (g : Place) : Type 0 where
   pub fits : IsSubgraph w i (call_stmt s) g
   pub called : callee_of w i s.place ≡ Some callee
@@ -101,8 +101,7 @@ pub record SeqFitsGraph (w : Setting) (i : ℕ) (rest : Block) (nil : Bool) (g :
   pub unended : nil ≡ false
 
 abbrev mutual
-  -- the tree, which stands in the instance, stands at the place: all of it is left of statements whose graph is part of the graph there, and
-  -- each of its nodes may act when the tree says that it does. What is called stands in the graph of its own unit
+  -- the tree of an instance fits the graph at a place: its statements' graphs are subgraphs, and its due nodes may act there
   pub FitsGraph : Setting → ℕ → Tree → Place → Type 0
   FitsGraph w i Nil g = ⊤
   FitsGraph w i (Wait s) g = g.out (test_of s) × g.deep (test_of s)
@@ -119,7 +118,7 @@ abbrev mutual
   FitsGraph w i (Run s callee Check stood c) g =
       (unit : UnitDef) × FitsGraph w callee c (whole stood (plain_body unit.body)) × CopyFitsGraph w i s callee unit stood (is_nil c) g
 
-  -- each tree stands in its branch
+  -- the tree of each branch fits the graph there
   pub AllFitGraph : Setting → ℕ → Trees → Bodies → Bool → Place → Type 0
   AllFitGraph w i no_tree Last stood g = ⊤
   AllFitGraph w i no_tree (BodyOf weak body rest) stood g = ⊥

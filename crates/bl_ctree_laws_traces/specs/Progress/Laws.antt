@@ -16,7 +16,7 @@ use Rattle.bl_ctree_laws.specs.Trees.{Tree, do_block, is_nil, is_settled, woken}
 use Rattle.bl_ctree_laws_traces.specs.Progress.FitsGraph.{FitsGraph}
 use Rattle.bl_ctree_laws_traces.specs.Progress.Places.{AllCallable, whole}
 
--- what could act in a tree that stands in a body's graph is a node of its depth where it stood when the tick began, else of its surface
+-- a step that could be taken in a fitting tree is in the body's depth if the tree stood, else in its surface
 abbrev pub NodesAreInPart : Type 0
 NodesAreInPart =
     (w : Setting) (i : ℕ) (stood : Bool) (body : Block) (c : Tree) (d : Bool) (a : Deed) (n : StepLabel) (c' : Tree) →
@@ -51,7 +51,7 @@ EndsAreReached =
 abbrev pub NodeWrites : (Static → Bool) → Node → Type 0
 NodeWrites test n = list_any test (node_writes n) ≡ true
 
--- where a tree may write such a path in this tick what could act in it leads to a node that writes one
+-- if a tree may write a path that passes the test, a step that could be taken leads to a node that does
 abbrev pub WritersAreAhead : Type 0
 WritersAreAhead =
     (w : Setting) (i : ℕ) (stood : Bool) (body : Block) (test : Static → Bool) (c : Tree) → FitsGraph w i c (whole stood body) →
@@ -69,7 +69,7 @@ StepsKeepFitsGraph =
     (w : Setting) (i : ℕ) (stood : Bool) (body : Block) (c : Tree) (d : Bool) (a : Deed) (n : StepLabel) (c' : Tree) → Paces w → AllCallable w →
     FitsGraph w i c (whole stood body) → Moves Anyway w i c d a n c' → FitsGraph w i c' (whole stood body)
 
--- and waking leaves a settled tree at its place in the next tick, where all of it has stood
+-- a settled tree that fits the graph still fits it when woken, as one that stood
 abbrev pub WakingKeepsFitsGraph : Type 0
 WakingKeepsFitsGraph =
     (w : Setting) (i : ℕ) (stood : Bool) (body : Block) (c : Tree) → is_settled c ≡ true → FitsGraph w i c (whole stood body) →

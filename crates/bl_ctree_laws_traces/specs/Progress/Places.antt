@@ -97,17 +97,17 @@ abbrev mutual
   Callable w i (While l at e body) = CallableAll w i body
   Callable w i (Again l at body e) = CallableAll w i body
 
-  -- in a block
+  -- each `run` in a block begins an instance of a unit
   pub CallableAll : Setting → ℕ → Block → Type 0
   CallableAll w i Done = ⊤
   CallableAll w i (Then s rest) = Callable w i s × CallableAll w i rest
 
-  -- in branches
+  -- each `run` in branches begins an instance of a unit
   pub CallableEach : Setting → ℕ → Bodies → Type 0
   CallableEach w i Last = ⊤
   CallableEach w i (BodyOf weak body rest) = CallableAll w i body × CallableEach w i rest
 
--- in the body of each unit that has an instance
+-- each `run` in the body of a unit that has an instance begins an instance of a unit
 abbrev pub AllCallable : Setting → Type 0
 AllCallable w = (i : ℕ) (unit : UnitDef) → unit_at w i ≡ Some unit → CallableAll w i (plain_body unit.body)
 

@@ -20,7 +20,7 @@ pub data TreeFitsGraph (w : Setting) (body : Block) : Tree → Type 0 where
   not_begun : TreeFitsGraph w body (Idle body)
   rests : (stood : Bool) (c : Tree) → is_settled c ≡ true → FitsGraph w 0 c (whole stood body) → TreeFitsGraph w body c
 
--- a tree of a body in a tick: of a body that begins its nodes are of the surface, of one that goes on of the depth
+-- a tree fits the graph of a body in a tick: the surface where the body begins, the depth where it goes on
 pub record TreeFitsGraphNow (w : Setting) (body : Block) (c : Tree) : Type 0 where
   pub stood : Bool
   pub lives : FitsGraph w 0 c (whole stood body)
@@ -31,13 +31,13 @@ ReachedFitsGraph =
     (w : Setting) (rows : List (List ℤ)) (c : Control) (store : Store) → Paces w → AllCallable w → Reaches w rows c store →
     TreeFitsGraph w (entry_block w) (plain_tree c)
 
--- and inside ticks, after any steps
+-- within ticks, after any steps, the trees that runs reach fit the graph of the entry's body
 abbrev pub ReachedInsideFitsGraph : Type 0
 ReachedInsideFitsGraph =
     (w : Setting) (rows : List (List ℤ)) (row : List ℤ) (actions : List Action) (c : Control) (store : Store) → Paces w → AllCallable w →
     ReachesInside w rows row actions (Rests c store) → TreeFitsGraphNow w (entry_block w) (plain_tree c)
 
--- so in each of these trees in which something is left to do something could act, were it not for what other branches may write
+-- in each reached tree that isn't settled some step could be taken, other branches' writes ignored
 abbrev pub ReachedCould : Type 0
 ReachedCould =
     (w : Setting) (rows : List (List ℤ)) (row : List ℤ) (actions : List Action) (c : Control) (store : Store) → Paces w → AllCallable w →

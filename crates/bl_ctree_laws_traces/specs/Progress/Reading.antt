@@ -37,7 +37,7 @@ abbrev pub DeedsStandAtNodes : Type 0
 DeedsStandAtNodes =
     (w : Setting) (i : ℕ) (c : Tree) (d : Bool) (a : Deed) (n : StepLabel) (c' : Tree) → Moves Anyway w i c d a n c' → DeedIsInInstance i a n
 
--- so what writes, in the tree's instance, something over a home that the deed reads has a data edge's overlap with the deed's node
+-- a node that writes over a home which a deed of its instance reads has a path overlap with the deed's node
 abbrev pub WritersTouch : Type 0
 WritersTouch =
     (structs : List StructDef) (units : List UnitDef) (entry i : ℕ) (c : Tree) (d : Bool) (a : Deed) (n : StepLabel) (c' : Tree) (writer : Node) →

@@ -16,8 +16,7 @@ use Rattle.bl_ctree_laws_traces.specs.Progress.FitsGraph.{FitsGraph}
 use Rattle.bl_ctree_laws_traces.specs.Progress.Places.{whole}
 use Rattle.bl_ctree_laws_traces.specs.Ready.Ranks.{Rising, ranks_in}
 
--- the first list comes before the second: it is a front of it, or has the lesser number where they first differ. So of any two lists
--- one comes first, or they are one
+-- the strict lexicographic order of lists of numbers, in which a front of a list comes before it
 abbrev pub Before : List ℕ → List ℕ → Type 0
 Before xs [] = ⊥
 Before [] (y ∷ ys) = ⊤
@@ -29,14 +28,14 @@ pub record Least (w : Setting) (rank : ℕ → Node → ℕ) (i : ℕ) (c : Tree
   pub least : (d : Bool) (a : Deed) (n : StepLabel) (c' : Tree) → Moves Anyway w i c d a n c' →
       ¬ Before (ranks_in w rank i n) (ranks_in w rank i could.label)
 
--- in a tree at its place in which something is left to do there is one, whatever the numbers
+-- a fitting tree that isn't settled has a least step that could be taken, whatever the numbers
 abbrev pub UnsettledHasLeast : Type 0
 UnsettledHasLeast =
     (w : Setting) (rank : ℕ → Node → ℕ) (i : ℕ) (stood : Bool) (body : Block) (c : Tree) → FitsGraph w i c (whole stood body) →
     is_settled c ≡ false →
     Least w rank i c
 
--- and where numbers rise it may be taken
+-- the least step that could be taken may be taken, where numbers rise along all edges
 abbrev pub LeastMayAct : Type 0
 LeastMayAct =
     (structs : List StructDef) (units : List UnitDef) (entry : ℕ) (rank : ℕ → Node → ℕ) (i : ℕ) (unit : UnitDef) (stood : Bool) (c : Tree) →

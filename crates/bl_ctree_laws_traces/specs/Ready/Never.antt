@@ -39,19 +39,18 @@ UnsettledMay =
     Rising w rank → OutputsAreApart w → unit_at w i ≡ Some unit → FitsGraph w i c (whole stood (plain_body unit.body)) → CallsMatchCallees w i c →
     is_settled c ≡ false → May w i c
 
--- in the trees that runs reach inside ticks each `run` has the callee that its place begins, with its own outputs
+-- the `run`s in trees that runs reach inside ticks have the callees that their places begin, with their outputs
 abbrev pub ReachedCallsMatch : Setting → Type 0
 ReachedCallsMatch w =
     (rows : List (List ℤ)) (row : List ℤ) (actions : List Action) (c : Control) (store : Store) → ReachesInside w rows row actions (Rests c store) →
     CallsMatchCallees w 0 (plain_tree c)
 
--- so it is in each typed program
+-- in each typed program the calls in reached trees match their callees
 abbrev pub TypedCallsMatch : Type 0
 TypedCallsMatch =
     (structs : List StructDef) (units : List UnitDef) (entry : ℕ) → IsWellTyped structs units entry → ReachedCallsMatch (setting_of structs units entry)
 
--- in the trees that runs of an accepted program reach, the lowest step that could be taken may be taken, where numbers rise along all
--- edges of the tick graphs of its activities
+-- in reached trees of an accepted program the least step that could be taken is enabled, if numbers rise along all edges
 abbrev pub ReachedLowestMayAct : Type 0
 ReachedLowestMayAct =
     (structs : List StructDef) (units : List UnitDef) (entry : ℕ) (rank : ℕ → Node → ℕ) → IsWellTyped structs units entry → Passes units →
@@ -60,7 +59,7 @@ ReachedLowestMayAct =
     ReachesInside w rows row actions (Rests c store) → (d : Bool) (a : Deed) (n : StepLabel) (c' : Tree) →
     Moves Anyway w 0 (plain_tree c) d a n c' → Moves Unmet w 0 (plain_tree c) d a n c' ⊎ LowerCould w rank 0 (plain_tree c) n
 
--- so no tick of it is stuck
+-- no tick of an accepted program is stuck, if numbers rise along all edges of its tick graphs
 abbrev pub AcceptedNeverStuck : Type 0
 AcceptedNeverStuck =
     (structs : List StructDef) (units : List UnitDef) (entry : ℕ) (rank : ℕ → Node → ℕ) → IsWellTyped structs units entry → Passes units →

@@ -27,7 +27,7 @@ pub record HasOrder (body : Block) : Type 0 where
 abbrev pub AllOrdered : Setting → Type 0
 AllOrdered w = (i : ℕ) (unit : UnitDef) → unit_at w i ≡ Some unit → HasOrder (plain_body unit.body)
 
--- and the body of each activity of a program does
+-- the tick graph of each activity of a program has an order
 abbrev pub ActivitiesAreOrdered : List UnitDef → Type 0
 ActivitiesAreOrdered units = (unit : UnitDef) → Contains units unit → is_activity unit.kind ≡ true → HasOrder (plain_body unit.body)
 
@@ -36,11 +36,11 @@ pub record HasRanks (w : Setting) : Type 0 where
   pub rank : ℕ → Node → ℕ
   pub rising : Rising w rank
 
--- orders of tick graphs give such numbers
+-- orders of tick graphs give numbers that rise along all edges
 abbrev pub OrdersGiveRanks : Type 0
 OrdersGiveRanks = (w : Setting) → AllOrdered w → HasRanks w
 
--- so a program that passes the rules and whose activities' tick graphs have orders is never stuck
+-- a program that passes the rules and whose tick graphs have orders is never stuck
 abbrev pub OrderedNeverStuck : Type 0
 OrderedNeverStuck =
     (structs : List StructDef) (units : List UnitDef) (entry : ℕ) → IsWellTyped structs units entry → Passes units → ActivitiesAreOrdered units →

@@ -39,7 +39,7 @@ Lower [] ys = ⊥
 Lower (x ∷ xs) [] = ⊥
 Lower (x ∷ xs) (y ∷ ys) = (x < y) ⊎ ((x ≡ y) × Lower xs ys)
 
--- a step that could be taken is lower than the one with the label
+-- a step that could be taken is lower than the step with the label
 pub record LowerCould (w : Setting) (rank : ℕ → Node → ℕ) (i : ℕ) (c : Tree) (n : StepLabel) : Type 0 where
   pub could : Could w i c
   pub lower : Lower (ranks_in w rank i could.label) (ranks_in w rank i n)

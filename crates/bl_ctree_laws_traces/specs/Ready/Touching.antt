@@ -17,16 +17,14 @@ use Rattle.bl_ctree_laws_traces.specs.Progress.Blocked.{WritesOver}
 abbrev pub Touched : Setting → ℕ → Deed → Node → Type 0
 Touched w i a n = (writer : Node) → WritesOver w i a writer → Touches writer n
 
--- TouchesAt w i a n: so it is of the deed and the outermost node of the label n in the instance i, and of each node of the label
--- in the instance in which that stands
+-- TouchesAt w i a n: each node of the label n touches what may write over reads of the deed a in that node's instance
 abbrev pub TouchesAt : Setting → ℕ → Deed → StepLabel → Type 0
 TouchesAt w i a (Here n) = Touched w i a n
 TouchesAt w i a (Gives n) = Touched w i a n
 TouchesAt w i a (Inside n u step) =
     Touched w i a n × ((callee : ℕ) → callee_of w i (place_of_node n) ≡ Some callee → TouchesAt w callee a step)
 
--- so it is of each step that could be taken. What is inside a call reads what is hidden there or outputs of the call, which the node
--- of the call reads; so nothing but the node's own data edges can keep it waiting from outside
+-- each step that could be taken touches its label's nodes: only their own data edges can delay it from outside
 abbrev pub WritersTouchOnTheWay : Type 0
 WritersTouchOnTheWay =
     (structs : List StructDef) (units : List UnitDef) (entry i : ℕ) (c : Tree) (d : Bool) (a : Deed) (n : StepLabel) (c' : Tree) →

@@ -30,7 +30,7 @@ pub record HasTick (w : Setting) (row : List ℤ) (c : Control) (store : Store) 
   pub end : End
   pub tick : Tick w row c store end
 
--- so over each row there is a tick from each tree that a run reaches
+-- a program with bounded ticks has a tick over each row from each tree that a run reaches
 abbrev pub BoundedHaveTicks : Type 0
 BoundedHaveTicks =
     (most : ℕ) (structs : List StructDef) (units : List UnitDef) (entry : ℕ) → Bounded most structs units entry →
@@ -42,7 +42,7 @@ pub record HasMeaning (structs : List StructDef) (units : List UnitDef) (entry :
   pub shows : ShownTrace
   pub means : Means structs units entry rows shows
 
--- and the meaning allows something over all rows
+-- a program with bounded ticks has a trace over every list of rows
 abbrev pub BoundedHaveMeanings : Type 0
 BoundedHaveMeanings =
     (most : ℕ) (structs : List StructDef) (units : List UnitDef) (entry : ℕ) → Bounded most structs units entry →

@@ -19,14 +19,13 @@ use Rattle.bl_ctree_laws_traces.specs.Bounded.Bounds.{RunsStandApart}
 use Rattle.bl_ctree_laws_traces.specs.Bounded.Differ.{AllNumbered}
 use Rattle.bl_ctree_laws_traces.specs.Ready.Ordered.{ActivitiesAreOrdered}
 
--- over these rows the meaning of the program allows this trace, and nothing else
+-- the semantics of the program allows exactly one trace over the rows
 pub record OneTrace (structs : List StructDef) (units : List UnitDef) (entry : ℕ) (rows : List (List ℤ)) : Type 0 where
   pub trace : Trace
   pub means : Means structs units entry rows (shown_trace trace)
   pub only : (shows : ShownTrace) → Means structs units entry rows shows → shows ≡ shown_trace trace
 
--- over all rows there is exactly one trace; every tick ends or traps: it has no more steps than the program's number of them, in
--- whatever order they are taken, and none is stuck
+-- a program has exactly one trace over any rows, its ticks are bounded in steps, and none is stuck
 pub record HasOneTrace (structs : List StructDef) (units : List UnitDef) (entry : ℕ) : Type 0 where
   pub each : (rows : List (List ℤ)) → OneTrace structs units entry rows
   pub bounded : Bounded (steps structs units entry) structs units entry
@@ -38,14 +37,13 @@ OrderedAreNumbered =
     (structs : List StructDef) (units : List UnitDef) (entry : ℕ) → IsWellTyped structs units entry → Passes units → ActivitiesAreOrdered units →
     AllNumbered (setting_of structs units entry)
 
--- a typed program that passes the rules, whose activities' tick graphs have orders, and whose `run` statements stand at places of their own,
--- has exactly one trace
+-- a program that passes the rules, with orders of its tick graphs and distinct `run` places, has exactly one trace
 abbrev pub OrderedHaveOneTrace : Type 0
 OrderedHaveOneTrace =
     (structs : List StructDef) (units : List UnitDef) (entry : ℕ) → IsWellTyped structs units entry → Passes units → RunsStandApart units →
     ActivitiesAreOrdered units → HasOneTrace structs units entry
 
--- and each program that a raw tree has in which no rule fails has, where `run` statements do stand at places of their own
+-- the program of a raw tree in which no rule fails has exactly one trace, if its tick graphs have orders
 abbrev pub TypedHaveOneTrace : Type 0
 TypedHaveOneTrace =
     (items : List RawItem) (bytes : ℕ) → RawIsWellFormed items → NamesPass items → TypesPass (named_program items bytes) →

@@ -13,8 +13,7 @@ use Rattle.bl_ctree_enabled.specs.Spots.{spot_of}
 use Rattle.bl_ctree_run.specs.declared.listed.Kept.{Kept}
 use Rattle.bl_ctree_run.specs.declared.listed.Next.{Next}
 
--- the branches of the `cobegin` at the end of the spine of a tree that stands in the instance, and the instance in which they stand;
--- no branch where the spine ends in another node
+-- the fork at the end of a tree's spine and its instance, without branches where the spine ends in another node
 abbrev pub fork_at : ℕ → Control → Fork
 fork_at i Nil = fork_of i Nil
 fork_at i (Wait s) = fork_of i (Wait s)
@@ -61,7 +60,7 @@ leads_on (Run s callee Body stood c) = true
 
 -- ---- what is kept of the branches at the end of a spine
 
--- what is listed, where something is
+-- the view of an optional listing
 abbrev pub listed_by : Option Listing → Option EnabledView
 listed_by listing = option_map enabled_view listing
 
@@ -69,7 +68,7 @@ listed_by listing = option_map enabled_view listing
 abbrev pub ListsEnd : Setting → Control → Option EnabledView → Type 0
 ListsEnd w c listed = listed ≡ option_map (λ l. listing_in w (fork_at 0 c)) listed
 
--- a tree, where it is a whole one, and the tree that has it as a branch, where something is kept of it
+-- the tree after a step, as a whole or as the branch of the listed tree of which something is kept
 abbrev pub led_by : Control → Control → Option Kept → Control
 led_by c d None = d
 led_by c d (Some kept) = with_fork c kept.branch d
@@ -78,19 +77,19 @@ led_by c d (Some kept) = with_fork c kept.branch d
 abbrev pub led : Control → Next → Control
 led c next = led_by c (control_of next.tree) next.kept
 
--- what is kept is that of a branch of those listed, once it is this tree
+-- the kept listing is that of a listed branch, which the given tree replaces
 pub record Fits (w : Setting) (c : Control) (l : EnabledView) (d : Control) (kept : Kept) : Type 0 where
   pub within : kept.branch < length l.homes
   pub homes : map location_of kept.found.homes ≡ homes w (fork_at 0 c).instance (write_paths d)
   pub spots : map spot_of kept.found.points ≡ spots_in w (fork_at 0 c).instance kept.branch d
   pub free : kept.free ≡ flags_of l.homes kept.branch (map spot_of kept.found.points)
 
--- the same where something is kept, which is so only where something is listed
+-- an optional kept listing fits the tree; nothing is kept where nothing is listed
 abbrev pub FitsAny : Setting → Control → Option EnabledView → Control → Option Kept → Type 0
 FitsAny w c listed d None = Unit {0}
 FitsAny w c None d (Some kept) = ⊥
 FitsAny w c (Some l) d (Some kept) = Fits w c l d kept
 
--- the same of the tree to which an action leads
+-- the listing kept for the tree after an action fits that tree
 abbrev pub FitsListed : Setting → Control → Option EnabledView → Next → Type 0
 FitsListed w c listed next = FitsAny w c listed (control_of next.tree) next.kept

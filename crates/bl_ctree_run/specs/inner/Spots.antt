@@ -79,24 +79,24 @@ pub record Told : Type 0 where
 abbrev pub told_of : Act → Told
 told_of a = record { place = a.place; instance = a.instance; effect = effect_in a.effect; paths = a.reads }
 
--- the same, where there is such a point
+-- the view by the code of an optional point
 abbrev pub told_all : Option Act → List Told
 told_all None = []
 told_all (Some a) = told_of a ∷ []
 
--- the same of a point of the definition
+-- the view of a point of the semantics
 abbrev pub told_point : {A : Type 0} → Point A → Told
 told_point p = record { place = p.action.place; instance = p.action.instance; effect = p.action.effect; paths = effect_paths p.action.effect }
 
--- a point of a node to which these branches lead, where this is told of it
+-- the spot of a node's point with this path of branches and this view
 abbrev pub spot_told : Setting → List ℕ → Told → Spot
 spot_told w path t = record { place = t.place; instance = t.instance; effect = t.effect; reads = homes w t.instance t.paths; path = path }
 
--- what is told of an effect alone
+-- the view of a point with the effect at the place
 abbrev pub telling : Place → ℕ → Effect → List Told
 telling place i effect = record { place = place; instance = i; effect = effect; paths = effect_paths effect } ∷ []
 
--- that of a `run` statement at the place
+-- the view of a `run` statement at the place
 abbrev pub told_run : Setting → ℕ → Place → List Expr → List Told
 told_run w i place inputs =
     or_nothing (option_and_then (λ callee. option_map (λ unit. telling place i (Copies callee inputs)) (unit_at w callee)) (callee_of w i place))
@@ -132,7 +132,7 @@ abbrev pub chosen : Located → List Arm → List Stmt → Bool → Control
 chosen s [] other d = Nil
 chosen s (arm ∷ arms) other d = if d then do_all (arm_items s arm) else passing s arms other
 
--- a `run` that begins
+-- the tree of a `run` that begins
 abbrev pub begun_as : Located → Option UnitInstance → Control
 begun_as s None = Nil
 begun_as s (Some called) = Run s called.instance Body false (do_all (body_items called.unit.body))
@@ -148,7 +148,7 @@ seen_begun position k (b ∷ rest) =
     record { weak = (out-Branch b).weak; tree = do_all (items_from (position ++ k ∷ []) 0 (out-Branch b).body) } ∷ seen_begun position (suc k) rest
 
 abbrev mutual
-  -- what the tree becomes by an answer of the point to which these branches lead
+  -- the tree after an answer of the point to which this path of branches leads
   pub after_by : Setting → ℕ → Control → List ℕ → Bool → Control
   after_by w i Nil path d = Nil
   after_by w i (Wait s) path d = Nil
@@ -164,7 +164,7 @@ abbrev mutual
   after_by w i (Run s callee Check stood c) path d = first_after (copying i s callee stood c (kind_of s)) d
   after_by w i (Run s callee Body stood c) path d = if is_nil c then Nil else Run s callee Body stood (after_by w callee c path d)
 
-  -- what branches become, where the point is in the one with this number
+  -- branches after an answer of a point in the branch with this number
   pub after_in : Setting → ℕ → Branches → ℕ → List ℕ → Bool → Branches
   after_in w i no_branch k path d = no_branch
   after_in w i (branch weak c others) zero path d = branch weak (after_by w i c path d) others

@@ -18,7 +18,7 @@ abbrev mutual
   is_light (Guard s phase stood c) = is_light c
   is_light (Run s callee phase stood c) = is_light c
 
-  -- the same of each branch
+  -- nothing begins in any of the branches as they are woken
   pub are_light : Branches → Bool
   are_light no_branch = true
   are_light (branch weak c rest) = is_light c && are_light rest

@@ -15,17 +15,17 @@ pub record Write : Type 0 where
   pub branch : ℕ
   pub home : Location
 
--- what the branch may still write, where it may write to these homes
+-- the pending writes of branch k, from the homes that it may write
 abbrev pub writes_by : ℕ → List Location → List Write
 writes_by k [] = []
 writes_by k (home ∷ homes) = record { branch = k; home = home } ∷ writes_by k homes
 
--- the same of branches one after another, the first of which has number k
+-- the pending writes of several branches, the first of which has number k
 abbrev pub writes_from : ℕ → List (List Location) → List Write
 writes_from k [] = []
 writes_from k (homes ∷ rest) = writes_by k homes ++ writes_from (suc k) rest
 
--- of all branches
+-- the pending writes of all branches
 abbrev pub all_writes : List (List Location) → List Write
 all_writes branches = writes_from 0 branches
 
@@ -33,7 +33,7 @@ all_writes branches = writes_from 0 branches
 abbrev pub same_variable : Location → Location → Bool
 same_variable a b = nat_eq a.instance b.instance && nat_eq a.path.root b.path.root
 
--- those writes to the variable in which the home lies
+-- the writes to the variable in which the home lies
 abbrev pub of_variable : Location → List Write → List Write
 of_variable at writes = filter (λ write. same_variable write.home at) writes
 
@@ -51,11 +51,11 @@ write_of write = record { branch = write.branch; home = location_of write.home }
 abbrev pub key_at : Location → ℕ × ℕ
 key_at at = (at.instance, at.path.root)
 
--- the order of such keys: by instance, then by variable
+-- the order of keys: by instance, then by variable
 abbrev pub key_cmp : ℕ × ℕ → ℕ × ℕ → Ordering
 key_cmp x y = ordering_then (nat_cmp x.0 y.0) (nat_cmp x.1 y.1)
 
--- those that are kept of the variable in which the home lies
+-- the writes kept for the variable in which the home lies
 abbrev pub kept : List ((ℕ × ℕ) × List WriteNode) → Location → List Write
 kept entries at = map write_of (unwrap_or (lookup (is_at (key_cmp (key_at at))) entries) [])
 

@@ -61,18 +61,18 @@ pub record TableKept (P : Stmt → Type 0) (before after : List Effect) (at : Pl
   pub same : found after at ≡ found before at
   pub none : (s : Stmt) → P s → place_of s ≢ at
 
--- one of them has it, and the table tells its effects
+-- one of the statements has the place, and the table tells its effects
 pub record TableTold (P : Stmt → Type 0) (after : List Effect) (at : Place) : Type 0 where
   pub statement : Stmt
   pub stands : P statement
   pub there : place_of statement ≡ at
   pub tells : found after at ≡ Some (effect_of statement)
 
--- the table after it was told of these statements
+-- the table after it was told of the statements of a class
 abbrev pub TableRecords : (Stmt → Type 0) → List Effect → List Effect → Type 0
 TableRecords P before after = (at : Place) → TableKept P before after at ⊎ TableTold P after at
 
--- the reads and writes gathered grew by these, and the table was told of all that stands in the block
+-- the gathered reads and writes grew by those of a block, and the table was told of its statements
 pub record Gathers (reads writes : List Static) (body : List Stmt) (before after : Paths) (old new : List Effect) : Type 0 where
   pub reads_grow : after.reads ≡ before.reads ++ reads
   pub writes_grow : after.writes ≡ before.writes ++ writes

@@ -42,7 +42,7 @@ pub record InBranch (branches : List Span) (at i : ℕ) : Type 0 where
 abbrev pub are_together : Mark → Mark → Bool
 are_together a b = (a.surface && b.surface) || (a.depth && b.depth)
 
--- the nodes with these numbers are in different branches, together, and the first writes what the second reads
+-- the numbered nodes are in different branches, both in surfaces or both in depths, and the first writes what the second reads
 pub record FlowBetween (nodes : List Flow) (branches : List Span) (i j : ℕ) : Type 0 where
   pub from : Flow
   pub to : Flow

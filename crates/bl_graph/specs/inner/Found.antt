@@ -35,20 +35,20 @@ use Rattle.bl_graph.specs.inner.Noted.{Note, note, numbers_met, upto}
 abbrev pub Recalls : Found → Type 0
 Recalls found = (edge : Edge) → Contains found.latest edge → edge.by_data ≡ true → Contains found.edges edge
 
--- both lists have the same elements
+-- two lists of edges have the same elements
 abbrev pub SameEdges : List Edge → List Edge → Type 0
 SameEdges xs ys = (edge : Edge) → Contains xs edge ↔ Contains ys edge
 
--- these edges were found besides
+-- the edges found after are those found before and the given ones
 pub record Gains (before after : Found) (edges : List Edge) : Type 0 where
   pub recalls : Recalls before → Recalls after
   pub same : Recalls before → SameEdges after.edges (before.edges ++ edges)
 
--- from each of these nodes to the node
+-- the data edges from each node of a list to a node
 abbrev pub links : ℕ → List ℕ → List Edge
 links to nodes = flat_map (λ from. edge_between from to true ∷ []) nodes
 
--- to the node from each that was noted with a path that overlaps one of these
+-- the data edges to a node from each one noted with a path that overlaps one of the paths
 abbrev pub links_met : List Note → ℕ → List Static → List Edge
 links_met ns to paths = flat_map (λ path. links to (numbers_met ns path)) paths
 
@@ -62,7 +62,7 @@ EndBy branches last = (span : Span) → Contains branches span → (span.first �
 abbrev pub is_reached : Bool → Mark → Bool
 is_reached deep mark = if deep then mark.depth else mark.surface
 
--- the node with each of these paths
+-- the notes of a node with each path of a list
 abbrev pub notes_of : ℕ → List Static → List Note
 notes_of node paths = flat_map (λ path. note node path ∷ []) paths
 

@@ -66,11 +66,11 @@ use Rattle.bl_graph.specs.inner.Parts.{beside, shifted}
 
 -- ---- names of numbers
 
--- which node a number names
+-- an assignment of nodes to numbers
 abbrev pub Naming : Type 0
 Naming = ℕ → Option Node
 
--- the numbers from the first on name these nodes
+-- consecutive numbers, from the first on, name the nodes of the list
 abbrev pub Names : Naming → ℕ → List Node → Type 0
 Names naming n [] = ⊤
 Names naming n (x ∷ xs) = (naming n ≡ Some x) × Names naming (n + 1) xs
@@ -80,7 +80,7 @@ abbrev pub NamesEntry : Naming → ℕ → Block → Type 0
 NamesEntry naming n Done = ⊤
 NamesEntry naming n (Then s rest) = naming n ≡ Some (entry s)
 
--- the elements of the one list are as those of the other, one by one
+-- two lists are equally long, and their elements at one position are related
 abbrev pub Pairwise : {A B : Type 0} → (A → B → Type 0) → List A → List B → Type 0
 Pairwise R [] [] = ⊤
 Pairwise R [] (y ∷ ys) = ⊥
@@ -91,7 +91,7 @@ Pairwise R (x ∷ xs) (y ∷ ys) = R x y × Pairwise R xs ys
 abbrev pub IsNode : Naming → ℕ → Node → Type 0
 IsNode naming k n = naming k ≡ Some n
 
--- and it is reached so
+-- the number names the marked node, with its mark
 pub record IsOut (naming : Naming) (out : Out) (m : Marked) : Type 0 where
   pub names : naming out.node ≡ Some m.node
   pub mark : out.mark ≡ m.mark
@@ -102,19 +102,19 @@ pub record IsEdge (kind : Bool) (naming : Naming) (edge : Edge) (p : Pair) : Typ
   pub second : naming edge.to ≡ Some p.to
   pub of_kind : edge.by_data ≡ kind
 
--- one of these pairs of nodes is that of the edge
+-- a listed pair of nodes corresponds to the edge
 pub record HasPair (kind : Bool) (naming : Naming) (pairs : List Pair) (edge : Edge) : Type 0 where
   pub pair : Pair
   pub is_there : Contains pairs pair
   pub leads : IsEdge kind naming edge pair
 
--- one of these edges leads from the one node of the pair to the other
+-- a listed edge corresponds to the pair of nodes
 pub record HasEdge (kind : Bool) (naming : Naming) (edges : List Edge) (pair : Pair) : Type 0 where
   pub edge : Edge
   pub is_there : Contains edges edge
   pub leads : IsEdge kind naming edge pair
 
--- edges were appended, and they lead from and to exactly these
+-- the appended edges correspond to the listed pairs of nodes
 pub record Adds (kind : Bool) (naming : Naming) (pairs : List Pair) (before after : List Edge) : Type 0 where
   pub added : List Edge
   pub grows : after ≡ before ++ added
@@ -131,11 +131,11 @@ pub record Whole : Type 0 where
   pub edges : List Pair
   pub flows : List Pair
 
--- what a statement comes to
+-- the nodes, ends, resume nodes and edges of a statement
 abbrev pub whole_of : Plain → Whole
 whole_of p = record { nodes = (part_of p).nodes; outs = (part_of p).outs; resumes = resumes_of p; edges = edges_of p; flows = flows_of p }
 
--- what a block comes to
+-- the nodes, ends, resume nodes and edges of a block
 abbrev pub whole_in : Block → Whole
 whole_in body = record {
   nodes = (part_in body).nodes;
@@ -172,7 +172,7 @@ abbrev pub StatementMade : Stmt → ℕ → Made → Links → Links → Type 0
 StatementMade s first made before after = (at : Position) (naming : Naming) → Names naming first (nodes_of (plain s at))
     → Makes naming (whole_of (plain s at)) made before after
 
--- and a block
+-- a block was made, whose nodes are numbered from the first on
 abbrev pub BlockMade : List Stmt → ℕ → Made → Links → Links → Type 0
 BlockMade body first made before after = (at : Position) (naming : Naming) → Names naming first (nodes_in (plain_block body at))
     → Makes naming (whole_in (plain_block body at)) made before after
@@ -182,7 +182,7 @@ abbrev pub TurnMade : List Stmt → ℕ → ℕ → ℕ → Made → Links → L
 TurnMade body begins first last made before after = (at : Position) (naming : Naming) (n m : Node) → Names naming begins (nodes_in (plain_block body at))
     → naming first ≡ Some n → naming last ≡ Some m → Makes naming (turning (plain_block body at) n m) made before after
 
--- of a whole a part was made, and the rest, whose nodes are numbered from this number on, makes it whole
+-- part of a whole was made; making the rest of its block, numbered from here on, completes it
 pub record Open (naming : Naming) (whole : Whole) (rest : Block) (next : ℕ) (made : Made) (before after : Links) : Type 0 where
   pub names : Names naming next (nodes_in rest)
   pub closes : (more : Made) (last : Links) → Makes naming (whole_in rest) more after last → Makes naming whole (beside made more) before last
@@ -194,7 +194,7 @@ ChoiceMade place reads body more first made before after = (l : Label) (at : Pos
     → Names naming first (nodes_of (If l place e (plain_block body at) rest))
     → Open naming (whole_of (If l place e (plain_block body at) rest)) rest (first + length made.flows) made before after
 
--- of a whole a part was made, and the `else` part makes it whole
+-- part of an `if` was made; making its `else` block completes it
 pub record Closing (naming : Naming) (whole : Whole) (other : List Stmt) (next : ℕ) (made : Made) (before after : Links) : Type 0 where
   pub later : Label
   pub opens : Open naming whole (plain_block other (inside later later.passed)) next made before after
@@ -237,20 +237,20 @@ pub record MakesEach (naming : Naming) (bodies : Bodies) (l : Label) (at : Place
   pub control : Adds false naming (edges_in_each bodies l at instant) before.control after.control
   pub by_data : Adds true naming (flows_within bodies) before.by_data after.by_data
 
--- the numbers of the fork and the joins name them, and those from that after the join on name the nodes of the branches
+-- the numbers of the fork and the joins name them, and the numbers after the joins name the branches' nodes
 pub record NamesEach (naming : Naming) (bodies : Bodies) (l : Label) (at : Place) (instant : Bool) (first join : ℕ) : Type 0 where
   pub fork : naming first ≡ Some (ForkAt l at)
   pub surface : instant ≡ true → naming (first + 1) ≡ Some (SurfaceJoinAt l at)
   pub depth : naming join ≡ Some (DepthJoinAt l at)
   pub nodes : Names naming (join + 1) (nodes_in_each bodies)
 
--- these branches were made
+-- the branches were made, numbered from the first on, with this join
 abbrev pub BranchesMade : List Branch → ℕ → ℕ → Bool → Branches → Links → Links → Type 0
 BranchesMade branches first join instant made before after = (l : Label) (at : Place) (naming : Naming)
     → NamesEach naming (bodies_from (map plain_branch branches) 0 l) l at instant first join
     → MakesEach naming (bodies_from (map plain_branch branches) 0 l) l at instant made before after
 
--- one more branch was made
+-- making one more branch extends any list of branches made before
 abbrev pub BranchAdded : Branch → ℕ → ℕ → Bool → Branches → Branches → Links → Links → Type 0
 BranchAdded branch first join instant made joined before after = (branches : List Branch) (start : Links)
     → BranchesMade branches first join instant made start before → BranchesMade (branches ++ branch ∷ []) first join instant joined start after

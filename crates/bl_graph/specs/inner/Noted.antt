@@ -54,11 +54,11 @@ numbers_met ns path = numbers_at path (with_fronts ns) ++ numbers_to ns path (le
 abbrev pub kept : List (Static × List ℕ) → Static → List ℕ
 kept table path = unwrap_or (lookup (is_at (static_cmp path)) table) []
 
--- the table has these notes
+-- the table has at each path the numbers of the notes
 abbrev pub HasNotes : List (Static × List ℕ) → List Note → Type 0
 HasNotes table ns = (path : Static) → kept table path ≡ numbers_at path ns
 
--- both tables have these notes, the one with all fronts of their paths
+-- one table has the notes at their paths, the other at all fronts of their paths
 pub record HasNotesAndFronts (notes : Notes) (ns : List Note) : Type 0 where
   pub within : HasNotes notes.within (with_fronts ns)
   pub exactly : HasNotes notes.exactly ns

@@ -30,12 +30,12 @@ use Rattle.bl_graph.specs.Marks.{
 
 -- ---- marks
 
--- how some of these are reached
+-- the ways in which some node of a list is reached
 abbrev pub some_mark : List Out → Mark
 some_mark [] = unreached
 some_mark (out ∷ rest) = either out.mark (some_mark rest)
 
--- how some of these leave their branch
+-- the ways in which some node of a list leaves its branch
 abbrev pub leave_mark : List Out → Mark
 leave_mark [] = unreached
 leave_mark (out ∷ rest) = either (leaving out.mark) (leave_mark rest)
@@ -50,15 +50,15 @@ moved_out entry out = record { node = out.node; mark = inner entry out.mark }
 
 -- ---- edges
 
--- the control edges from a node to these
+-- the control edges from a node to each node of a list
 abbrev pub links_from : ℕ → List ℕ → List Edge
 links_from from to = map (λ k. edge_between from k false) to
 
--- from these to a node
+-- the control edges from each node of a list to a node
 abbrev pub links_each : List Out → ℕ → List Edge
 links_each outs to = map (λ out. edge_between out.node to false) outs
 
--- from these to those
+-- the control edges from each node of the first list to each of the second
 abbrev pub links_all : List Out → List ℕ → List Edge
 links_all outs to = joined (map (links_each outs) to)
 
@@ -66,11 +66,11 @@ links_all outs to = joined (map (links_each outs) to)
 abbrev pub link_if : Bool → ℕ → ℕ → List Edge
 link_if test from to = if test then edge_between from to false ∷ [] else []
 
--- from each of these that is in the surface to a node, and from each that is in the depth
+-- the control edges to a node from each node of a list that is in the surface
 abbrev pub surface_links : List Out → ℕ → List Edge
 surface_links outs to = joined (map (λ out. link_if out.mark.surface out.node to) outs)
 
--- the control edges to a node from each of these that is in the depth
+-- the control edges to a node from each node of a list that is in the depth
 abbrev pub depth_links : List Out → ℕ → List Edge
 depth_links outs to = joined (map (λ out. link_if out.mark.depth out.node to) outs)
 
@@ -92,7 +92,7 @@ shifted first edge = record { from = first + edge.from; to = first + edge.to; by
 
 -- ---- nodes
 
--- the number after that of a first node, and after that of an end in the same tick, where there is one
+-- the number after that of a first node, and of a second one where the statement may end at once
 abbrev pub past : ℕ → Bool → ℕ
 past first instant = if instant then first + 2 else first + 1
 
@@ -104,7 +104,7 @@ node place kind mark reads writes = record { node = record { place = place; kind
 abbrev pub bare : Place → NodeKind → Mark → Flow
 bare place kind mark = node place kind mark [] []
 
--- such a node, where the test is true
+-- a node that reads and writes nothing, where the test is true
 abbrev pub bare_if : Bool → Place → NodeKind → Mark → List Flow
 bare_if test place kind mark = if test then bare place kind mark ∷ [] else []
 
@@ -116,18 +116,18 @@ out number mark = record { node = number; mark = mark }
 abbrev pub out_if : Bool → ℕ → Mark → List Out
 out_if test number mark = if test then out number mark ∷ [] else []
 
--- these nodes with their numbers, from the first on
+-- the nodes of a list with consecutive numbers, from the first on
 abbrev pub numbered : ℕ → List Flow → List Out
 numbered n [] = []
 numbered n (flow ∷ rest) = record { node = n; mark = flow.mark } ∷ numbered (n + 1) rest
 
 -- ---- parts
 
--- nothing
+-- a part without nodes
 abbrev pub nothing : Part
 nothing = record { flows = []; outs = []; resumes = [] }
 
--- one part beside another
+-- two parts beside each other
 abbrev pub beside : Part → Part → Part
 beside a b = record { flows = a.flows ++ b.flows; outs = a.outs ++ b.outs; resumes = a.resumes ++ b.resumes }
 
@@ -148,7 +148,7 @@ followed part more = record {
   resumes = part.resumes ++ more.resumes;
 }
 
--- an act
+-- the part of an act
 abbrev pub act_part : Place → List Static → List Static → ℕ → Part
 act_part at reads writes first = record { flows = node at kind.Act entered reads writes ∷ []; outs = out first entered ∷ []; resumes = [] }
 

@@ -22,7 +22,7 @@ pub record IsUnreserved (word : List ℕ) : Type 0 where
   pub no_keyword : (k : ℕ) → slice_get keywords k ≢ Some word
   pub not_outside : (k : ℕ) → slice_get words_outside k ≢ Some word
 
--- these are the reserved words of n bytes
+-- the entries are all reserved words of n bytes with their meanings
 pub record AreReservedOf (n : ℕ) (entries : List Reserved) : Type 0 where
   pub right : All (λ entry. IsMeaningOf entry.text.now entry.meaning) entries
   pub complete : (word : List ℕ) → length word ≡ n → All (λ entry. entry.text.now ≢ word) entries → IsUnreserved word

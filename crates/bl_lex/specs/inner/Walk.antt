@@ -47,18 +47,18 @@ pub record EndsAtBracket (tokens : List LexedPiece) : Type 0 where
   pub is_at : at.form ≡ Token (Sign AT)
   pub is_bracket : bracket.form ≡ Token (Sign OPEN_BRACKET)
 
--- how the tokens end
+-- the state says whether the tokens end in `@`, in `@ [`, or in neither
 abbrev pub IsBefore : Before → List LexedPiece → Type 0
 IsBefore Other tokens = (¬ EndsAt tokens) × (¬ EndsAtBracket tokens)
 IsBefore At tokens = EndsAt tokens
 IsBefore AtBracket tokens = EndsAtBracket tokens
 
--- how the tokens end after one part more
+-- the second state describes the tokens after a part of this form, if the first described them before
 abbrev pub NextBefore : Before → Form → Before → Type 0
 NextBefore before form next = (tokens : List LexedPiece) (part : LexedPiece) → part.form ≡ form → IsBefore before tokens →
     IsBefore next (tokens ++ without_between (part ∷ []))
 
--- the profile leaves out a token of this form and these bytes, after tokens that end so
+-- the profile leaves out a token of this form and these bytes after tokens that the state describes
 abbrev pub IsLeftOutAfter : Before → Form → List ℕ → Type 0
 IsLeftOutAfter before form bytes = (form ≡ Outside) ⊎ ((form ≡ Token (Sign OPEN_BRACE)) ⊎ ((form ≡ Token (Sign CLOSE_BRACE))
     ⊎ ((before ≡ AtBracket) × (form ≡ Token Name) × (bytes ≢ codes "EntryPoint"))))

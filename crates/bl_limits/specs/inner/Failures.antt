@@ -20,7 +20,7 @@ failure_at rule at = record { rule = rule; at = at; further = Nothing }
 abbrev pub above : ℕ → ℕ → Failure → List Failure
 above limit n failure = if nat_lt limit n then failure ∷ [] else []
 
--- that of a number of the unit, at its name
+-- the failure of a unit's number above the limit, at the unit's name
 abbrev pub at_unit : Rule → ℕ → ℕ → Option UnitDef → List Failure
 at_unit rule limit n (Some unit) = above limit n (failure_at rule unit.place)
 at_unit rule limit n None = []
@@ -29,7 +29,7 @@ at_unit rule limit n None = []
 abbrev pub many_instances : List UnitDef → ℕ → List Failure
 many_instances units entry = at_unit rule.Frames 4_096 (instances_at units entry) (slice_get units entry)
 
--- those of elements with a number each, at the elements' names
+-- the failures of elements with numbers above the limit, at the elements' names
 abbrev pub numbered : {A : Type 0} → Rule → ℕ → (A → Place) → List A → List ℕ → List Failure
 numbered rule limit place [] numbers = []
 numbered rule limit place (x ∷ rest) [] = []
@@ -59,7 +59,7 @@ unit_variable_failures structs vars = joined (map (of_variable structs) vars)
 abbrev pub variable_failures : List StructDef → List UnitDef → List Failure
 variable_failures structs units = joined (map (λ (unit : UnitDef). unit_variable_failures structs unit.vars) units)
 
--- all failures of the two rules
+-- all failures of Frames and Cells
 abbrev pub failures : List StructDef → List UnitDef → ℕ → List Failure
 failures structs units entry =
     many_instances units entry

@@ -7,7 +7,7 @@ use Rattle.bl_names_tree.specs.Placed.{parameters}
 use Rattle.bl_names_laws.specs.Apart.{argument_roots, optional_roots, roots_in, roots_in_target, taker_roots}
 use Rattle.bl_machine_prevs_laws.specs.Names.Scoped.{Scoped, beside, block, branches, choice, declaring, first_ones, in_turn, naming}
 
--- one layer of a statement, from what its arms, branches and blocks declare and name
+-- the declared variables and scoping of one layer of a statement, from those of its arms, branches and blocks
 abbrev pub stmt_kind_scoped : NamedStmtKind-F Scoped Scoped Scoped Scoped → Scoped
 stmt_kind_scoped (NamedStmtKind-F.Declare k value) = declaring k (optional_roots value)
 stmt_kind_scoped (NamedStmtKind-F.Const k) = naming []
@@ -27,7 +27,7 @@ stmt_kind_scoped (NamedStmtKind-F.Return e) = naming (optional_roots e)
 abbrev pub arm_scoped : NamedArm-F Scoped Scoped Scoped Scoped → Scoped
 arm_scoped arm = beside (roots_in arm.test) arm.body
 
--- a branch: its block
+-- the scoping of a branch, which is that of its block
 abbrev pub branch_scoped : NamedBranch-F Scoped Scoped Scoped Scoped → Scoped
 branch_scoped branch = block branch.body
 

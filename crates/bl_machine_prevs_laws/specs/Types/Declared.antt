@@ -6,7 +6,7 @@ use Rattle.bl_tree.specs.declared.tree.Unit.{Unit as UnitDef}
 use Rattle.bl_tree.specs.Apart.{argument_roots, optional_roots, roots_in, roots_in_path, target_roots}
 use Rattle.bl_machine_prevs_laws.specs.Names.Scoped.{Scoped, beside, block, branches, choice, declaring, first_ones, in_turn, naming}
 
--- one layer of a statement, from what its arms, branches and blocks declare and name
+-- the declared variables and scoping of one layer of a statement, from those of its arms, branches and blocks
 abbrev pub stmt_kind_scoped : StmtKind-F Scoped Scoped Scoped Scoped → Scoped
 stmt_kind_scoped (StmtKind-F.Declare k initial) = declaring k (optional_roots initial)
 stmt_kind_scoped (StmtKind-F.Assign path e) = naming (roots_in_path path ++ roots_in e)
@@ -25,7 +25,7 @@ stmt_kind_scoped (StmtKind-F.Return e) = naming (optional_roots e)
 abbrev pub arm_scoped : Arm-F Scoped Scoped Scoped Scoped → Scoped
 arm_scoped arm = beside (roots_in arm.test) arm.body
 
--- a branch: its block
+-- the scoping of a branch, which is that of its block
 abbrev pub branch_scoped : Branch-F Scoped Scoped Scoped Scoped → Scoped
 branch_scoped branch = block branch.body
 

@@ -11,19 +11,19 @@ use Rattle.bl_parse_tree.specs.declared.name.Name.{Name}
 use Rattle.bl_names.specs.declared.state.State.{State}
 use Rattle.bl_names.specs.Named.{Piece, constants_in_unit, named_struct, named_unit}
 
--- at the start of a program
+-- the state of naming at the start of a program
 abbrev pub begun : State
 begun = record { scopes = file_scope; structs = []; constants = []; units = []; vars = [] }
 
--- behind the declaration of a variable
+-- the state of naming after the declaration of a variable
 abbrev pub with_variable : State → Name → NamedVar → State
 with_variable state name var = record state { scopes = enter state.scopes (declares name kind.Variable); vars = state.vars ++ (var ∷ []) }
 
--- behind that of a constant
+-- the state of naming after the declaration of a constant
 abbrev pub with_constant : State → Name → NamedConstant → State
 with_constant state name constant = record state { scopes = enter state.scopes (declares name kind.Constant); constants = state.constants ++ (constant ∷ []) }
 
--- behind a part
+-- the state of naming after a part
 abbrev pub past : {A : Type 0} → State → Piece A → State
 past state piece = record state {
   scopes = after state.scopes piece.marks;
@@ -31,11 +31,11 @@ past state piece = record state {
   vars = state.vars ++ piece.vars state.scopes;
 }
 
--- behind a struct
+-- the state of naming after a struct
 abbrev pub with_struct : State → RawStruct → State
 with_struct state def = record state { scopes = after state.scopes (struct_marks def); structs = state.structs ++ (named_struct state.scopes def ∷ []) }
 
--- behind a unit
+-- the state of naming after a unit
 abbrev pub with_unit : State → RawUnit → State
 with_unit state def = record state {
   scopes = after state.scopes (unit_marks def);

@@ -13,7 +13,7 @@ use Rattle.bl_names_scopes.specs.Kinds.{suits}
 use Rattle.bl_names_scopes.specs.Marks.{Mark, opens, closes, declares, uses}
 use Rattle.bl_names_scopes.specs.Scopes.{Scopes, bound, found}
 
--- the rule fails at this place, with these further places
+-- the failure of a rule at a place, with further places
 abbrev pub failure : Rule → Place → Further → Failure
 failure of at further = record { rule = of; at = at; further = further }
 

@@ -8,7 +8,7 @@ use Rattle.bl_names_scopes.specs.inner.Failures.{failure_at}
 use Rattle.bl_names_scopes.specs.Marks.{Mark, Marks, marks_of}
 use Rattle.bl_names_scopes.specs.Scopes.{enter, file_scope}
 
--- the first so far, and a failure where there is one
+-- the first failure so far, or the given one if that comes before it
 abbrev pub kept : Option Failure → Option Failure → Option Failure
 kept first None = first
 kept first (Some failure) = lesser first failure

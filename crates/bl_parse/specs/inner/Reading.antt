@@ -52,7 +52,7 @@ use Rattle.bl_parse.specs.At.{kind_at, start_at, end_at}
 abbrev pub left : List Token → ℕ → List TokenView
 left tokens k = drop k (views tokens)
 
--- from the position on, up to the end, the tokens are expected to spell these symbols
+-- the tokens from the position to the end are expected to spell these symbols
 pub record Here (symbols : List Piece) (tokens : List Token) (at : ℕ) : Type 0 where
   pub within : at ≤ length tokens
   pub expects : Expects symbols (left tokens at)
@@ -62,8 +62,7 @@ pub record Awaits (symbols : List Piece) (tokens : List Token) (at : ℕ) : Type
   pub rest : List Piece
   pub here : Here (symbols ++ rest) tokens at
 
--- Between two positions a part of what is expected was read: where the first symbols are expected at the one, with anything after
--- them, the other symbols are expected at the other.
+-- Between two positions the expected symbols were read up to the others, whatever is expected after them.
 pub record Turns (symbols : List Piece) (tokens : List Token) (from : ℕ) (more : List Piece) (to : ℕ) : Type 0 where
   pub goes : (rest : List Piece) → Here (symbols ++ rest) tokens from → Here (more ++ rest) tokens to
 
@@ -100,7 +99,7 @@ pub record AwaitsTail (tokens : List Token) (at : ℕ) : Type 0 where
   pub is : IsPlaceTail part
   pub awaits : Awaits (just part) tokens at
 
--- of such a part, only fields and indices were read
+-- between two positions only fields and indices of a part that goes on with them were read
 pub record KeepsTail (tokens : List Token) (from to : ℕ) : Type 0 where
   pub keeps : (part : Part) → IsPlaceTail part → Turns (just part) tokens from (just part) to
 
@@ -110,7 +109,7 @@ pub record AwaitsFields (tokens : List Token) (at : ℕ) : Type 0 where
   pub is : IsPathTail part
   pub awaits : Awaits (just part) tokens at
 
--- of such a part, only fields were read
+-- between two positions only fields of a part that goes on with them were read
 pub record KeepsFields (tokens : List Token) (from to : ℕ) : Type 0 where
   pub keeps : (part : Part) → IsPathTail part → Turns (just part) tokens from (just part) to
 

@@ -3,7 +3,7 @@ use Rattle.std.specs.Prelude.{◌≡◌, ℕ, suc, List, [], ◌∷◌, Option, 
 use Rattle.std.specs.HashMap.{HashMap, get_by_text}
 use Rattle.bl_tree.specs.declared.tree.Field.{Field}
 
--- the position of the first field of the name among these
+-- the index of the first field of the name in a list
 abbrev pub first_named : List ℕ → List Field → Option ℕ
 first_named name [] = None
 first_named name (field ∷ rest) = if bytes_eq field.name name then Some 0 else option_map suc (first_named name rest)

@@ -6,10 +6,10 @@ use Rattle.bl_types.specs.declared.environment.State.{State}
 use Rattle.bl_types.specs.Declarations.{Declaring}
 use Rattle.bl_types.specs.Failures.{noted}
 
--- names stand for this, and these rules fail too
+-- the state with another environment and further failures noted
 abbrev pub passed : State → Environment → List Failure → State
 passed state env failures = record { env = env; notes = noted state.notes failures }
 
--- after a part of the program
+-- the state after a part of the program
 abbrev pub after : State → (Environment → Declaring) → State
 after state part = passed state (part state.env).env (part state.env).failures

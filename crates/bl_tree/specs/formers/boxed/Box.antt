@@ -35,7 +35,7 @@ abbrev field : Former {0}
 field = via (pair (const (Ptr × Global)) this) Inside (λ X fields. ((fields.inner.ptr, fields.inner.alloc), fields.inner.value))
     (λ X parts. record { inner = record { ptr = parts.0.0; alloc = parts.0.1; value = parts.1 } }) (λ X fields. refl) (λ X fields. refl)
 
--- the same pointer and allocator, with another value
+-- a box with the pointer and the allocator of another one and a new value
 abbrev holding : {X Y : Type 0} → StdBox X Global → Y → StdBox Y Global
 holding owner y = record { ptr = owner.ptr; alloc = owner.alloc; value = y }
 
