@@ -69,15 +69,15 @@ up_to (suc count) = up_to count ++ count ∷ []
 abbrev pub EdgeLeads : Block → Node → Node → Type 0
 EdgeLeads body n m = EdgeAll body n m ⊎ DataEdge body n m
 
--- these blocks list the nodes of the body by their numbers, in an order in which each can be taken once
+-- blocks that list each node of the body once, by numbers: edges lead forward, and a block is a straight line of nodes
 pub record Ordered (body : Block) (blocks : List (List ℕ)) : Type 0 where
   -- each node stands once
   pub all : IsPermutation (up_to (length (nodes_in body))) (joined blocks)
-  -- before all to which an edge leads from it
+  -- each node stands before the nodes to which an edge leads from it
   pub rises : (p q i j : ℕ) → slice_get (joined blocks) p ≡ Some i → slice_get (joined blocks) q ≡ Some j →
       EdgeBetween (nodes_in body) (EdgeLeads body) i j → p < q
   -- no block is empty
   pub filled : (block : List ℕ) → Contains blocks block → 0 < length block
-  -- and what follows a node in its block could stand in one block with it
+  -- each node but the first of a block could stand in one block with the node before it
   pub straight : (block : List ℕ) (k i j : ℕ) → Contains blocks block → slice_get block k ≡ Some i → slice_get block (suc k) ≡ Some j →
       EdgeBetween (nodes_in body) (CouldFollow body) i j

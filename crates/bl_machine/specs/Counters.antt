@@ -45,7 +45,7 @@ abbrev mutual
   RestsAt counter low first (While l at e body) = AllRestAt counter low first body
   RestsAt counter low first (Again l at body e) = AllRestAt counter low first body
 
-  -- so do all statements of a block
+  -- AllRestAt counter low first body: each statement of the block, whose places are numbered from `first` on, rests at the counter `low`
   pub AllRestAt : (ℕ → ℕ) → ℕ → ℕ → Block → Type 0
   AllRestAt counter low first Done = ⊤
   AllRestAt counter low first (Then s rest) = RestsAt counter low first s × AllRestAt counter low (first + places_of s) rest

@@ -33,6 +33,6 @@ pub record IsPlainActivityOf (unit : UnitDef) (activity : Activity) : Type 0 whe
   pub single : (block : List ℕ) → Contains activity.blocks block → length block ≡ 1
   pub slots : activity.slots ≡ numbered (counters_in (plain_body unit.body) 0)
 
--- so it is of each activity
+-- every activity of the machine is plain: each node is a block of its own, and counters are laid out from 0 on
 abbrev pub IsPlainMachine : SeenMachine → Type 0
 IsPlainMachine machine = EachTwo IsPlainActivityOf (activities machine.program.units) machine.activities

@@ -12,9 +12,9 @@ pub record Registers : Type 0 where
   pub counters : ℕ → ℕ
   -- what it held when the tick began, where that still matters
   pub rested : ℕ → ℕ
-  -- which nodes wait by their flags, or have had their turn
+  -- the nodes that wait by their flags, or have had their turn
   pub flags : ℕ → Bool
-  -- which `cobegin` and `when` have begun in this tick, by the numbers of their first nodes
+  -- the `cobegin`s and `when`s that have begun in this tick, by the numbers of their first nodes
   pub marks : ℕ → Bool
   -- whether the body has ended
   pub over : Bool
@@ -93,6 +93,6 @@ is_due number rule r = due_by number r rule.node rule.asked
 
 -- ---- the start of a pass
 
--- as a pass begins over an instance whose counters hold this: only the node at which the body begins is flagged, where the instance is begun
+-- the registers at the start of a pass: counters hold these values, only the given flags are set, no mark is, and the body has not ended
 abbrev pub started : (ℕ → ℕ) → (ℕ → Bool) → Registers
 started counters flags = record { counters = counters; rested = counters; flags = flags; marks = λ k. false; over = false }

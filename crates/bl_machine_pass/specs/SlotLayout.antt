@@ -32,7 +32,7 @@ pub data Spot : Type 0 where
   -- the end of a branch of a `cobegin`
   EndOf : Label → ℕ → Spot
 
--- its number
+-- the number of a resting place
 abbrev pub slot_at : Slots → Spot → Slot
 slot_at slots (RestOf l) = slots.rest l
 slot_at slots (EndOf l k) = slots.ending l k
@@ -51,19 +51,19 @@ abbrev mutual
   spots_of (While l at e body) = spots_in body
   spots_of (Again l at body e) = spots_in body
 
-  -- of a block
+  -- the resting places of a block, in source order
   pub spots_in : Block → List Spot
   spots_in Done = []
   spots_in (Then s rest) = spots_of s ++ spots_in rest
 
-  -- of branches, from the one with this number on
+  -- the resting places of branches, from the one with this number on, each branch after its end
   pub spots_in_each : Label → ℕ → Bodies → List Spot
   spots_in_each l k Last = []
   spots_in_each l k (BodyOf weak body rest) = EndOf l k ∷ (spots_in body ++ spots_in_each l (suc k) rest)
 
 -- ---- counters
 
--- there is a first branch, and it ends at the counter
+-- the first branch exists and its end has the counter
 abbrev pub BeginsAt : Slots → Label → ℕ → Bodies → Type 0
 BeginsAt slots l low Last = ⊥
 BeginsAt slots l low (BodyOf weak body rest) = (slots.ending l 0).counter ≡ low
@@ -82,7 +82,7 @@ abbrev mutual
   StatementRestsAt slots low (While l at e body) = BlockRestsAt slots low body
   StatementRestsAt slots low (Again l at body e) = BlockRestsAt slots low body
 
-  -- so do all statements of a block
+  -- every statement of the block rests at the counter wherever it is paused
   pub BlockRestsAt : Slots → ℕ → Block → Type 0
   BlockRestsAt slots low Done = ⊤
   BlockRestsAt slots low (Then s rest) = StatementRestsAt slots low s × BlockRestsAt slots low rest
@@ -100,5 +100,5 @@ pub record SlotsAreDistinct (slots : Slots) (body : Block) : Type 0 where
   pub rests : BlockRestsAt slots 0 body
   -- each number is that of one place
   pub alone : (p q : Spot) → Contains (spots_in body) p → Contains (spots_in body) q → slot_at slots p ≡ slot_at slots q → p ≡ q
-  -- and 0 is the value of none
+  -- no place has the value 0, which stands for no place
   pub counted : (p : Spot) → Contains (spots_in body) p → (slot_at slots p).value ≡ 0 → ⊥

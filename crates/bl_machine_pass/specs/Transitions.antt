@@ -57,9 +57,9 @@ pub data Change : Type 0 where
   SetsFlag : Node → Change
   -- the instance rests at the number
   SetsCounter : Slot → Change
-  -- it no longer rests at the counter
+  -- the instance no longer rests at the counter
   ClearsCounter : ℕ → Change
-  -- nor did it, as far as what follows in the tick is concerned
+  -- the instance no longer rests at the counter, and the copy of the counter from the start of the tick is cleared too
   ClearsBoth : ℕ → Change
   -- the `cobegin` or `when` that begins at the node has begun in this tick
   SetsMark : Node → Change
@@ -75,13 +75,13 @@ enter (Then s rest) next = SetsFlag (entry s)
 
 -- ---- what a pass asks at a node
 
--- which tick a `cobegin` has to have begun in, so that it ends at a node
+-- when a `cobegin` must have begun so that it ends at a node
 pub data Age : Type 0 where
-  -- this one, which the mark of its first node tells
+  -- in this tick: the mark of its first node is set
   IsNew : Node → Age
   -- an earlier one
   IsOld : Node → Age
-  -- any: it never ends in the tick in which it begins
+  -- at any time, for a `cobegin` that never ends in the tick in which it begins
   IsAny : Age
 
 -- the ends that a `cobegin` waits for: all of these numbers, or some one
@@ -134,7 +134,7 @@ abbrev mutual
   rests_in slots Done = []
   rests_in slots (Then s rest) = rests_of slots s ++ rests_in slots rest
 
-  -- and of the first branch
+  -- the numbers at which a block rests as long as it is paused
   pub rests_in_first : Slots → Label → Bodies → List Slot
   rests_in_first slots l Last = []
   rests_in_first slots l (BodyOf weak body rest) = slots.ending l 0 ∷ rests_in slots body
@@ -153,12 +153,12 @@ abbrev mutual
   counters_of slots (While l at e body) = counters_in slots body
   counters_of slots (Again l at body e) = counters_in slots body
 
-  -- the same of a block
+  -- the counters of all places of a block, in source order
   pub counters_in : Slots → Block → List ℕ
   counters_in slots Done = []
   counters_in slots (Then s rest) = counters_of slots s ++ counters_in slots rest
 
-  -- and of branches, from the one with this number on, with their ends
+  -- the counters of all places of branches, from the one with this number on, their ends among them
   pub counters_in_each : Slots → Label → ℕ → Bodies → List ℕ
   counters_in_each slots l k Last = []
   counters_in_each slots l k (BodyOf weak body rest) = (slots.ending l k).counter ∷ (counters_in slots body ++ counters_in_each slots l (suc k) rest)
@@ -180,7 +180,7 @@ abbrev mutual
   endings slots l k Last = []
   endings slots l k (BodyOf weak body rest) = slots.ending l k ∷ endings slots l (suc k) rest
 
-  -- of the strong ones
+  -- the numbers of the ends of strong branches, from the branch with this number on
   pub strong_endings : Slots → Label → ℕ → Bodies → List Slot
   strong_endings slots l k Last = []
   strong_endings slots l k (BodyOf weak body rest) =
@@ -281,17 +281,17 @@ abbrev mutual
       ∷ record { node = TestAt l at e; asked = Flagged; so = next ∷ []; otherwise = SetsFlag (HeadAt l at) ∷ [] }
       ∷ rules_in slots body (SetsFlag (TestAt l at e))
 
-  -- of the statements of a block
+  -- the rules of the nodes of a block, in their order, where that change follows the block
   pub rules_in : Slots → Block → Change → List Transition
   rules_in slots Done next = []
   rules_in slots (Then s rest) next = rules_of slots s (enter rest next) ++ rules_in slots rest next
 
-  -- of branches, from the one with this number on: a branch that has ended rests at its end
+  -- the rules of the nodes of branches, from the one with this number on: a branch that has ended rests at its end
   pub rules_in_each : Slots → Label → ℕ → Bodies → List Transition
   rules_in_each slots l k Last = []
   rules_in_each slots l k (BodyOf weak body rest) =
       rules_in slots body (SetsCounter (slots.ending l k)) ++ rules_in_each slots l (suc k) rest
 
--- of the whole body of an activity
+-- the rules of the nodes of an activity's body, in their order
 abbrev pub rules : Slots → Block → List Transition
 rules slots body = rules_in slots body Finishes

@@ -29,19 +29,19 @@ ends_o = set 6 1 (number 100)
 abbrev pub guard_label : Label
 guard_label = label_at (0 ∷ [])
 
--- that of the loop in it
+-- the label of the loop in the `when`
 abbrev pub loop_label : Label
 loop_label = label_at (0 ∷ 0 ∷ 1 ∷ [])
 
--- of its pause
+-- the label of the pause in the loop
 abbrev pub pause_label : Label
 pause_label = label_at (0 ∷ 0 ∷ 1 ∷ 0 ∷ 0 ∷ [])
 
--- of what is done after it
+-- the label of the act after the pause
 abbrev pub raise_label : Label
 raise_label = label_at (0 ∷ 0 ∷ 1 ∷ 0 ∷ 1 ∷ [])
 
--- and of the last pause
+-- the label of the last pause
 abbrev pub last_label : Label
 last_label = label_at (2 ∷ [])
 

@@ -21,7 +21,7 @@ pub record NumbersOfRows : Type 0 where
   pub two_branches : WorkedExample two_way.plain_statements (slot 0 1 ∷ slot 0 2 ∷ slot 1 1 ∷ slot 1 2 ∷ [])
       (two_branches.begun ∷ two_branches.later ∷ [])
       ((2 ∷ 2 ∷ []) ∷ (2 ∷ 2 ∷ []) ∷ [])
-  -- so do two that write fields of one struct
+  -- two branches that write fields of one struct count beside each other
   pub fields : WorkedExample fields.body (slot 0 1 ∷ slot 0 2 ∷ slot 1 1 ∷ slot 1 2 ∷ [])
       (fields.paused false ∷ fields.paused true ∷ [])
       ((2 ∷ 2 ∷ []) ∷ (2 ∷ 2 ∷ []) ∷ [])

@@ -41,8 +41,8 @@ abbrev pub CountersMatchTree : Slots → (ℕ → ℕ) → Tree → Type 0
 CountersMatchTree slots counters c = (j : ℕ) → counters j ≡ numbers_of slots c Over j
 
 abbrev mutual
-  -- CallsMatchTree slots frames c: for each `run` in the tree the frame of the called instance holds the numbers of what is left there, and so it is in
-  -- what that has called. Frames of instances that aren't called hold anything
+  -- CallsMatchTree slots frames c: for each `run` in the tree, nested calls included, the callee's frame holds the numbers of what is left of its body. Frames
+  -- of instances that aren't called are arbitrary
   pub CallsMatchTree : (ℕ → Slots) → Frames → Tree → Type 0
   CallsMatchTree slots frames Nil = ⊤
   CallsMatchTree slots frames (Wait s) = ⊤
@@ -97,11 +97,11 @@ pub record FramesNest (structs : List StructDef) (units : List UnitDef) (entry :
   -- what isn't called doesn't matter
   pub others : (slots : ℕ → Slots) (frames frames' : Frames) (c : Tree) → ((k : ℕ) → CalledIn c k → (j : ℕ) → frames' k j ≡ frames k j) →
       CallsMatchTree slots frames c → CallsMatchTree slots frames' c
-  -- so another frame of the instance itself leaves what is called
+  -- a new frame for the instance itself keeps the match of the frames of its callees
   pub own : (slots : ℕ → Slots) (frames : Frames) (i : ℕ) (c : Tree) (stood : Bool) (body : Block) (counters : ℕ → ℕ) →
       let w = setting_of structs units entry in
       FitsGraph w i c (whole stood body) → CallsMatchTree slots frames c → CallsMatchTree slots (with_at i counters frames) c
-  -- and it holds where it has the numbers of the tree
+  -- a new frame with the numbers of the tree makes the frames match the tree
   pub holds : (slots : ℕ → Slots) (frames : Frames) (i : ℕ) (c : Tree) (stood : Bool) (body : Block) (counters : ℕ → ℕ) →
       let w = setting_of structs units entry in
       FitsGraph w i c (whole stood body) → CallsMatchTree slots frames c → CountersMatchTree (slots i) counters c →
@@ -113,10 +113,10 @@ pub record FramesNest (structs : List StructDef) (units : List UnitDef) (entry :
       ChangeOnly (Inside w one) frames frames' → FramesMatchTree slots frames two c → FramesMatchTree slots frames' two c
   -- a body that begins has called nothing
   pub begins : (slots : ℕ → Slots) (frames : Frames) (body : Block) → CallsMatchTree slots frames (do_block body)
-  -- and frames hold in a new tick what they held
+  -- frames that match a tree match it once it is woken in a new tick
   pub wakes : (slots : ℕ → Slots) (frames : Frames) (i : ℕ) (c : Tree) (stood : Bool) (body : Block) → let w = setting_of structs units entry in
       FitsGraph w i c (whole stood body) → FramesMatchTree slots frames i c → FramesMatchTree slots frames i (woken c)
 
--- so it is in every program
+-- frames nest in every program
 abbrev pub AllFramesNest : Type 0
 AllFramesNest = (structs : List StructDef) (units : List UnitDef) (entry : ℕ) → FramesNest structs units entry

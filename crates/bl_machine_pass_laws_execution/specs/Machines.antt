@@ -50,7 +50,7 @@ pub record MachinesGiveContexts : Type 0 where
       IsWellTyped structs units entry → Passes units → AreActivitiesOf units machine → GoBy w machine rank → slice_get w.instances i ≡ Some instance →
       slice_get units instance.unit ≡ Some unit → slice_get machine (graph_position units instance.unit) ≡ Some activity →
       TurnContext w rank i (slots_of (plain_body unit.body) activity.slots) unit
-  -- the same, where the numbers are told by instance
+  -- each instance of the machine has what the laws of a pass require, with numbers by instance
   pub each : (structs : List StructDef) (units : List UnitDef) (entry : ℕ) (machine : List Activity) (rank : ℕ → Node → ℕ) (i : ℕ)
       (unit : UnitDef) →
       let w = setting_of structs units entry in

@@ -30,9 +30,8 @@ abbrev pub RowsFit : UnitDef → List (List ℤ) → Type 0
 RowsFit unit [] = ⊤
 RowsFit unit (row ∷ rows) = InputsFit (length row) unit × RowsFit unit rows
 
--- RuleRun w rank slots clear unit rows frames store trace: from the frames and the store between ticks a run over the rows shows the trace, and
--- each of its ticks is one pass by rules over the entry, which leaves its counters in the frames. It stops at the end of the rows, of the program,
--- or at a trap
+-- RuleRun w rank slots clear unit rows frames store trace: from frames and a store between ticks, a run over the rows has the trace. Each tick is one pass by
+-- rules over the entry, which leaves its counters in the frames. It stops at the end of the rows, of the program, or at a trap
 pub data RuleRun (w : Setting) (rank : ℕ → Node → ℕ) (slots : ℕ → Slots) (clear : ℕ → Frames → Frames) (unit : UnitDef) :
     List (List ℤ) → Frames → Store → Trace → Type 0 where
   stays_open : {frames : Frames} {store : Store} → RuleRun w rank slots clear unit [] frames store (no_row Open)
@@ -66,7 +65,7 @@ pub record RunsGoByRules : Type 0 where
       IsWellTyped structs units entry → Passes units → FromText units → AllInContext w rank slots → ClearsInside w clear →
       unit_at w 0 ≡ Some unit → RowsFit unit rows → ((c : ℕ) → frames 0 c ≡ 0) →
       RunByRules structs units entry rank slots clear unit rows frames
-  -- and so with those of the machine of an accepted program
+  -- the run exists and has that trace, with the numbers of the machine of an accepted program
   pub machines : (accepted : AcceptedProgram) (machine : List Activity) (rank : ℕ → Node → ℕ) (clear : ℕ → Frames →
       Frames) (unit : UnitDef)
       (rows : List (List ℤ)) (frames : Frames) →

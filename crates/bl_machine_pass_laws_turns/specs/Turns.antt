@@ -25,15 +25,14 @@ use Rattle.bl_machine_pass_laws_turns.specs.Joins.Stems.{Stemmed}
 
 -- ---- trees that stand in a body
 
--- a tree of an instance of the activity stands in the body: with its rules and counters, with nothing but what rested under a `when` whose
--- condition is still to be tested, under the `when`s in which it is written, and left of statements that have no node in common
+-- a tree of an instance stands in the body: its places have its numbers, untested `when`s have only rested parts, and its statements have no node in common
 pub record FitsBody (slots : Slots) (body : Block) (c : Tree) : Type 0 where
   pub placed : Placed slots body c
   pub dozes : Dozes c
   pub rooted : Rooted slots (rules slots body) (in_none body) c
   pub stemmed : Stemmed body c
 
--- so does a body that begins, and a tree that rested once it is woken; and each turn leaves it so
+-- the tree with which a body begins fits it, so does a woken tree that rested, and each turn keeps this
 pub record TreesFitBodies : Type 0 where
   pub begins : (slots : Slots) (unit : UnitDef) → SlotsAreDistinct slots (plain_body unit.body) → FitsBody slots (plain_body unit.body) (do_block (plain_body unit.body))
   pub wakes : (w : Setting) (i : ℕ) (stood : Bool) (slots : Slots) (unit : UnitDef) (c : Tree) → FitsGraph w i c (whole stood (plain_body unit.body)) →
@@ -75,7 +74,7 @@ TurnsKeepInvariant =
     PassInvariant slots (rank i) (plain_body unit.body) (rank i n) c r →
     PassInvariant slots (rank i) (plain_body unit.body) (suc (rank i n)) c' (after_rule (rank i) rule (answer_of turn) r)
 
--- and they do from the number of the first node that waits on
+-- the invariant of a pass holds from the number of the first waiting node on, where it holds from a lower number on
 abbrev pub NumbersPass : Type 0
 NumbersPass =
     (rank : ℕ → Node → ℕ) (i : ℕ) (slots : Slots) (body : Block) (k : ℕ) (c : Tree) (n : Node) (r : Registers) → k ≤ rank i n →

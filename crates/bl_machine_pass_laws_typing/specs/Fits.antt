@@ -30,6 +30,6 @@ pub record TurnsKeepTypes (structs : List StructDef) (units : List UnitDef) (ent
       unit_at w i ≡ Some unit → StoreFits w left → values_fit structs unit.vars copies ≡ true →
       values_fit structs unit.vars (recopied w i n left copies) ≡ true
 
--- so it is in each typed program
+-- passes keep stores and copies typed, in each typed program
 abbrev pub PassesKeepTypes : Type 0
 PassesKeepTypes = (structs : List StructDef) (units : List UnitDef) (entry : ℕ) → IsWellTyped structs units entry → TurnsKeepTypes structs units entry

@@ -19,8 +19,7 @@ use Rattle.bl_ctree.specs.Positions.{stmt_kind}
 use Rattle.bl_ctree.specs.Store.{Store, home, put, view_at}
 use Rattle.bl_ctree_laws_typing.specs.Fits.{StoreFits}
 
--- In a typed program that passes the rules, over a store that fits: once a value is put at the home of a path of an instance, which leads
--- somewhere among its variables, the instance sees the value there, and all else as before
+-- an instance sees a value that was put at the home of one of its paths, and all else as before. The store is typed, and the program passes the rules
 abbrev pub PutsAreSeen : Type 0
 PutsAreSeen =
     (structs : List StructDef) (units : List UnitDef) (entry i : ℕ) (unit : UnitDef) (path : Static) (value : Value) (store : Store)

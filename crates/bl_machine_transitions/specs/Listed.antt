@@ -56,7 +56,7 @@ node_count body = length (nodes_in body)
 abbrev pub place_count : Block → ℕ
 place_count body = length (spots_in body)
 
--- and in a statement
+-- how many nodes and resting places stand in a statement
 abbrev pub nodes_within : Plain → ℕ
 nodes_within s = length (nodes_of s)
 
@@ -79,12 +79,12 @@ abbrev mutual
   rests_of layout p (While l at e body) = rests_in layout p body
   rests_of layout p (Again l at body e) = rests_in layout p body
 
-  -- the same of a block
+  -- the numbers at which a block rests as long as it is paused
   pub rests_in : Layout → ℕ → Block → List Slot
   rests_in layout p Done = []
   rests_in layout p (Then s rest) = rests_of layout p s ++ rests_in layout (p + places_within s) rest
 
-  -- and of the first branch, whose end has the position
+  -- the numbers at which the first branch rests as long as it is paused: its end, which has the position, and those of its body
   pub rests_in_first : Layout → ℕ → Bodies → List Slot
   rests_in_first layout p Last = []
   rests_in_first layout p (BodyOf weak body rest) = layout.slot p ∷ rests_in layout (suc p) body
@@ -104,7 +104,7 @@ abbrev pub endings : Layout → ℕ → Bodies → List Slot
 endings layout p Last = []
 endings layout p (BodyOf weak body rest) = layout.slot p ∷ endings layout (suc (p + place_count body)) rest
 
--- of the strong ones
+-- the numbers of the ends of strong branches
 abbrev pub strong_endings : Layout → ℕ → Bodies → List Slot
 strong_endings layout p Last = []
 strong_endings layout p (BodyOf weak body rest) =
@@ -159,17 +159,17 @@ forgotten layout p n = map ClearBoth (once (counters_from layout p n))
 abbrev pub flagged : Layout → ℕ → Task → List Change → NumberedTransition
 flagged layout k task so = record { number = layout.number k; asked = Flagged; task = task; so = so; otherwise = [] }
 
--- of one with a test
+-- the rule of a node with a test at the position, which waits by its flag
 abbrev pub tested : Layout → ℕ → Task → List Change → List Change → NumberedTransition
 tested layout k task so otherwise =
     record { number = layout.number k; asked = Flagged; task = task; so = so; otherwise = otherwise }
 
--- of one that asks whether the instance rested at the number: it rests there no longer where the answer is true
+-- the rule of a node that asks whether the instance rested at the number, and clears the counter where the answer is true
 abbrev pub woken : Layout → ℕ → Slot → Task → Change → NumberedTransition
 woken layout k slot task next =
     record { number = layout.number k; asked = Rested slot; task = task; so = ClearCounter slot.counter ∷ next ∷ []; otherwise = [] }
 
--- of the end of a `cobegin`
+-- the rule of the node at which a `cobegin` ends: it asks for the ends of branches, and clears the counters of all their places
 abbrev pub joins : Layout → ℕ → ℕ → Bodies → Age → Change → NumberedTransition
 joins layout k p bodies age next = record {
   number = layout.number k;
@@ -259,20 +259,20 @@ abbrev mutual
   rules_of layout k p (Again l at body e) next =
       turns layout k (Tests e) body (SetFlag (layout.number (k + 1))) next ++ rules_in layout (k + 2) p body (SetFlag (layout.number (k + 1)))
 
-  -- of the statements of a block
+  -- the rules of the nodes of a block, in their order, where that change follows it and its first node and place have these positions
   pub rules_in : Layout → ℕ → ℕ → Block → Change → List NumberedTransition
   rules_in layout k p Done next = []
   rules_in layout k p (Then s rest) next =
       rules_of layout k p s (enter layout (k + nodes_within s) rest next)
       ++ rules_in layout (k + nodes_within s) (p + places_within s) rest next
 
-  -- of branches
+  -- the rules of the nodes of branches, in their order, where the first node and place have these positions
   pub rules_in_each : Layout → ℕ → ℕ → Bodies → List NumberedTransition
   rules_in_each layout k p Last = []
   rules_in_each layout k p (BodyOf weak body rest) =
       rules_in layout k (suc p) body (SetCounter (layout.slot p))
       ++ rules_in_each layout (k + node_count body) (suc (p + place_count body)) rest
 
--- of the whole body of an activity
+-- the rules of the nodes of an activity's body, in their order
 abbrev pub listed : Layout → Block → List NumberedTransition
 listed layout body = rules_in layout 0 0 body Finish

@@ -97,7 +97,7 @@ abbrev pub is_one : Way → ℕ → Bool
 is_one (way.One other) node = nat_eq other node
 is_one _ node = false
 
--- so it is of the node at the position
+-- the way of the node at the position leads to the other node alone
 abbrev pub one_at : List Way → ℕ → ℕ → Bool
 one_at ways at node = is_one (slice_index_or ways at way.Nowhere) node
 

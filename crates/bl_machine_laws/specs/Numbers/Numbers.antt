@@ -24,7 +24,7 @@ use Rattle.bl_machine.specs.Uses.{Slots, is_of, uses_in_branch}
 
 -- what an instance does where a part of its body has ended
 pub data Next : Type 0 where
-  -- it goes on at this node
+  -- the instance goes on at this node
   At : Node → Next
   -- the branch has ended and rests at its number
   Rests : Slot → Next

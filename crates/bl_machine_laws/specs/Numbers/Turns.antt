@@ -106,7 +106,7 @@ pub data InstancePoint (w : Setting) : ℕ → Tree → Bool → Deed → Node �
   -- the condition of a guard is false: what is left of its body goes on
   lets : {i : ℕ} {s : Watch} {stood : Bool} {c : Tree} →
       InstancePoint w i (Guard s Check stood c) false (deed i s.place (Asks s.test)) (CheckAt s.label s.place s.test) (Guard s Body stood c)
-  -- it is true: `abort` drops the body, and `reset` begins it anew
+  -- the condition of a guard is true: `abort` drops the body, and `reset` begins it anew
   aborts : {i : ℕ} {s : Watch} {stood : Bool} {c : Tree} → s.guard ≡ Abort →
       InstancePoint w i (Guard s Check stood c) true (deed i s.place (Asks s.test)) (CheckAt s.label s.place s.test) Nil
   resets : {i : ℕ} {s : Watch} {stood : Bool} {c : Tree} → s.guard ≡ Reset →
@@ -129,12 +129,12 @@ mutual
         Passes w rank callee 0 (do_block (plain_body unit.body)) done c → is_nil c ≡ false →
         Turns w rank i (Do (RunOf l at target a inputs outputs)) (did (deed i at (Copies callee inputs)) true ++ done)
         (entry (RunOf l at target a inputs outputs)) (Run (call l at target a inputs outputs) callee Body false c)
-    -- it goes on, and its body does not end
+    -- a `run` goes on, and its body does not end
     resumes : {i : ℕ} {s : Call} {callee : ℕ} {stood : Bool} {c : Tree} {done : List AnsweredDeed} {c' : Tree} →
         Passes w rank callee 0 c done c' → is_nil c' ≡ false →
         Turns w rank i (Run s callee Check stood c) (did (deed i s.place (Copies callee s.arguments.inputs)) true ++ done)
         (run_node stood s.label s.place s.arguments) (Run s callee Body stood c')
-    -- or it does: the target gets the result
+    -- a `run` goes on, its body ends, and the target gets the result
     returns : {i : ℕ} {s : Call} {callee : ℕ} {stood : Bool} {c : Tree} {done : List AnsweredDeed} → Passes w rank callee 0 c done Nil →
         Turns w rank i (Run s callee Check stood c)
         (did (deed i s.place (Copies callee s.arguments.inputs)) true ++ (done ++ did (deed i s.place (Gives callee s.arguments.target)) true))
@@ -156,8 +156,8 @@ mutual
     later : {i : ℕ} {weak : Bool} {c : Tree} {others : Trees} {done : List AnsweredDeed} {n : Node} {others' : Trees} →
         OneTurns w rank i others done n others' → OneTurns w rank i (beside weak c others) done n (beside weak c others')
 
-  -- Passes w rank i k c done c': turns of nodes of the instance, in the order of their numbers from k on, lead from c to c', where nothing
-  -- is left to do in this tick. So each node has one turn at most
+  -- Passes w rank i k c done c': turns in the order of node numbers, from k on, lead from c to c'. Nothing is left to do in the tick. Each node has at most one
+  -- turn
   pub data Passes (w : Setting) (rank : ℕ → Node → ℕ) : ℕ → ℕ → Tree → List AnsweredDeed → Tree → Type 0 where
     rests : {i k : ℕ} {c : Tree} → is_settled c ≡ true → Passes w rank i k c [] c
     goes : {i k : ℕ} {c : Tree} {done : List AnsweredDeed} {n : Node} {c' : Tree} {others : List AnsweredDeed} {c'' : Tree} →

@@ -36,16 +36,15 @@ abbrev pub first_in : Block → Option Node → Option Node
 first_in Done next = next
 first_in (Then s rest) next = Some (entry s)
 
--- it is this node, where there is one
+-- the node is the one given by the option
 abbrev pub Is : Option Node → Node → Type 0
 Is (Some n) m = m ≡ n
 Is None m = ⊥
 
 abbrev mutual
-  -- Waits c next n: something in the tree waits for its turn at the node, where `next` is the node that acts when the tree has ended. What
-  -- begins waits at its entry, what has ended at what follows it, what was woken at its resume node, and a `cobegin` of which so many
-  -- branches have ended as are needed at its join. A `run` waits while its inputs are still to be copied: what is done in it, and its end,
-  -- belong to that turn
+  -- Waits c next n: something in the tree waits for its turn at the node n, where `next` is the node that acts when the tree has ended. What begins waits at
+  -- its entry, what has ended at what follows it, and what was woken at its resume node. A `cobegin` waits at its join once enough of its branches have ended.
+  -- A `run` waits while its inputs are still to be copied: its body and its end belong to that turn
   pub Waits : Tree → Option Node → Node → Type 0
   Waits Nil next n = Is next n
   Waits (Wait s) next n = ⊥

@@ -57,11 +57,11 @@ mutual
         Follows w rank callee 0 (do_block (plain_body unit.body)) given c left → is_nil c ≡ false →
         TurnSteps w rank i (Do (RunOf l at target a inputs outputs)) store (entry (RunOf l at target a inputs outputs))
         (Run (call l at target a inputs outputs) callee Body false c) left
-    -- it goes on, and its body doesn't end
+    -- a `run` goes on, and its body doesn't end
     resumes : {i : ℕ} {s : Call} {callee : ℕ} {stood : Bool} {c : Tree} {store given : Store} {c' : Tree} {left : Store} →
         DeedYields w (deed i s.place (Copies callee s.arguments.inputs)) store true given → Follows w rank callee 0 c given c' left → is_nil c' ≡ false →
         TurnSteps w rank i (Run s callee Check stood c) store (run_node stood s.label s.place s.arguments) (Run s callee Body stood c') left
-    -- or it does: the target gets the result
+    -- a `run` goes on, its body ends, and the target gets the result
     returns : {i : ℕ} {s : Call} {callee : ℕ} {stood : Bool} {c : Tree} {store given ended left : Store} →
         DeedYields w (deed i s.place (Copies callee s.arguments.inputs)) store true given → Follows w rank callee 0 c given Nil ended →
         DeedYields w (deed i s.place (Gives callee s.arguments.target)) ended true left →
@@ -83,8 +83,8 @@ mutual
     later : {i : ℕ} {weak : Bool} {c : Tree} {others : Trees} {store : Store} {n : Node} {others' : Trees} {left : Store} →
         OneTurnSteps w rank i others store n others' left → OneTurnSteps w rank i (beside weak c others) store n (beside weak c others') left
 
-  -- Follows w rank i k c store c' left: turns of nodes of the instance from the number k on, each the first of those that wait, lead from c to
-  -- c', where nothing is left to do in this tick, and leave the store so
+  -- Follows w rank i k c store c' left: turns of the instance from the number k on lead from c to c' and from the store to `left`. Each turn is that of the
+  -- first waiting node, and nothing is left to do in the tick
   pub data Follows (w : Setting) (rank : ℕ → Node → ℕ) : ℕ → ℕ → Tree → Store → Tree → Store → Type 0 where
     rests : {i k : ℕ} {c : Tree} {store : Store} → is_settled c ≡ true → Follows w rank i k c store c store
     goes : {i k : ℕ} {c : Tree} {store : Store} {n : Node} {c' : Tree} {between : Store} {c'' : Tree} {left : Store} →
@@ -105,7 +105,7 @@ mutual
         {store given : Store} → callee_of w i at ≡ Some callee → unit_at w callee ≡ Some unit →
         DeedYields w (deed i at (Copies callee inputs)) store true given → Fails w rank callee 0 (do_block (plain_body unit.body)) given →
         TurnTraps w rank i (Do (RunOf l at target a inputs outputs)) store (entry (RunOf l at target a inputs outputs))
-    -- so it is where one goes on
+    -- a `run` that goes on traps: its inputs do, or a deed in what it calls
     copy_traps : {i : ℕ} {s : Call} {callee : ℕ} {stood : Bool} {c : Tree} {store : Store} →
         done_by w (deed i s.place (Copies callee s.arguments.inputs)) store ≡ None →
         TurnTraps w rank i (Run s callee Check stood c) store (run_node stood s.label s.place s.arguments)

@@ -26,7 +26,7 @@ pub data LowSteps (w : Setting) (rank : ℕ → Node → ℕ) : ℕ → Tree →
       LowSteps w rank i c' store' done c'' store'' →
       LowSteps w rank i c store (record { deed = a; answer = d } ∷ done) c'' store''
 
--- such steps lead to a tree and a store in which the lowest step traps
+-- steps that are each the lowest possible one lead to a tree and a store in which the lowest step traps
 pub record LowTrap (w : Setting) (rank : ℕ → Node → ℕ) (i : ℕ) (c : Tree) (store : Store) : Type 0 where
   pub done : List AnsweredDeed
   pub tree : Tree

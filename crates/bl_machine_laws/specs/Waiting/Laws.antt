@@ -60,7 +60,7 @@ pub record SomethingWaits (c : Tree) : Type 0 where
   pub node : Node
   pub waits : Waits c None node
 
--- so it is in a tree in which something is left to do, where each called instance has been passed
+-- a node waits in every tree in which something is left to do and each called instance has had its pass
 abbrev pub UnsettledWaits : Type 0
 UnsettledWaits =
     (w : Setting) (i : ℕ) (stood : Bool) (body : Block) (c : Tree) → FitsGraph w i c (whole stood body) → RunsArePassed c → is_settled c ≡ false →

@@ -56,6 +56,6 @@ pub data Agree (w : Setting) (slots : UnitDef → Slots) : Tree → Tree → Typ
       RestsBetweenTicks w i (slots unit) (plain_body unit.body) c' → ((j : ℕ) → numbers_of (slots unit) c Over j ≡ numbers_of (slots unit) c' Over j) →
       ((l : Label) (d d' : Tree) → Calls c l d → Calls c' l d' → Agree w slots d d') → Agree w slots c c'
 
--- such trees go on as one: where a program stands is told by the counters of its instances
+-- two trees of one instance whose counters agree are the same once woken: counters determine the control state
 abbrev pub CountersTell : Type 0
 CountersTell = (w : Setting) (slots : UnitDef → Slots) (c c' : Tree) → Agree w slots c c' → woken c ≡ woken c'

@@ -62,8 +62,8 @@ abbrev mutual
   BegunResidual w i (While l at e body) c = InstanceResidualIn w i body (Then (While l at e body) Done) c
   BegunResidual w i (Again l at body e) c = InstanceResidualIn w i body (Then (Again l at body e) Done) c ⊎ (c ≡ Do (Until l at body e))
 
-  -- InstanceResidualIn w i body after c: a statement of the block is to begin, or has begun, and the tree is what is left of it, before the statements behind
-  -- it and what follows the block
+  -- InstanceResidualIn w i body after c: the tree is the residual of a statement of the block, begun or not, before the statements behind it and what follows
+  -- the block
   pub InstanceResidualIn : Setting → ℕ → Block → Block → Tree → Type 0
   InstanceResidualIn w i Done after c = ⊥
   InstanceResidualIn w i (Then s rest) after c = ((part : Tree) × ((part ≡ Do s) ⊎ BegunResidual w i s part) × (c ≡ followed part (before rest after)))
@@ -100,7 +100,7 @@ abbrev mutual
   Calls (Guard s phase stood c) l d = Calls c l d
   Calls (Run s callee phase stood c) l d = (s.label ≡ l) × (c ≡ d)
 
-  -- it stands in a branch
+  -- OneCalls branches l d: a `run` with the label stands in a branch, and d is the residual of the body that it has called
   pub OneCalls : Trees → Label → Tree → Type 0
   OneCalls no_tree l d = ⊥
   OneCalls (beside weak c branches) l d = Calls c l d ⊎ OneCalls branches l d

@@ -20,7 +20,7 @@ use Rattle.bl_graph_nodes.specs.Plain.{
   While,
 }
 
--- there is a branch
+-- a `cobegin` has at least one branch
 abbrev pub HasBranch : Bodies → Type 0
 HasBranch Last = ⊥
 HasBranch (BodyOf weak body rest) = ⊤

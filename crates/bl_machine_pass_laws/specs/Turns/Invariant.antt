@@ -47,8 +47,7 @@ IsJoin (RestedIn slots) = ⊥
 IsJoin (Ended age needed) = ⊤
 
 abbrev mutual
-  -- each `cobegin` and `when` that stands in the tree, and may end in the tick in which it begins, is marked exactly where it has begun in
-  -- this one
+  -- the marks tell which `cobegin`s and `when`s of the tree began in this tick, among those that may end in the tick in which they begin
   pub Marked : (Node → ℕ) → (ℕ → Bool) → Tree → Type 0
   Marked number marks Nil = ⊤
   Marked number marks (Wait s) = ⊤

@@ -32,7 +32,7 @@ abbrev mutual
   answer_of (in_par t) = one_answer_of t
   answer_of (in_guard t) = answer_of t
 
-  -- of a branch
+  -- the answer by which the rule of a node in a branch goes on
   pub one_answer_of : {w : Setting} {rank : ℕ → Node → ℕ} {i : ℕ} {c : Trees} {done : List AnsweredDeed} {n : Node} {c' : Trees} →
       OneTurns w rank i c done n c' → Bool
   one_answer_of (first t) = answer_of t

@@ -90,7 +90,7 @@ pub record Held (slots : Slots) (all : List Transition) (around : Around) (spot 
   pub asked : (rule : Transition) → Contains all rule → AsksOf rule.asked (slot_at slots spot) → around.checks rule.node
 
 abbrev mutual
-  -- so are all places of a statement
+  -- each place of the statement is held: it is one of the body, and only the `when`s around it ask for its number
   pub HeldOf : Slots → List Transition → Around → Plain → Type 0
   HeldOf slots all around (Act l s) = ⊤
   HeldOf slots all around (Await l at e) = Held slots all around (RestOf l)
@@ -103,19 +103,19 @@ abbrev mutual
   HeldOf slots all around (While l at e body) = HeldIn slots all around body
   HeldOf slots all around (Again l at body e) = HeldIn slots all around body
 
-  -- of a block
+  -- each place of the block is held by the `when`s around it
   pub HeldIn : Slots → List Transition → Around → Block → Type 0
   HeldIn slots all around Done = ⊤
   HeldIn slots all around (Then s rest) = HeldOf slots all around s × HeldIn slots all around rest
 
-  -- of branches, from the one with this number on
+  -- each place of the branches, from the one with this number on, is held by the `when`s around it
   pub HeldEach : Slots → List Transition → Around → Label → ℕ → Bodies → Type 0
   HeldEach slots all around l k Last = ⊤
   HeldEach slots all around l k (BodyOf weak body rest) =
       Held slots all (in_branch k around) (EndOf l k) × HeldIn slots all (in_branch k around) body × HeldEach slots all around l (suc k) rest
 
 abbrev mutual
-  -- and those of all that is left in a tree: a Guard stands for its `when`
+  -- each place of the residual tree is held by the `when`s around it, for which `Guard`s stand in the tree
   pub Rooted : Slots → List Transition → Around → Tree → Type 0
   Rooted slots all around Nil = ⊤
   Rooted slots all around (Wait s) = Held slots all around (RestOf s.label)
@@ -135,7 +135,7 @@ abbrev mutual
   AllRooted slots all around l k (beside weak c branches) =
       Rooted slots all (in_branch k around) c × AllRooted slots all around l (suc k) branches
 
--- so a body begins; waking leaves that, and so does each turn
+-- the tree with which a body begins is rooted, and waking and turns keep this
 pub record StaysRooted : Type 0 where
   pub begins : (slots : Slots) (unit : UnitDef) → SlotsAreDistinct slots (plain_body unit.body) →
       Rooted slots (rules slots (plain_body unit.body)) (in_none (plain_body unit.body)) (do_block (plain_body unit.body))

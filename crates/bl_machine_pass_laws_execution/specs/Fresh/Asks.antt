@@ -48,15 +48,14 @@ use Rattle.bl_machine_pass_laws_execution.specs.Fresh.Fresh.{arity, locals}
 abbrev pub IsAmongVariables : List ℕ → ℕ → Type 0
 IsAmongVariables xs x = list_any (nat_eq x) xs ≡ true
 
--- so many inputs fit before the variables that the unit's body declares
+-- the unit has at least n parameters for inputs, and its parameters are among its variables
 abbrev pub InputsFit : ℕ → UnitDef → Type 0
 InputsFit n unit = (n ≤ arity unit) × (arity unit ≤ length unit.vars)
 
 -- ---- statements
 
 abbrev mutual
-  -- each declaration in a statement of the unit, in this instance, is of a variable behind the parameters, and each `run` gives no more inputs
-  -- than there are parameters
+  -- each declaration in the statement is of a variable behind the parameters, and each `run` gives at most as many inputs as there are parameters
   pub Bounded : Setting → ℕ → UnitDef → Plain → Type 0
   Bounded w i unit (Act l s) = (x : ℕ) → IsAmongVariables (declared_in s) x → IsAmongVariables (locals unit) x
   Bounded w i unit (Await l at e) = ⊤

@@ -39,11 +39,11 @@ effect_declared _ = []
 
 -- a deed of an instance, done in a store
 pub record DeedsAreSeen : Type 0 where
-  -- it leaves each frame but its own, those that hold homes of its paths, and the one to which it copies inputs
+  -- the deed leaves all frames but its own, those with homes of its paths, and the one to which it copies inputs
   pub others : (w : Setting) (i j : ℕ) (at : Place) (effect : Effect) (store : Store) (d : Bool) (left : Store) →
       DeedYields w (deed i at effect) store d left → (j ≡ i → ⊥) → (CopiesTo effect j → ⊥) →
       ((path : Static) → (home w (record { instance = i; path = path })).instance ≡ j → ⊥) → slice_get left j ≡ slice_get store j
-  -- and what was before in each but its own
+  -- the deed leaves the values before the tick in all frames but its own
   pub before : (w : Setting) (i j : ℕ) (at : Place) (effect : Effect) (store : Store) (d : Bool) (left : Store) →
       DeedYields w (deed i at effect) store d left → (j ≡ i → ⊥) →
       option_map before_of (slice_get left j) ≡ option_map before_of (slice_get store j)
@@ -52,7 +52,7 @@ pub record DeedsAreSeen : Type 0 where
       unit_at w i ≡ Some unit → DeedYields w (deed i at effect) store d left → IsAmongVariables (locals unit) x →
       (IsAmongVariables (effect_declared effect) x → ⊥) →
       slice_get (view_at w left i).before x ≡ slice_get (view_at w store i).before x
-  -- and a declared one was before what it is now
+  -- a variable that the deed declares has its new value as the value before the tick, too
   pub declared : (w : Setting) (i x : ℕ) (unit : UnitDef) (at : Place) (s : Stmt) (store : Store) (d : Bool) (left : Store) →
       unit_at w i ≡ Some unit → Framed w store → DeedYields w (deed i at (Acts s)) store d left → IsAmongVariables (locals unit) x →
       IsAmongVariables (declared_in s) x →
@@ -65,7 +65,7 @@ pub record DeedsAreSeen : Type 0 where
 
 -- what is seen of an instance's own variables
 pub record OwnIsSeen : Type 0 where
-  -- of a fresh frame they are what they were
+  -- the own variables of a fresh frame have the values that they had before
   pub fresh : (w : Setting) (i x : ℕ) (unit : UnitDef) (store : Store) → unit_at w i ≡ Some unit → Fresh w store i →
       IsAmongVariables (locals unit) x →
       slice_get (view_at w store i).now x ≡ slice_get (view_at w store i).before x
@@ -78,14 +78,14 @@ pub record OwnIsSeen : Type 0 where
 
 -- a point of a tree that asks for none but the known variables
 pub record PointAsks (w : Setting) (i : ℕ) (unit : UnitDef) (known : List ℕ) (c : Tree) (n : Node) (c' : Tree) : Type 0 where
-  -- its node asks for them alone
+  -- the node asks for known variables only
   pub asked : (x : ℕ) → IsAmongVariables (prevs_at n) x → IsAmongVariables known x
   -- what it declares is of the body
   pub bound : (x : ℕ) → IsAmongVariables (declared_at n) x → IsAmongVariables (locals unit) x
   pub next : (x : ℕ) → IsAmongVariables (next_declared c) x → IsAmongVariables (declared_at n) x
   -- the next tree asks for them, and for what is declared
   pub asks : Asks w i unit (declared_at n ++ known) c'
-  -- and no call is due in it that wasn't
+  -- no call becomes due in the next tree
   pub due : (j : ℕ) → DueIn w c' j → DueIn w c j
 
 pub record TreesAsk : Type 0 where

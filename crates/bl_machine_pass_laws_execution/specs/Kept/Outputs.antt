@@ -25,13 +25,13 @@ pub record OutputsLeadIn (structs : List StructDef) (units : List UnitDef) (entr
       let w = setting_of structs units entry in
       unit_at w i ≡ Some unit → SomeIn (RunsWith place outputs) (plain_body unit.body) → callee_of w i place ≡ Some j →
       slice_get w.instances j ≡ Some instance → instance.origin ≡ Some origin → origin.outputs ≡ map static_of outputs
-  -- and each of its outputs has the home of the path that stands at its number among them
+  -- each output of the callee has the home of the caller's path that stands at its number among the outputs of the `run`
   pub homes : (i j k : ℕ) (place : Place) (outputs : List Path) (unit other : UnitDef) (path : Path) → let w = setting_of structs units entry in
       unit_at w i ≡ Some unit → unit_at w j ≡ Some other → SomeIn (RunsWith place outputs) (plain_body unit.body) →
       callee_of w i place ≡ Some j → k < other.outputs → slice_get outputs k ≡ Some path →
       home w (whole_of j (other.inputs + k)) ≡ home w (record { instance = i; path = static_of path })
 
--- so it is in a typed program
+-- outputs lead to their paths in every typed program
 abbrev pub OutputsLead : Type 0
 OutputsLead = (structs : List StructDef) (units : List UnitDef) (entry : ℕ) → IsWellTyped structs units entry → OutputsLeadIn structs units entry
 

@@ -50,14 +50,14 @@ pub record Woken (w : Setting) (slots : ℕ → Slots) (i : ℕ) (c : Tree) : Ty
   pub rested : Rested w slots i unit before
   pub wakes : c ≡ woken before
 
--- the same of one that has had its pass
+-- a tree of a called instance that has had its pass stands in the body of its unit
 pub record Passed (w : Setting) (slots : ℕ → Slots) (i : ℕ) (c : Tree) : Type 0 where
   pub unit : UnitDef
   pub is : unit_at w i ≡ Some unit
   pub stands : FitsBody (slots i) (plain_body unit.body) c
 
 abbrev mutual
-  -- so it is of each `run` in the tree, and in what it has called
+  -- each `run` in the tree, at every depth of calls, has called a tree that is woken and rested before, or stands in its body
   pub CallsRest : Setting → (ℕ → Slots) → Tree → Type 0
   CallsRest w slots Nil = ⊤
   CallsRest w slots (Wait s) = ⊤
@@ -96,7 +96,7 @@ abbrev mutual
   OneRunsIn place (beside weak c branches) = RunsIn place c ⊎ OneRunsIn place branches
 
 abbrev mutual
-  -- no two branches of a `cobegin` that is left in the tree, or in what is called in it, run at one place, and each runs what its body does
+  -- no two branches of a `cobegin` in the tree, or in what it calls, run at one place. Each branch runs only what its body does
   pub RunsApart : Tree → Type 0
   RunsApart Nil = ⊤
   RunsApart (Wait s) = ⊤

@@ -46,7 +46,7 @@ pub record Own (Rests : Spot → Type 0) (Part : Node → Type 0) (s : Plain) : 
   pub differ : NodesAreDistinct (nodes_of s)
   pub spots : (p : Spot) → Member (spots_of s) p → Rests p
 
--- so it is of each statement of a block
+-- OwnAll Rests Part body: the nodes of each statement of the block differ and are of the part, and its resting places are among those
 abbrev pub OwnAll : (Spot → Type 0) → (Node → Type 0) → Block → Type 0
 OwnAll Rests Part Done = ⊤
 OwnAll Rests Part (Then s rest) = Own Rests Part s × OwnAll Rests Part rest

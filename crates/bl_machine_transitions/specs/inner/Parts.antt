@@ -35,8 +35,8 @@ use Rattle.bl_machine_transitions.specs.inner.Joined.{
   watched,
 }
 
--- a part: whether it is a block without statements, what stands in it, the numbers at which it rests, where its first resting place has the
--- position, and its rules, where its first node and its first place have the positions and the change follows it
+-- what is computed of a block or statement. `rests` takes the position of its first place; `rules` takes those of its first node and place, and the change that
+-- follows
 pub record Part : Type 0 where
   pub empty : Bool
   pub size : Size
@@ -204,7 +204,7 @@ begins layout k p [] = []
 begins layout k p (branch ∷ rest) =
     entered layout branch.body.empty k (SetCounter (layout.slot p)) ∷ begins layout (k + branch.body.size.nodes) (p + places_of branch) rest
 
--- their rules
+-- the rules of the nodes of branches, in their order, from these positions on
 abbrev pub each : Layout → ℕ → ℕ → List BranchPart → List NumberedTransition
 each layout k p [] = []
 each layout k p (branch ∷ rest) =
@@ -257,10 +257,10 @@ stmt_of s = s.what s.place
 abbrev pub part : Stmt → Part
 part = fold-Stmt (Place → Part) ArmPart BranchPart Part kind_part arm_of branch_of stmt_of
 
--- of an arm
+-- the part of an arm of an `if`
 abbrev pub arm_part : Arm → ArmPart
 arm_part = fold-Arm (Place → Part) ArmPart BranchPart Part kind_part arm_of branch_of stmt_of
 
--- of a branch
+-- the part of a branch of a `cobegin`
 abbrev pub branch_part : Branch → BranchPart
 branch_part = fold-Branch (Place → Part) ArmPart BranchPart Part kind_part arm_of branch_of stmt_of
