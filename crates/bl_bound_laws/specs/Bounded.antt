@@ -7,5 +7,5 @@ use Rattle.bl_bound_laws.specs.Counts.{counts_after}
 -- that traps or ends the run included
 pub record IsBounded (behaviour : Behaviour) : Type 0 where
   pub ticks : (cells ins : List ℤ) → (behaviour.tick cells ins).count ≤ behaviour.bound
-  -- and so each tick of a run over rows
+  -- no tick of a run over rows executes more statements than the bound
   pub runs : (rows : List (List ℤ)) → All (λ n. n ≤ behaviour.bound) (counts_after behaviour.tick behaviour.start rows)

@@ -30,6 +30,6 @@ abbrev pub counts_after : Ticking → Option (List ℤ) → List (List ℤ) → 
 counts_after tick None rows = counts_at_trap rows
 counts_after tick (Some cells) rows = counts_from tick rows cells
 
--- those of a file over rows of inputs
+-- how many statements each tick of a file executes, over rows of inputs
 abbrev pub counts_of : Parts → List (List ℤ) → List ℕ
 counts_of file rows = counts_after (tick_c file) (start_c file) rows

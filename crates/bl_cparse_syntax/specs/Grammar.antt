@@ -74,11 +74,11 @@ Shape = Symbol Class Within
 abbrev pub Wanted : Type 0
 Wanted = Symbol Class Roomed
 
--- this word or sign
+-- the symbol of a word or sign
 abbrev pub word : Token → Shape
 word bytes = Terminal (exactly bytes)
 
--- any name
+-- the symbol of any name
 abbrev pub name : Shape
 name = Terminal a_name
 
@@ -223,7 +223,7 @@ abbrev pub placed : ℕ → Token → Shape → Wanted
 placed room own (Terminal class) = Terminal (named own class)
 placed room own (Nonterminal within) = Nonterminal (record { part = within.part; room = room - within.around })
 
--- it is one of the productions
+-- the production is in the list
 pub data IsAmong (production : Production) : List Production → Type 0 where
   here : {others : List Production} → IsAmong production (production ∷ others)
   later : {other : Production} {others : List Production} → IsAmong production others → IsAmong production (other ∷ others)

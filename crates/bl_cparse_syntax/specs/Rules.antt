@@ -28,7 +28,7 @@ pub record FailsAtPiece (text : List ℕ) (start at : ℕ) : Type 0 where
   pub ends : ¬ BeginsText (before ++ piece ∷ [])
   pub there : StandAt text at (piece ∷ after)
 
--- it fails at its end: its pieces begin a text and spell none
+-- the text fails at its end: its pieces begin a text of the grammar, and are none
 pub record FailsAtEnd (text : List ℕ) (start at : ℕ) : Type 0 where
   pub begins : BeginsText (pieces (drop start text))
   pub no_text : ¬ Passes text start

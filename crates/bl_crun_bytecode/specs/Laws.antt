@@ -40,8 +40,8 @@ pub record ImplementsRoutine (code : Code) (room : Room) (numbers calls : ℕ) (
       waiting_height waiting + numbers ≤ room.numbers → length waiting + calls ≤ room.calls → length cells ≡ room.cells →
       Arrives code room (entry_state entry base args cells waiting count) (ended_as (entry_state entry base args cells waiting count) (routine base args cells))
 
--- each of these functions, where so many instructions and functions stand before the first, does what its routine does. It takes at most
--- as many numbers as there are instructions up to its end, and at most as many functions wait as there are up to it
+-- each function of the list implements its routine, where so many instructions and functions precede. It takes at most as many numbers as instructions up to
+-- its end, and as many waiting functions as functions up to it
 abbrev pub EachDoes : Code → Room → Sizes → Layouts → ℕ → ℕ → Table Entry → Table Routine → List CFunc → Type 0
 EachDoes code room known structs at calls entries routines [] = Unit {0}
 EachDoes code room known structs at calls entries routines (function ∷ rest) =
@@ -69,7 +69,7 @@ entry_in_file structs functions = entries_from (capped_sizes structs) (layouts s
 abbrev pub routine_in_file : List CStruct → List CFunc → Table Routine
 routine_in_file structs functions = table_of (routines_after (capped_sizes structs) (layouts structs) no_entries functions)
 
--- each function of a file by its name, where there is room for as many numbers as the file has instructions and for as many calls as it has functions
+-- each function of a file implements its routine, by name, given room for as many numbers as instructions and as many calls as functions
 abbrev pub NamedFunctionsRun : List CStruct → List CFunc → Type 0
 NamedFunctionsRun structs functions =
     let code : Code = code_of_file structs functions in

@@ -37,8 +37,8 @@ pub record Waiting : Type 0 where
   pub base : ℕ
   pub stack : List ℤ
 
--- the position of the next instruction, the base of the running function's frame, the cells, what stands on the running function's
--- stack, the last number first, the functions that wait, the last first, and how many statements have begun
+-- the state of the machine, with the next instruction's position and the base of the running function's frame. The stack is the running function's, last number
+-- first. Functions that wait stand last first, and `count` is how many statements have begun
 pub record VmState : Type 0 where
   pub at : ℕ
   pub base : ℕ
@@ -60,7 +60,7 @@ pub data StepResult : Type 0 where
 abbrev pub on : VmState → List ℤ → StepResult
 on s stack = goes (record s { at = s.at + 1; stack = stack })
 
--- the same, so many instructions further
+-- a state so many instructions behind the next one, with another stack
 abbrev pub past : ℕ → VmState → List ℤ → StepResult
 past n s stack = goes (record s { at = s.at + 1 + n; stack = stack })
 

@@ -8,15 +8,15 @@ use Rattle.bl_tree.specs.Reduce.{joined}
 use Rattle.bl_ctext.specs.declared.builtin.Builtin.{Builtin}
 use Rattle.bl_ctext.specs.declared.builtin.Builtin.TheVariants.{Two, One, Cast, Index, Turn, Stop}
 
--- the types with a sign, by the last words of the functions' names
+-- the signed types, by the last words of the functions' names
 abbrev pub int_types : List (List ℕ × Scalar)
 int_types = (codes "i8", Int W8) ∷ (codes "i16", Int W16) ∷ (codes "i32", Int W32) ∷ (codes "i64", Int W64) ∷ []
 
--- those without a sign
+-- the unsigned types, by the last words of the functions' names
 abbrev pub nat_types : List (List ℕ × Scalar)
 nat_types = (codes "n8", Nat W8) ∷ (codes "n16", Nat W16) ∷ (codes "n32", Nat W32) ∷ (codes "n64", Nat W64) ∷ []
 
--- those of binary digits
+-- the types of binary digits, by the last words of the functions' names
 abbrev pub bits_types : List (List ℕ × Scalar)
 bits_types = (codes "b8", Bits W8) ∷ (codes "b16", Bits W16) ∷ (codes "b32", Bits W32) ∷ (codes "b64", Bits W64) ∷ []
 

@@ -127,27 +127,27 @@ is_step s = is_name s.member && none_or s.index
 abbrev pub spells_expr : CExpr → Bool
 spells_expr = fold-CExpr _ _ _ _ _ _ _ is_arg is_expr_kind is_call is_expr is_index is_place is_step
 
--- the same of an expression's form
+-- whether the names, literals, operators and lengths of an expression's form have a spelling
 abbrev pub spells_kind : CExprKind → Bool
 spells_kind = fold-CExprKind _ _ _ _ _ _ _ is_arg is_expr_kind is_call is_expr is_index is_place is_step
 
--- the same of a place
+-- whether the names, literals, operators and lengths of a place have a spelling
 abbrev pub spells_place : CPlace → Bool
 spells_place = fold-CPlace _ _ _ _ _ _ _ is_arg is_expr_kind is_call is_expr is_index is_place is_step
 
--- the same of a step of a place
+-- whether the member and the index of a step of a place have a spelling
 abbrev pub spells_step : CStep → Bool
 spells_step = fold-CStep _ _ _ _ _ _ _ is_arg is_expr_kind is_call is_expr is_index is_place is_step
 
--- the same of an index
+-- whether an index has a spelling
 abbrev pub spells_index : CIndex → Bool
 spells_index = fold-CIndex _ _ _ _ _ _ _ is_arg is_expr_kind is_call is_expr is_index is_place is_step
 
--- the same of a call
+-- whether the names, literals, operators and lengths of a call have a spelling
 abbrev pub spells_call : CCall → Bool
 spells_call = fold-CCall _ _ _ _ _ _ _ is_arg is_expr_kind is_call is_expr is_index is_place is_step
 
--- the same of an argument
+-- whether the names, literals, operators and lengths of an argument have a spelling
 abbrev pub spells_arg : CArg → Bool
 spells_arg = fold-CArg _ _ _ _ _ _ _ is_arg is_expr_kind is_call is_expr is_index is_place is_step
 
@@ -175,7 +175,7 @@ is_stmt_kind (CStmtKind-F.Return value) = spells_result value
 abbrev pub is_stmt : CStmt-F Bool Bool → Bool
 is_stmt s = s.what
 
--- the same of a statement
+-- whether a statement has a spelling
 abbrev pub spells_stmt : CStmt → Bool
 spells_stmt = fold-CStmt _ _ is_stmt_kind is_stmt
 
@@ -243,8 +243,8 @@ most_open n (token ∷ tokens) = max n (most_open (open_behind n token) tokens)
 abbrev pub shallow : List CStruct → List CFunc → Bool
 shallow structs funcs = nat_le (most_open 0 (tokens_of structs funcs)) 2000
 
--- Whether a text of these structs and functions has a spelling: it has a struct and a function, each struct has a member,
--- all names, literals, types, operators and lengths are some of the subset's, and at most 2,000 brackets are open at once.
+-- whether a text of these structs and functions has a spelling. There are a struct and a function, each struct has a member, all parts have spellings, and at
+-- most 2,000 brackets are open at once
 abbrev pub is_spellable : List CStruct → List CFunc → Bool
 is_spellable structs funcs =
     has_any structs && (has_any funcs && (all_of (map spells_struct structs) && (all_of (map spells_func funcs) &&

@@ -67,7 +67,7 @@ pub data Clause : Type 0 where
   declared_before : Clause
   -- at most 300 structs hold one another in a chain, and at most 300 functions call one another
   short_chain : Clause
-  -- there are the structs bl_state, bl_in and bl_out
+  -- the structs bl_state, bl_in and bl_out exist
   interface_structs : Clause
   -- bl_in and bl_out begin with the byte `pad`; their further members are scalars, named i_ or o_ and something
   interface_members : Clause
@@ -632,7 +632,7 @@ depth_of_function depths f = limited (1 + most depths (calls_in_block f.body))
 abbrev pub variable_names : CFunc → List Text
 variable_names f = map (λ p. p.name) f.params ++ map (λ l. l.name) f.locals
 
--- these names as a table
+-- a set of names as a table
 abbrev pub names_table : List Text → Table (Unit {0})
 names_table names = table_of (map (λ name. (name, tt)) names)
 
@@ -741,7 +741,7 @@ faults_in file =
 pub record WellFormed (file : Parts) : Type 0 where
   pub none : faults_in file ≡ []
 
--- of two places the one that starts first, or ends first where they start together
+-- whether the first place starts before the second, or ends before it where they start together
 abbrev pub is_before : Place → Place → Bool
 is_before a b = nat_lt a.start b.start || (a.start == b.start && nat_le a.end b.end)
 

@@ -29,6 +29,6 @@ stmt_turns_step stmt = stmt.what stmt.place
 abbrev pub turns_in : CStmt → LoopCounters
 turns_in = fold-CStmt (Place → LoopCounters) LoopCounters stmt_kind_turns stmt_turns_step
 
--- those of a block
+-- what counts the turns of the loops in a block
 abbrev pub turns_in_block : List CStmt → LoopCounters
 turns_in_block block = joined (map turns_in block)

@@ -73,7 +73,7 @@ abbrev pub cells_if : Bool → List ℤ → Option (List ℤ)
 cells_if false cells = None
 cells_if true cells = Some cells
 
--- those before the first tick
+-- the numbers of the cells before the first tick: none where the start traps
 abbrev pub start_c : Parts → Option (List ℤ)
 start_c file = cells_if (starts file) (start_cells file)
 

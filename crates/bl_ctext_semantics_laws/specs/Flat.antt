@@ -252,7 +252,7 @@ block_of block here base = in_order (map (λ runs. runs here base) block)
 abbrev pub executed : {A : Type 0} → ℕ → FlatAnswer A → (Cells → A → Outcome Cells) → Outcome Cells
 executed own evaluated rest = ended_by evaluated.cells (own + evaluated.count) evaluated.answer (rest evaluated.cells)
 
--- so many cells from one on are copied to others, where all of them are there
+-- the cells after a copy of `size` of them from one position to another, where both ranges exist
 abbrev pub copied : ℕ → ℕ → ℕ → Cells → Cells
 copied size from at cells =
     if nat_le (from + size) (length cells) && nat_le (at + size) (length cells) then copy_within cells from (from + size) at else cells
@@ -262,7 +262,7 @@ abbrev pub written_at : Sizes → Option CType → ℕ → ℤ → Cells → Cel
 written_at known (Some (OfStruct name)) at value cells = copied (entry_or 0 known name) (cell_number value) at cells
 written_at known _ at value cells = slice_set cells at value
 
--- so many cells from one on are set to 0, as far as there are cells
+-- the cells after `n` of them, from a position on, are set to 0, as far as there are cells
 abbrev pub zeroed : ℕ → ℕ → Cells → Cells
 zeroed zero at cells = cells
 zeroed (suc n) at cells = zeroed n (suc at) (slice_set cells at (pos 0))

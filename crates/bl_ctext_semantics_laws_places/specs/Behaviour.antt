@@ -24,7 +24,7 @@ pub record Behaviour : Type 0 where
   pub start : Option (List ℤ)
   -- a tick by the numbers of the cells before it and a row of inputs
   pub tick : List ℤ → List ℤ → TickOfFile
-  -- its trace over rows of inputs
+  -- the trace over rows of inputs
   pub trace : List (List ℤ) → Trace
 
 -- the behaviour of a file

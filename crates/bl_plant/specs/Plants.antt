@@ -9,10 +9,10 @@ use Rattle.bl_tree.specs.declared.memory.NoMemory.{NoMemory}
 -- what a plant shows
 pub record PlantView : Type 0 where
   pub name : ℕ
-  -- how many numbers a row has that it gives
+  -- how many numbers a row that it gives has
   pub width : ℕ
   pub log : Log
-  -- its count of faults
+  -- the count of the plant's faults
   pub faults : ℕ
   -- where it tells its rule: what it answers to whom asks it for a row, by its log; that row, or that it is finished
   pub rule : Option (Log → Option (List ℤ))

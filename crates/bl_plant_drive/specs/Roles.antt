@@ -16,7 +16,7 @@ pub record PlantRecord : Type 0 where
   -- the rows that it gave, and those that it was told
   pub given : List (List ℤ)
   pub told : List (List ℤ)
-  -- its count of faults now
+  -- the current count of the plant's faults
   pub faults : ℕ
   -- whether it answered that it is finished, and was dropped
   pub gone : Bool
@@ -126,7 +126,7 @@ gone_in k r = if r.part.gone && nat_eq (length r.part.given) k then record { nam
 abbrev pub gone_at : ℕ → List Role → List Gone
 gone_at k cast = flat_map (gone_in k) cast
 
--- those that were dropped in so many ticks, in the order of dropping
+-- the plants that were dropped in the first k ticks, in the order of dropping
 abbrev pub gone_before : List Role → ℕ → List Gone
 gone_before cast zero = []
 gone_before cast (suc k) = gone_before cast k ++ gone_at k cast

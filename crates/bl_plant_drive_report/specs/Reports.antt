@@ -35,7 +35,7 @@ fault_end (fault.Width given wanted) = end.PlantShape
 fault_end (fault.Range column number) = end.PlantShape
 fault_end fault.NoMemory = end.NoMemory
 
--- any drive
+-- how a drive has ended, by its last tick or its fault
 abbrev pub end_at : Last → Result (Unit {0}) DriveFault → End
 end_at l (Ok done) = end_after l
 end_at l (Err fault) = fault_end fault
@@ -80,6 +80,6 @@ pub record IsReport (s : DriveSetting) (plants : List PlantView) (report : Repor
   pub is_driven : IsDriven s plants driven how
   pub tells : IsReportOf (outputs_of s.runner.parts) driven how report
 
--- it was driven and left these plants, or nothing was done
+-- a drive left these plants, or nothing was done
 abbrev pub LeavesPlants : DriveSetting → List PlantView → Type 0
 LeavesPlants s plants = (plants ≡ s.plants) ⊎ ((driven : Driven) × ((how : Result (Unit {0}) DriveFault) × IsDriven s plants driven how))

@@ -74,7 +74,7 @@ over_limit at size =
     else if nat_lt longest_line size then Some (LongLine (line_number at))
     else None
 
--- the same of an unfinished line: it shows at a byte, and not before the line begins
+-- the fault of an unfinished line that is one too many, or has too many bytes: an empty one has none
 abbrev pub overrun : RowPlace → List ℕ → Option RowFault
 overrun at [] = None
 overrun at (b ∷ bytes) = over_limit at (length (b ∷ bytes))

@@ -66,7 +66,7 @@ report_from report n r (ins ∷ rows) =
     tick_text report n (outputs_of r.parts) (answer_of (reply_at r ins)) (tick_at r ins).outputs (count_after r ins)
     ++ if_row (answer_of (reply_at r ins)) (report_from report (n + 1) (after_tick r ins) rows)
 
--- and before them
+-- what is written before the ticks
 abbrev pub report_header : Report → List Column → List ℕ
 report_header Trace outs = header_text outs
 report_header Counts outs = codes "tick,statements\n"

@@ -25,7 +25,7 @@ pub record Course : Type 0 where
   pub last : List (List ℤ) → Last
   pub text : List (List ℤ) → List ℕ
 
--- that of a C file, of which the trace is shown
+-- the course of a C file, which shows its trace
 abbrev pub course_of : Parts → Course
 course_of file = record {
   ins = inputs_of file;
@@ -33,7 +33,7 @@ course_of file = record {
   text = λ rows. text_of (c_trace file rows) (outputs_of file);
 }
 
--- that of a runner from where it stands
+-- the course of a runner from its current state, which shows its trace
 abbrev pub course_from : Running → Course
 course_from r = record {
   ins = inputs_of r.parts;
@@ -49,7 +49,7 @@ last_over c bytes = c.last (rows_of bytes c.ins).rows
 abbrev pub text_over : Course → List ℕ → List ℕ
 text_over c bytes = c.text (rows_of bytes c.ins).rows
 
--- the same of the rows of lines that are whole
+-- how a course stands after the rows of complete lines
 abbrev pub last_so_far : Course → List ℕ → Last
 last_so_far c bytes = c.last (rows_in (empty_reading c.ins) bytes)
 
@@ -83,7 +83,7 @@ AppendsFront before text after = IfSome before (λ bytes. (n : ℕ) × (n ≤ le
 abbrev pub AreLeft : Option (List ℕ) → List ℕ → Type 0
 AreLeft left bytes = IfSome left (λ all. all ≡ bytes)
 
--- these bytes of a file were handed over and the others are left, where they are told
+-- these bytes of a file were handed over, and the others are left, where the file's content is known
 abbrev pub HasRead : Option (List ℕ) → List ℕ → Option (List ℕ) → Type 0
 HasRead all read now = IfSome all (λ bytes. (rest : List ℕ) × ((bytes ≡ read ++ rest) × (now ≡ Some rest)))
 
@@ -150,6 +150,6 @@ pub record StandsBehind (most : ℕ) (bytes : List ℕ) (now : Option (List ℕ)
   pub short : length piece ≤ PIECE
   pub left : now ≡ Some rest
 
--- the same where the bytes left are told
+-- a file was read in pieces up to at most so many lines, where its content is known
 abbrev pub ReadsLines : ℕ → Option (List ℕ) → Option (List ℕ) → Type 0
 ReadsLines most before after = IfSome before (λ bytes. StandsBehind most bytes after)

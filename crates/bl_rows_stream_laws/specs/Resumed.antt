@@ -24,7 +24,7 @@ resumed_by file numbers = record {
   text = λ rows. text_of (c_trace_from file rows numbers) (outputs_of file);
 }
 
--- the same course, where nothing is shown
+-- the course that runs a file from these numbers of its cells, and shows nothing
 abbrev pub silent_by : Parts → List ℤ → Course
 silent_by file numbers = record {
   ins = inputs_of file;

@@ -11,13 +11,13 @@ use Rattle.bl_save.specs.Bytes.{state_bytes}
 use Rattle.bl_save.specs.declared.fault.StateFault.{StateFault}
 use Rattle.bl_save.specs.declared.fault.StateFault.TheVariants.{BadState}
 
--- these bytes are the saved state of a file whose cells have these numbers, each in the range of its type. A file whose start traps has none
+-- the bytes are the saved state of a file with these numbers in its cells, in the ranges of their types. The file's start doesn't trap
 pub record SavedState (file : Parts) (numbers : List ℤ) (bytes : List ℕ) : Type 0 where
   pub starts : starts file ≡ true
   pub fit : in_ranges (kinds_of file) numbers ≡ true
   pub written : bytes ≡ state_bytes (kinds_of file) numbers
 
--- these bytes are the saved state of a memory of a file
+-- the bytes are the saved state of the file's cells in the memory
 abbrev pub Saves : Parts → Memory → List ℕ → Type 0
 Saves file memory bytes = SavedState file (numbers_of (cells_of file) memory) bytes
 

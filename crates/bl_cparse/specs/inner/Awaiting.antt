@@ -63,7 +63,7 @@ abbrev pub GoesOn : Result Partial CRefusal → List Wanted → List Token → L
 GoesOn result symbols old new = (rest : List Wanted) → Expects (symbols ++ rest) old →
     MatchResult result (λ p. Expects (partial_wanted p ++ rest) new) WantsMemory
 
--- the same where no token is read
+-- where these symbols are expected, nothing is read, and what the result awaits is expected instead
 abbrev pub Stays : Result Partial CRefusal → List Wanted → Type 0
 Stays result symbols = (rest : List Wanted) (pieces : List Token) → Expects (symbols ++ rest) pieces →
     MatchResult result (λ p. Expects (partial_wanted p ++ rest) pieces) WantsMemory
@@ -95,7 +95,7 @@ abbrev pub Nests : Result Nest CRefusal → List Wanted → List Token → List 
 Nests result symbols old new = (rest : List Wanted) → Expects (symbols ++ rest) old →
     MatchResult result (λ n. Expects (nest_wanted n ++ rest) new) WantsMemory
 
--- the same where no token is read
+-- where these symbols are expected, no token is read, and what the rest of the statement awaits is expected instead
 abbrev pub NestStays : Result Nest CRefusal → List Wanted → Type 0
 NestStays result symbols = (rest : List Wanted) (pieces : List Token) → Expects (symbols ++ rest) pieces →
     MatchResult result (λ n. Expects (nest_wanted n ++ rest) pieces) WantsMemory

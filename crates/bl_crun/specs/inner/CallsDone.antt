@@ -23,7 +23,7 @@ pub record Halting (steps : ℕ) (code : Code) (entry : CodeEntry) (base : ℕ) 
   pub numbers_fit : room.numbers ≤ m.numbers
   pub calls_fit : room.calls ≤ m.calls
 
--- the same of a function that may be there; else nothing is done, and it traps
+-- a call of an optional entry gives this answer in so many steps, within the machine's room; without an entry it traps
 abbrev pub Comes : ℕ → Code → Option CodeEntry → ℕ → List ℤ → VmView → FlatAnswer ℤ → Type 0
 Comes steps code None base args m l = l ≡ flat_answer m.state.cells None
 Comes steps code (Some entry) base args m l = Halting steps code entry base args m l

@@ -64,7 +64,7 @@ repeated (suc n) xs = xs ++ repeated n xs
 abbrev pub at_span : Span → List Scalar → List Scalar
 at_span span kinds = take span.len (drop span.start kinds)
 
--- this part stands at a span
+-- the span lies in the list of types, and the part is what stands there
 pub record StandsAtSpan (kinds : List Scalar) (span : Span) (part : List Scalar) : Type 0 where
   pub within : span.start + span.len ≤ length kinds
   pub here : at_span span kinds ≡ part

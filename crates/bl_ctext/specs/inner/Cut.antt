@@ -9,7 +9,7 @@ use Rattle.bl_ctext.specs.Token.{put_before}
 abbrev pub joins : ℕ → ℕ → Bool
 joins a b = is_word_byte a && is_word_byte b || is_double_sign a b
 
--- the same of a byte and the first of some bytes
+-- whether a byte and the first of some bytes may stand in one token
 abbrev pub goes_on : ℕ → List ℕ → Bool
 goes_on a [] = false
 goes_on a (b ∷ bs) = joins a b

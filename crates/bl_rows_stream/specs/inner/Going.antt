@@ -39,7 +39,7 @@ pub record HasFed (ins : List Column) (read : List ℕ) (reader : Reading) : Typ
 abbrev pub reach : Reading → ℕ
 reach reader = reader.at.lines * 65537 + length reader.line
 
--- and how far one can come, which takes 1,000,000 lines and begins no other
+-- the most bytes that a reader can take: 1,000,000 lines and the front of no other
 abbrev pub most_reach : ℕ
 most_reach = 1000000 * 65537 + 65536
 
@@ -56,7 +56,7 @@ runner_at start file = record { parts = file; cells = start.cells; ready = start
 abbrev pub start_of : Running → Start
 start_of r = record { cells = r.cells; ready = r.ready }
 
--- these bytes were read, their rows have run, and what is written of them was written
+-- these bytes were read, their rows have run, and the report of them was written
 pub record RunStands (report : Report) (start : Start) (file : Parts) (read : List ℕ) (before : Option (List ℕ)) (s : Session) (r : Running)
     (now : Option (List ℕ)) : Type 0 where
   pub fed : HasFed (inputs_of file) read s.reader

@@ -9,7 +9,7 @@ use Rattle.bl_rows_stream.specs.declared.gathered.RowsEnd.{RowsEnd}
 use Rattle.bl_rows_stream.specs.declared.gathered.RowsEnd.TheVariants.{Read}
 use Rattle.bl_rows_stream.specs.inner.Going.{HasFed}
 
--- these bytes were read, and there is no fault in them: their rows were gathered
+-- these bytes were read without a fault, and their rows were gathered
 pub record Taken (ins : List Column) (all left : Option (List ℕ)) (reader : Reading) (rows : List (List ℤ)) : Type 0 where
   pub read : List ℕ
   pub has_read : HasRead all read left

@@ -26,12 +26,12 @@ most_of (Bits w) = 255
 abbrev pub cell_shape : Scalar → List Allowed
 cell_shape kind = replicate (size_of kind) (at_most (most_of kind))
 
--- those of cells, one after the other
+-- the bytes of cells, one cell after the other
 abbrev pub cells_shape : List Scalar → List Allowed
 cells_shape [] = []
 cells_shape (kind ∷ kinds) = cell_shape kind ++ cells_shape kinds
 
--- those of a state with cells of these types
+-- the bytes of a saved state with cells of these types: a header, and the cells
 abbrev pub state_shape : List Scalar → List Allowed
 state_shape kinds = map exactly (state_header (length kinds)) ++ cells_shape kinds
 
