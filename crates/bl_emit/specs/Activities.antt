@@ -38,7 +38,7 @@ pub record ActivityInput : Type 0 where
   pub rules : List NumberedTransition
   -- how many values each counter has
   pub sizes : Sizes
-  -- which of the units before it remember variables
+  -- whether each of the earlier units remembers variables
   pub remember : List Bool
 
 -- the activity as its blocks see it. They don't ask for the numbers of nodes

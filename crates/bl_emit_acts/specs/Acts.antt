@@ -50,7 +50,7 @@ abbrev pub c_zeroed : List StructDef → CPlace → Ty → Option ScalarType →
 c_zeroed structs place ty (Some s) = c_set place (c_literal (c_scalar s) (pos 0))
 c_zeroed structs place ty None = c_clear place (type_name structs ty)
 
--- the same of a place whose type may be known
+-- the statement that sets a place to 0 or false everywhere, if the type of the place is known
 abbrev pub zeroed : List StructDef → CPlace → Option Ty → List CStmt
 zeroed structs place (Some ty) = c_zeroed structs place ty (scalar_in ty) ∷ []
 zeroed structs place None = []

@@ -41,6 +41,6 @@ place_at activity Held k steps = c_place activity (codes "m") (c_step (variable_
 place_at activity Given k steps = c_place false (variable_name k) steps
 place_at activity Lent k steps = c_place true (variable_name k) steps
 
--- the same at a site
+-- the place to which the steps lead from the variable at a position of the site
 abbrev pub place_in : TypingContext → ℕ → List CStep → CPlace
 place_in site k steps = place_at (is_activity site.kind) (home_of site (var_at site k)) k steps

@@ -41,7 +41,7 @@ pub record OutputLeads (site : TypingContext) (now : List Value) (scope : Scope)
   pub is : place ≡ location_in scope site static.root (way_to site.structs static.fields (Some var.ty))
   pub has : read_at static.root now static.fields ≡ Some value
 
--- so is each place of the paths
+-- each place is that of the part of a variable at the path of its position, with the value there
 abbrev pub OutputsLead : TypingContext → List Value → Scope → List Path → List Value → List Location → Type 0
 OutputsLead site now scope [] [] [] = Unit {0}
 OutputsLead site now scope (path ∷ paths) (value ∷ values) (place ∷ places) =
@@ -68,14 +68,14 @@ pub record ArgumentsGiven (structs : List StructDef) (site : TypingContext) (vie
   pub inputs_apart : (place : Location) → ApartFromVariables site scope place → list_all (are_apart place) (places_in_args inputs) ≡ true
   pub outputs_apart : (place : Location) → ApartFromVariables site scope place → list_all (are_apart place) outputs ≡ true
 
--- they trap where an input does
+-- the arguments in C simulate those of the program: they trap where an input does, and else are given with these values
 abbrev pub ArgumentsSimulate : List StructDef → TypingContext → View → Scope → Memory → List Var → List Var → List Path → Option (List Value) →
     Option (List ArgumentValue) → Type 0
 ArgumentsSimulate structs site view scope here ins outs paths None answer = answer ≡ None
 ArgumentsSimulate structs site view scope here ins outs paths (Some values) answer =
     ArgumentsGiven structs site view scope here ins outs paths values answer
 
--- so it is with all arguments that fit inputs and outputs of these variables' types, where no output overlaps another or an aggregate input
+-- arguments simulate in every typed program, if they fit the types of inputs and outputs and no output overlaps another or an aggregate input
 abbrev pub ArgumentsPass : List StructDef → List UnitDef → ℕ → Type 0
 ArgumentsPass structs units entry =
     (k : ℕ) (unit : UnitDef) (view : View) (copies : List Bool) (scope : Scope) (here : Memory) (inputs : List Expr) (paths : List Path)

@@ -111,16 +111,16 @@ kind_copied copied (ExprKind-F.Two op a b) = a && b
 kind_copied copied (ExprKind-F.Cast target a) = a
 kind_copied copied (ExprKind-F.Call f inputs) = all_of inputs
 
--- the same of a part of a path
+-- whether all that a part of a path needs is copied, from what its index tells
 abbrev pub part_copied : Part-F Bool Bool Bool Bool → Bool
 part_copied (Part-F.Field k) = true
 part_copied (Part-F.Index e) = e
 
--- of an expression
+-- whether all that an expression needs is copied, from what its kind tells
 abbrev pub expr_copied : Expr-F Bool Bool Bool Bool → Bool
 expr_copied e = e.what
 
--- and of a path
+-- whether all that a path needs is copied, from what its parts tell
 abbrev pub path_copied : Path-F Bool Bool Bool Bool → Bool
 path_copied path = all_of path.parts
 
@@ -128,7 +128,7 @@ path_copied path = all_of path.parts
 abbrev pub copied_in : (ℕ → Bool) → Expr → Bool
 copied_in copied = fold-Expr Bool Bool Bool Bool (kind_copied copied) part_copied expr_copied path_copied
 
--- the same of a path
+-- whether each variable that the path names under a `prev` is copied
 abbrev pub copied_in_path : (ℕ → Bool) → Path → Bool
 copied_in_path copied = fold-Path Bool Bool Bool Bool (kind_copied copied) part_copied expr_copied path_copied
 

@@ -35,7 +35,7 @@ pub record PointersAreValid (site : TypingContext) (scope : Scope) : Type 0 wher
   pub held_apart : is_activity site.kind ≡ true → (k : ℕ) (var : Var) → var_at site k ≡ Some var → home_at site k ≡ Lent →
       are_apart (remembered_at scope) (lent_at scope k) ≡ true
 
--- so what may be written keeps apart from other variables and from copies, and all of it is there
+-- the variables that may be written are apart from other variables and from copies, and all are allocated
 pub record FrameApart (site : TypingContext) (copied : ℕ → Bool) (scope : Scope) : Type 0 where
   pub variables : VariablesApart site scope
   pub copies : CopiesApart site copied scope

@@ -39,8 +39,8 @@ use Rattle.bl_emit_acts_laws_simulation.specs.Encodes.{
 }
 use Rattle.bl_emit_acts_laws_simulation.specs.Simulation.{ExpressionSimulates, FunctionsAgree, PlaceSimulates}
 
--- the memory of C beside the values of a unit's variables: the unit is at the position, the values are of its variables' types, each stands
--- at its place, which is there, so do the copies, and the earlier functions are there
+-- C memory encodes the values of the variables of the unit at a position. Values fit their types, variables and copies are allocated, and the functions of
+-- earlier units agree
 pub record Beside (structs : List StructDef) (units : List UnitDef) (k : ℕ) (unit : UnitDef) (view : View) (copied : ℕ → Bool) (scope : Scope)
     (here : Memory) : Type 0 where
   pub is_there : slice_get units k ≡ Some unit
@@ -88,8 +88,7 @@ WritesEncode structs units entry =
     VariablesEncoded (site_of structs (take k units) unit) made scope
     (set_at here (location_in scope (site_of structs (take k units) unit) root (way_to structs ks (Some var.ty))) held)
 
--- the same as `Beside`, of memory in which acts are done: what is written has nothing in common with other variables or copies, and the earlier
--- functions without a result are there too
+-- C memory encodes the values of a unit's variables, and acts may write it: variables are apart from others and from copies, and earlier procedures agree
 pub record BesideActs (structs : List StructDef) (units : List UnitDef) (k : ℕ) (unit : UnitDef) (view : View) (copied : ℕ → Bool) (scope : Scope)
     (here : Memory) : Type 0 where
   pub beside : Beside structs units k unit view copied scope here
@@ -101,7 +100,7 @@ pub record BesideActs (structs : List StructDef) (units : List UnitDef) (k : ℕ
 abbrev pub FramesApart : Type 0
 FramesApart = (site : TypingContext) (copied : ℕ → Bool) (scope : Scope) → PointersAreValid site scope → FrameApart site copied scope
 
--- once the C that copies them has run, the copies of these variables have what the variables have, as when a tick begins
+-- the C that copies these variables gives each copy the value of its variable, as at the start of a tick
 abbrev pub CopiesBegin : Type 0
 CopiesBegin =
     (site : TypingContext) (copied : ℕ → Bool) (scope : Scope) (now : List Value) (ks : List ℕ) (here : Memory) → CopiesApart site copied scope →

@@ -52,7 +52,7 @@ pub record PathReaches (site : TypingContext) (now : List Value) (scope : Scope)
   pub value : Value
   pub is : read_at root now ks ≡ Some value
 
--- and it traps exactly where the path leads to no value
+-- a C place simulates a path: it is where the path leads, or traps iff the path leads to no value
 abbrev pub PlaceSimulates : TypingContext → View → Scope → Ty → Option Location → PathMeaning → Type 0
 PlaceSimulates site view scope ty None spot = option_and_then (read_at spot.root view.now) (spot.positions view) ≡ None
 PlaceSimulates site view scope ty (Some place) spot = PathReaches site view.now scope ty spot.root (spot.positions view) place

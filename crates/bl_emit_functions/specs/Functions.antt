@@ -95,7 +95,7 @@ memory_local name false = []
 abbrev pub flag_local : ℕ → CLocal
 flag_local k = record { ty = OfScalar OfBool; name = flag_name k }
 
--- so many flags
+-- n flags as locals
 abbrev pub flag_locals : ℕ → List CLocal
 flag_locals zero = []
 flag_locals (suc n) = flag_locals n ++ flag_local n ∷ []

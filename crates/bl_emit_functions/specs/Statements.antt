@@ -16,11 +16,11 @@ use Rattle.bl_emit_functions.specs.Trees.{c_break, c_if, c_loop, c_return, c_tru
 
 -- ---- numbers
 
--- once the next flag is taken
+-- the free numbers after the next flag is taken
 abbrev pub flag_taken : Free → Free
 flag_taken free = record { flags = free.flags + 1; turns = free.turns }
 
--- once the next turn is
+-- the free numbers after the next turn is taken
 abbrev pub turn_taken : Free → Free
 turn_taken free = record { flags = free.flags; turns = free.turns + 1 }
 
@@ -133,7 +133,7 @@ arm_codes site arm = record { test = code_made site arm.test; body = block_codes
 abbrev pub branch_codes : Branch-F Codes ArmCodes Codes Codes → Codes
 branch_codes branch free = only_code [] free
 
--- of a statement it is what is made of its kind
+-- the codes of a statement, by those of its kind
 abbrev pub stmt_codes : Stmt-F Codes ArmCodes Codes Codes → Codes
 stmt_codes s = s.what
 

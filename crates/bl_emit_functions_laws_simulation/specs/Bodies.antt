@@ -34,7 +34,7 @@ pub record Untouched (site : TypingContext) (scope : Scope) (flags : ℕ) (root 
   pub foreign : Foreign site (is_copied []) scope root way
   pub no_flag : (j : ℕ) → flags ≤ j → j < 2 ^ 64 → same_root (variable scope.depth (flag_name j)) root ≡ false
 
--- such numbers are as they were
+-- numbers of memory are unchanged that belong to no variable that may be written and to no flag from this one on
 pub record Spared (site : TypingContext) (scope : Scope) (flags : ℕ) (here after : Memory) : Type 0 where
   pub each : (root : Root) (way : List Projection) → Untouched site scope flags root way → after root way ≡ here root way
 

@@ -135,8 +135,8 @@ FramesBegin structs units entry =
 
 -- ---- functions without a result
 
--- what lets the C function of a function do what the function does, beside its arguments, where it runs at a depth: it has no more variables and flags
--- than there are names, the arguments of its calls don't overlap, and the earlier functions do in C what they do in the program
+-- the premises under which a C function simulates its function at a depth of calls, beside its arguments. Variables and flags can be named, arguments of calls
+-- don't overlap, and earlier functions agree
 pub record MayRun (structs : List StructDef) (units : List UnitDef) (k : ℕ) (unit : UnitDef) (known : Table Meaning) (depth : ℕ) (passed : List ArgumentValue)
     : Type 0 where
   pub vars : length unit.vars ≤ 2 ^ 64

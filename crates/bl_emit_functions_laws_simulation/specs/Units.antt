@@ -53,7 +53,7 @@ pub record AllAgree (structs : List StructDef) (units : List UnitDef) (k : ℕ) 
   pub functions : FunctionsAgree structs (take k units) (callees_of structs (take k units)) scope
   pub procedures : ProceduresAgree structs (take k units) (callees_of structs (take k units)) scope
 
--- They do wherever they are known, at any depth in the chain of calls
+-- the C functions before a position simulate the functions of the program, wherever they are known, at any depth of calls
 abbrev pub FunctionsSimulate : List StructDef → List UnitDef → ℕ → Type 0
 FunctionsSimulate structs units entry =
     (k : ℕ) (scope : Scope) → IsWellTyped structs units entry → NoneOverlaps units

@@ -54,10 +54,10 @@ pub record Activity : Type 0 where
   pub slots : Slots
   -- how many values each counter has
   pub sizes : Sizes
-  -- which of the units before it remember variables
+  -- whether each of the earlier units remembers variables
   pub remember : List Bool
 
--- its body
+-- the body of an activity
 abbrev pub body_of : Activity → Block
 body_of a = plain_body a.unit.body
 
@@ -65,7 +65,7 @@ body_of a = plain_body a.unit.body
 abbrev pub rules_at : Activity → List Transition
 rules_at a = rules a.slots (body_of a)
 
--- which of its variables have a copy of what they were when the tick began, in order
+-- which of the variables have a copy of their values at the start of the tick, in order
 abbrev pub copies_of : UnitDef → List Bool
 copies_of unit = map (λ k. list_any (nat_eq k) (prevs_of unit)) (up_to (length unit.vars))
 
@@ -258,7 +258,7 @@ abbrev pub blocks_code : List NodeCode → List (List ℕ) → List CStmt
 blocks_code turns [] = []
 blocks_code turns (block ∷ rest) = merged_code (picked turns block) ++ blocks_code turns rest
 
--- those of the activity
+-- the `if`s of the activity's blocks, in order
 abbrev pub blocks_in_order : Activity → List CStmt
 blocks_in_order a = blocks_code (turns_in_source a) a.blocks
 

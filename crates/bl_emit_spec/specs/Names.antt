@@ -38,7 +38,7 @@ mark_name k = codes "u" ++ decimal k
 abbrev pub ended_name : ℕ → Text
 ended_name k = codes "e" ++ decimal k
 
--- its result
+-- the name of the result of the activity that a `run` calls, by the number of the node at which the `run` begins
 abbrev pub given_name : ℕ → Text
 given_name k = codes "r" ++ decimal k
 
@@ -72,7 +72,7 @@ result_place = c_place true (codes "r") []
 abbrev pub ended_place : ℕ → CPlace
 ended_place k = c_place false (ended_name k) []
 
--- its result
+-- the place of the result of the activity that a `run` calls, by the number of the node at which the `run` begins
 abbrev pub given_place : ℕ → CPlace
 given_place k = c_place false (given_name k) []
 

@@ -12,6 +12,6 @@ pub record ClearingIsInside : Type 0 where
   -- each instance that a `run` began is what its caller finds at the place of the `run`
   pub found : (structs : List StructDef) (units : List UnitDef) (entry k : ℕ) (origin : Origin) → let w = setting_of structs units entry in
       origin_at w k ≡ Some origin → callee_of w origin.caller origin.place ≡ Some k
-  -- so as an instance begins nothing is cleared but what lies inside it
+  -- an instance that begins clears only what lies inside it
   pub inside : (structs : List StructDef) (units : List UnitDef) (entry : ℕ) → let w = setting_of structs units entry in
       ClearsInside w (cleared w)

@@ -35,7 +35,7 @@ pub record PassesStayWithin (structs : List StructDef) (units : List UnitDef) (e
       CompilationContext structs units entry machine activities → FramesWithin w activities frames → RegistersWithin (activity_at w activities i).sizes r →
       Executes w (rank_by w activities) (slots_by w activities) (cleared w) i k frames store copies r frames' left r' →
       FramesWithin w activities frames' × RegistersWithin (activity_at w activities i).sizes r'
-  -- nor does one as a pass begins
+  -- registers and frames hold no more than the greatest values as a pass begins
   pub begun : (i : ℕ) (unit : UnitDef) → let w = setting_of structs units entry in
       RegistersWithin (activity_at w activities i).sizes (begun_registers (rank_by w activities) i unit)
   pub resumed : (i : ℕ) (frames : Frames) → let w = setting_of structs units entry in
@@ -43,7 +43,7 @@ pub record PassesStayWithin (structs : List StructDef) (units : List UnitDef) (e
   pub cleared_within : (i : ℕ) (frames : Frames) → let w = setting_of structs units entry in
       FramesWithin w activities frames → FramesWithin w activities (cleared w i frames)
 
--- so it is in each program
+-- counters stay within their greatest values, in each program
 abbrev pub AllStayWithin : Type 0
 AllStayWithin =
     (structs : List StructDef) (units : List UnitDef) (entry : ℕ) (machine : List InMachine) (activities : Activities) →

@@ -99,8 +99,8 @@ call_written w activities i n u arguments scope here =
     let view = view_of (activity_at w activities i) in
     call_c (c_call (name_of_callee (slice_get view.site.earlier u)) (run_args view n u arguments)) scope here
 
--- As the function is called memory has what a pass of the callee begins with, once the inputs went to its frame. The call that is written hands over
--- these places, which keep apart; those of outputs are where their paths lead
+-- memory at the call of a `run` represents what a pass of the callee begins with. The places that it hands over are apart, and outputs are where their paths
+-- lead
 pub record RunEstablishes (w : Setting) (activities : Activities) (i : ℕ) (scope : Scope) (n : ℕ) (arguments : Arguments) (j : ℕ) (other : UnitDef)
     (frames : Frames) (given : Store) (here : Memory) : Type 0 where
   pub inputs : List ArgumentValue
@@ -117,7 +117,7 @@ pub record RunEstablishes (w : Setting) (activities : Activities) (i : ℕ) (sco
 abbrev pub NotEnded : Scope → ℕ → Memory → Type 0
 NotEnded scope n here = number_in (value_at here (start_of scope false (ended_name n))) ≡ pos 0
 
--- so it is in the middle of each pass where a `run` has its turn; where its inputs trap so does the call that is written
+-- the call of each `run` establishes what a pass of the callee begins with, and traps where its inputs do
 pub record RunsEstablish (structs : List StructDef) (units : List UnitDef) (entry : ℕ) (machine : List InMachine) (activities : Activities) : Type 0 where
   pub gives : (i : ℕ) (unit : UnitDef) (scope : Scope) (frames : Frames) (store : Store) (copies : List Value) (r : Registers) (here : Memory)
       (l : Label) (at : Place) (arguments : Arguments) (j : ℕ) (other : UnitDef) (given : Store) → let w = setting_of structs units entry in
@@ -133,7 +133,7 @@ pub record RunsEstablish (structs : List StructDef) (units : List UnitDef) (entr
 
 -- ---- what it leaves
 
--- once the function has ended memory stands for what the pass leaves, and tells whether the callee's body has ended, and with which result
+-- memory after the call of a `run` represents what the callee's pass leaves, whether its body has ended, and its result
 pub record RunLeaves (w : Setting) (activities : Activities) (i : ℕ) (unit : UnitDef) (scope : Scope) (n : ℕ) (j : ℕ) (other : UnitDef)
     (frames : Frames) (left : Store) (copies : List Value) (r : Registers) (ended : Bool) (here after : Memory) : Type 0 where
   pub stands : PassRepresents w activities i unit scope frames left copies r after
@@ -142,7 +142,7 @@ pub record RunLeaves (w : Setting) (activities : Activities) (i : ℕ) (unit : U
   pub result : (value : Value) → ended ≡ true → is_some other.result ≡ true → result_at left j ≡ Some value →
       number_in (value_at after (start_of scope false (given_name n))) ≡ number_or_zero value
 
--- so it does in each pass
+-- the call of each `run` leaves memory that represents what the callee's pass leaves
 abbrev pub RunsLeave : List StructDef → List UnitDef → ℕ → List InMachine → Activities → Type 0
 RunsLeave structs units entry machine activities =
     (i : ℕ) (unit : UnitDef) (scope : Scope) (frames : Frames) (store : Store) (copies : List Value) (r : Registers) (here : Memory) (l : Label)

@@ -15,7 +15,7 @@ OwnIsSeen =
     (structs : List StructDef) (units : List UnitDef) (entry : ℕ) (machine : List InMachine) (activities : Activities) →
     CompilationContext structs units entry machine activities → OwnSeen (setting_of structs units entry)
 
--- once a target of a `run` has its result the instance sees that there, and all else as before; and so does all inside what it calls
+-- an instance sees the result of a `run` in its target, and all else as before, and so do its callees
 abbrev pub TargetsAreSeen : Type 0
 TargetsAreSeen =
     (structs : List StructDef) (units : List UnitDef) (entry : ℕ) (machine : List InMachine) (activities : Activities) →

@@ -36,6 +36,6 @@ CalleesRemember w activities =
     Contains (nodes_in (plain_body unit.body)) (EnterAt l at arguments) → callee_of w i at ≡ Some j →
     remembers_any (activity_at w activities j) ≡ true → remembers_any (activity_at w activities i) ≡ true
 
--- then one that remembers a variable, itself or in what it calls at any depth, is told to remember
+-- an activity is marked as remembering if it, or what it calls at any depth, remembers a variable
 abbrev pub RememberingStands : Type 0
 RememberingStands = (w : Setting) (activities : Activities) → CalleesRemember w activities → Remembering w activities

@@ -21,7 +21,7 @@ marks_in (change ∷ rest) = marks_in rest
 abbrev pub rule_extras : Transition → ℕ
 rule_extras rule = (if is_flagged rule.asked then 1 else 0) + marks_in rule.so
 
--- those of rules
+-- the flags that rules ask for, and the marks that they set, counted
 abbrev pub extras : List Transition → ℕ
 extras [] = 0
 extras (rule ∷ rest) = rule_extras rule + extras rest

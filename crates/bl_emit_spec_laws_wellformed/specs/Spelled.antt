@@ -68,8 +68,7 @@ all_fit sizes site callees [] = true
 all_fit sizes site (a ∷ callees) (rule ∷ rules) =
     (rule_fits sizes rule && node_fits site a rule.node) && all_fit sizes site callees rules
 
--- an activity of a typed program, by the position of its unit, where all that is numbered is so by numbers that 64 bits hold, and all that its
--- nodes do fits where it stands
+-- the premises for spelling an activity's C: 64 bits hold all its numbers, and what its nodes do fits where it stands
 pub record CanSpell (structs : List StructDef) (units : List UnitDef) (k : ℕ) (a : Activity) : Type 0 where
   pub structures : a.structs ≡ structs
   pub earlier : a.earlier ≡ take k units
@@ -84,13 +83,13 @@ abbrev pub ActivitiesFit : List StructDef → List UnitDef → ℕ → Type 0
 ActivitiesFit structs units entry =
     (k : ℕ) (a : Activity) → IsWellTyped structs units entry → CanSpell structs units k a → func_fits 2000 (activity_function a) ≡ true
 
--- so has the struct of where it rests, where it has a member
+-- the struct of where an activity rests has a spelling, if it has a member
 abbrev pub FramesSpelled : List StructDef → List UnitDef → ℕ → Type 0
 FramesSpelled structs units entry =
     (k : ℕ) (a : Activity) → IsWellTyped structs units entry → CanSpell structs units k a → has_any (frame_struct a).members ≡ true →
     spells_struct (frame_struct a) ≡ true
 
--- and that of what it remembers
+-- the struct of what an activity remembers has a spelling
 abbrev pub RememberedSpelled : List StructDef → List UnitDef → ℕ → Type 0
 RememberedSpelled structs units entry =
     (k : ℕ) (a : Activity) → IsWellTyped structs units entry → CanSpell structs units k a → list_all spells_struct (remembered_struct a) ≡ true

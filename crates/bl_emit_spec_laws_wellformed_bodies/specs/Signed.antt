@@ -22,7 +22,7 @@ ActivitiesSigned = (a : Activity) → signature_in (activity_function a) ≡ sig
 abbrev pub NoneLoops : Type 0
 NoneLoops = (a : Activity) → turns_in_block (activity_code a) ≡ []
 
--- no clause fails in the C function of an activity, where no function before it has its name, and it heads no chain of calls that is too long
+-- no clause fails in the C function of an activity, if no earlier function has its name and its chain of calls isn't too long
 abbrev pub ActivitiesWellFormed : List StructDef → List UnitDef → ℕ → Type 0
 ActivitiesWellFormed structs units entry =
     (k : ℕ) (a : Activity) (table : Table (Table CMember)) (functions : Table Signature) (depths : Table ℕ) → IsWellTyped structs units entry →

@@ -41,7 +41,7 @@ structs_for structs units = joined (map (structs_for_definition structs) structs
 
 -- ---- each once
 
--- of structs of one name the first alone, and none of a name that is taken already
+-- the structs without those whose name is taken or stands before
 abbrev pub each_once : List Text → List CStruct → List CStruct
 each_once taken [] = []
 each_once taken (s ∷ rest) = if list_any (bytes_eq s.name) taken then each_once taken rest else s ∷ each_once (taken ++ s.name ∷ []) rest

@@ -52,7 +52,7 @@ asks_flag (Ended age needed) = false
 abbrev pub flag_told : NumberedTransition → List CLocal
 flag_told rule = if asks_flag rule.asked then scalar_local OfBool (flag_name rule.number) ∷ [] else []
 
--- those of all nodes
+-- the locals for the flags of all nodes that wait by one
 abbrev pub flags_told : List NumberedTransition → List CLocal
 flags_told rules = joined (map flag_told rules)
 

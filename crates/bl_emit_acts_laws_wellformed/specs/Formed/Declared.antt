@@ -26,7 +26,7 @@ use Rattle.bl_emit_structs.specs.Structs.{arrays_of, structs_for_definition}
 abbrev pub IsDeclared : Table (Table CMember) → CStruct → Type 0
 IsDeclared table s = table s.name ≡ Some (member_table s)
 
--- and so does each of these
+-- each of these C structs stands in the table under its name, with its members
 abbrev pub AreDeclared : Table (Table CMember) → List CStruct → Type 0
 AreDeclared table structs = (s : CStruct) → Contains structs s → IsDeclared table s
 
@@ -63,7 +63,7 @@ home_leads activity Held = activity
 home_leads activity Given = false
 home_leads activity Lent = true
 
--- the same of the variable at a position
+-- whether the place of the variable at a position begins with what a pointer leads to
 abbrev pub leads_through : TypingContext → ℕ → Bool
 leads_through site k = home_leads (is_activity site.kind) (home_of site (var_at site k))
 

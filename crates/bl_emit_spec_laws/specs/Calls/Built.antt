@@ -60,7 +60,7 @@ pub record AreBuilt (structs : List StructDef) (units : List UnitDef) (machine :
   pub structures : (k : ℕ) (unit : UnitDef) → slice_get units k ≡ Some unit → (activities k).structs ≡ structs
   pub earlier : (k : ℕ) (unit : UnitDef) → slice_get units k ≡ Some unit → (activities k).earlier ≡ take k units
   pub unit : (k : ℕ) (unit : UnitDef) → slice_get units k ≡ Some unit → (activities k).unit ≡ unit
-  -- it is told which of the units before it remember variables: no function does
+  -- the activity is told which of the earlier units remember variables: no function does
   pub remember : (k j : ℕ) (unit other : UnitDef) → slice_get units k ≡ Some unit → slice_get units j ≡ Some other → j < k →
       slice_get (activities k).remember j ≡ Some (is_activity other.kind && remembers_any (activities j))
   pub made : (k : ℕ) (unit : UnitDef) → slice_get units k ≡ Some unit → is_activity unit.kind ≡ true →

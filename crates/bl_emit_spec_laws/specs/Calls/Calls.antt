@@ -91,7 +91,7 @@ output_values w store i unit = take unit.outputs (drop unit.inputs (view_at w st
 abbrev pub FramesWithin : Setting → Activities → Frames → Type 0
 FramesWithin w activities frames = (i c : ℕ) → frames i c ≤ greatest_value (activity_at w activities i).sizes c
 
--- as a call for the instance begins memory holds what the instance rests at and remembers, and at the places its inputs and outputs; the body hasn't ended
+-- memory at the start of a call encodes where the instance rests, what it remembers, and its inputs and outputs. The body hasn't ended
 pub record CallBegins (w : Setting) (activities : Activities) (i : ℕ) (unit : UnitDef) (depth : ℕ) (given : CallAddresses) (frames : Frames) (store : Store)
     (here : Memory) : Type 0 where
   pub memory : MemoryEncodes w activities i given.frame given.memory frames store here
@@ -108,7 +108,7 @@ PassStarts w activities i unit frames r = PassStart (rank_by w activities) i uni
 
 -- ---- what a call leaves
 
--- it leaves what a pass by rules leaves, at the same places, and all else as it was that was there
+-- memory after a call encodes what a pass by rules leaves, at the same places, and older memory is unchanged elsewhere
 pub record CallLeaves (w : Setting) (activities : Activities) (i : ℕ) (unit : UnitDef) (depth : ℕ) (given : CallAddresses) (frames : Frames) (left : Store)
     (r : Registers) (here : Memory) (called : CallResult) : Type 0 where
   pub returned : called.result ≡ Some (pos 0)

@@ -32,8 +32,7 @@ use Rattle.bl_emit_spec_laws.specs.Calls.Memories.{MemoryEncodes, inner}
 abbrev pub result_at_c : Scope → Location
 result_at_c scope = start_of scope true (codes "r")
 
--- a place was there before the function began, and has nothing in common with the counters, with what tells whether the body has ended, and with what
--- the pointers for variables lead to
+-- a place is older than the function's call, and apart from its counters, its end flag, and what the pointers for variables lead to
 pub record PlaceIsSeparate (site : TypingContext) (scope : Scope) (place : Location) : Type 0 where
   pub older : is_older scope.depth place.root ≡ true
   pub frame : are_apart place (frame_at scope) ≡ true
@@ -65,8 +64,7 @@ pub record FunctionContext (structs : List StructDef) (units : List UnitDef) (w 
 
 -- ---- in the middle of a pass
 
--- memory holds the registers, the values of the variables and their copies, what each `run` keeps of the instance that it calls, and the result where
--- the body has ended
+-- memory represents a pass: it encodes the registers, the variables and their copies, the frames of callees, and the result once the body has ended
 pub record PassRepresents (w : Setting) (activities : Activities) (i : ℕ) (unit : UnitDef) (scope : Scope) (frames : Frames) (store : Store)
     (copies : List Value) (r : Registers) (here : Memory) : Type 0 where
   pub registers : RegistersEncoded (registered (activity_at w activities i)) scope r here

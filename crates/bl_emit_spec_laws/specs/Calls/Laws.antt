@@ -80,7 +80,7 @@ pub record PassOutside (site : TypingContext) (unit : UnitDef) (remembers : Bool
   pub outputs : (k : ℕ) (var : Var) → var_at site k ≡ Some var → home_at site k ≡ Lent → is_input var.role ≡ false →
       lies_in (lent_at scope k) root way ≡ false
 
--- such numbers that were there before the function began are as they were
+-- memory from before the call is unchanged where the function of an activity may not write
 abbrev pub PassKeepsFrame : TypingContext → UnitDef → Bool → Scope → Memory → Memory → Type 0
 PassKeepsFrame site unit remembers scope here after =
     (root : Root) (way : List Projection) → is_older scope.depth root ≡ true → PassOutside site unit remembers scope root way →
@@ -105,7 +105,7 @@ scope_in w activities i unit known depth given =
     let a = activity_at w activities i in
     scope_begun known (activity_function a) (depth + 1) (passed_to unit (remembers_any a) given)
 
--- and the memory
+-- the memory at the start of a call of an instance's activity
 abbrev pub memory_in : Setting → Activities → ℕ → UnitDef → ℕ → CallAddresses → Memory → Memory
 memory_in w activities i unit depth given here =
     let a = activity_at w activities i in memory_begun (activity_function a) (depth + 1) (passed_to unit (remembers_any a) given) here
@@ -189,7 +189,7 @@ pub record GuardsChoose (structs : List StructDef) (units : List UnitDef) (entry
 
 -- ---- the whole pass
 
--- as a pass starts, the blocks of the function do what a pass by rules does, and trap where it is cut
+-- the blocks of the function simulate a pass by rules from its start, traps included
 pub record PassesSimulate (structs : List StructDef) (units : List UnitDef) (entry : ℕ) (machine : List InMachine) (activities : Activities) : Type 0 where
   pub executes : (i : ℕ) (unit : UnitDef) (scope : Scope) (frames : Frames) (store : Store) (copies : List Value) (r : Registers)
       (frames' : Frames) (left : Store) (r' : Registers) (here : Memory) → let w = setting_of structs units entry in

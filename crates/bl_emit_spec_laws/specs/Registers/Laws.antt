@@ -55,7 +55,7 @@ are_in_a_row (slot ∷ rest) = follow_on slot.counter (suc slot.value) rest
 abbrev pub RestsWithin : Sizes → Registers → Type 0
 RestsWithin sizes r = (k : ℕ) → r.rested k ≤ greatest_value sizes k
 
--- nor does one hold more now
+-- no counter holds more than its greatest value, now or as the tick began
 pub record RegistersWithin (sizes : Sizes) (r : Registers) : Type 0 where
   pub counters : (k : ℕ) → r.counters k ≤ greatest_value sizes k
   pub rested : RestsWithin sizes r

@@ -106,7 +106,7 @@ pub record RegistersApart (has : Registered) (scope : Scope) : Type 0 where
       are_apart (register_at scope x) (register_at scope y) ≡ true
   pub live : (x : Register) → is_live scope.depth (register_at scope x).root ≡ true
 
--- they have nothing in common with variables and copies
+-- the places of registers are apart from those of variables and copies
 pub record RegistersBeside (site : TypingContext) (scope : Scope) : Type 0 where
   pub variables : (x : Register) (k : ℕ) (var : Var) → var_at site k ≡ Some var →
       are_apart (register_at scope x) (location_in scope site k []) ≡ true

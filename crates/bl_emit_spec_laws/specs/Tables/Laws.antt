@@ -38,7 +38,7 @@ pub record WrittenAs (program : Program) (machine : List InMachine) (unit : Unit
       ++ (init_function unit.name
       ∷ tick_function unit (remembers_any (activities_of program.structs program.units machine program.entry)) ∷ [])
 
--- so it is written of each program with its machine, whose entry is an activity
+-- the file written of a program with its machine, whose entry is an activity, has those functions
 abbrev pub WrittenIsKept : Type 0
 WrittenIsKept =
     (program : Program) (machine : List InMachine) (unit : UnitDef) → AreActivitiesOf program.units machine →

@@ -38,7 +38,7 @@ abbrev pub remembers_with : List StructDef → List UnitDef → List InMachine �
 remembers_with structs units machine k remember =
     is_activity (unwrap_or (slice_get units k) no_unit).kind && remembers_any (activity_with structs units machine k remember)
 
--- which of the units before a position remember variables
+-- whether each of the units before a position remembers variables
 abbrev pub remembered_before : List StructDef → List UnitDef → List InMachine → ℕ → List Bool
 remembered_before structs units machine zero = []
 remembered_before structs units machine (suc k) =
@@ -60,7 +60,7 @@ abbrev pub unit_function : List StructDef → List UnitDef → Activities → �
 unit_function structs units activities k unit =
     if is_activity unit.kind then activity_function (activities k) else function_code structs (take k units) unit
 
--- those of all units, in order
+-- the C functions of all units, in order
 abbrev pub functions_of_all : List StructDef → List UnitDef → Activities → List CFunc
 functions_of_all structs units activities = each_from (unit_function structs units activities) 0 units
 

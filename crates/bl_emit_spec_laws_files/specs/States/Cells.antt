@@ -25,6 +25,6 @@ CellsKept file =
     (here : Memory) (place : Location) (kind : Scalar) → place_type file.structs object_types place ≡ Some (OfScalar kind) →
     number_in (value_at (regained file here) place) ≡ number_in (value_at here place)
 
--- so it is in each well-formed file
+-- the number of each scalar place is kept, in every well-formed file
 abbrev pub AllCellsKept : Type 0
 AllCellsKept = (file : Parts) → WellFormed file → CellsKept file

@@ -67,8 +67,7 @@ TypeDeclared structs there (Ty-F.Scalar s) = Unit {0}
 TypeDeclared structs there (Ty-F.Struct k) = (def : StructDef) → slice_get structs k ≡ Some def → Contains there (c_definition structs def)
 TypeDeclared structs there (Ty-F.Array n inner) = Contains there (c_array structs n inner)
 
--- a file declares the structs of its state and its outputs, those of where each instance rests and of what it remembers, and those of the types of
--- all that variables have in them
+-- a file declares the structs of its state and outputs, of each instance's frame and memory, and of the types of variables in them
 pub record FramesDeclared (structs : List StructDef) (units : List UnitDef) (entry : ℕ) (activities : Activities) (unit : UnitDef) (file : Parts) :
     Type 0 where
   pub state : Contains file.structs (state_struct unit.name (remembers_any (activities entry)))
@@ -90,7 +89,7 @@ pub record RunFound (w : Setting) (unit : UnitDef) (l : Label) (at : Place) (arg
   pub earlier : unit_number w j < unit_number w i
   pub called : CalledAt (plain_body unit.body) (EnterAt l at arguments) (unit_number w j)
 
--- so it is of each `run`
+-- each `run` calls an instance of the unit that its node names, which stands before the caller's unit
 abbrev pub RunsFound : List StructDef → List UnitDef → ℕ → Type 0
 RunsFound structs units entry =
     let w = setting_of structs units entry in

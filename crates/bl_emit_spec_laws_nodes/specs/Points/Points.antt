@@ -26,7 +26,7 @@ pub record PointsStand (structs : List StructDef) (units : List UnitDef) (entry 
   pub agree : PrevsAgree
   pub seen : ActsSeen (setting_of structs units entry) activities
 
--- then the blocks of all points do what a pass by rules does there, and an `if` by the guard of a rule does what stands in it where the rule is due
+-- the blocks of all points simulate their nodes, and the guard of a rule holds iff the rule is due
 abbrev pub PointsSimulate : List StructDef → List UnitDef → ℕ → Type 0
 PointsSimulate structs units entry =
     (machine : List InMachine) (activities : Activities) →
