@@ -30,7 +30,7 @@ pub record StructsSound (program : Program) (machine : List InMachine) (unit : U
   pub interface : AreDeclared (table_of program machine)
       (interface_structs program.structs unit (unwrap_or (slice_get (parts_of program machine).remember program.entry) false))
 
--- No clause fails in the file, where none fails in its structs, all is so that is asked of needed units, and neither rule Frames nor Cells fails
+-- no clause fails in a file whose structs are sound and whose needed units meet their conditions, where rules Frames and Cells hold
 abbrev pub FilesWellFormed : Program → Type 0
 FilesWellFormed program =
     (machine : List InMachine) (unit : UnitDef) → IsWellTyped program.structs program.units program.entry →

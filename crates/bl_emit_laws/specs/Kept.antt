@@ -30,13 +30,13 @@ written_file program machine = parts_from (written program machine).structs (wri
 abbrev pub activities_in : Program → List InMachine → Activities
 activities_in program machine = activities_of program.structs program.units machine
 
--- its structs but those of the interface: those of types, and those of the units that the entry needs
+-- the file's structs but those of the interface: those of types, and those of needed units
 abbrev pub structs_before : Program → List InMachine → List CStruct
 structs_before program machine =
     structs_of program
     ++ (programs.parts_from program.structs [] [] program.units (needed_units program.units program.entry) machine).structs
 
--- its functions but those of the interface: those of the units that the entry needs
+-- the file's functions but those of the interface: those of needed units
 abbrev pub functions_before : Program → List InMachine → List CFunc
 functions_before program machine =
     kept (needed_units program.units program.entry) (functions_of_all program.structs program.units (activities_in program machine))
@@ -63,7 +63,7 @@ pub record FileEnds (program : Program) (machine : List InMachine) (unit : UnitD
       ≡ file_with program.structs unit (remembers_any (activities_in program machine program.entry)) (structs_before program machine)
       (functions_before program machine)
 
--- so does the file of each typed program whose entry is this unit
+-- the file of each typed program with this entry ends with the structs and functions of the interface
 abbrev pub FilesEnd : Program → Type 0
 FilesEnd program =
     (machine : List InMachine) (unit : UnitDef) → IsWellTyped program.structs program.units program.entry → AreActivitiesOf program.units machine →

@@ -33,7 +33,7 @@ NeededAreKnown structs units entry =
     AreBuilt structs units machine activities → slice_get units k ≡ Some unit → slice_get (needed_units units entry) k ≡ Some true →
     table_of_needed structs units entry activities (unit_name unit.name) ≡ table_of_all structs units activities (unit_name unit.name)
 
--- so the functions of these activities do what the passes of their instances do, as wherever the functions of all units are known
+-- the functions of needed activities simulate the passes of their instances, over the table of needed functions alone
 abbrev pub NeededSimulate : List StructDef → List UnitDef → ℕ → Type 0
 NeededSimulate structs units entry =
     (machine : List InMachine) (activities : Activities) (u depth : ℕ) → CompilationContext structs units entry machine activities → NoneOverlaps units →
@@ -54,7 +54,7 @@ pub record Enters (file : Parts) (known : Table Meaning) (unit : UnitDef) (activ
   pub tick : (passed : List ArgumentValue) (memory : Memory) →
       entered file (codes "bl_tick") passed memory ≡ function_c known (tick_function unit (remembers_any (activities entry))) 0 passed memory
 
--- so it is entered over the functions of the units that are needed
+-- the start and the tick of a file do what the needed functions do, in each file written of a program
 abbrev pub FilesEnter : Type 0
 FilesEnter =
     (program : Program) (machine : List InMachine) (unit : UnitDef) (file : Parts) → IsWritten program machine unit file →

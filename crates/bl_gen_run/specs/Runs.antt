@@ -25,7 +25,7 @@ run_text stages rows Open = report_text stages rows
 run_text stages rows Ended = report_text stages rows
 run_text stages rows Trap = codes "trap\n"
 
--- there are no more than 2,000 stages, the text tells the one trace of their program, and so it stands
+-- the text and the last state are those of the one trace of a program with so many stages, at most 2,000
 pub record IsGeneratedRun (stages : ℕ) (text : List ℕ) (last : Last) : Type 0 where
   pub within : stages ≤ most_stages
   pub trace : Trace

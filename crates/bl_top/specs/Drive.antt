@@ -47,7 +47,7 @@ pub record HasDriven (left : Option (List ℕ)) (plants : Plants) (ticks : ℕ) 
   -- over the rows that the plants gave the parallel meaning allows its trace, and no other
   pub means : (shows : Shows) → Means (typed_of raw).structs (typed_of raw).units (typed_of raw).entry driven.ins shows
       ↔ (shows ≡ shown_trace driven.trace)
-  -- this is what it shows: the text of the trace, or nothing where the names and widths don't fit
+  -- the drive shows the text of the trace, or nothing where the names and widths don't fit
   pub shows : text ≡ text_shown (output_columns one_trace.unit) driven.trace how
 
 -- the status of a drive that ended so

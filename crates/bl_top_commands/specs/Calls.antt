@@ -32,8 +32,7 @@ pub record Call : Type 0 where
   pub out : Output
   pub notes : Output
 
--- a call before which this is left of each file, and after it the rest, with these counts of the faults of each file before
--- and after it, and these sinks
+-- a call with these contents of each file before and after it, these counts of each file's faults before and after it, and these sinks
 abbrev pub call_of : (Word → Option (List ℕ)) → (Word → Option (List ℕ)) → (Word → ℕ) → (Word → ℕ) → Output → Output → Call
 call_of left rest before after out notes = record {
   left = left;

@@ -23,8 +23,7 @@ pub record RanInPart (course : Course) (left : Option (List ℕ)) (out : Output)
   pub are_left : AreLeft left bytes
   pub grew : AppendsFront out.before (text_over course bytes) out.after
 
--- the status and the line with which a course ends over the rows that are left of a file, what is then left of the file, and what of
--- the course's text grew on `out`
+-- the status and line with which a course ends over the rows left of a file. The rest of the file is left then, and a text grew on `out`
 pub data Streams (course : Course) (left rest : Option (List ℕ)) (rows : Count) (out : Output) : Status → List ℕ → Type 0 where
   -- the rows are used up, or the run has ended before that
   done : Ran course left out finish.Done → Streams course left rest rows out status.Ok (line_of status.Ok)

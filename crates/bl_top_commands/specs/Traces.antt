@@ -25,7 +25,7 @@ pub record OneTrace (structs : List StructDef) (units : List UnitDef) (entry : �
       Means structs units entry rows shows ↔ (shows ≡ shown_trace (behaviour.trace rows))
   -- no list of steps within a tick is longer than the number of the program's steps
   pub bounded : Bounded (steps structs units entry) structs units entry
-  -- and where no point may act nothing is left to do
+  -- no tick is stuck: where no point is enabled, nothing is left to do
   pub never_stuck : NeverStuck structs units entry
 
 -- the course that runs a C file which behaves so, and shows its trace

@@ -51,7 +51,7 @@ pub record HasIfForEach (blocks : List (List ℕ)) (body : List CStmt) : Type 0 
   pub is : body ≡ before ++ ifs_in body
   pub many : length (ifs_in body) ≡ length blocks
 
--- the machine has this part for an activity A, and the one function `a_A` of the file has in its body as many `if`s as that has blocks
+-- the file has one function `a_A` of the activity A, with one `if` in its body for each block of the machine's part
 pub record FunctionHasIfs (activity : UnitDef) (part : Option InMachine) (file : Parts) : Type 0 where
   pub one : InMachine
   pub is : part ≡ Some one
@@ -59,7 +59,7 @@ pub record FunctionHasIfs (activity : UnitDef) (part : Option InMachine) (file :
   pub functions : functions_named (unit_name activity.name) file ≡ function ∷ []
   pub body : HasIfForEach one.blocks function.body
 
--- so it is of the activity of each instance
+-- the activity of each instance has one function in the file, with one `if` in its body for each of the machine's blocks
 abbrev pub EachFunctionHasIfs : List StructDef → List UnitDef → ℕ → List InMachine → Parts → Type 0
 EachFunctionHasIfs structs units entry machine file =
     (i : ℕ) (instance : Instance) (activity : UnitDef) → slice_get (setting_of structs units entry).instances i ≡ Some instance →

@@ -37,7 +37,7 @@ pub record HasOneFunctionAndFrame (activity : UnitDef) (file : Parts) : Type 0 w
   pub frame : CStruct
   pub frames : structs_named (frame_name activity.name) file ≡ frame ∷ []
 
--- so it is of each activity that has an instance
+-- each activity that has an instance has exactly one function and one struct of where it rests
 abbrev pub EachHasOneFunctionAndFrame : List StructDef → List UnitDef → ℕ → Parts → Type 0
 EachHasOneFunctionAndFrame structs units entry file =
     (i : ℕ) (activity : UnitDef) → unit_at (setting_of structs units entry) i ≡ Some activity → HasOneFunctionAndFrame activity file
@@ -71,7 +71,7 @@ pub record NamesItsOwn (units : List UnitDef) (function : CFunc) (place : CPath)
   pub counter : Text
   pub is : place ≡ record { through = true; name = codes "f"; members = counter ∷ [] }
 
--- so it is of each place of each function that names a counter
+-- each place that names a counter names one of the function's own activity
 abbrev pub CountersAreOwn : List UnitDef → Parts → Type 0
 CountersAreOwn units file =
     (function : CFunc) (place : CPath) → Contains file.funcs function → Contains (places_named function) place → names_counter place ≡ true →
@@ -97,7 +97,7 @@ members_through structs (Some (OfScalar s)) (member ∷ rest) = []
 members_through structs (Some (OfStruct struct)) (member ∷ rest) =
     record { struct = struct; member = member } ∷ members_through structs (type_of_member structs struct member) rest
 
--- those that a place in a function of a file goes through, from its variable, or from what that points to
+-- the members that a place in a function of a file goes through, from its variable or from what that points to
 abbrev pub members_at : Parts → CFunc → CPath → List MemberOf
 members_at file function place =
     members_through (struct_table file.structs) (option_map (λ variable. variable.ty) (table_of (variables_of function) place.name)) place.members

@@ -22,8 +22,8 @@ use Rattle.bl_emit_spec_laws.specs.Calls.Built.{Activities, activity_at, rank_by
 abbrev pub inner : Location → ℕ → Location
 inner place n = further place (member (callee_name n) ∷ [])
 
--- Nests w activities i f m k f' m': the instance i has its counters at f and its memory at m, and the instance k has them at f' and m'. The instance k is i, or
--- called by it at some depth
+-- Nests w activities i f m k f' m': in the instance i, counters at f and memory at m; in the instance k, at f' and m'. The instance k is i, or called by it at
+-- some depth
 pub data Nests (w : Setting) (activities : Activities) : ℕ → Location → Location → ℕ → Location → Location → Type 0 where
   here : {i : ℕ} {f m : Location} → Nests w activities i f m i f m
   inside : {i j k : ℕ} {f m f' m' : Location} {unit : UnitDef} {l : Label} {at : Place} {arguments : Arguments} → unit_at w i ≡ Some unit →

@@ -25,14 +25,14 @@ pub record IsFileOf (left : Option (List ℕ)) (file : CFile) : Type 0 where
   pub of_source : IsSource left text
   pub is : IsFileIn text file
 
--- it has a file with these parts, which can be loaded
+-- the text that was left of a file has a C file with these parts, which can be loaded
 pub record HasLoaded (left : Option (List ℕ)) (parts : Parts) : Type 0 where
   pub text : List ℕ
   pub of_source : IsSource left text
   pub loads : Loads text (behaviour_of parts)
   pub is : loads.file ≡ parts
 
--- these bytes tell the costs of its functions
+-- the bytes tell the costs of the functions of the text that was left of a file
 pub record HasBounds (left : Option (List ℕ)) (written : List ℕ) : Type 0 where
   pub text : List ℕ
   pub of_source : IsSource left text

@@ -35,7 +35,7 @@ pub record WalksRows (structs : List StructDef) (units : List UnitDef) (entry se
   pub told_is : told ≡ tick_lines_from 1 lists
   pub how_is : how ≡ finish_over trace.last end
 
--- the same over the rows that were gathered of what is left of a file
+-- a walk of a program by the seed over the rows left of a file: the text of its trace, the lines of its steps, and how it ends
 pub record IsWalk (structs : List StructDef) (units : List UnitDef) (entry : ℕ) (left rest : Option (List ℕ)) (seed : ℕ)
     (text told : List ℕ) (how : Finish) : Type 0 where
   pub unit : UnitDef
