@@ -13,7 +13,7 @@ use Rattle.bl_block.specs.Merged.{AreMergedFrom}
 abbrev pub setting : Program → Setting
 setting program = setting_of program.structs program.units program.entry
 
--- over these rows a run of the program, each tick of which is one pass over the blocks of this machine, shows the trace
+-- a run of the program over the rows has the trace, and each of its ticks is one pass over the blocks of the machine
 pub record ShowsTrace (program : Program) (machine : List Activity) (rows : List (List ℤ)) (trace : Trace) : Type 0 where
   pub rank : ℕ → Node → ℕ
   pub go_by : GoBy (setting program) machine rank

@@ -20,7 +20,7 @@ counts_from tick (ins ∷ rest) cells =
     let t : TickOfFile = tick cells ins in
     t.count ∷ counts_if t.reply (counts_from tick rest t.cells)
 
--- where the start has trapped the first tick traps, and executes nothing
+-- the counts of a run whose start has trapped: the first tick traps, and executes nothing
 abbrev pub counts_at_trap : List (List ℤ) → List ℕ
 counts_at_trap [] = []
 counts_at_trap (ins ∷ rest) = 0 ∷ []

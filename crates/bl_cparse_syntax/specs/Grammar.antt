@@ -82,7 +82,7 @@ word bytes = Terminal (exactly bytes)
 abbrev pub name : Shape
 name = Terminal a_name
 
--- digits of such numbers
+-- the symbol of digits
 abbrev pub digits : Digits → Shape
 digits of = Terminal (number of)
 
@@ -112,11 +112,11 @@ plain shapes = record { needs = 0; shapes = shapes }
 abbrev pub needing : ℕ → List Shape → Production
 needing needs shapes = record { needs = needs; shapes = shapes }
 
--- a constant by its word, and its digits in parentheses
+-- the symbols of a constant: its word, and its digits in parentheses
 abbrev pub constant : Token → Digits → List Shape
 constant bytes of = word bytes ∷ word (codes "(") ∷ digits of ∷ word (codes ")") ∷ []
 
--- a loop behind its brace and the type of its turns; two of its brackets are open around its condition and its statements
+-- the symbols of a loop behind its brace and the type of its turns. Two of its brackets are open around its condition and its statements
 abbrev pub turns : List Shape
 turns =
     turn_name ∷ word (codes "=") ∷ word (codes "0") ∷ word (codes ";") ∷ word (codes "while") ∷ word (codes "(") ∷ inside 2 Expr
@@ -186,7 +186,7 @@ productions Constant =
     ∷ plain (constant (codes "INT32_C") (Int W32)) ∷ plain (constant (codes "INT64_C") (Int W64)) ∷
     plain (constant (codes "UINT8_C") (Unsigned W8)) ∷ plain (constant (codes "UINT16_C") (Unsigned W16))
     ∷ plain (constant (codes "UINT32_C") (Unsigned W32)) ∷ plain (constant (codes "UINT64_C") (Unsigned W64)) ∷ []
--- the parenthesis before it is the first of its brackets
+-- an expression behind its parenthesis, which is the first of its brackets
 productions Inside =
     plain (word (codes "*") ∷ name ∷ word (codes ")") ∷ the Steps ∷ []) ∷
     plain (word (codes "!") ∷ inside 1 Expr ∷ word (codes ")") ∷ []) ∷
@@ -210,7 +210,7 @@ productions Arg = plain (word (codes "&") ∷ the Place ∷ []) ∷ plain (the E
 productions Place = plain (name ∷ the Steps ∷ []) ∷ needing 1
     (word (codes "(") ∷ word (codes "*") ∷ name ∷ word (codes ")") ∷ the Steps ∷ []) ∷ []
 
--- the class, where this is the name of the loop's turns
+-- the class, with the name of the loop's turns for the class of such names
 abbrev pub named : Token → Class → Class
 named own turn = exactly own
 named own (exactly bytes) = exactly bytes

@@ -12,13 +12,13 @@ BeginsText front = (more : List Token) × SpellText (front ++ more)
 abbrev pub Passes : List ℕ → ℕ → Type 0
 Passes text start = SpellText (pieces (drop start text))
 
--- the first of these pieces begins at the offset
+-- the first of the pieces begins at the offset
 pub record StandAt (text : List ℕ) (at : ℕ) (left : List Token) : Type 0 where
   pub inside : at < length text
   pub no_blank : is_blank (slice_index text at) ≡ false
   pub left_there : pieces (drop at text) ≡ left
 
--- from an offset on, the text fails where a piece begins: those before it begin a text, and with it they don't
+-- the text fails at the start of a piece: the pieces before it begin a text of the grammar, and with it they don't
 pub record FailsAtPiece (text : List ℕ) (start at : ℕ) : Type 0 where
   pub before : List Token
   pub piece : Token
@@ -34,6 +34,6 @@ pub record FailsAtEnd (text : List ℕ) (start at : ℕ) : Type 0 where
   pub no_text : ¬ Passes text start
   pub at_end : at ≡ length text
 
--- from an offset on, the text fails at the other
+-- the text, from the first offset on, fails at the second
 abbrev pub FailsFirst : List ℕ → ℕ → ℕ → Type 0
 FailsFirst text start at = FailsAtPiece text start at ⊎ FailsAtEnd text start at

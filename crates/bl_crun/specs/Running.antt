@@ -61,7 +61,7 @@ OutputsFit outs Row numbers = row_fits outs numbers ≡ true
 OutputsFit outs Ended numbers = row_fits outs numbers ≡ true
 OutputsFit outs Trap numbers = Unit {0}
 
--- what it replies, the runner after it, the row of outputs, and how many statements it executed
+-- the reply of a tick over a row of inputs; also the runner after it, its row of outputs, and its count of statements
 abbrev pub reply_at : Running → List ℤ → Reply
 reply_at r ins = (tick_at r ins).reply
 

@@ -11,7 +11,7 @@ use Rattle.bl_ctext_semantics_laws.specs.Layout.{Layouts, capped_sizes, layouts}
 use Rattle.bl_crun_bytecode.specs.Code.{Code, Entry, entries_from, entry_of, function_code, functions_code}
 use Rattle.bl_crun_bytecode.specs.Vm.{Room, StepResult, StepsInRoom, VmState, Waiting, returned, stops}
 
--- in some number of steps the machine comes from a state to this, and never takes more room than there is
+-- the machine comes from the state to the result in some number of steps, and never takes more room than there is
 pub record Arrives (code : Code) (room : Room) (s : VmState) (end : StepResult) : Type 0 where
   pub steps : ℕ
   pub runs : StepsInRoom code room steps s end
@@ -34,7 +34,7 @@ ended s (Some result) = returned s result s.waiting
 abbrev pub ended_as : VmState → FlatAnswer ℤ → StepResult
 ended_as s left = ended (record s { cells = left.cells; count = s.count + left.count }) left.answer
 
--- from its entry on, the machine does what a routine does, wherever there is room for so many more numbers and waiting functions
+-- the machine does what the routine does, from its entry on, given room for so many more numbers and waiting functions
 pub record ImplementsRoutine (code : Code) (room : Room) (numbers calls : ℕ) (entry : Entry) (routine : Routine) : Type 0 where
   pub does : (base : ℕ) (args : List ℤ) (cells : Cells) (waiting : List Waiting) (count : ℕ) →
       waiting_height waiting + numbers ≤ room.numbers → length waiting + calls ≤ room.calls → length cells ≡ room.cells →
@@ -61,7 +61,7 @@ BothDo code room numbers calls (Some entry) None = ⊥
 abbrev pub code_of_file : List CStruct → List CFunc → Code
 code_of_file structs functions = functions_code (capped_sizes structs) (layouts structs) 0 no_entries functions
 
--- where the code of a file's function of a name begins
+-- the entry of a file's function of a name
 abbrev pub entry_in_file : List CStruct → List CFunc → Table Entry
 entry_in_file structs functions = entries_from (capped_sizes structs) (layouts structs) 0 no_entries functions
 

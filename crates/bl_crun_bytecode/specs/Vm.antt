@@ -89,7 +89,7 @@ element length size at i = option_map (λ k. cell_of (cell_number at + cell_numb
 abbrev pub next_turn : ℤ → Option ℤ
 next_turn n = if int_lt n (pos 65536) then Some (n +ℤ pos 1) else None
 
--- the last so many numbers of a stack, the first of them first
+-- the last n numbers of a stack, the first of them first
 abbrev pub args_on : ℕ → List ℤ → List ℤ
 args_on n stack = reverse (take n stack)
 
@@ -111,7 +111,7 @@ entering s callee =
       count = s.count;
     })
 
--- an instruction, where these numbers stand on the stack; a stack that lacks what is to be taken traps
+-- a step of an instruction with these numbers on the stack; a stack that is too short traps
 abbrev pub step_with : VmState → Instruction → List ℤ → StepResult
 step_with s ins.Count stack = goes (record s { at = s.at + 1; count = s.count + 1 })
 step_with s (ins.Push n) stack = on s (n ∷ stack)
@@ -165,7 +165,7 @@ pub record Has (room : Room) (s : VmState) : Type 0 where
   pub calls : length s.waiting ≤ room.calls
   pub cells : length s.cells ≡ room.cells
 
--- in so many steps, each from a state that has its room, the machine comes from a state to this
+-- the machine comes from the state to the result in n steps, each from a state within the room
 pub data StepsInRoom (code : List Instruction) (room : Room) : ℕ → VmState → StepResult → Type 0 where
   here : (s : VmState) → Has room s → StepsInRoom code room 0 s (goes s)
   last : (s : VmState) (end : StepResult) → Has room s → step code s ≡ end → StepsInRoom code room 1 s end

@@ -41,7 +41,7 @@ for_bits =
     (codes "not", λ t. One BitNot t) ∷ (codes "and", λ t. Two BitAnd t) ∷ (codes "or", λ t. Two BitOr t) ∷ (codes "xor", λ t. Two BitXor t) ∷
     (codes "shl", λ t. Two Shl t) ∷ (codes "shr", λ t. Two Shr t) ∷ []
 
--- each of these operations on each of these types: it is named `bl_`, the operation, `_` and the type
+-- each of the operations on each of the types, named `bl_`, the operation, `_` and the type
 abbrev pub each_on : Operations → List (List ℕ × Scalar) → List (List ℕ × Builtin)
 each_on operations types = joined (map (λ o. map (λ t. (codes "bl_" ++ (o.0 ++ (codes "_" ++ t.0)), o.1 t.1)) types) operations)
 

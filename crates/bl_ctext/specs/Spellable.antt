@@ -103,7 +103,7 @@ is_expr_kind (CExprKind-F.Call call) = call
 is_expr_kind (CExprKind-F.Not operand) = operand
 is_expr_kind (CExprKind-F.Two o left right) = is_c_operator o && (left && right)
 
--- a call: its name is that of a function, and each argument has a spelling
+-- whether a call has a spelling: its name is a function's, and each argument has one
 abbrev pub is_call : EachIs Bool CCall-F → Bool
 is_call c = is_callee c.name && all_of c.args
 
@@ -111,11 +111,11 @@ is_call c = is_callee c.name && all_of c.args
 abbrev pub is_expr : EachIs Bool CExpr-F → Bool
 is_expr e = e.what
 
--- an index: its expression has a spelling, and its length is one of an array
+-- whether an index has a spelling: its expression has one, and its length is an array's
 abbrev pub is_index : EachIs Bool CIndex-F → Bool
 is_index i = i.at && is_length i.length
 
--- a place: its name is one, and each step has a spelling
+-- whether a place has a spelling: its name is one, and each step has one
 abbrev pub is_place : EachIs Bool CPlace-F → Bool
 is_place p = is_name p.name && all_of p.steps
 
@@ -225,7 +225,7 @@ abbrev pub is_opening : Token → Bool
 is_opening (b ∷ []) = b == 40 || b == 91 || b == 123
 is_opening _ = false
 
--- whether it is `)`, `]` or `}`
+-- whether the token is `)`, `]` or `}`
 abbrev pub is_closing : Token → Bool
 is_closing (b ∷ []) = b == 41 || b == 93 || b == 125
 is_closing _ = false

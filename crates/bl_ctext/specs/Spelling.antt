@@ -124,7 +124,7 @@ operator_sign op.And = codes "&&"
 operator_sign op.Or = codes "||"
 operator_sign _ = []
 
--- a call of these arguments
+-- the tokens of a call
 abbrev pub call_tokens : List ℕ → List (List Token) → List Token
 call_tokens name args = name ∷ codes "(" ∷ (with_commas args ++ codes ")" ∷ [])
 
@@ -222,7 +222,7 @@ abbrev pub result_tokens : Option CExpr → List Token
 result_tokens None = []
 result_tokens (Some e) = expr_tokens e
 
--- a condition in its parentheses
+-- the tokens of a condition in its parentheses
 abbrev pub condition_tokens : CExpr → List Token
 condition_tokens e = codes "(" ∷ (expr_tokens e ++ codes ")" ∷ [])
 

@@ -7,7 +7,7 @@ use Rattle.std.specs.Prelude.{ℕ, zero, suc, ◌+◌, ℤ, pos, Bool, true, fal
 pub data End : Type 0 where
   goes_on : End
   breaks : End
-  -- with the function's result, 0 where it has none
+  -- a return with the function's result, 0 where it has none
   returns : ℤ → End
   traps : End
 
@@ -34,7 +34,7 @@ ending end memory = record { memory = memory; end = end; count = 0 }
 abbrev pub going : {M : Type 0} → M → Outcome M
 going memory = ending goes_on memory
 
--- an outcome with so many statements before it
+-- an outcome with n more statements before it
 abbrev pub after : {M : Type 0} → ℕ → Outcome M → Outcome M
 after n o = record { memory = o.memory; end = o.end; count = n + o.count }
 
@@ -70,7 +70,7 @@ turn_end n memory breaks again = record { memory = memory; end = goes_on; count 
 turn_end n memory (returns result) again = record { memory = memory; end = returns result; count = n }
 turn_end n memory traps again = record { memory = memory; end = traps; count = n }
 
--- where the condition is true a turn begins, which counts one
+-- a loop that goes on, by its condition: a turn begins where it is true, which counts one
 abbrev pub turn_or_none : {M : Type 0} → Bool → M → (M → Outcome M) → Outcome M
 turn_or_none true memory turn = after 1 (turn memory)
 turn_or_none false memory turn = going memory

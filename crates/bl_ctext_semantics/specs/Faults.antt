@@ -309,7 +309,7 @@ is_void (Some result) = is_none result
 abbrev pub hands_on : Option Signature → List JudgedArg → Bool
 hands_on signature args = is_void (known_result signature) && any_of (map (λ a. a.address && a.through) args)
 
--- an expression's form: its type, and what fails in it
+-- the type of an expression's form, and what fails in it
 abbrev pub judge_kind : Judging CExprKind-F → Judges Judged
 judge_kind (CExprKind-F.Literal type n) context place = record { ty = Some (OfScalar type); faults = [] }
 judge_kind (CExprKind-F.Read target) context place =
@@ -329,7 +329,7 @@ judge_kind (CExprKind-F.Two op left right) context place =
       faults = a.faults ++ (b.faults ++ unless (if_typed a.ty (takes op) && if_typed b.ty (takes op) && agree a.ty b.ty) operand_type place);
     }
 
--- a call: its function is declared before, and its arguments suit the parameters
+-- what fails in a call: its function is declared before, and its arguments suit the parameters
 abbrev pub judge_call : Judging CCall-F → Judges JudgedCall
 judge_call call context place =
     let signature : Option Signature = signature_of context call.name in
@@ -346,7 +346,7 @@ judge_call call context place =
 abbrev pub judge_expr : Judging CExpr-F → Context → Judged
 judge_expr expr context = expr.what context expr.place
 
--- an index: its expression has the type that its function takes
+-- what fails in an index: its expression has the type that its function takes
 abbrev pub judge_index : Judging CIndex-F → Judges JudgedIndex
 judge_index index context place =
     let i : Judged = index.at context in
@@ -412,7 +412,7 @@ judge_step step context place ty =
     let m : Judged = judge_into context step.member (option_map (λ j. j.length) i) place ty in
     record { ty = m.ty; faults = faults_in_index i ++ m.faults }
 
--- an expression where these things are declared
+-- the type of an expression and what fails in it, where these things are declared
 abbrev pub judged_expr : CExpr → Context → Judged
 judged_expr = fold-CExpr _ _ _ _ _ _ _ judge_arg judge_kind judge_call judge_expr judge_index judge_place judge_step
 
@@ -526,13 +526,13 @@ surely_returns = fold-CStmt Bool Bool stmt_kind_returns stmt_returns_step
 
 -- ---- names
 
--- the places of those whose name stands among these, or earlier in the list
+-- the places of those entries whose name is in the table or stands earlier in the list
 abbrev pub repeated : Table (Unit {0}) → List (Text × Place) → List Fault
 repeated names [] = []
 repeated names (entry ∷ rest) =
     unless (is_none (names entry.0)) distinct_names entry.1 ++ repeated (with_entry names entry.0 tt) rest
 
--- whether none of these names stands twice, or among the others
+-- whether no name stands twice in the list, or is in the table
 abbrev pub all_distinct : Table (Unit {0}) → List Text → Bool
 all_distinct names [] = true
 all_distinct names (name ∷ rest) = is_none (names name) && all_distinct (with_entry names name tt) rest
@@ -565,7 +565,7 @@ is_pad m = bytes_eq m.name (codes "pad") && (same_type m.ty (OfScalar (Nat W8)) 
 abbrev pub is_port : Text → CMember → Bool
 is_port prefix m = (starts_with nat_eq m.name prefix && nat_lt (length prefix) (length m.name)) && (is_scalar m.ty && is_none m.length)
 
--- whether each of these members can be a port
+-- whether each of the members can be a port
 abbrev pub are_ports : Text → List CMember → Bool
 are_ports prefix [] = false
 are_ports prefix (m ∷ ms) = is_pad m && list_all (is_port prefix) ms
@@ -756,6 +756,6 @@ abbrev pub first_place : List Fault → Option Place
 first_place [] = None
 first_place (fault ∷ rest) = earlier_of (Some fault.at) (first_place rest)
 
--- where a file that isn't well formed fails first
+-- the first place at which a file isn't well formed
 abbrev pub first_fault : Parts → Option Place
 first_fault file = first_place (faults_in file)

@@ -52,7 +52,7 @@ pub record Counted (A : Type 0) : Type 0 where
 abbrev pub given : {A : Type 0} → Option A → Counted A
 given answer = record { count = 0; answer = answer }
 
--- with so many statements before it
+-- an answer with n more statements before it
 abbrev pub more : {A : Type 0} → ℕ → Counted A → Counted A
 more n c = record { count = n + c.count; answer = c.answer }
 
@@ -111,11 +111,11 @@ called_as None function depth passed memory = applied function depth passed memo
 abbrev pub called : Scope → Text → List ArgumentValue → Memory → CallResult
 called scope name passed memory = called_as (builtin_of name) (scope.known name) (scope.depth + 1) passed memory
 
--- a call after so many statements
+-- a call's result with n more statements before it
 abbrev pub later_call : ℕ → CallResult → CallResult
 later_call n c = record { memory = c.memory; count = n + c.count; result = c.result }
 
--- a call once its arguments are evaluated
+-- the result of a call once its arguments are evaluated
 abbrev pub called_after : Scope → Memory → Text → ℕ → Option (List ArgumentValue) → CallResult
 called_after scope memory name n (Some passed) = later_call n (called scope name passed memory)
 called_after scope memory name n None = record { memory = memory; count = n; result = None }
@@ -126,7 +126,7 @@ called_after scope memory name n None = record { memory = memory; count = n; res
 abbrev pub Evaluates : Type 0 → Type 0
 Evaluates A = Scope → Memory → Counted A
 
--- one after the other, up to the first that traps
+-- the values of parts, evaluated one after the other up to the first that traps
 abbrev pub each_of : {A : Type 0} → List (Evaluates A) → Evaluates (List A)
 each_of [] scope memory = given (Some [])
 each_of (evaluate ∷ rest) scope memory =
@@ -137,7 +137,7 @@ abbrev pub way_of : List (List Projection) → List Projection
 way_of [] = []
 way_of (parts ∷ rest) = parts ++ way_of rest
 
--- where the name of a place leads: a variable of the running function, or what a pointer points to
+-- the location to which the name of a place leads: a variable of the running function, or what a pointer points to
 abbrev pub start_of : Scope → Bool → Text → Location
 start_of scope false name = record { root = variable scope.depth name; parts = [] }
 start_of scope true name = entry_or (record { root = variable scope.depth name; parts = [] }) scope.pointers name
@@ -188,7 +188,7 @@ kind_step (CExprKind-F.Not operand) scope memory =
     next (operand scope memory) (λ a. given (option_map scalar (checked_one_of Not OfBool (number_in a))))
 kind_step (CExprKind-F.Two op left right) scope memory = two_values op left right scope memory
 
--- a call: its arguments are evaluated, then the function is called
+-- the result of a call: its arguments are evaluated, then the function is called
 abbrev pub call_step : Evaluating CCall-F → Scope → Memory → CallResult
 call_step call scope memory =
     let passed = each_of call.args scope memory in
@@ -282,13 +282,13 @@ stmt_step stmt = stmt.what
 abbrev pub runs_c : CStmt → CStmtMeaning
 runs_c = fold-CStmt CStmtMeaning CStmtMeaning stmt_kind_step stmt_step
 
--- what the statements of a block do
+-- the effect of the statements of a block
 abbrev pub block_c : List CStmt → CStmtMeaning
 block_c stmts = block_of (map runs_c stmts)
 
 -- ---- functions and files
 
--- where the pointers of a function lead
+-- the locations to which the pointers of a function lead
 abbrev pub pointers_of : List CParam → List ArgumentValue → List (Text × Location)
 pointers_of (param ∷ params) (by_address place ∷ rest) = (param.name, place) ∷ pointers_of params rest
 pointers_of (param ∷ params) (by_value value ∷ rest) = pointers_of params rest

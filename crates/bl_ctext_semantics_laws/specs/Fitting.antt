@@ -59,7 +59,7 @@ pub data ValueSpot : Type 0 where
   whole : CType → ValueSpot
   row : ℕ → CType → ValueSpot
 
--- a value of this type, or an array of so many
+-- the spot of a value of the type, or of an array of them with this length
 abbrev pub spot_of_length : CType → Option ℕ → ValueSpot
 spot_of_length ty None = whole ty
 spot_of_length ty (Some length) = row length ty

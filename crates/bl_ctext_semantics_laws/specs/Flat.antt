@@ -65,7 +65,7 @@ pub record FlatAnswer (A : Type 0) : Type 0 where
 abbrev pub flat_answer : {A : Type 0} → Cells → Option A → FlatAnswer A
 flat_answer cells answer = record { cells = cells; count = 0; answer = answer }
 
--- with so many statements before it
+-- an answer with n more statements before it
 abbrev pub more : {A : Type 0} → ℕ → FlatAnswer A → FlatAnswer A
 more n l = record { cells = l.cells; count = n + l.count; answer = l.answer }
 
@@ -80,7 +80,7 @@ next first rest = going_on first.cells first.count first.answer rest
 
 -- ---- where expressions and statements stand
 
--- from the base of a frame and the cells
+-- the evaluation of a part, from the base of a frame and the cells
 abbrev pub Evaluates : Type 0 → Type 0
 Evaluates A = ℕ → Cells → FlatAnswer A
 
@@ -108,7 +108,7 @@ start_address (through k) base cells = cell_number (cell_at cells (base + k))
 abbrev pub element_address : Term (Evaluates ℤ) → ℕ → ℤ → Option ℕ
 element_address term at i = option_map (λ k. capped (at + cell_number k * term.size)) (index_within i (pos term.length))
 
--- from a cell on, by indices from left to right
+-- the address behind a cell along indices, evaluated from left to right
 abbrev pub address_along : List (Term (Evaluates ℤ)) → ℕ → Evaluates ℕ
 address_along [] at base cells = flat_answer cells (Some at)
 address_along (term ∷ terms) at base cells =
@@ -125,7 +125,7 @@ abbrev pub read_at : Option CType → Cells → ℕ → ℤ
 read_at (Some (OfScalar s)) cells at = cell_at cells at
 read_at _ cells at = pos at
 
--- one after the other, up to the first that traps
+-- the values of parts, evaluated one after the other up to the first that traps
 abbrev pub each_of : {A : Type 0} → List (Evaluates A) → Evaluates (List A)
 each_of [] base cells = flat_answer cells (Some [])
 each_of (evaluate ∷ rest) base cells =
@@ -201,7 +201,7 @@ kind_step (CExprKind-F.Not operand) here base cells =
     next (operand here base cells) (λ after a. flat_answer after (Some (number_of (if is_one a then false else true))))
 kind_step (CExprKind-F.Two op first second) here base cells = two_values op (first here) (second here) base cells
 
--- a call: its arguments are evaluated, then the function is called
+-- the evaluation of a call: its arguments are evaluated, then the function is called
 abbrev pub call_step : Evaluating CCall-F → Grounded (Evaluates ℤ)
 call_step call here base cells =
     next (each_of (map (λ arg. arg here) call.args) base cells) (λ after args. called here call.name base args after)
@@ -210,7 +210,7 @@ call_step call here base cells =
 abbrev pub expr_step : Evaluating CExpr-F → Grounded (Evaluates ℤ)
 expr_step expr = expr.what
 
--- an index: its length, and how the element is chosen
+-- the index with its length, and how the element is chosen
 abbrev pub index_step : Evaluating CIndex-F → Grounded (Index (Evaluates ℤ))
 index_step index here = record { length = index.length; index = index.at here }
 
@@ -297,7 +297,7 @@ stmt_step stmt = stmt.what
 abbrev pub runs_flat : CStmt → FlatStmtMeaning
 runs_flat = fold-CStmt FlatStmtMeaning FlatStmtMeaning stmt_kind_step stmt_step
 
--- what the statements of a block do
+-- the effect of the statements of a block
 abbrev pub block_flat : List CStmt → FlatStmtMeaning
 block_flat stmts = block_of (map runs_flat stmts)
 

@@ -45,11 +45,11 @@ routines file = routines_after (capped_sizes file.structs) (layouts file.structs
 abbrev pub cells_in : Parts → Text → ℕ
 cells_in file name = entry_or 0 (sizes file.structs) name
 
--- where the objects begin: the state at 0, then the input, then the output; and the first cell behind them
+-- the first cell of the input object, which stands behind the state
 abbrev pub input_at : Parts → ℕ
 input_at file = cells_in file (codes "bl_state")
 
--- where the cells of the output object begin
+-- the first cell of the output object, which stands behind the input
 abbrev pub output_at : Parts → ℕ
 output_at file = input_at file + cells_in file (codes "bl_in")
 

@@ -41,7 +41,7 @@ goes_straight (ActAt l s) = true
 goes_straight (HeadAt l at) = true
 goes_straight _ = false
 
--- whether it is a join of a `cobegin`
+-- whether the node is a join of a `cobegin`
 abbrev pub is_join : Node → Bool
 is_join (SurfaceJoinAt l at) = true
 is_join (DepthJoinAt l at) = true
@@ -60,7 +60,7 @@ pub record CouldFollow (body : Block) (n m : Node) : Type 0 where
 
 -- ---- an order of blocks
 
--- the numbers below this one, in order
+-- the numbers below `count`, in order
 abbrev pub up_to : ℕ → List ℕ
 up_to zero = []
 up_to (suc count) = up_to count ++ count ∷ []

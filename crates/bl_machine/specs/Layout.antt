@@ -37,12 +37,12 @@ abbrev mutual
   places_of (While l at e body) = places_in body
   places_of (Again l at body e) = places_in body
 
-  -- in a block
+  -- how many resting places stand in a block
   pub places_in : Block → ℕ
   places_in Done = 0
   places_in (Then s rest) = places_of s + places_in rest
 
-  -- in branches, with their ends
+  -- how many resting places stand in branches, their ends among them
   pub places_in_each : Bodies → ℕ
   places_in_each Last = 0
   places_in_each (Body weak body rest) = suc (places_in body) + places_in_each rest

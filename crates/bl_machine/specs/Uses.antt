@@ -31,7 +31,7 @@ pub record Slots : Type 0 where
 
 -- ---- the counters of a part
 
--- whether it is this counter
+-- whether the number is one of the counter
 abbrev pub is_of : Slot → ℕ → Bool
 is_of slot counter = nat_eq counter slot.counter
 

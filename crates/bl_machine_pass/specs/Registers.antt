@@ -10,7 +10,7 @@ use Rattle.bl_machine_pass.specs.Transitions.{ClearsBoth, ClearsCounter, Ended, 
 pub record Registers : Type 0 where
   -- what each counter of the instance holds: 0 where it doesn't rest there
   pub counters : ℕ → ℕ
-  -- what it held when the tick began, where that still matters
+  -- what each counter held when the tick began, where that still matters
   pub rested : ℕ → ℕ
   -- the nodes that wait by their flags, or have had their turn
   pub flags : ℕ → Bool
@@ -29,19 +29,19 @@ with_at k x f j = if nat_eq j k then x else f j
 abbrev pub with_flag : ℕ → Registers → Registers
 with_flag k r = record { counters = r.counters; rested = r.rested; flags = with_at k true r.flags; marks = r.marks; over = r.over }
 
--- with a counter that holds the value
+-- the registers with a counter that holds the value
 abbrev pub with_counter : ℕ → ℕ → Registers → Registers
 with_counter k v r = record { counters = with_at k v r.counters; rested = r.rested; flags = r.flags; marks = r.marks; over = r.over }
 
--- with a counter that neither holds anything nor held it
+-- the registers with a counter that neither holds nor held a place
 abbrev pub with_none : ℕ → Registers → Registers
 with_none k r = record { counters = with_at k 0 r.counters; rested = with_at k 0 r.rested; flags = r.flags; marks = r.marks; over = r.over }
 
--- with a mark
+-- the registers with a mark
 abbrev pub with_mark : ℕ → Registers → Registers
 with_mark k r = record { counters = r.counters; rested = r.rested; flags = r.flags; marks = with_at k true r.marks; over = r.over }
 
--- with the body at its end
+-- the registers with the body at its end
 abbrev pub finished : Registers → Registers
 finished r = record { counters = r.counters; rested = r.rested; flags = r.flags; marks = r.marks; over = true }
 
@@ -70,7 +70,7 @@ after_rule number rule answer r = all_changed number (if answer then rule.so els
 abbrev pub is_at : (ℕ → ℕ) → Slot → Bool
 is_at counters slot = nat_eq (counters slot.counter) slot.value
 
--- whether so many branches are at their ends as are needed
+-- whether as many branches rest at their ends as are needed
 abbrev pub are_ended : (ℕ → ℕ) → Needed → Bool
 are_ended counters needed = if needed.all then list_all (is_at counters) needed.slots else list_any (is_at counters) needed.slots
 

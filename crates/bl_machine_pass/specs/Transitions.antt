@@ -95,9 +95,9 @@ pub data Asked : Type 0 where
   Flagged : Asked
   -- whether the instance rested at the number when the tick began
   Rested : Slot → Asked
-  -- whether it rested at one of these, which are the numbers at which the body of a `when` may rest
+  -- whether the instance rested at one of these numbers, at which the body of a `when` may rest
   RestedIn : List Slot → Asked
-  -- whether so many branches of a `cobegin` rest at their ends as are needed
+  -- whether as many branches of a `cobegin` rest at their ends as are needed
   Ended : Age → Needed → Asked
 
 -- a node, what is asked there, and what changes where its answer is true, and where it is false. A node without a test answers true; that
@@ -129,7 +129,7 @@ abbrev mutual
   rests_of slots (While l at e body) = rests_in slots body
   rests_of slots (Again l at body e) = rests_in slots body
 
-  -- the same of a block
+  -- the numbers at which a statement rests as long as it is paused: its counter has one of them then. For a `cobegin` they are those of the first branch
   pub rests_in : Slots → Block → List Slot
   rests_in slots Done = []
   rests_in slots (Then s rest) = rests_of slots s ++ rests_in slots rest
@@ -193,7 +193,7 @@ needed slots l bodies =
     then record { all = true; slots = strong_endings slots l 0 bodies }
     else record { all = false; slots = endings slots l 0 bodies }
 
--- where the body of a `when` ends
+-- the change where the body of a `when` ends
 abbrev pub body_ends : Label → Place → Block → Change
 body_ends l at body =
     if are_instant body then EndsWhen (StartAt l at) (SurfaceEndAt l at) (DepthEndAt l at) else SetsFlag (DepthEndAt l at)

@@ -53,7 +53,7 @@ loop = Repeat loop_label (at 3) (Then (Await pause_label (at 4) always) (Then (A
 abbrev pub guarded : Block
 guarded = Then (Act (label_at (0 ∷ 0 ∷ 0 ∷ [])) begins_o) (Then loop Done)
 
--- what follows it
+-- what follows the `when`
 abbrev pub rest : Block
 rest = Then (Act (label_at (1 ∷ [])) ends_o) (Then (Await last_label (at 7) never) Done)
 
@@ -61,12 +61,12 @@ rest = Then (Act (label_at (1 ∷ [])) ends_o) (Then (Await last_label (at 7) ne
 abbrev pub body : Block
 body = Then (When guard_label (at 1) Abort (flag 0) guarded) rest
 
--- after the first tick
+-- the tree after the first tick
 abbrev pub begun : Tree
 begun = Seq (Guard (watch guard_label (at 1) Abort (flag 0) guarded) Body false
     (Seq (Wait (pause pause_label (at 4) always)) (Then (Act raise_label raises_o) (Then loop Done)))) rest
 
--- after a tick in which c is true
+-- the tree after a tick in which c is true
 abbrev pub over : Tree
 over = Wait (pause last_label (at 7) never)
 

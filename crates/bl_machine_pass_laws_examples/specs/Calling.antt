@@ -131,7 +131,7 @@ second_order =
     ActAt (label_at (0 ∷ [])) adds_x ∷ PauseAt (label_at (1 ∷ [])) (at 5)
     ∷ TestAt (label_at (1 ∷ [])) (at 5) always ∷ ActAt (label_at (2 ∷ [])) raises_o ∷ []
 
--- by instances
+-- the nodes in an order, by instances
 abbrev pub orders : List (List Node)
 orders = caller_order ∷ first_order ∷ second_order ∷ []
 

@@ -11,11 +11,11 @@ use Rattle.bl_ctree_laws_examples.specs.Trees.TwoWay.{branches, declares, inside
 use Rattle.bl_ctree_laws_examples.specs.Trees.TwoWayTrees.{both, left_paused, right_paused}
 use Rattle.bl_machine_pass_laws_examples.specs.Worked.{act, asked, still}
 
--- after the first tick
+-- the tree after the first tick
 abbrev pub begun : Tree
 begun = both left_paused right_paused
 
--- after a later one
+-- the tree after a later tick
 abbrev pub later : Tree
 later = Par (fork (label_at (2 ∷ [])) (at 9) branches) true (beside false left_paused (beside false right_paused no_tree))
 

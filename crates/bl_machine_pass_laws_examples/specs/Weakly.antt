@@ -47,7 +47,7 @@ loop = Repeat loop_label (at 2) (Then (Act raise_label raises_a) (Then (Await tu
 abbrev pub branches : Bodies
 branches = BodyOf true (Then loop Done) (BodyOf false (Then (Await strong_label (at 5) (flag 0)) Done) Last)
 
--- what follows them
+-- what follows the branches
 abbrev pub rest : Block
 rest = Then (Act (label_at (1 ∷ [])) sets_b) (Then (Await last_label (at 7) always) Done)
 
@@ -61,7 +61,7 @@ paused stood =
     Seq (Par (fork (label_at (0 ∷ [])) (at 1) branches) stood
     (beside true (Seq (Wait (pause turn_label (at 4) always)) (Then loop Done)) (beside false (Wait (pause strong_label (at 5) (flag 0))) no_tree))) rest
 
--- after a tick in which c is true
+-- the tree after a tick in which c is true
 abbrev pub over : Tree
 over = Wait (pause last_label (at 7) always)
 

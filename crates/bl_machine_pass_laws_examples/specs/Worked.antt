@@ -34,11 +34,11 @@ alone = record { structs = []; units = []; instances = record { unit = 0; depth 
 abbrev pub places : Block → List Slot
 places body = numbered (counters_in body 0)
 
--- a number: its counter and its value
+-- the number of a resting place, by its counter and its value
 abbrev pub slot : ℕ → ℕ → Slot
 slot counter value = record { counter = counter; value = value }
 
--- what the counters of the body hold where the tree stands in it, from the first on
+-- what the counters of the body hold where the tree stands in it, in the order of counters
 abbrev pub held : Block → Tree → List ℕ
 held body c = map (numbers_of (slots_of body (places body)) c Over) (up_to (width_in body))
 

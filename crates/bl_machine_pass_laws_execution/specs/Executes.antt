@@ -48,7 +48,7 @@ IsPoint (EnterAt l at arguments) = ⊥
 IsPoint (ResumeAt l at arguments) = ⊥
 IsPoint _ = ⊤
 
--- the deed of such a node of the instance
+-- the deed of a node of the instance; for the nodes of a `run` it is silent
 abbrev pub deed_at : ℕ → Node → Deed
 deed_at i (ActAt l s) = deed i (out-Stmt s).place (Acts s)
 deed_at i (TestAt l at e) = deed i at (Asks e)
@@ -149,7 +149,7 @@ mutual
         PassStart rank callee unit frames r → DeedYields w (deed i at (Copies callee arguments.inputs)) store true given →
         Executes w rank slots clear callee 0 frames given (view_at w given callee).now r frames' left r' →
         r'.over ≡ false → Performs w rank slots clear i (ResumeAt l at arguments) frames store false (with_at callee r'.counters frames') left
-    -- where it has, the target gets the result
+    -- a `run` goes on, the callee's body ends, and the target gets the result
     returns : {i : ℕ} {l : Label} {at : Place} {arguments : Arguments} {frames : Frames} {store given : Store} {frames' : Frames}
         {ended left : Store} {r r' : Registers} {callee : ℕ} {unit : UnitDef} → callee_of w i at ≡ Some callee → unit_at w callee ≡ Some unit →
         PassStart rank callee unit frames r → DeedYields w (deed i at (Copies callee arguments.inputs)) store true given →

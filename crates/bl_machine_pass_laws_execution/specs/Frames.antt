@@ -54,7 +54,8 @@ abbrev mutual
   CallsMatchTree slots frames (Guard s phase stood c) = CallsMatchTree slots frames c
   CallsMatchTree slots frames (Run s callee phase stood c) = CountersMatchTree (slots callee) (frames callee) c × CallsMatchTree slots frames c
 
-  -- in each branch
+  -- AllCallsMatchTree slots frames branches: for each `run` in the branches, nested calls included, the callee's frame holds the numbers of what is left of its
+  -- body
   pub AllCallsMatchTree : (ℕ → Slots) → Frames → Trees → Type 0
   AllCallsMatchTree slots frames no_tree = ⊤
   AllCallsMatchTree slots frames (beside weak c branches) = CallsMatchTree slots frames c × AllCallsMatchTree slots frames branches
@@ -78,7 +79,7 @@ abbrev mutual
   CalledIn (Guard s phase stood c) k = CalledIn c k
   CalledIn (Run s callee phase stood c) k = (k ≡ callee) ⊎ CalledIn c k
 
-  -- in one of the branches
+  -- the instance k is called in one of the branches, or in what is called there
   pub OneCalledIn : Trees → ℕ → Type 0
   OneCalledIn no_tree k = ⊥
   OneCalledIn (beside weak c branches) k = CalledIn c k ⊎ OneCalledIn branches k

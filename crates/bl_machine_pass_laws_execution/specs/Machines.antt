@@ -16,7 +16,7 @@ use Rattle.bl_machine_laws.specs.Traces.Positions.{GoBy}
 use Rattle.bl_machine_pass.specs.Numbered.{slots_of}
 use Rattle.bl_machine_pass_laws_turns.specs.Turns.{TurnContext}
 
--- what the machine has for an instance
+-- the activity of the machine for an instance
 abbrev pub activity_of : List UnitDef → List Activity → Option Instance → Option Activity
 activity_of units machine None = None
 activity_of units machine (Some instance) = slice_get machine (graph_position units instance.unit)

@@ -56,9 +56,9 @@ pub record RunByRules (structs : List StructDef) (units : List UnitDef) (entry :
   pub one : OneRun structs units entry rank rows
   pub run : let w = setting_of structs units entry in RuleRun w rank slots clear unit rows frames (first_store w) one.trace
 
--- from frames in which all counters of the entry hold 0
+-- a run by rules with the one trace of a program exists, from frames in which all counters of the entry hold 0
 pub record RunsGoByRules : Type 0 where
-  -- in a program that is made of a source text and passes the rules, with numbers that tell nodes and resting places
+  -- the run exists in a program that is made of a source text and passes the rules, with numbers that tell nodes and resting places
   pub runs : (structs : List StructDef) (units : List UnitDef) (entry : ℕ) (rank : ℕ → Node → ℕ) (slots : ℕ → Slots)
       (clear : ℕ → Frames → Frames) (unit : UnitDef) (rows : List (List ℤ)) (frames : Frames) →
       let w = setting_of structs units entry in

@@ -64,7 +64,7 @@ pub record PassesBegin : Type 0 where
       is_nil c ≡ false → ((j : ℕ) → counters j ≡ numbers_of slots c Over j) →
       PassInvariant slots (rank i) (plain_body unit.body) 0 (woken c) (started counters (λ k. false))
 
--- where the registers tell how the tree stands before the turn of a node they do after it, from the next number on
+-- the turn of a node keeps the invariant of a pass, from the next number on
 abbrev pub TurnsKeepInvariant : Type 0
 TurnsKeepInvariant =
     (w : Setting) (rank : ℕ → Node → ℕ) (i : ℕ) (slots : Slots) (unit : UnitDef) (stood : Bool) (c : Tree) (done : List AnsweredDeed) (n : Node)

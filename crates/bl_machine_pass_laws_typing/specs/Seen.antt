@@ -28,7 +28,7 @@ PutsAreSeen =
     put_at path.root path.fields value (view_at w store i).now ≡ Some seen →
     (view_at w (put (home w (record { instance = i; path = path })) value store) i).now ≡ seen
 
--- after an act of an instance, which fits where it stands, the instance sees the values that the act leaves
+-- an instance sees the values that its act leaves, where the act fits
 abbrev pub ActsAreSeen : Type 0
 ActsAreSeen =
     (structs : List StructDef) (units : List UnitDef) (entry i : ℕ) (instance : Instance) (unit : UnitDef) (s : Stmt) (store left : Store)

@@ -30,7 +30,7 @@ zero_where true = 0 ∷ []
 zero_where false = []
 
 abbrev mutual
-  -- for each node of a statement, in their order, the activity that it calls; 0 for those that call none
+  -- for each node of a statement, in their order, the activity that it calls; 0 for nodes that call none
   pub callees_of : Plain → List ℕ
   callees_of (Act l s) = 0 ∷ []
   callees_of (Await l at e) = 0 ∷ 0 ∷ []

@@ -37,12 +37,12 @@ use Rattle.bl_machine_transitions.specs.Told.{Acts, Enters, Nothing, NumberedTra
 
 -- ---- positions
 
--- what the nodes and the resting places at the positions have: a node its number, a place the number at which the instance rests there
+-- the numbers by positions: of nodes, and of the resting places of an instance
 pub record Layout : Type 0 where
   pub number : ℕ → ℕ
   pub slot : ℕ → Slot
 
--- where the order of blocks has the positions of nodes, and a list has the numbers of places in source order
+-- the layout where an order of blocks has the positions of nodes, and a list has the numbers of places in source order
 abbrev pub layout_of : List ℕ → List Slot → Layout
 layout_of order slots = record {
   number = λ k. position_where (nat_eq k) order;
@@ -89,7 +89,7 @@ abbrev mutual
   rests_in_first layout p Last = []
   rests_in_first layout p (BodyOf weak body rest) = layout.slot p ∷ rests_in layout (suc p) body
 
--- the counters of so many places
+-- the counters of n places from a position on
 abbrev pub counters_from : Layout → ℕ → ℕ → List ℕ
 counters_from layout p zero = []
 counters_from layout p (suc n) = (layout.slot p).counter ∷ counters_from layout (suc p) n
@@ -131,7 +131,7 @@ enter_each layout k p Last = []
 enter_each layout k p (BodyOf weak body rest) =
     enter layout k body (SetCounter (layout.slot p)) ∷ enter_each layout (k + node_count body) (suc (p + place_count body)) rest
 
--- where the body of a `when` ends, which begins at the node with the position
+-- the change where the body of a `when` ends, which begins at the node with the position
 abbrev pub body_ends : Layout → ℕ → Bool → Change
 body_ends layout k true = EndWhen (layout.number k) (layout.number (k + 1)) (layout.number (k + 3))
 body_ends layout k false = SetFlag (layout.number (k + 2))

@@ -14,10 +14,10 @@ pub record PlantView : Type 0 where
   pub log : Log
   -- the count of the plant's faults
   pub faults : ℕ
-  -- where it tells its rule: what it answers to whom asks it for a row, by its log; that row, or that it is finished
+  -- the plant's rule, where it tells one: by its log, the row that it gives when asked, or that it is finished
   pub rule : Option (Log → Option (List ℤ))
 
--- a plant keeps its name, its width and its rule, and its count of faults never falls
+-- the plant is the same: it keeps its name, its width and its rule, and its count of faults never falls
 pub record IsSame (before after : PlantView) : Type 0 where
   pub name : after.name ≡ before.name
   pub width : after.width ≡ before.width
@@ -32,7 +32,7 @@ with_given log row = record { given = log.given ++ row ∷ []; told = log.told }
 abbrev pub with_told : Log → List ℤ → Log
 with_told log row = record { given = log.given; told = log.told ++ row ∷ [] }
 
--- where a plant tells its rule, the rule says this of its log
+-- the plant's rule, if it tells one, answers this for its log
 abbrev pub AsRuled : PlantView → Option (List ℤ) → Type 0
 AsRuled p answer = IfSome p.rule (λ rule. rule p.log ≡ answer)
 

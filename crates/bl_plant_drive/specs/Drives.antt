@@ -140,7 +140,7 @@ pub record HasStopped (s : DriveSetting) (o : Outcome) (asked others : List Role
   pub later : AllByRecursion (Plays o.driven.trace.rows o.driven.trace.rows (length o.driven.ins)) others
   pub gone : o.driven.gone ≡ gone_before (asked ++ others) (length o.driven.ins) ++ gone_at (length o.driven.ins) asked
 
--- the numbers of these plants, the first of the cast, are in the ranges of their inputs in the tick before which so many were complete
+-- the numbers of the plants, the first of the cast, are in the ranges of their inputs in the tick after so many complete ones
 abbrev pub FirstFit : DriveSetting → ℕ → List Role → Type 0
 FirstFit s k first = in_ranges (types_of (take (length (inputs_at k first)) (columns_in s))) (inputs_at k first) ≡ true
 

@@ -13,12 +13,12 @@ first_named name plants = find (λ p. nat_eq p.name name) plants
 
 -- what a named plant did in a drive so far
 pub record PlantRecord : Type 0 where
-  -- the rows that it gave, and those that it was told
+  -- the rows that the plant gave, and those that it was told
   pub given : List (List ℤ)
   pub told : List (List ℤ)
   -- the current count of the plant's faults
   pub faults : ℕ
-  -- whether it answered that it is finished, and was dropped
+  -- whether the plant answered that it is finished, and was dropped
   pub gone : Bool
 
 -- a named plant as it was handed in, and what it did
@@ -34,7 +34,7 @@ pub record IsCast (plants : List PlantView) (names : List ℕ) (cast : List Role
 
 -- ---- what is left of a list
 
--- a plant after its part
+-- a plant after its part in a drive
 abbrev pub after_part : Role → PlantView
 after_part r = record {
   name = r.plant.name;
@@ -74,7 +74,7 @@ log_at r outs k = record { given = r.plant.log.given ++ take k r.part.given; tol
 abbrev pub GivesByRule : List (List ℤ) → Role → Type 0
 GivesByRule outs r = IfSome r.plant.rule (λ rule. (k : ℕ) (row : List ℤ) → slice_get r.part.given k ≡ Some row → rule (log_at r outs k) ≡ Some row)
 
--- in the tick in which it was dropped its rule says that it is finished
+-- the rule of a dropped plant says that it is finished in the tick in which it was dropped
 abbrev pub EndsByRule : List (List ℤ) → Role → Type 0
 EndsByRule outs r = IfSome r.plant.rule (λ rule. rule (log_at r outs (length r.part.given)) ≡ None)
 

@@ -52,7 +52,7 @@ has_begun (Err (fault.Width given wanted)) = false
 has_begun (Err (fault.Range column number)) = true
 has_begun (Err fault.NoMemory) = false
 
--- the text of its trace, where it has begun
+-- the text of a drive's trace, if the drive has begun
 abbrev pub text_shown : List Column → Trace → Result (Unit {0}) DriveFault → List ℕ
 text_shown outs trace how = if has_begun how then text_of trace outs else []
 

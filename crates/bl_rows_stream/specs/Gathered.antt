@@ -11,7 +11,7 @@ use Rattle.bl_rows_stream.specs.declared.finish.Finish.TheVariants as finish
 use Rattle.bl_rows_stream.specs.declared.gathered.RowsEnd.{RowsEnd}
 use Rattle.bl_rows_stream.specs.declared.gathered.RowsEnd.TheVariants.{Read, Unread}
 
--- rows begin with these
+-- the first rows are a prefix of all
 pub record LeadsTo (first all : List (List ℤ)) : Type 0 where
   pub later : List (List ℤ)
   pub are : all ≡ first ++ later

@@ -41,7 +41,7 @@ course_from r = record {
   text = λ rows. text_of (trace_from r rows) (outputs_of r.parts);
 }
 
--- how it stands after the rows of a whole file, up to its first bad line, and the text of these rows
+-- how the course stands after the rows of a whole file, up to its first bad line
 abbrev pub last_over : Course → List ℕ → Last
 last_over c bytes = c.last (rows_of bytes c.ins).rows
 
@@ -75,11 +75,11 @@ finish_of Open fault = while_open fault
 finish_of Ended fault = finish.Done
 finish_of Trap fault = finish.Trapped
 
--- where the bytes held are told, they grew by a front of the text
+-- the bytes held grew by a prefix of the text, where they are known
 abbrev pub AppendsFront : Option (List ℕ) → List ℕ → Option (List ℕ) → Type 0
 AppendsFront before text after = IfSome before (λ bytes. (n : ℕ) × (n ≤ length text) × (after ≡ Some (bytes ++ take n text)))
 
--- the bytes are those that were left of a file, where they are told
+-- the bytes are what was left of a file, where its content is known
 abbrev pub AreLeft : Option (List ℕ) → List ℕ → Type 0
 AreLeft left bytes = IfSome left (λ all. all ≡ bytes)
 

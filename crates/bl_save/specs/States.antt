@@ -21,7 +21,7 @@ pub record SavedState (file : Parts) (numbers : List ℤ) (bytes : List ℕ) : T
 abbrev pub Saves : Parts → Memory → List ℕ → Type 0
 Saves file memory bytes = SavedState file (numbers_of (cells_of file) memory) bytes
 
--- with further bytes these are a saved state of a file
+-- the bytes begin a saved state of a file
 pub record BeginsState (file : Parts) (front : List ℕ) : Type 0 where
   pub rest : List ℕ
   pub numbers : List ℤ

@@ -16,7 +16,7 @@ use Rattle.bl_crun_ports.specs.Ports.{outputs_start}
 use Rattle.bl_crun.specs.declared.call.Called.{Called}
 use Rattle.bl_crun.specs.Done.{CellsKeep, first_cells}
 
--- in so many steps the function at an entry of some code does this, and the room that a machine has is enough
+-- the function at an entry of the code gives this answer in so many steps, within the machine's room
 pub record Halting (steps : ℕ) (code : Code) (entry : CodeEntry) (base : ℕ) (args : List ℤ) (m : VmView) (l : FlatAnswer ℤ) : Type 0 where
   pub room : Room
   pub runs : StepsInRoom code room steps (entry_state (entry_for entry) base args m.state.cells [] 0) (ended_as (entry_state (entry_for entry) base args m.state.cells [] 0) l)

@@ -25,7 +25,7 @@ abbrev pub tokens_in : List ℕ → List Token
 tokens_in [] = []
 tokens_in (b ∷ bs) = cut_before (is_blank b) (goes_on b bs) b (tokens_in bs)
 
--- whether each of them is a token
+-- whether each of the pieces is a token
 abbrev pub are_tokens : List Token → Bool
 are_tokens tokens = all_of (map is_token tokens)
 

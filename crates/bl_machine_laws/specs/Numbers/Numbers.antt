@@ -31,7 +31,7 @@ pub data Next : Type 0 where
   -- the body of the activity has ended
   Over : Next
 
--- where a block goes on: at its entry or, where nothing stands in it, at what follows
+-- where an instance goes on in a block: at its entry, or at what follows an empty one
 abbrev pub into : Block → Next → Next
 into Done next = next
 into (Then s rest) next = At (entry s)
@@ -42,7 +42,7 @@ into (Then s rest) next = At (entry s)
 abbrev pub value_at_counter : Slot → ℕ → ℕ
 value_at_counter slot counter = if is_of slot counter then slot.value else 0
 
--- what the counters hold where a part has ended
+-- what the counters hold where a part of the body has ended
 abbrev pub at_next : Next → ℕ → ℕ
 at_next (At n) counter = 0
 at_next (Rests slot) counter = value_at_counter slot counter

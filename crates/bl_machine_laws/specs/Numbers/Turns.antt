@@ -78,7 +78,7 @@ pub data InstancePoint (w : Setting) : ℕ → Tree → Bool → Deed → Node �
   -- `await` always pauses when it is reached
   pauses : {i : ℕ} {l : Label} {at : Place} {e : Expr} →
       InstancePoint w i (Do (Await l at e)) true (deed i at Silent) (entry (Await l at e)) (Wait (pause l at e))
-  -- a loop begins its turn
+  -- a loop begins a turn of its body
   repeats : {i : ℕ} {l : Label} {at : Place} {body : Block} →
       InstancePoint w i (Do (Repeat l at body)) true (deed i at Silent) (entry (Repeat l at body)) (do_block (turn body (Repeat l at body)))
   repeats_until : {i : ℕ} {l : Label} {at : Place} {body : Block} {e : Expr} →
@@ -139,7 +139,7 @@ mutual
         Turns w rank i (Run s callee Check stood c)
         (did (deed i s.place (Copies callee s.arguments.inputs)) true ++ (done ++ did (deed i s.place (Gives callee s.arguments.target)) true))
         (run_node stood s.label s.place s.arguments) Nil
-    -- before what follows
+    -- a turn of a node in a tree before what follows it
     in_seq : {i : ℕ} {c : Tree} {s : Plain} {rest : Block} {done : List AnsweredDeed} {n : Node} {c' : Tree} →
         Turns w rank i c done n c' → Turns w rank i (Seq c (Then s rest)) done n (seq c' (Then s rest))
     -- inside a branch

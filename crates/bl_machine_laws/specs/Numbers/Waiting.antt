@@ -58,7 +58,7 @@ abbrev mutual
   Waits (Run s callee Body stood c) next n = ⊥
   Waits (Run s callee Check stood c) next n = n ≡ run_node stood s.label s.place s.arguments
 
-  -- in one of the branches
+  -- SomeWaits branches n: something in a branch waits for its turn at the node n
   pub SomeWaits : Trees → Node → Type 0
   SomeWaits no_tree n = ⊥
   SomeWaits (beside weak c branches) n = Waits c None n ⊎ SomeWaits branches n
@@ -78,7 +78,7 @@ abbrev mutual
   Sleeps (Run s callee Body stood c) n = ⊥
   Sleeps (Run s callee Check stood c) n = n ≡ run_node stood s.label s.place s.arguments
 
-  -- in one of the branches
+  -- SomeSleeps branches n: something in a branch rested when the tick began, and has not gone on at its resume node n
   pub SomeSleeps : Trees → Node → Type 0
   SomeSleeps no_tree n = ⊥
   SomeSleeps (beside weak c branches) n = Sleeps c n ⊎ SomeSleeps branches n

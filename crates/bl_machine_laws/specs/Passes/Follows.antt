@@ -66,7 +66,7 @@ mutual
         DeedYields w (deed i s.place (Copies callee s.arguments.inputs)) store true given → Follows w rank callee 0 c given Nil ended →
         DeedYields w (deed i s.place (Gives callee s.arguments.target)) ended true left →
         TurnSteps w rank i (Run s callee Check stood c) store (run_node stood s.label s.place s.arguments) Nil left
-    -- before what follows
+    -- a turn of a node in a tree before what follows it
     in_seq : {i : ℕ} {c : Tree} {s : Plain} {rest : Block} {store : Store} {n : Node} {c' : Tree} {left : Store} →
         TurnSteps w rank i c store n c' left → TurnSteps w rank i (Seq c (Then s rest)) store n (seq c' (Then s rest)) left
     -- inside a branch
@@ -119,7 +119,7 @@ mutual
     guard_traps : {i : ℕ} {s : Watch} {stood : Bool} {c : Tree} {store : Store} {n : Node} →
         TurnTraps w rank i c store n → TurnTraps w rank i (Guard s Body stood c) store n
 
-  -- in one branch
+  -- a turn of one branch that traps
   pub data OneTurnTraps (w : Setting) (rank : ℕ → Node → ℕ) : ℕ → Trees → Store → Node → Type 0 where
     first_traps : {i : ℕ} {weak : Bool} {c : Tree} {others : Trees} {store : Store} {n : Node} →
         TurnTraps w rank i c store n → OneTurnTraps w rank i (beside weak c others) store n

@@ -34,7 +34,7 @@ abbrev mutual
   Steady (Run s callee Check stood c) = Steady c
   Steady (Run s callee Body stood c) = (is_settled c ≡ true) × (is_nil c ≡ false)
 
-  -- in each branch
+  -- each `run` in the branches that has its inputs has been passed
   pub AllSteady : Trees → Type 0
   AllSteady no_tree = ⊤
   AllSteady (beside weak c branches) = Steady c × AllSteady branches

@@ -51,8 +51,7 @@ RunsByPasses structs units entry rank rows trace =
 
 -- ---- traces
 
--- over these rows there is a run of passes; its trace is allowed by the meaning of the program, which allows nothing else; and no run of passes
--- shows another one
+-- a run of passes over the rows exists. All such runs have one trace, which is the only one that the semantics allows
 pub record OneRun (structs : List StructDef) (units : List UnitDef) (entry : ℕ) (rank : ℕ → Node → ℕ) (rows : List (List ℤ)) : Type 0 where
   pub trace : Trace
   pub runs : RunsByPasses structs units entry rank rows trace
@@ -60,8 +59,8 @@ pub record OneRun (structs : List StructDef) (units : List UnitDef) (entry : ℕ
   pub only : (shows : ShownTrace) → Means structs units entry rows shows → shows ≡ shown_trace trace
   pub same : (other : Trace) → RunsByPasses structs units entry rank rows other → other ≡ trace
 
--- in a program that passes the rules, by numbers that rise along all edges and tell nodes apart: what a run of passes shows is allowed by the
--- meaning, and there is one over all rows
+-- each run of passes has a trace that the semantics allows, and there is one over all rows. The program passes the rules, and numbers rise along all edges and
+-- differ between nodes
 pub record RunsAreMeant : Type 0 where
   pub meant : (structs : List StructDef) (units : List UnitDef) (entry : ℕ) (rank : ℕ → Node → ℕ) → IsWellTyped structs units entry → Passes units →
       Orders (setting_of structs units entry) rank → (rows : List (List ℤ)) (trace : Trace) → RunsByPasses structs units entry rank rows trace →

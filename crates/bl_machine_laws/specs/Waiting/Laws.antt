@@ -50,7 +50,7 @@ abbrev mutual
   RunsArePassed (Run s callee Check stood c) = ⊤
   RunsArePassed (Run s callee Body stood c) = (is_settled c ≡ true) × (is_nil c ≡ false)
 
-  -- in each branch
+  -- each `run` in the branches that has its inputs has been passed
   pub AllPassed : Trees → Type 0
   AllPassed no_tree = ⊤
   AllPassed (beside weak c branches) = RunsArePassed c × AllPassed branches

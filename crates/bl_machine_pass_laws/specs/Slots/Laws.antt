@@ -17,7 +17,7 @@ NumbersAreDistinct =
     (body : List Stmt) (list : List Slot) → Counters (plain_body body) list → EachBranches (plain_body body) →
     SlotsAreDistinct (slots_of (plain_body body) list) (plain_body body)
 
--- in the body of each unit of a typed program each `cobegin` has a branch
+-- each `cobegin` in a typed program has a branch
 abbrev pub TypedHaveBranches : Type 0
 TypedHaveBranches =
     (structs : List StructDef) (units : List UnitDef) (entry : ℕ) (k : ℕ) (unit : UnitDef) → IsWellTyped structs units entry →

@@ -41,7 +41,7 @@ abbrev mutual
   Dozes (Guard s Check stood c) = ((n : Node) → Waits c None n → Sleeps c n) × Dozes c
   Dozes (Run s callee phase stood c) = ⊤
 
-  -- in each branch
+  -- only what rested when the tick began waits under each untested `when` of the branches
   pub AllDoze : Trees → Type 0
   AllDoze no_tree = ⊤
   AllDoze (beside weak c branches) = Dozes c × AllDoze branches

@@ -32,14 +32,14 @@ IsFlagged (Rested slot) = ⊥
 IsFlagged (RestedIn slots) = ⊥
 IsFlagged (Ended age needed) = ⊥
 
--- whether it asks where the instance rested when the tick began
+-- whether the question is where the instance rested when the tick began
 abbrev pub IsResume : Asked → Type 0
 IsResume Flagged = ⊥
 IsResume (Rested slot) = ⊤
 IsResume (RestedIn slots) = ⊤
 IsResume (Ended age needed) = ⊥
 
--- whether it asks for the ends of branches
+-- whether the question is for the ends of branches
 abbrev pub IsJoin : Asked → Type 0
 IsJoin Flagged = ⊥
 IsJoin (Rested slot) = ⊥
@@ -61,7 +61,7 @@ abbrev mutual
       (are_instant s.body ≡ true → marks (number (StartAt s.label s.place)) ≡ not stood) × Marked number marks c
   Marked number marks (Run s callee phase stood c) = ⊤
 
-  -- in each branch
+  -- the marks tell what began in this tick in each branch
   pub MarkEach : (Node → ℕ) → (ℕ → Bool) → Trees → Type 0
   MarkEach number marks no_tree = ⊤
   MarkEach number marks (beside weak c branches) = Marked number marks c × MarkEach number marks branches
@@ -77,7 +77,7 @@ pub record PassInvariant (slots : Slots) (number : Node → ℕ) (body : Block) 
   pub counters : (j : ℕ) → r.counters j ≡ numbers_of slots c Over j
   -- what waits is still to have its turn
   pub ahead : (n : Node) → Waits c None n → k ≤ number n
-  -- a node has its flag exactly where it waits
+  -- the flag of a node is set iff something waits at it
   pub flags : (rule : Transition) → Contains (rules slots body) rule → IsFlagged rule.asked → k ≤ number rule.node →
       Exactly (is_due number rule r) (Waits c None rule.node)
   -- a node at which a later tick goes on is due exactly where what rested there still waits

@@ -69,7 +69,7 @@ pub record Turning (w : Setting) (rank : ℕ → Node → ℕ) (i : ℕ) (slots 
   pub there : Contains (rules slots (plain_body unit.body)) rule
   pub of_node : rule.node ≡ n
 
--- where counters tell the numbers of the tree before a turn they do after it, and so does whether the body has ended
+-- a turn keeps the counters those of the tree, and the end of the body told
 abbrev pub TurnsChangeNumbers : Type 0
 TurnsChangeNumbers =
     (w : Setting) (rank : ℕ → Node → ℕ) (i : ℕ) (slots : Slots) (unit : UnitDef) (stood : Bool) (c : Tree) (done : List AnsweredDeed) (n : Node)

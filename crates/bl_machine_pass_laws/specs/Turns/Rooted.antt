@@ -54,7 +54,7 @@ use Rattle.bl_machine_pass.specs.Transitions.{Asked, Ended, Flagged, Rested, Res
 pub record Around : Type 1 where
   -- the resting places of the body
   pub spots : Spot → Type 0
-  -- the nodes of their conditions
+  -- the nodes of the conditions of these `when`s
   pub checks : Node → Type 0
   -- the numbers that each of them takes for those of its body, where the part rests at their counter
   pub home : Slot → Type 0
@@ -129,7 +129,7 @@ abbrev mutual
       × Rooted slots all (in_when slots s.label s.place s.test s.body around) c
   Rooted slots all around (Run s callee phase stood c) = Held slots all around (RestOf s.label)
 
-  -- in each branch, from the one with this number on
+  -- each place in the branches, from the one with this number on, is held by the `when`s around it
   pub AllRooted : Slots → List Transition → Around → Label → ℕ → Trees → Type 0
   AllRooted slots all around l k no_tree = ⊤
   AllRooted slots all around l k (beside weak c branches) =

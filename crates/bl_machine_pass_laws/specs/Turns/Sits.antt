@@ -21,7 +21,7 @@ use Rattle.bl_machine.specs.Uses.{Slots, uses, uses_in, uses_in_branch}
 use Rattle.bl_machine_pass.specs.SlotLayout.{BlockRestsAt, StatementRestsAt}
 use Rattle.bl_machine_pass.specs.Transitions.{Change, SetsCounter, Transition, body_ends, enter, rules_in, rules_of}
 
--- all of these rules are among those
+-- the second list of rules is part of the first
 abbrev pub RulesAreAmong : List Transition → List Transition → Type 0
 RulesAreAmong all some = (rule : Transition) → Contains some rule → Contains all rule
 
@@ -81,7 +81,7 @@ abbrev mutual
       ((j : ℕ) → uses_in slots s.body j ≡ true → used j ≡ true) × UsesOnly slots (uses_in slots s.body) c
   UsesOnly slots used (Run s callee phase stood c) = used (slots.rest s.label).counter ≡ true
 
-  -- each branch uses those of its body and of its end alone
+  -- each branch uses only the counters of its body and of its end
   pub UseEach : Slots → Label → ℕ → Bodies → Trees → Type 0
   UseEach slots l k Last branches = ⊤
   UseEach slots l k bodies no_tree = ⊤

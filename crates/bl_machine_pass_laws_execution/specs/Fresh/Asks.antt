@@ -70,12 +70,12 @@ abbrev mutual
   Bounded w i unit (While l at e body) = BoundedAll w i unit body
   Bounded w i unit (Again l at body e) = BoundedAll w i unit body
 
-  -- in a block
+  -- each declaration in the block is of a variable behind the parameters, and each `run` gives at most as many inputs as there are parameters
   pub BoundedAll : Setting → ℕ → UnitDef → Block → Type 0
   BoundedAll w i unit Done = ⊤
   BoundedAll w i unit (Then s rest) = Bounded w i unit s × BoundedAll w i unit rest
 
-  -- in branches
+  -- each declaration in branches is of a variable behind the parameters, and each `run` gives at most as many inputs as there are parameters
   pub BoundedEach : Setting → ℕ → UnitDef → Bodies → Type 0
   BoundedEach w i unit Last = ⊤
   BoundedEach w i unit (BodyOf weak body rest) = BoundedAll w i unit body × BoundedEach w i unit rest
@@ -135,7 +135,7 @@ abbrev mutual
   DueIn w (Run s callee Check stood c) j = Inside w callee j
   DueIn w (Run s callee Body stood c) j = ⊥
 
-  -- in one of the branches
+  -- the instance j is inside a call in one of the branches whose inputs are still to be copied in this tick
   pub OneDueIn : Setting → Trees → ℕ → Type 0
   OneDueIn w no_tree j = ⊥
   OneDueIn w (beside weak c branches) j = DueIn w c j ⊎ OneDueIn w branches j

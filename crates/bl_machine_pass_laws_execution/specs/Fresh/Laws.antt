@@ -27,7 +27,7 @@ abbrev pub CopiesTo : Effect → ℕ → Type 0
 CopiesTo (Copies callee inputs) j = j ≡ callee
 CopiesTo _ j = ⊥
 
--- inputs that it copies fit before the variables that a body declares
+-- the inputs that an effect copies fit before the variables that the callee's body declares
 abbrev pub CopiesFit : Setting → Effect → Type 0
 CopiesFit w (Copies callee inputs) = (other : UnitDef) → unit_at w callee ≡ Some other → InputsFit (length inputs) other
 CopiesFit w _ = ⊤
@@ -47,7 +47,7 @@ pub record DeedsAreSeen : Type 0 where
   pub before : (w : Setting) (i j : ℕ) (at : Place) (effect : Effect) (store : Store) (d : Bool) (left : Store) →
       DeedYields w (deed i at effect) store d left → (j ≡ i → ⊥) →
       option_map before_of (slice_get left j) ≡ option_map before_of (slice_get store j)
-  -- in its own it leaves what was before in all variables that it doesn't declare
+  -- the deed leaves in its own frame the values before the tick of all variables that it doesn't declare
   pub own : (w : Setting) (i x : ℕ) (unit : UnitDef) (at : Place) (effect : Effect) (store : Store) (d : Bool) (left : Store) →
       unit_at w i ≡ Some unit → DeedYields w (deed i at effect) store d left → IsAmongVariables (locals unit) x →
       (IsAmongVariables (effect_declared effect) x → ⊥) →
@@ -69,7 +69,7 @@ pub record OwnIsSeen : Type 0 where
   pub fresh : (w : Setting) (i x : ℕ) (unit : UnitDef) (store : Store) → unit_at w i ≡ Some unit → Fresh w store i →
       IsAmongVariables (locals unit) x →
       slice_get (view_at w store i).now x ≡ slice_get (view_at w store i).before x
-  -- what they were stands in the frame alone
+  -- the values before the tick of an instance's own variables depend on its frame only
   pub before : (w : Setting) (i x : ℕ) (unit : UnitDef) (store left : Store) → unit_at w i ≡ Some unit →
       option_map before_of (slice_get left i) ≡ option_map before_of (slice_get store i) → IsAmongVariables (locals unit) x →
       slice_get (view_at w left i).before x ≡ slice_get (view_at w store i).before x
@@ -80,7 +80,7 @@ pub record OwnIsSeen : Type 0 where
 pub record PointAsks (w : Setting) (i : ℕ) (unit : UnitDef) (known : List ℕ) (c : Tree) (n : Node) (c' : Tree) : Type 0 where
   -- the node asks for known variables only
   pub asked : (x : ℕ) → IsAmongVariables (prevs_at n) x → IsAmongVariables known x
-  -- what it declares is of the body
+  -- the variables that the node declares are declared by the body
   pub bound : (x : ℕ) → IsAmongVariables (declared_at n) x → IsAmongVariables (locals unit) x
   pub next : (x : ℕ) → IsAmongVariables (next_declared c) x → IsAmongVariables (declared_at n) x
   -- the next tree asks for them, and for what is declared
@@ -97,7 +97,7 @@ pub record TreesAsk : Type 0 where
   pub wakes : (w : Setting) (i : ℕ) (unit : UnitDef) (known : List ℕ) (c : Tree) → Asks w i unit known c → Asks w i unit known (woken c)
   pub points : (w : Setting) (i : ℕ) (unit : UnitDef) (known : List ℕ) (c : Tree) (d : Bool) (a : Deed) (n : Node) (c' : Tree) →
       InstancePoint w i c d a n c' → Asks w i unit known c → PointAsks w i unit known c n c'
-  -- before what follows
+  -- the next tree, before what follows it, asks for known variables only
   pub follows : (w : Setting) (i : ℕ) (unit : UnitDef) (known : List ℕ) (c : Tree) (n : Node) (c' : Tree) (s : Plain) (rest : Block) →
       ((x : ℕ) → IsAmongVariables (next_declared c) x → IsAmongVariables (declared_at n) x) → BlockAsks w i unit (next_declared c ++ known) (Then s rest) →
       Asks w i unit (declared_at n ++ known) c' → Asks w i unit (declared_at n ++ known) (seq c' (Then s rest))

@@ -18,7 +18,7 @@ use Rattle.bl_machine.specs.Uses.{Slots}
 use Rattle.bl_machine_pass.specs.Transitions.{Transition}
 use Rattle.bl_machine_pass_laws_execution.specs.Executes.{HasRule}
 
--- where a `run` at a place of the body of instance i, with these outputs, begins instance j
+-- the outputs of a `run` lead to the paths that it gives: it stands at a place in the body of instance i and begins instance j
 pub record OutputsLeadIn (structs : List StructDef) (units : List UnitDef) (entry : ℕ) : Type 0 where
   -- the instance was begun with these outputs
   pub begun : (i j : ℕ) (place : Place) (outputs : List Path) (unit : UnitDef) (instance : Instance) (origin : Origin) →
@@ -41,7 +41,7 @@ IsRunNode (EnterAt l at arguments) place outputs = (at ≡ place) × (arguments.
 IsRunNode (ResumeAt l at arguments) place outputs = (at ≡ place) × (arguments.outputs ≡ outputs)
 IsRunNode _ place outputs = ⊥
 
--- where a rule of an instance has such a node, such a `run` stands in the body of its unit
+-- the rules of an instance have a node of a `run` only if that `run` stands in the body of its unit
 abbrev pub RulesRun : Type 0
 RulesRun =
     (slots : ℕ → Slots) (i : ℕ) (unit : UnitDef) (rule : Transition) (place : Place) (outputs : List Path) → HasRule slots i unit rule →

@@ -70,7 +70,7 @@ abbrev mutual
   CallsRest w slots (Run s callee Check stood c) = Woken w slots callee c × CallsRest w slots c
   CallsRest w slots (Run s callee Body stood c) = Passed w slots callee c × CallsRest w slots c
 
-  -- in each branch
+  -- each `run` in the branches, at every depth of calls, has called a tree that is woken and rested before, or stands in its body
   pub AllCallsRest : Setting → (ℕ → Slots) → Trees → Type 0
   AllCallsRest w slots no_tree = ⊤
   AllCallsRest w slots (beside weak c branches) = CallsRest w slots c × AllCallsRest w slots branches
@@ -90,7 +90,7 @@ abbrev mutual
   RunsIn place (Guard s phase stood c) = SomeIn (RunsAt place) s.body ⊎ RunsIn place c
   RunsIn place (Run s callee phase stood c) = s.place ≡ place
 
-  -- in one of the branches
+  -- a `run` at the place is left in one of the branches, begun or not
   pub OneRunsIn : Place → Trees → Type 0
   OneRunsIn place no_tree = ⊥
   OneRunsIn place (beside weak c branches) = RunsIn place c ⊎ OneRunsIn place branches

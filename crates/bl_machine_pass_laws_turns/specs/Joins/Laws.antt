@@ -28,7 +28,7 @@ pub record MarksBegin : Type 0 where
   pub begins : (number : Node → ℕ) (body : Block) (counters : ℕ → ℕ) (flags : ℕ → Bool) →
       Marked number (started counters flags).marks (do_block body)
 
--- where marks tell what has begun in this tick before a turn they do after it
+-- a turn keeps the marks telling what began in this tick
 abbrev pub TurnsKeepMarks : Type 0
 TurnsKeepMarks =
     (w : Setting) (rank : ℕ → Node → ℕ) (i : ℕ) (slots : Slots) (unit : UnitDef) (stood : Bool) (c : Tree) (done : List AnsweredDeed) (n : Node)

@@ -33,7 +33,7 @@ abbrev pub Member : {X : Type 0} → List X → X → Type 0
 Member [] x = ⊥
 Member (y ∷ ys) x = (x ≡ y) ⊎ Member ys x
 
--- no two of these nodes have one label and one sort
+-- no two of the nodes have one label and one sort
 abbrev pub NodesAreDistinct : List Node → Type 0
 NodesAreDistinct [] = ⊤
 NodesAreDistinct (n ∷ nodes) = ((m : Node) → Member nodes m → Same n m → ⊥) × NodesAreDistinct nodes

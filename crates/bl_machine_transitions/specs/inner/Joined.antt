@@ -51,7 +51,7 @@ then_size a b = record { nodes = a.nodes + b.nodes; places = a.places + b.places
 abbrev pub or_size : Size → Size → Size
 or_size a b = record { nodes = a.nodes + b.nodes; places = a.places + b.places; instant = a.instant || b.instant }
 
--- a `when` with this body
+-- the size of a `when` with this body
 abbrev pub guarded_size : Size → Size
 guarded_size body = sized (guard_nodes body.instant) body.instant body
 
@@ -126,7 +126,7 @@ abbrev pub later : Bool → ℕ
 later true = 2
 later false = 1
 
--- how far behind it stands the one by which it ends in a later tick
+-- how far behind the first node of a construct its end in a later tick stands
 abbrev pub last : Bool → ℕ
 last true = 3
 last false = 2

@@ -151,7 +151,7 @@ endless body = record {
       ∷ body.rules layout (k + 1) p (SetFlag (layout.number k));
 }
 
--- a loop with its test at the end
+-- the part of a loop with its test at the end
 abbrev pub until : Part → Expr → Part
 until body e = record {
   empty = false;
@@ -160,7 +160,7 @@ until body e = record {
   rules = λ layout k p next. turned layout k (Tests e) body.empty next ++ body.rules layout (k + 2) p (SetFlag (layout.number (k + 1)));
 }
 
--- a loop with its test at the start
+-- the part of a loop with its test at the start
 abbrev pub while : Expr → Part → Part
 while e body = record {
   empty = false;
@@ -172,7 +172,7 @@ while e body = record {
 
 -- ---- branches
 
--- what stands in them
+-- what stands in the branches of a `cobegin`
 abbrev pub forked : List BranchPart → Fork
 forked [] = no_fork
 forked (branch ∷ rest) = join_fork (fork_of branch.weak branch.body.size) (forked rest)
@@ -198,7 +198,7 @@ ends strong layout p (branch ∷ rest) =
 abbrev pub needs : Layout → ℕ → List BranchPart → Needed
 needs layout p branches = record { all = (forked branches).strong; slots = ends (forked branches).strong layout p branches }
 
--- what the branches do where they begin
+-- the changes by which branches begin
 abbrev pub begins : Layout → ℕ → ℕ → List BranchPart → List Change
 begins layout k p [] = []
 begins layout k p (branch ∷ rest) =
@@ -249,7 +249,7 @@ arm_of arm = record { test = arm.test; body = block arm.body }
 abbrev pub branch_of : Branch-F (Place → Part) ArmPart BranchPart Part → BranchPart
 branch_of branch = record { weak = branch.weak; body = block branch.body }
 
--- a statement is its kind at its place
+-- the part of a statement is that of its kind, at its place
 abbrev pub stmt_of : Stmt-F (Place → Part) ArmPart BranchPart Part → Part
 stmt_of s = s.what s.place
 

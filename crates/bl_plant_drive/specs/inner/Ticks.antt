@@ -113,7 +113,7 @@ pub record HasInputs (s : DriveSetting) (plants : List PlantView) (seats : List 
   pub stands : AskedSoFar (scene_of s d) (length seats) plants seats d.gone
   pub row : ins ≡ numbers_in seats
 
--- what stays while they are told the outputs of this tick
+-- the constants of telling the outputs of this tick to plants
 abbrev pub hearing_of : DriveSetting → Driven → List ℤ → List ℤ → Hearing
 hearing_of s d ins outs = record {
   plants = s.plants;

@@ -43,7 +43,7 @@ reach reader = reader.at.lines * 65537 + length reader.line
 abbrev pub most_reach : ℕ
 most_reach = 1000000 * 65537 + 65536
 
--- where a live runner stands: the numbers of its cells, and whether its start hasn't trapped
+-- the state of a live runner: the numbers of its cells, and whether its start hasn't trapped
 pub record Start : Type 0 where
   pub cells : List ℤ
   pub ready : Bool
@@ -52,7 +52,7 @@ pub record Start : Type 0 where
 abbrev pub runner_at : Start → Parts → Running
 runner_at start file = record { parts = file; cells = start.cells; ready = start.ready; live = true }
 
--- where a runner stands
+-- the state of a runner
 abbrev pub start_of : Running → Start
 start_of r = record { cells = r.cells; ready = r.ready }
 

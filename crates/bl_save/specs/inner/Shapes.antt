@@ -35,7 +35,7 @@ cells_shape (kind ∷ kinds) = cell_shape kind ++ cells_shape kinds
 abbrev pub state_shape : List Scalar → List Allowed
 state_shape kinds = map exactly (state_header (length kinds)) ++ cells_shape kinds
 
--- where bytes first leave a shape, or their number where they are too few; none where they have it
+-- the first position at which bytes leave a shape, or their number where they are too few; none where they have it
 abbrev pub misfit : List Allowed → List ℕ → Option ℕ
 misfit [] [] = None
 misfit [] (byte ∷ bytes) = Some 0
