@@ -35,7 +35,7 @@ c_stmt what = roll-CStmt (record { place = nowhere; what = what })
 abbrev pub c_set : CPlace → CExpr → CStmt
 c_set place value = c_stmt (statement.Set place value)
 
--- a struct of this name is set to 0 or false everywhere
+-- the statement that sets a struct of this name to 0 or false everywhere
 abbrev pub c_clear : CPlace → Text → CStmt
 c_clear place name = c_stmt (statement.Clear place name)
 
@@ -96,7 +96,7 @@ output_arg site path = Address (stands site path).place
 abbrev pub call_args : TypingContext → List Expr → List Path → List CArg
 call_args site inputs outputs = map arg_of (map (made_of site) inputs) ++ map (output_arg site) outputs
 
--- a call with its outputs
+-- the C call of an activity or function with its inputs and outputs
 abbrev pub call_made : TypingContext → ℕ → List Expr → List Path → CCall
 call_made site f inputs outputs = c_call (name_of_callee (slice_get site.earlier f)) (call_args site inputs outputs)
 

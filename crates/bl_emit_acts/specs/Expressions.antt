@@ -118,7 +118,7 @@ abbrev pub is_literal_kind : {A B C D E F G : Type 0} → CExprKind-F A B C D E 
 is_literal_kind (CExprKind-F.Literal s n) = true
 is_literal_kind _ = false
 
--- whether it is what stands at a place
+-- whether a kind of expression reads a place
 abbrev pub is_read_kind : {A B C D E F G : Type 0} → CExprKind-F A B C D E F G → Bool
 is_read_kind (CExprKind-F.Read place) = true
 is_read_kind _ = false
@@ -127,7 +127,7 @@ is_read_kind _ = false
 abbrev pub is_constant : CExpr → Bool
 is_constant code = is_literal_kind (out-CExprKind (out-CExpr code).what)
 
--- whether it is what stands at a place
+-- whether an expression reads a place
 abbrev pub is_read : CExpr → Bool
 is_read code = is_read_kind (out-CExprKind (out-CExpr code).what)
 

@@ -43,7 +43,7 @@ is_act _ = false
 
 -- ---- copies
 
--- where the copy of what a variable was stands
+-- the location of the copy of a variable
 abbrev pub copy_location : Scope → ℕ → Location
 copy_location scope k = start_of scope false (copy_name k)
 
@@ -80,7 +80,7 @@ pub record Foreign (site : TypingContext) (copied : ℕ → Bool) (scope : Scope
       → lies_in (location_in scope site k []) root way ≡ false
   pub copies : (k : ℕ) → copied k ≡ true → lies_in (copy_location scope k) root way ≡ false
 
--- memory stands for these values of the variables, now and before; all that an act may not write is as it was
+-- the memory represents these current and earlier values of the variables, and agrees with the one before on all that an act may not write
 pub record RepresentsAfter (site : TypingContext) (copied : ℕ → Bool) (scope : Scope) (here : Memory) (now before : List Value) (after : Memory) : Type 0 where
   pub variables : VariablesEncoded site now scope after
   pub copies : CopiesEncoded site before copied scope after

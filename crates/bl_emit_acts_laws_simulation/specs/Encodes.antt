@@ -68,7 +68,7 @@ pub record Encodes (structs : List StructDef) (ty : Ty) (value : Value) (held : 
 
 -- ---- variables
 
--- where the place of a variable starts
+-- the location at which the place of a variable starts
 abbrev pub start_in : Scope → Bool → Home → ℕ → Location
 start_in scope activity Held k = start_of scope activity (codes "m")
 start_in scope activity Given k = start_of scope false (variable_name k)

@@ -15,11 +15,11 @@ abbrev pub is_older : ℕ → Root → Bool
 is_older depth (variable d name) = nat_lt d depth
 is_older depth _ = true
 
--- where the pointer for a variable leads
+-- the location to which the pointer for a variable leads
 abbrev pub lent_at : Scope → ℕ → Location
 lent_at scope k = start_of scope true (variable_name k)
 
--- where the pointer to what an activity remembers leads
+-- the location to which the pointer to what an activity remembers leads
 abbrev pub remembered_at : Scope → Location
 remembered_at scope = start_of scope true (codes "m")
 

@@ -80,7 +80,7 @@ pub record PartWrite (structs : List StructDef) (units : List UnitDef) (k : ℕ)
   pub holds : Encodes structs ty new held
   pub put : put_at root ks new now ≡ Some made
 
--- each variable holds its value once what holds the new part was set at the part's place
+-- each variable holds its value after what holds the new part was set at the part's place
 abbrev pub WritesEncode : List StructDef → List UnitDef → ℕ → Type 0
 WritesEncode structs units entry =
     (k : ℕ) (unit : UnitDef) (scope : Scope) (here : Memory) (now made : List Value) (root : ℕ) (var : Var) (ks : List ℕ) (ty : Ty) (new : Value)
@@ -96,7 +96,7 @@ pub record BesideActs (structs : List StructDef) (units : List UnitDef) (k : ℕ
   pub copies_apart : CopiesApart (site_of structs (take k units) unit) copied scope
   pub procedures : ProceduresAgree structs (take k units) (callees_of structs (take k units)) scope
 
--- where the pointers of a unit lead to what keeps apart, so do its variables and copies
+-- the variables and copies of a unit are apart where its pointers are valid
 abbrev pub FramesApart : Type 0
 FramesApart = (site : TypingContext) (copied : ℕ → Bool) (scope : Scope) → PointersAreValid site scope → FrameApart site copied scope
 

@@ -41,7 +41,7 @@ ExpressionSimulates structs ty scope here (Number s code) datum =
 ExpressionSimulates structs ty scope here (Whole place) datum =
     (scalar_in ty ≡ None) × PlaceValueSimulates structs ty scope.depth here (location_c place scope here).answer datum
 
--- where a path leads in C, beside the positions that it stands for: to the part of its variable that lies at them
+-- a C location stands for a path of the program: it is that of the part of the path's variable at these positions
 pub record PathReaches (site : TypingContext) (now : List Value) (scope : Scope) (ty : Ty) (root : ℕ) (positions : Option (List ℕ)) (place : Location) : Type 0 where
   pub var : Var
   pub is_there : var_at site root ≡ Some var
@@ -65,7 +65,7 @@ ArgumentEncoded structs depth here ty value (by_value held) = (s : ScalarType) �
 ArgumentEncoded structs depth here ty value (by_address place) =
     (scalar_in ty ≡ None) × (is_live depth place.root ≡ true) × Encodes structs ty value (memory.value_at here place)
 
--- each argument has its value
+-- each argument encodes its value
 abbrev pub ArgumentsEncoded : List StructDef → ℕ → Memory → List Var → List Value → List ArgumentValue → Type 0
 ArgumentsEncoded structs depth here [] [] [] = Unit {0}
 ArgumentsEncoded structs depth here (var ∷ vars) (value ∷ values) (arg ∷ args) =

@@ -69,13 +69,13 @@ numbered_changes view (change ∷ rest) = numbered_change view change ++ numbere
 abbrev pub numbered_tested : ActivityView → CExpr → NumberedTransition → List CStmt
 numbered_tested view test rule = c_if test (numbered_changes view rule.so) (else_code (numbered_changes view rule.otherwise)) ∷ []
 
--- what a `run` does where it begins: the number is that of the node at which it begins, and the position that of the activity that it calls
+-- the C of a `run` that begins, by the number of its first node and the position of the activity that it calls
 abbrev pub numbered_begun : ActivityView → ℕ → ℕ → Arguments → List Change → List CStmt
 numbered_begun view k a arguments so =
     c_clear (callee_frame k) (frame_name (name_in (slice_get view.site.earlier a)))
     ∷ (run_code view k a arguments ++ numbered_changes view so)
 
--- what it does where it goes on
+-- the C of a `run` that goes on, by the number of its first node and the position of the activity that it calls
 abbrev pub numbered_resumed : ActivityView → ℕ → ℕ → Arguments → List Change → List CStmt
 numbered_resumed view k a arguments so =
     run_code view k a arguments

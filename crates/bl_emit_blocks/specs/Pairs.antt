@@ -23,7 +23,7 @@ abbrev pub paired_all : Op → Pairs → List CExpr → Pairs
 paired_all op pairs [] = pairs
 paired_all op pairs (test ∷ rest) = paired_all op (paired op pairs test) rest
 
--- all of them, with the one that waits
+-- all pairs, with the waiting test
 abbrev pub finished : Pairs → List CExpr
 finished pairs = pairs.made ++ option_to_list pairs.waiting
 

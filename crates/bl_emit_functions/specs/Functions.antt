@@ -73,7 +73,7 @@ members_of structs earlier unit = members_from (site_of structs earlier unit) 0 
 abbrev pub memory_name : Text → Text
 memory_name name = codes "m_" ++ name
 
--- the struct of these members; none where there are none
+-- the struct of the members; none without members
 abbrev pub struct_of : Text → List CMember → List CStruct
 struct_of name [] = []
 struct_of name (member ∷ rest) = record { place = nowhere; name = memory_name name; members = member ∷ rest } ∷ []
@@ -112,7 +112,7 @@ input_copied site Held k = c_input_copied site k ∷ []
 input_copied site Given k = []
 input_copied site Lent k = []
 
--- the copies of these inputs, the first of which is at this position
+-- the statements that copy inputs, the first of which is at this position
 abbrev pub copies_from : TypingContext → ℕ → List Var → List CStmt
 copies_from site k [] = []
 copies_from site k (var ∷ rest) = input_copied site (home_of site (Some var)) k ++ copies_from site (k + 1) rest

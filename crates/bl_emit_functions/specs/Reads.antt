@@ -12,7 +12,7 @@ use Rattle.bl_tree.specs.declared.c.CStmtKind.TheOpen.{CStmtKind-F, CStmt-F}
 use Rattle.bl_tree.specs.Reduce.{any_of}
 use Rattle.bl_ctext.specs.Folds.{EachIs}
 
--- whether this is the name of the struct of the variables
+-- whether the name is that of the local `m`, the struct of the variables
 abbrev pub is_memory : Text → Bool
 is_memory name = bytes_eq name (codes "m")
 

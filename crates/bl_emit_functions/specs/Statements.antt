@@ -45,7 +45,7 @@ block_codes (first ∷ rest) free = code_then (first free) (block_codes rest)
 
 -- ---- choices
 
--- an arm: its condition, and the C of its statements
+-- the C of an arm of an `if`: its condition and its statements
 pub record ArmCodes : Type 0 where
   pub test : CExpr
   pub body : Codes
@@ -103,7 +103,7 @@ choice_code (arm ∷ more ∷ rest) other free = flagged_code (arm ∷ more ∷ 
 
 -- ---- loops
 
--- a loop by its number, its condition, the C of its body, and what stands behind that in each turn
+-- the C of a loop, by its number, its condition, its body, and what stands behind the body in each turn
 abbrev pub loop_code : ℕ → CExpr → List CStmt → Coded → Coded
 loop_code turn test last body = record { code = c_loop (turn_name turn) test (body.code ++ last) ∷ []; free = body.free }
 

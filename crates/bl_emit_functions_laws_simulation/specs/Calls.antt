@@ -49,7 +49,7 @@ BodiesEnd structs units entry =
 
 -- ---- what a call reaches
 
--- where the body of a called function stands: its pointers lead to the arguments
+-- the scope of a called function's body: its pointers lead to the arguments
 abbrev pub scope_begun : Table Meaning → CFunc → ℕ → List ArgumentValue → Scope
 scope_begun known function depth passed = record { known = known; depth = depth; pointers = table_of (pointers_of function.params passed) }
 
@@ -57,7 +57,7 @@ scope_begun known function depth passed = record { known = known; depth = depth;
 abbrev pub memory_begun : CFunc → ℕ → List ArgumentValue → Memory → Memory
 memory_begun function depth passed here = with_params depth function.params passed (without_frame depth here)
 
--- what its body comes to
+-- the outcome of a called function's body
 abbrev pub body_done : Table Meaning → CFunc → ℕ → List ArgumentValue → Memory → Outcome Memory
 body_done known function depth passed here =
     block_c function.body (scope_begun known function depth passed) (memory_begun function depth passed here)
@@ -98,8 +98,7 @@ pub record HandedOver (structs : List StructDef) (unit : UnitDef) (depth : ℕ) 
   pub apart : (j k : ℕ) (var : Var) (p q : Location) → slice_get (parameters_of unit) j ≡ Some var → is_output var.role ≡ true →
       slice_get passed j ≡ Some (by_address p) → slice_get passed k ≡ Some (by_address q) → nat_eq j k ≡ false → are_apart p q ≡ true
 
--- A call hands such arguments over: from a caller at this depth, whose arguments have the values of the inputs, and whose places for the outputs
--- have values and keep apart
+-- a call hands its arguments over, where these encode the inputs and the places of outputs are apart and hold values
 abbrev pub HandsOver : List StructDef → List UnitDef → ℕ → Type 0
 HandsOver structs units entry =
     (k : ℕ) (unit : UnitDef) (depth : ℕ) (here : Memory) (values given : List Value) (passed : List ArgumentValue) (outputs : List Location) →

@@ -19,7 +19,7 @@ use Rattle.bl_emit_functions.specs.Functions.{body_coded, function_code}
 
 -- ---- tables of C functions
 
--- under its name stands the C function of the unit at a position, where that is a function. The functions that it sees are known in this way
+-- the table has the C function of the unit at a position under its name, if the unit is a function. That function runs over a table with the property
 abbrev pub KnownAt : List StructDef → List UnitDef → ℕ → (Table Meaning → Type 0) → Table Meaning → Type 0
 KnownAt structs units k Below known =
     (unit : UnitDef) → slice_get units k ≡ Some unit → is_function unit.kind ≡ true → (below : Table Meaning)

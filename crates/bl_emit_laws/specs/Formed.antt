@@ -18,7 +18,7 @@ use Rattle.bl_emit_spec_laws_wellformed_bodies.specs.Lists.{AllConditions}
 abbrev pub parts_of : Program → List InMachine → ProgramParts
 parts_of program machine = parts_from program.structs [] [] program.units (needed_units program.units program.entry) machine
 
--- the structs of its file by name
+-- the structs of a program's file by name
 abbrev pub table_of : Program → List InMachine → Table (Table CMember)
 table_of program machine = struct_table (written program machine).structs
 

@@ -26,7 +26,7 @@ use Rattle.bl_emit_spec_laws.specs.Tables.Tables.{activities_of, functions_of_al
 abbrev pub written_file : Program → List InMachine → Parts
 written_file program machine = parts_from (written program machine).structs (written program machine).funcs
 
--- what the C of the program's activities is made of
+-- the activities of a program, as their C is made
 abbrev pub activities_in : Program → List InMachine → Activities
 activities_in program machine = activities_of program.structs program.units machine
 
@@ -50,7 +50,7 @@ FramesAreDeclared program =
     AreActivitiesOf program.units machine → slice_get program.units program.entry ≡ Some unit →
     FramesDeclared program.structs program.units program.entry (activities_in program machine) unit (written_file program machine)
 
--- in a compiled program each `run` calls the unit that its node names
+-- each `run` of a compiled program calls the unit that its node names
 abbrev pub RunsAreFound : Type 0
 RunsAreFound =
     (structs : List StructDef) (units : List UnitDef) (entry : ℕ) (machine : List InMachine) (activities : Activities) →

@@ -47,7 +47,7 @@ pub record IsWritten (program : Program) (machine : List InMachine) (unit : Unit
   pub there : slice_get program.units program.entry ≡ Some unit
   pub funcs : file.funcs ≡ (written program machine).funcs
 
--- where the table of the file's functions is this, the start and a tick do what these functions do over it
+-- the start and the tick of the file run over this table of functions
 pub record Enters (file : Parts) (known : Table Meaning) (unit : UnitDef) (activities : Activities) (entry : ℕ) : Type 0 where
   pub init : (passed : List ArgumentValue) (memory : Memory) →
       entered file (codes "bl_init") passed memory ≡ function_c known (init_function unit.name) 0 passed memory

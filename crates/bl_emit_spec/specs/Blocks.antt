@@ -49,15 +49,15 @@ counter_value sizes k v = c_literal (counter_type sizes k) (pos v)
 
 -- ---- what the C of a block needs to know
 
--- an activity as its blocks see it
+-- the view that blocks have of their activity
 pub record ActivityView : Type 0 where
   -- the activity's variables, and the units before it
   pub site : TypingContext
   -- which of the variables have a copy of their values at the start of the tick
   pub copies : List Bool
-  -- the numbers of its nodes in C names
+  -- the numbers of the activity's nodes in C names
   pub number : Node → ℕ
-  -- how many values its counters have
+  -- how many values each counter has
   pub sizes : Sizes
   -- whether a counter has a copy of its value at the start of the tick
   pub is_read : ℕ → Bool
@@ -103,8 +103,8 @@ abbrev pub rested_by : ActivityView → Slot → Bool → CExpr
 rested_by view slot true = c_two Ne (c_read (rested_place slot.counter)) (counter_value view.sizes slot.counter 0)
 rested_by view slot false = c_two Eq (c_read (rested_place slot.counter)) (counter_value view.sizes slot.counter slot.value)
 
--- whether it rested at the number when the tick began. Of the one value beside 0 of a counter it is asked whether it wasn't 0: a C compiler sees then
--- that there is no third case
+-- the test whether the instance rested at the number when the tick began. A counter with one value beside 0 is compared with 0: C compilers see then that no
+-- third case exists
 abbrev pub rested_at : ActivityView → Slot → CExpr
 rested_at view slot = rested_by view slot (is_only view.sizes slot)
 
@@ -120,7 +120,7 @@ abbrev pub last_value : ℕ → List Slot → ℕ
 last_value v [] = v
 last_value v (slot ∷ rest) = last_value slot.value rest
 
--- whether it rested at one of these numbers, which have one counter and values that follow one another
+-- the test whether the instance rested at one of the numbers, which have one counter and consecutive values
 abbrev pub rested_in : ActivityView → List Slot → CExpr
 rested_in view [] = c_truth false
 rested_in view (slot ∷ []) = rested_at view slot

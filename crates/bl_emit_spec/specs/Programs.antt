@@ -42,12 +42,12 @@ use Rattle.bl_emit_spec.specs.Names.{frame_name}
 abbrev pub needs_of : UnitDef → List ℕ
 needs_of unit = calls_of unit ++ runs_of unit
 
--- tests from the one with this number on, with those at the positions set
+-- tests from the one with this number on, set at the given positions
 abbrev pub set_from : List ℕ → ℕ → List Bool → List Bool
 set_from positions k [] = []
 set_from positions k (test ∷ rest) = (test || list_any (nat_eq k) positions) ∷ set_from positions (suc k) rest
 
--- the units that one needs, where there is one
+-- the units that an optional unit needs
 abbrev pub needs_at : Option UnitDef → List ℕ
 needs_at (Some unit) = needs_of unit
 needs_at None = []

@@ -45,7 +45,7 @@ PointersAreGiven structs units entry machine activities =
 
 -- ---- typed views
 
--- what the statements of an instance see in a typed store is of the types of the variables
+-- the values that the statements of an instance see in a typed store fit the types of the variables
 abbrev pub ViewsFit : List StructDef → List UnitDef → ℕ → List InMachine → Activities → Type 0
 ViewsFit structs units entry machine activities =
     let w = setting_of structs units entry in
@@ -69,7 +69,7 @@ abbrev pub KnowsActivity : Activities → List UnitDef → ℕ → Table Meaning
 KnowsActivity activities units u below known =
     (unit : UnitDef) → slice_get units u ≡ Some unit → known (unit_name unit.name) ≡ Some (function_c below (activity_function (activities u)))
 
--- where functions begin as passes do, and their blocks do what passes do, the C function of an activity does what the passes of its instances do
+-- the C function of an activity simulates the passes of its instances, where functions begin as passes do and their blocks simulate passes
 abbrev pub CallsSimulate : Type 0
 CallsSimulate =
     (structs : List StructDef) (units : List UnitDef) (entry : ℕ) (machine : List InMachine) (activities : Activities) →

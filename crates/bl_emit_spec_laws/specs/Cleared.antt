@@ -7,7 +7,7 @@ use Rattle.bl_ctree.specs.Instances.{callee_of, setting_of}
 use Rattle.bl_machine_pass_laws_execution.specs.Executes.{ClearsInside}
 use Rattle.bl_emit_spec_laws.specs.Calls.Built.{cleared, origin_at}
 
--- in every program
+-- clearing is confined to the inside of the instance that begins, in every program
 pub record ClearingIsInside : Type 0 where
   -- each instance that a `run` began is what its caller finds at the place of the `run`
   pub found : (structs : List StructDef) (units : List UnitDef) (entry k : ℕ) (origin : Origin) → let w = setting_of structs units entry in

@@ -53,7 +53,7 @@ pub record RuleAt (w : Setting) (activities : Activities) (i : ℕ) (unit : Unit
   pub there : HasRule (slots_by w activities) i unit rule
   pub numbered : rank_by w activities i rule.node ≡ number
 
--- in the function of each instance's activity turns stand in the order of the numbers of their nodes, one for each rule
+-- turns stand in the order of their nodes' numbers, one for each rule, in the function of each instance's activity
 pub record BlocksPlaced (structs : List StructDef) (units : List UnitDef) (entry : ℕ) (machine : List InMachine) (activities : Activities) : Type 0 where
   pub of_rule : (i : ℕ) (unit : UnitDef) (rule : Transition) → let w = setting_of structs units entry in
       CompilationContext structs units entry machine activities → unit_at w i ≡ Some unit → HasRule (slots_by w activities) i unit rule →

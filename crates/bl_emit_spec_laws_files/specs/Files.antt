@@ -36,7 +36,7 @@ use Rattle.bl_emit_spec_laws_files.specs.States.States.{StateKept}
 pub record FileStands (structs : List StructDef) (unit : UnitDef) (remembers : Bool) (known : Table Meaning) (file : Parts) : Type 0 where
   pub inputs : ports_of (codes "bl_in") file ≡ map (port_member structs (codes "i_")) (inputs_of unit)
   pub outputs : ports_of (codes "bl_out") file ≡ map (port_member structs (codes "o_")) (outputs_of unit)
-  -- what the start sees is no matter: it calls nothing
+  -- any table over which the start runs, as it calls nothing
   pub before : Table Meaning
   pub starts : found (codes "bl_init") (meanings file.funcs) ≡ Some (function_c before (init_function unit.name))
   pub ticks : found (codes "bl_tick") (meanings file.funcs) ≡ Some (function_c known (tick_function unit remembers))
@@ -66,7 +66,7 @@ RowsSuffice =
 
 -- ---- files of structs and functions with those of the interface behind them
 
--- a file of these structs and functions, and those of the interface behind them
+-- a file of these structs and functions, followed by those of the interface
 abbrev pub file_with : List StructDef → UnitDef → Bool → List CStruct → List CFunc → Parts
 file_with structs unit remembers before functions =
     parts_from (before ++ interface_structs structs unit remembers) (functions ++ (init_function unit.name ∷ tick_function unit remembers ∷ []))

@@ -9,7 +9,7 @@ use Rattle.bl_emit_spec_laws.specs.Calls.Built.{Activities}
 use Rattle.bl_emit_spec_laws.specs.Calls.Laws.{CompilationContext}
 use Rattle.bl_emit_spec_laws_nodes.specs.Views.{OwnSeen}
 
--- after an act its instance sees the values that the act leaves
+-- an instance sees the values that its act leaves, in each compiled program
 abbrev pub OwnIsSeen : Type 0
 OwnIsSeen =
     (structs : List StructDef) (units : List UnitDef) (entry : ℕ) (machine : List InMachine) (activities : Activities) →

@@ -8,7 +8,7 @@ use Rattle.bl_ctree.specs.declared.instance.Instance.{Instance}
 use Rattle.bl_ctree.specs.Instances.{instances_of}
 use Rattle.bl_emit_spec.specs.Programs.{needed_units, needs_of}
 
--- in a typed program
+-- the needed units of a typed program are closed under calls and `run`s
 pub record NeededClosed (structs : List StructDef) (units : List UnitDef) (entry : ℕ) : Type 0 where
   -- the entry is needed
   pub entry_is : IsWellTyped structs units entry → slice_get (needed_units units entry) entry ≡ Some true

@@ -12,7 +12,7 @@ use Rattle.bl_emit_spec.specs.Activities.{Activity, frame_struct}
 use Rattle.bl_emit_spec.specs.Programs.{activity_of, needed_units, parts_of_function, parts_of_next, written}
 use Rattle.bl_emit_spec_laws_wellformed.specs.Spelled.{CanSpell}
 
--- what the C of an activity is made of can be spelled, and the activity has a counter or runs another
+-- the C of an activity can be spelled, and the activity has a counter or runs another
 pub record ActivityIsSpellable (structs : List StructDef) (units : List UnitDef) (k : ℕ) (a : Activity) : Type 0 where
   pub can : CanSpell structs units k a
   pub rests : has_any (frame_struct a).members ≡ true

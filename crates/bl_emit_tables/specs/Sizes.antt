@@ -1,7 +1,7 @@
 -- Tables that grow as far as they are written.
 use Rattle.std.specs.Prelude.{ℕ, zero, suc, List, [], ◌∷◌}
 
--- a table with so many entries at least, where those that are added have this value
+-- a table with at least n entries; added ones have this value
 abbrev pub grown : {X : Type 0} → X → ℕ → List X → List X
 grown none zero table = table
 grown none (suc n) [] = none ∷ grown none n []

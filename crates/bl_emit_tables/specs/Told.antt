@@ -70,6 +70,6 @@ mark_told Finish = []
 abbrev pub rule_marks_told : NumberedTransition → List CLocal
 rule_marks_told rule = joined (map mark_told rule.so)
 
--- for those that all rules set
+-- the locals for the marks that all rules set
 abbrev pub marks_told : List NumberedTransition → List CLocal
 marks_told rules = joined (map rule_marks_told rules)

@@ -33,7 +33,7 @@ pub record IsGeneratedRun (stages : ℕ) (text : List ℕ) (last : Last) : Type 
   pub text_is : text ≡ run_text stages trace.rows trace.last
   pub last_is : last ≡ trace.last
 
--- why so many stages aren't run: there are more than 2,000, or else the first rule that fails for their text, want of memory aside
+-- the reason why so many stages aren't run: there are more than 2,000, or else the first rule that fails for their text
 abbrev pub IsUnrun : ℕ → Unrun → Type 0
 IsUnrun stages (TooLarge number) = (most_stages < stages) × (number ≡ stages)
 IsUnrun stages (Refused refusal) = (stages ≤ most_stages) × IsCause (Fails (program_text stages)) refusal

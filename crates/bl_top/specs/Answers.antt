@@ -48,7 +48,7 @@ abbrev pub KeepsPlants : Option JobSpec → Plants → Type 0
 KeepsPlants (Some (drive source ticks names)) plants = Unit {0}
 KeepsPlants job plants = plants.after ≡ plants.before
 
--- a call of these words ends with the status of their job, whose lines grew on `notes`, or with that of the write of these lines
+-- a call of these words ends with the status of their job, whose lines grew on `notes`, or with that of writing the lines
 pub record Answered (words : List Word) (c : Call) (plants : Plants) (ended : Status) : Type 0 where
   pub meant : Status
   pub lines : List ℕ

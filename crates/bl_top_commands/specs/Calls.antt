@@ -12,13 +12,13 @@ pub record Count : Type 0 where
 abbrev pub HasRisen : Count → Type 0
 HasRisen count = Rose count.before count.after
 
--- a sink: its count of faults, and what it holds before the call and after it, where that is told
+-- a sink: its counts of faults, and its content before the call and after it, where that is known
 pub record Output : Type 0 where
   pub faults : Count
   pub before : Option (List ℕ)
   pub after : Option (List ℕ)
 
--- a sink with these counts of its faults before and after the call, which holds this before it and this after it
+-- a sink with these counts of faults and this content before the call and after it
 abbrev pub output_of : ℕ → ℕ → Option (List ℕ) → Option (List ℕ) → Output
 output_of before after held left = record { faults = record { before = before; after = after }; before = held; after = left }
 

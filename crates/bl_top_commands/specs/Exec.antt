@@ -25,7 +25,7 @@ use Rattle.bl_rows_stream.specs.Streams.{Course}
 use Rattle.bl_tree.specs.declared.place.Place.{Place}
 use Rattle.bl_top_args.specs.Jobs.{Word}
 
--- where a text shows that it spells no file
+-- the offset at which a text leaves the grammar of C files
 pub record ShowsAt (text : List ℕ) (at : ℕ) : Type 0 where
   pub none : SpellsNone text
   -- inside the prelude, where it doesn't begin with that

@@ -26,12 +26,12 @@ most_rows = 1000000
 
 -- how far a file is read
 pub data Limit : Type 0 where
-  -- no further than so many bytes
+  -- the first n bytes
   in_bytes : ℕ → Limit
-  -- in pieces, none of which is asked for once more lines than these have begun
+  -- pieces of which none is asked for after more than n lines have begun
   in_lines : ℕ → Limit
 
--- where a file stands that was read within a limit
+-- the state of a file after it was read within a limit
 abbrev pub StandsWithin : Limit → Option (List ℕ) → Option (List ℕ) → Type 0
 StandsWithin (in_bytes most) before after = StandsFurther most before after
 StandsWithin (in_lines most) before after = ReadsLines most before after

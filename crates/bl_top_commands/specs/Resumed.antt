@@ -58,23 +58,23 @@ pub record HasSaved (text : List ℕ) (first : List (List ℤ)) (left : Option (
 
 -- ---- what goes on
 
--- after these rows the one trace of a program is open, and a course runs on from there and shows the rest of it. What is shown has a header
--- of its own and counts ticks from 1 (`text_of`)
+-- the course goes on after the rows with the rest of the one trace of a program, which is open after them. The text has a header of its own and counts ticks
+-- from 1
 pub record ResumesCourse (structs : List StructDef) (units : List UnitDef) (entry : ℕ) (first : List (List ℤ)) (course : Course) : Type 0 where
   pub unit : UnitDef
   pub is_entry : slice_get units entry ≡ Some unit
-  -- the columns of its rows are the entry's inputs, which the first rows fit
+  -- the columns of the course's rows are the entry's inputs, which the first rows fit
   pub inputs : course.ins ≡ input_columns unit
   pub first_fit : RowsFit (input_columns unit) first
   -- over the first rows the parallel meaning allows this trace, and no other
   pub before : Trace
   pub running : before.last ≡ Open
   pub one_before : (shows : ShownTrace) → Means structs units entry first shows ↔ (shows ≡ shown_trace before)
-  -- over these and all further rows that fit it allows that trace and then this one, and no other
+  -- the semantics allows one trace over the first and all further rows that fit: the one before, and then the rest
   pub rest : List (List ℤ) → Trace
   pub one : (rows : List (List ℤ)) (shows : ShownTrace) → RowsFit (input_columns unit) rows →
       Means structs units entry (first ++ rows) shows ↔ (shows ≡ shown_trace (trace_then before (rest rows)))
-  -- after further rows the course stands as the rest does, and what it shows of them is the text of the rest, with its own header
+  -- the course stands as the rest does after further rows, and shows the text of the rest, with its own header
   pub stands : (rows : List (List ℤ)) → course.last rows ≡ (rest rows).last
   pub shows : (rows : List (List ℤ)) → course.text rows ≡ text_of (rest rows) (output_columns unit)
   -- the rows of any bytes fit, and so do those of the lines that are whole in some first bytes

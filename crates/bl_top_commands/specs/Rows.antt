@@ -10,7 +10,7 @@ use Rattle.bl_rows_stream.specs.Streams.{AppendsFront, AreLeft, Course, Unread, 
 use Rattle.bl_rows_stream.specs.declared.finish.Finish.{Finish}
 use Rattle.bl_rows_stream.specs.declared.finish.Finish.TheVariants as finish
 
--- the course ends so over these bytes of rows, and the whole text that it shows of them grew on `out`
+-- the course ends so over these bytes of rows, and its whole text grew on `out`
 pub record Ran (course : Course) (left : Option (List ℕ)) (out : Output) (how : Finish) : Type 0 where
   pub bytes : List ℕ
   pub are_left : AreLeft left bytes

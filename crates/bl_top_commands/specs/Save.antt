@@ -89,7 +89,7 @@ pub data SavesOver (file : Parts) (numbers : List ℤ) (left rest : Option (List
 
 -- the status with which the state of a C text is saved after a file of rows, and the lines for `notes`
 pub data SaveEnds (c : Call) (text rows : Word) : Status → List ℕ → Type 0 where
-  -- from what the start leaves, over the rows that are left once the text was read
+  -- the run begins from what the start leaves, over the rows that are left once the text was read
   ran : {ended : Status} {line : List ℕ} (bytes : List ℕ) (behaviour : Behaviour) → IsSource (c.left text) bytes → (loads : Loads bytes behaviour) →
       starts loads.file ≡ true → (between : Word → Option (List ℕ)) → LeftBehind text_limit text c.left between →
       SavesOver loads.file (start_cells loads.file) (between rows) (c.rest rows) (c.file rows) c.out ended line → SaveEnds c text rows ended line

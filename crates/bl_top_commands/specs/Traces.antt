@@ -40,13 +40,13 @@ course_by behaviour = record {
 pub record HasCourse (structs : List StructDef) (units : List UnitDef) (entry : ℕ) (course : Course) : Type 0 where
   pub unit : UnitDef
   pub is_entry : slice_get units entry ≡ Some unit
-  -- the columns of its rows are the entry's inputs
+  -- the columns of the course's rows are the entry's inputs
   pub inputs : course.ins ≡ input_columns unit
-  -- over all rows that fit them the parallel meaning allows this trace, and no other
+  -- the semantics allows this one trace over all rows that fit the inputs
   pub trace : List (List ℤ) → Trace
   pub one : (rows : List (List ℤ)) (shows : ShownTrace) → RowsFit (input_columns unit) rows →
       Means structs units entry rows shows ↔ (shows ≡ shown_trace (trace rows))
-  -- after rows the course stands as this trace does, and what it shows of them is the text of this trace
+  -- the course stands as this trace does after rows, and shows its text
   pub stands : (rows : List (List ℤ)) → course.last rows ≡ (trace rows).last
   pub shows : (rows : List (List ℤ)) → course.text rows ≡ text_of (trace rows) (output_columns unit)
   -- the rows of any bytes fit, and so do those of the lines that are whole in some first bytes

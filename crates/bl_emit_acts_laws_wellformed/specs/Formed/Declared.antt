@@ -67,7 +67,7 @@ home_leads activity Lent = true
 abbrev pub leads_through : TypingContext → ℕ → Bool
 leads_through site k = home_leads (is_activity site.kind) (home_of site (var_at site k))
 
--- where nothing may be changed through a pointer, no variable of the unit begins with one
+-- no variable of the unit begins with a pointer in a context in which nothing may be changed through pointers
 abbrev pub ChangesNone : TypingContext → Context → Type 0
 ChangesNone site context = context.keeps ≡ true → (k : ℕ) (var : Var) → var_at site k ≡ Some var → leads_through site k ≡ false
 

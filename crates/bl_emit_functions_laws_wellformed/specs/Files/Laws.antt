@@ -31,7 +31,7 @@ ChainsGrow structs units entry =
     (k : ℕ) (unit : UnitDef) (depths : Table ℕ) → IsWellTyped structs units entry → slice_get units k ≡ Some unit → ChainsKnown units depths →
     ChainsKnown units (with_entry depths (unit_name unit.name) (depth_of_function depths (function_code structs (take k units) unit)))
 
--- where rule Frames doesn't fail, the C function of a unit heads no chain of more than 100 functions
+-- the C function of a unit heads no chain of more than 100 functions, where rule Frames holds
 abbrev pub ChainsShort : List StructDef → List UnitDef → ℕ → Type 0
 ChainsShort structs units entry =
     (k : ℕ) (unit : UnitDef) (depths : Table ℕ) → Passes structs units entry → slice_get units k ≡ Some unit → ChainsKnown units depths →

@@ -21,7 +21,7 @@ abbrev pub kind_sets : CStmtKind-F Bool Bool → Bool
 kind_sets (CStmtKind-F.Set place expr) = true
 kind_sets _ = false
 
--- whether it is that of an `if` without an `else`
+-- whether a statement's form is an `if` without an `else`
 abbrev pub kind_asks : CStmtKind-F Bool Bool → Bool
 kind_asks (CStmtKind-F.If condition block None) = true
 kind_asks _ = false
@@ -34,7 +34,7 @@ stmt_answer stmt = stmt.what
 abbrev pub is_setting : CStmt → Bool
 is_setting = fold-CStmt Bool Bool kind_sets stmt_answer
 
--- whether it is an `if` without an `else`
+-- whether a statement is an `if` without an `else`
 abbrev pub is_if : CStmt → Bool
 is_if = fold-CStmt Bool Bool kind_asks stmt_answer
 

@@ -102,7 +102,7 @@ abbrev pub members_at : Parts → CFunc → CPath → List MemberOf
 members_at file function place =
     members_through (struct_table file.structs) (option_map (λ variable. variable.ty) (table_of (variables_of function) place.name)) place.members
 
--- where a place of a function goes through a counter of a struct `f_A`, the function is `a_A`
+-- a place that goes through a counter of a struct `f_A` stands in the function `a_A`
 abbrev pub CountersStandInOne : Parts → Type 0
 CountersStandInOne file =
     (function : CFunc) (place : CPath) (name counter : Text) → Contains file.funcs function → Contains (places_named function) place →

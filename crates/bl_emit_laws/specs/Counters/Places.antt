@@ -17,10 +17,10 @@ use Rattle.bl_ctext.specs.Folds.{OpenPart}
 
 -- the path of a place: where it begins and the members that it goes through, without its indices
 pub record CPath : Type 0 where
-  -- whether it begins with `(*` and its name is a pointer's
+  -- whether the place begins with `(*` and its name is a pointer's
   pub through : Bool
   pub name : Text
-  -- the members that it goes through, in order
+  -- the members that the place goes through, in order
   pub members : List Text
 
 -- the paths of places, in the order in which these stand

@@ -28,7 +28,7 @@ use Rattle.bl_emit_spec_laws.specs.Calls.Memories.{MemoryEncodes, inner}
 
 -- ---- where pointers lead
 
--- where the pointer for the result leads
+-- the location to which the pointer for the result leads
 abbrev pub result_at_c : Scope → Location
 result_at_c scope = start_of scope true (codes "r")
 
@@ -45,7 +45,7 @@ pub record PlacesAreSeparate (site : TypingContext) (unit : UnitDef) (remembers 
   pub frame : FramePointersAreValid scope
   pub frame_apart : ApartFromPointers site scope (frame_at scope)
   pub over_apart : ApartFromPointers site scope (over_at scope)
-  -- what it remembers, itself or in what it calls
+  -- the place of what the activity remembers, itself or in what it calls, is separate
   pub memory : remembers ≡ true → PlaceIsSeparate site scope (remembered_at scope)
   pub result : is_some unit.result ≡ true → PlaceIsSeparate site scope (result_at_c scope)
   pub result_apart : is_some unit.result ≡ true → remembers ≡ true → are_apart (result_at_c scope) (remembered_at scope) ≡ true

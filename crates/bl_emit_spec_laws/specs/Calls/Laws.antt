@@ -99,7 +99,7 @@ pub record PartSimulates (w : Setting) (activities : Activities) (i : ℕ) (unit
 abbrev pub start_code : Activity → List CStmt
 start_code a = map rested_code (counters_read a) ++ (entry_code (view_of a) (body_of a) ++ map (c_copied (view_of a).site) (copied_in a))
 
--- where a called function of an instance's activity begins
+-- the scope in which a called function of an instance's activity begins
 abbrev pub scope_in : Setting → Activities → ℕ → UnitDef → Table Meaning → ℕ → CallAddresses → Scope
 scope_in w activities i unit known depth given =
     let a = activity_at w activities i in
@@ -137,11 +137,11 @@ pub record CalledAt (body : Block) (n : Node) (u : ℕ) : Type 0 where
 abbrev pub guarded : ActivityView → Transition → List CStmt → CStmt
 guarded view rule code = turn_code (record { test = guard_of view rule.node rule.asked; code = code })
 
--- what the block of one node does
+-- the outcome of the block of one node
 abbrev pub block_done : Setting → Activities → ℕ → ℕ → Transition → Scope → Memory → Outcome Memory
 block_done w activities i u rule scope here = block_c (block_code (view_of (activity_at w activities i)) u rule ∷ []) scope here
 
--- where the function of an instance stands in the middle of its pass
+-- the function of an instance stands in the middle of its pass
 pub record Midway (structs : List StructDef) (units : List UnitDef) (entry : ℕ) (machine : List InMachine) (activities : Activities) (i : ℕ)
     (unit : UnitDef) (scope : Scope) (frames : Frames) (store : Store) (copies : List Value) (r : Registers) (here : Memory) : Type 0 where
   pub compiled : CompilationContext structs units entry machine activities
@@ -205,7 +205,7 @@ pub record PassesSimulate (structs : List StructDef) (units : List UnitDef) (ent
 
 -- ---- the functions of all activities
 
--- under its name stands the C function of the activity at a position. The functions that it sees are known in this way
+-- the table has the C function of the activity at a position under its name. That function runs over a table with the property
 abbrev pub ActivityKnown : Activities → List UnitDef → ℕ → (Table Meaning → Type 0) → Table Meaning → Type 0
 ActivityKnown activities units k Below known =
     (unit : UnitDef) → slice_get units k ≡ Some unit → is_activity unit.kind ≡ true → (below : Table Meaning)

@@ -31,7 +31,7 @@ pub data Nests (w : Setting) (activities : Activities) : ℕ → Location → Lo
       Nests w activities j (inner f (rank_by w activities i (EnterAt l at arguments))) (inner m (rank_by w activities i (EnterAt l at arguments))) k f' m' →
       Nests w activities i f m k f' m'
 
--- memory holds at these places what the counters of the instance, and of all that it calls, have, and what their variables are
+-- memory encodes, at these places, the counters and variables of the instance and of all that it calls
 pub record MemoryEncodes (w : Setting) (activities : Activities) (i : ℕ) (f m : Location) (frames : Frames) (store : Store) (here : Memory) : Type 0 where
   pub counters : (k : ℕ) (f' m' : Location) → Nests w activities i f m k f' m' → (c : ℕ) → c < length (activity_at w activities k).sizes →
       number_in (value_at here (further f' (member (counter_name c) ∷ []))) ≡ pos (frames k c)

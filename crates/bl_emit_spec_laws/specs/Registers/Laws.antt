@@ -41,7 +41,7 @@ ChangesSimulate =
 
 -- ---- guards
 
--- whether numbers have this counter, and values that follow one another from this one on
+-- whether the numbers have this counter and consecutive values from this one on
 abbrev pub follow_on : ℕ → ℕ → List Slot → Bool
 follow_on k v [] = true
 follow_on k v (slot ∷ rest) = nat_eq slot.counter k && (nat_eq slot.value v && follow_on k (suc v) rest)

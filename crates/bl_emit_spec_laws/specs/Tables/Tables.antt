@@ -27,13 +27,13 @@ no_unit = record { name = []; place = nowhere; kind = Function; vars = []; input
 abbrev pub no_part : InMachine
 no_part = record { blocks = []; slots = [] }
 
--- what the C of the unit at a position is made of, where it is known which of the units before it remember variables
+-- the activity of the unit at a position, as its C is made, with what is known of the earlier units' variables
 abbrev pub activity_with : List StructDef → List UnitDef → List InMachine → ℕ → List Bool → Activity
 activity_with structs units machine k remember =
     activity_of structs (take k units) remember (unwrap_or (slice_get units k) no_unit)
     (unwrap_or (slice_get machine (graph_position units k)) no_part)
 
--- whether it remembers variables: no function does
+-- whether the unit at the position remembers variables: no function does
 abbrev pub remembers_with : List StructDef → List UnitDef → List InMachine → ℕ → List Bool → Bool
 remembers_with structs units machine k remember =
     is_activity (unwrap_or (slice_get units k) no_unit).kind && remembers_any (activity_with structs units machine k remember)
@@ -44,7 +44,7 @@ remembered_before structs units machine zero = []
 remembered_before structs units machine (suc k) =
     let earlier = remembered_before structs units machine k in earlier ++ remembers_with structs units machine k earlier ∷ []
 
--- what the C of each activity is made of
+-- the activity of each unit, as its C is made
 abbrev pub activities_of : List StructDef → List UnitDef → List InMachine → Activities
 activities_of structs units machine k = activity_with structs units machine k (remembered_before structs units machine k)
 
@@ -64,7 +64,7 @@ unit_function structs units activities k unit =
 abbrev pub functions_of_all : List StructDef → List UnitDef → Activities → List CFunc
 functions_of_all structs units activities = each_from (unit_function structs units activities) 0 units
 
--- the table that those of the units before a position make
+-- the table of the C functions of the units before a position
 abbrev pub table_up_to : List StructDef → List UnitDef → Activities → ℕ → Table Meaning
 table_up_to structs units activities k = known_after no_entries (take k (functions_of_all structs units activities))
 

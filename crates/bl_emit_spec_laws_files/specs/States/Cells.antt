@@ -19,7 +19,7 @@ object_types (variable depth name) = None
 abbrev pub regained : Parts → Memory → Memory
 regained file here = memory_of (cells_of file) (numbers_of (cells_of file) here)
 
--- where a place of one of the objects leads to a scalar the number there is kept
+-- the number of each scalar place in one of the objects is kept
 abbrev pub CellsKept : Parts → Type 0
 CellsKept file =
     (here : Memory) (place : Location) (kind : Scalar) → place_type file.structs object_types place ≡ Some (OfScalar kind) →

@@ -33,21 +33,20 @@ use Rattle.bl_emit_spec_laws_files.specs.States.Cells.{regained}
 
 -- ---- places
 
--- where the entry rests, and where what it remembers stands
+-- the locations of where the entry rests, and of what it remembers
 abbrev pub frame_place : Location
 frame_place = record { root = state_object; parts = member (codes "f") ∷ [] }
 
 abbrev pub memory_place : Location
 memory_place = record { root = state_object; parts = member (codes "m") ∷ [] }
 
--- where the entry's outputs stand
+-- the location of one of the entry's outputs
 abbrev pub output_place : Var → Location
 output_place var = record { root = output_object; parts = member (codes "o_" ++ var.name) ∷ [] }
 
 -- ---- what is kept
 
--- What the entry's call needs is there where only the numbers of the cells were kept: where all that it and what it calls rest at, what they
--- remember, and its outputs
+-- a memory in which only the cells' numbers were kept has what the entry's call needs: all frames, all that is remembered, and the outputs
 pub record StateKept (w : Setting) (activities : Activities) (unit : UnitDef) (file : Parts) : Type 0 where
   pub memory : (frames : Frames) (store : Store) (here : Memory) → StoreFits w store →
       MemoryEncodes w activities 0 frame_place memory_place frames store here →

@@ -62,7 +62,7 @@ abbrev pub IsActNode : Node → Type 0
 IsActNode (ActAt l s) = is_act (out-StmtKind (out-Stmt s).what) ≡ true
 IsActNode _ = ⊥
 
--- the blocks of such nodes do what a pass by rules does there
+-- the blocks of nodes with an act simulate them
 abbrev pub ActNodesSimulate : List StructDef → List UnitDef → ℕ → Type 0
 ActNodesSimulate structs units entry =
     (machine : List InMachine) (activities : Activities) → IsWellTyped structs units entry → RulesOwn (setting_of structs units entry) activities →

@@ -12,7 +12,7 @@ use Rattle.bl_emit_spec_laws_nodes.specs.Points.Acts.{ActsSeen, NodesApart}
 use Rattle.bl_emit_spec_laws_nodes.specs.Points.Laws.{Remembering, ReturnsEnd, RulesOwn}
 use Rattle.bl_emit_spec_laws_nodes.specs.Points.Nodes.{NodesStand, PrevsAgree, ViewsFit}
 
--- in each activity of a typed program that has a result nothing but a `return` ends the body
+-- only a `return` ends the body of an activity with a result, in a typed program
 abbrev pub BodiesEnd : List StructDef → List UnitDef → ℕ → Type 0
 BodiesEnd structs units entry = (activities : Activities) → IsWellTyped structs units entry → ReturnsEnd units activities
 
