@@ -27,6 +27,6 @@ EachThree R [] [] [] = ⊤
 EachThree R (x ∷ xs) (y ∷ ys) (z ∷ zs) = R x y z × EachThree R xs ys zs
 EachThree R _ _ _ = ⊥
 
--- each activity among the units is merged from the one at its place
+-- each activity of the second list is merged from the one at its position in the first
 abbrev pub AreMergedFrom : List UnitDef → List Activity → List Activity → Type 0
 AreMergedFrom units from to = EachThree IsMergedFrom (activities units) from to

@@ -98,8 +98,7 @@ the part = Nonterminal (record { part = part; around = 0 })
 abbrev pub inside : ℕ → Part → Shape
 inside around part = Nonterminal (record { part = part; around = around })
 
--- what a part may stand for where so many brackets may still be opened, by itself and by the parts that it can't do without;
--- the number is told where it can fail to be so
+-- a production of a part, and how many brackets must still be allowed so that it and its parts can be completed
 pub record Production : Type 0 where
   pub needs : ℕ
   pub shapes : List Shape

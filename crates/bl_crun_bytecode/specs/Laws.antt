@@ -50,7 +50,7 @@ EachDoes code room known structs at calls entries routines (function ∷ rest) =
     × EachDoes code room known structs end (calls + 1) (with_entry entries function.name (entry_of known at function))
     (with_entry routines function.name (routine_flat known structs routines function)) rest
 
--- known to neither, or to both, and the one does what the other does
+-- a function is known to neither table, or to both, and the entry implements the routine
 abbrev pub BothDo : Code → Room → ℕ → ℕ → Option Entry → Option Routine → Type 0
 BothDo code room numbers calls None None = Unit {0}
 BothDo code room numbers calls (Some entry) (Some routine) = ImplementsRoutine code room numbers calls entry routine
@@ -65,7 +65,7 @@ code_of_file structs functions = functions_code (capped_sizes structs) (layouts 
 abbrev pub entry_in_file : List CStruct → List CFunc → Table Entry
 entry_in_file structs functions = entries_from (capped_sizes structs) (layouts structs) 0 no_entries functions
 
--- what a file's function of a name does
+-- the routine of a file's function of a name
 abbrev pub routine_in_file : List CStruct → List CFunc → Table Routine
 routine_in_file structs functions = table_of (routines_after (capped_sizes structs) (layouts structs) no_entries functions)
 

@@ -123,7 +123,7 @@ is_place p = is_name p.name && all_of p.steps
 abbrev pub is_step : EachIs Bool CStep-F → Bool
 is_step s = is_name s.member && none_or s.index
 
--- whether the names, literals, operators and lengths of an expression have a spelling; the same of its parts
+-- whether the names, literals, operators and lengths of an expression and its parts have a spelling
 abbrev pub spells_expr : CExpr → Bool
 spells_expr = fold-CExpr _ _ _ _ _ _ _ is_arg is_expr_kind is_call is_expr is_index is_place is_step
 

@@ -4,7 +4,7 @@ use Rattle.std.specs.Prelude.{[]}
 use Rattle.std.specs.Char.{is_ascii_alphanumeric}
 use Rattle.bl_tree.specs.Reduce.{all_of, any_of}
 
--- a token is its bytes
+-- a token, as its bytes
 abbrev pub Token : Type 0
 Token = List ℕ
 

@@ -16,7 +16,7 @@ EndsAs None goes_on = Unit {0}
 EndsAs (Some t) goes_on = ⊥
 EndsAs result breaks = ⊥
 
--- a function's body does so wherever it runs
+-- the body of the function ends as its result says, wherever it runs
 abbrev pub EndsInside : CFunc → Type 0
 EndsInside f = (scope : Scope) (memory : Memory) → EndsAs f.result (block_c f.body scope memory).end
 

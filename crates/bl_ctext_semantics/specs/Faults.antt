@@ -238,7 +238,7 @@ pub record JudgedArg : Type 0 where
   pub ty : Option CType
   pub faults : List Fault
 
--- a call: what is known of its function
+-- the judgement of a call: the signature of its function, and its faults
 pub record JudgedCall : Type 0 where
   pub signature : Option Signature
   pub faults : List Fault
@@ -248,7 +248,7 @@ pub record JudgedIndex : Type 0 where
   pub length : ℕ
   pub faults : List Fault
 
--- what has no place of its own is judged at the statement or expression that holds it
+-- a judgement at a place: what has no place of its own is judged at that of the statement or expression around it
 abbrev pub Judges : Type 0 → Type 0
 Judges A = Context → Place → A
 
@@ -615,7 +615,7 @@ variables_of f = map param_variable f.params ++ map local_variable f.locals
 abbrev pub signature_in : CFunc → Signature
 signature_in f = record { widens = false; params = map (λ p. record { pointer = p.pointer; ty = p.ty }) f.params; result = f.result }
 
--- bl_tick alone has a result and changes its objects
+-- whether a function has to leave its objects: it has a result and isn't bl_tick
 abbrev pub keeps_all : CFunc → Bool
 keeps_all f = is_some f.result && not (bytes_eq f.name (codes "bl_tick"))
 

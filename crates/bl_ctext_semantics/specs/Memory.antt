@@ -37,7 +37,7 @@ pub record Location : Type 0 where
   pub root : Root
   pub parts : List Projection
 
--- a value of a C type: the number of each scalar in it, by the parts that lead to that scalar. A scalar's own number stands at no parts
+-- a value of a C type: the number of each scalar in it, by the parts that lead there, none for a scalar's own
 abbrev pub CValue : Type 0
 CValue = List Projection → ℤ
 

@@ -152,7 +152,7 @@ two_values Or first second base cells = next (first base cells) (λ after a. (if
 two_values op first second base cells =
     next (first base cells) (λ after a. next (second base after) (λ last b. flat_answer last (compared op a b)))
 
--- whether an operator is one that takes its type; every function of the prelude that has a name is so
+-- whether an operator takes its type, as every named function of the prelude does
 abbrev pub is_typed : Builtin → Bool
 is_typed (Two op t) = takes_two op t
 is_typed (One op t) = takes_one op t

@@ -68,7 +68,7 @@ initial_code site k None = zeroed site.structs (place_in site k []) (type_at (va
 abbrev pub c_copied : TypingContext → ℕ → CStmt
 c_copied site k = c_set (c_place false (copy_name k) []) (c_read (place_in site k []))
 
--- a declared variable had before what it has now: its copy gets that, where it has one
+-- the statement that gives the copy of a declared variable its value, if it has a copy
 abbrev pub copy_code : TypingContext → Bool → ℕ → List CStmt
 copy_code site true k = c_copied site k ∷ []
 copy_code site false k = []

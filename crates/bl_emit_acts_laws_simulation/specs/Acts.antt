@@ -86,12 +86,12 @@ pub record RepresentsAfter (site : TypingContext) (copied : ℕ → Bool) (scope
   pub copies : CopiesEncoded site before copied scope after
   pub kept : (root : Root) (way : List Projection) → Foreign site copied scope root way → after root way ≡ here root way
 
--- statements that trap where there are no values, and else go on and leave memory that stands for them
+-- C simulates an act: it traps where there are no values, and else goes on and leaves memory that represents them
 abbrev pub Simulates : TypingContext → (ℕ → Bool) → Scope → Memory → (List Value → List Value) → Option (List Value) → Outcome Memory → Type 0
 Simulates site copied scope here before None o = o.end ≡ traps
 Simulates site copied scope here before (Some now) o = (o.end ≡ goes_on) × RepresentsAfter site copied scope here now (before now) o.memory
 
--- Memory in which the copies of the variables at these positions were set: each has what its variable has, and all else is as it was
+-- memory after the copies of the variables at these positions were set: each has its variable's value, and all else is unchanged
 pub record BegunWith (site : TypingContext) (scope : Scope) (here : Memory) (now : List Value) (ks : List ℕ) (after : Memory) : Type 0 where
   pub variables : VariablesEncoded site now scope after
   pub copies : CopiesEncoded site now (λ k. list_any (nat_eq k) ks) scope after
@@ -126,14 +126,14 @@ pub record MayPass (depth : ℕ) (inputs : List ArgumentValue) (outputs : List L
   pub inputs_apart : list_all (λ output. list_all (are_apart output) (places_in_args inputs)) outputs ≡ true
   pub live : list_all (λ place. is_live depth place.root) outputs ≡ true
 
--- a call that leaves what a function leaves: its outputs at their places, and all else as it was
+-- a call leaves what a function leaves: its outputs at their places, and all else unchanged
 pub record RepresentsAfterCall (structs : List StructDef) (vars : List Var) (depth : ℕ) (places : List Location) (here : Memory) (left : Left) (called : CallResult)
     : Type 0 where
   pub returned : called.result ≡ Some (pos 0)
   pub outputs : OutputsEncoded structs called.memory vars left.outputs places
   pub kept : UnchangedOutside depth places here called.memory
 
--- a call that traps where the function does
+-- a C call simulates a function: it traps where the function does, and else leaves its outputs
 abbrev pub CallSimulates : List StructDef → List Var → ℕ → List Location → Memory → Option Left → CallResult → Type 0
 CallSimulates structs vars depth outputs here None called = called.result ≡ None
 CallSimulates structs vars depth outputs here (Some left) called = RepresentsAfterCall structs vars depth outputs here left called

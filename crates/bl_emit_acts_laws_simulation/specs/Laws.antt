@@ -50,7 +50,7 @@ pub record Beside (structs : List StructDef) (units : List UnitDef) (k : ℕ) (u
   pub copies : CopiesEncoded (site_of structs (take k units) unit) view.before copied scope here
   pub functions : FunctionsAgree structs (take k units) (callees_of structs (take k units)) scope
 
--- what is made of an expression does what the expression means
+-- the C of each expression simulates it
 abbrev pub ExpressionsSimulate : List StructDef → List UnitDef → ℕ → Type 0
 ExpressionsSimulate structs units entry =
     (k : ℕ) (unit : UnitDef) (e : Expr) (ty : Ty) (view : View) (copied : ℕ → Bool) (scope : Scope) (here : Memory) → IsWellTyped structs units entry →
@@ -67,7 +67,7 @@ PlacesSimulate structs units entry =
     (location_c (stands (site_of structs (take k units) unit) path).place scope here).answer
     (path_meaning_of (scope_of (site_of structs (take k units) unit)) path)
 
--- A part of a variable that may be written: it is there, the memory has its value, and the values after the write are these
+-- the premises of a write to part of a variable: the part exists, memory has its value, and these are the values after the write
 pub record PartWrite (structs : List StructDef) (units : List UnitDef) (k : ℕ) (unit : UnitDef) (scope : Scope) (here : Memory) (now made : List Value)
     (root : ℕ) (var : Var) (ks : List ℕ) (ty : Ty) (new : Value) (held : CValue) : Type 0 where
   pub is_there : slice_get units k ≡ Some unit
@@ -113,8 +113,8 @@ abbrev pub overlaps_in : {A B C D : Type 0} → StmtKind-F A B C D → List Alia
 overlaps_in (StmtKind-F.Call f inputs outputs) = aliases_of None inputs outputs
 overlaps_in _ = []
 
--- the C of an act that fits, whose arguments don't overlap, traps exactly where the act traps; else it goes on, and leaves memory that stands for
--- the values after the act and is as it was wherever none of them stands
+-- the C of an act that fits simulates it, if its arguments don't overlap: it traps iff the act does, and else represents the values after it. Other memory is
+-- unchanged
 abbrev pub ActsSimulate : List StructDef → List UnitDef → ℕ → Type 0
 ActsSimulate structs units entry =
     (k : ℕ) (unit : UnitDef) (s : Stmt) (view : View) (copies : List Bool) (scope : Scope) (here : Memory) → IsWellTyped structs units entry →

@@ -33,8 +33,7 @@ PlaceValueSimulates structs ty depth here (Some place) (Some (OfWhole value)) =
     (is_live depth place.root ≡ true) × Encodes structs ty value (memory.value_at here place)
 PlaceValueSimulates structs ty depth here _ _ = ⊥
 
--- What is made of an expression of a type does what the expression means: a number is exactly its number, or traps exactly where it does; a place
--- has its value, or traps exactly where it does
+-- C simulates an expression of a type: it has the expression's number, or a place with its value, or it traps iff the expression does
 abbrev pub ExpressionSimulates : List StructDef → Ty → Scope → Memory → Made → Option Datum → Type 0
 ExpressionSimulates structs ty scope here (Number s code) datum =
     (scalar_in ty ≡ Some s) × (option_map memory.number_in (value_c code scope here).answer ≡ option_map number_given datum)
@@ -76,7 +75,7 @@ ArgumentsEncoded structs depth here _ _ _ = ⊥
 abbrev pub number_returned : Option Left → Option ℤ
 number_returned left = option_map number_given (option_and_then (λ left. left.result) left)
 
--- the functions of C are those of the program: each returns what the program's returns, or traps where that does
+-- C functions agree with those of the program: each returns what the program's returns, or traps iff it does
 pub record FunctionsAgree (structs : List StructDef) (earlier : List UnitDef) (callees : List Callee) (scope : Scope) : Type 0 where
   pub each : (f : ℕ) (unit : UnitDef) (callee : Callee) (s : ScalarType) (values : List Value) (passed : List ArgumentValue) (here : Memory) →
       slice_get earlier f ≡ Some unit → slice_get callees f ≡ Some callee → is_function unit.kind ≡ true → unit.outputs ≡ 0 → unit.result

@@ -25,7 +25,7 @@ pub record Known (program : Program) (machine : List InMachine) : Type 0 where
   pub merged : AreMerged program.units machine
   pub countable : AreCountable program.units
 
--- what is written of such a program shows what it means
+-- the file written of a program that passes the rules shows the trace that its semantics allows
 abbrev pub ProgramsShow : Program → Type 0
 ProgramsShow program =
     (machine : List InMachine) → Known program machine →

@@ -17,7 +17,7 @@ use Rattle.bl_emit_file.specs.Merged.{HasMergedBlocks}
 pub record ShowsProgram (structs : List StructDef) (units : List UnitDef) (entry : ℕ) (file : Parts) : Type 0 where
   pub unit : UnitDef
   pub is_entry : slice_get units entry ≡ Some unit
-  -- no clause of a well-formed file fails in it
+  -- the file is well formed
   pub well_formed : WellFormed file
   -- the file needs no more cells than can be loaded, and its inputs and outputs are those of the entry
   pub small : cells_needed file ≤ 1000000
@@ -29,6 +29,6 @@ pub record ShowsProgram (structs : List StructDef) (units : List UnitDef) (entry
   pub frames : EachFrameHasWidth structs units entry file
   -- the body of that function is assignments, and then as many `if`s as a machine with merged blocks has blocks for the activity
   pub blocks : HasMergedBlocks structs units entry file
-  -- over all rows that fit its inputs the parallel meaning allows its trace, and no other
+  -- the semantics allows the trace of the file, and no other, over all rows that fit its inputs
   pub trace : (rows : List (List ℤ)) (shows : ShownTrace) → RowsFit (input_columns unit) rows →
       Means structs units entry rows shows ↔ (shows ≡ shown_trace (c_trace file rows))

@@ -150,7 +150,7 @@ first_held site k (var ∷ rest) = if is_held (home_of site (Some var)) then Som
 abbrev pub c_set_again : TypingContext → ℕ → CStmt
 c_set_again site k = c_set (place_in site k []) (c_read (place_in site k []))
 
--- Compilers warn of a struct that is set and never read. So where nothing of it is read, a variable in it is set to what it has
+-- the statement that sets a variable of the struct to itself, if nothing reads the struct: compilers warn of structs that are set and never read
 abbrev pub read_code : TypingContext → Option ℕ → Bool → List CStmt
 read_code site None reads = []
 read_code site (Some k) true = []

@@ -41,7 +41,7 @@ EndsFor result None = Unit {0}
 EndsFor result (Some (Flow.On now)) = result ≡ None
 EndsFor result (Some (Flow.Back now given)) = ResultGiven result given
 
--- the body of each function does, from all values of its variables
+-- the body of each function ends as its result requires, from all values of its variables
 abbrev pub BodiesEnd : List StructDef → List UnitDef → ℕ → Type 0
 BodiesEnd structs units entry =
     (k : ℕ) (unit : UnitDef) (sees : Sees) (now : List Value) → IsWellTyped structs units entry → slice_get units k ≡ Some unit →
@@ -68,7 +68,7 @@ pub record CallKeepsFrame (known : Table Meaning) (function : CFunc) (depth : �
   pub ends : (root : Root) (way : List Projection) → is_older depth root ≡ true →
       (function_c known function depth passed here).memory root way ≡ (body_done known function depth passed here).memory root way
 
--- each call does
+-- each call of a function reaches older memory by its body alone
 abbrev pub CallsKeepFrame : Type 0
 CallsKeepFrame =
     (known : Table Meaning) (function : CFunc) (depth : ℕ) (passed : List ArgumentValue) (here : Memory) → CallKeepsFrame known function depth passed here

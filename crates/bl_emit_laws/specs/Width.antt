@@ -20,7 +20,7 @@ use Rattle.bl_emit_laws.specs.Counters.Own.{is_counter_name}
 abbrev pub is_counter : CMember → Bool
 is_counter member = is_counter_name member.name
 
--- the file has the struct of where the unit rests, with as many counters as its width: the most places of it that can rest at once
+-- the file has the struct of where the unit rests, with as many counters as the unit's width: the most places that can rest at once
 pub record FrameHasWidth (file : Parts) (unit : UnitDef) : Type 0 where
   pub frame : CStruct
   pub there : Contains file.structs frame

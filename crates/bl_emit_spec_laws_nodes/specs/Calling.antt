@@ -188,7 +188,7 @@ pub record TargetsSeen (w : Setting) (activities : Activities) : Type 0 where
 
 -- ---- the blocks
 
--- the blocks of `run`s do what a pass by rules does there
+-- the blocks of `run`s simulate them
 abbrev pub RunsSimulate : List StructDef → List UnitDef → ℕ → Type 0
 RunsSimulate structs units entry =
     (machine : List InMachine) (activities : Activities) → RunsEstablish structs units entry machine activities →

@@ -33,7 +33,7 @@ pub record ActivityConditions (structs : List StructDef) (units : List UnitDef) 
   pub owns : OwnsRules a
   pub copies : CopiesSuffice a
 
--- a machine has a part for the next activity. Where the unit is needed all is so that is asked of it
+-- a machine has a part for the next activity, which meets its conditions where the unit is needed
 abbrev pub NextConditions : Bool → List StructDef → List UnitDef → List UnitDef → List Bool → UnitDef → List InMachine → Type 0
 NextConditions test structs units earlier remember unit [] = ⊥
 NextConditions true structs units earlier remember unit (one ∷ machine) =

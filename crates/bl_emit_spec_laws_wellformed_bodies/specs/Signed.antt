@@ -18,7 +18,7 @@ use Rattle.bl_emit_spec_laws_wellformed_bodies.specs.Bodies.{ActivityStands, Cop
 abbrev pub ActivitiesSigned : Type 0
 ActivitiesSigned = (a : Activity) → signature_in (activity_function a) ≡ signature_of_activity a.structs a.unit (remembers_any a)
 
--- nothing counts turns in it: it has no loops
+-- the C function of an activity has no loops, and no counters of turns
 abbrev pub NoneLoops : Type 0
 NoneLoops = (a : Activity) → turns_in_block (activity_code a) ≡ []
 

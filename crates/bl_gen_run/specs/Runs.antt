@@ -13,13 +13,13 @@ use Rattle.bl_tree.specs.declared.row.Last.TheVariants.{Open, Ended, Trap}
 use Rattle.bl_tree.specs.declared.row.Trace.{Trace}
 use Rattle.bl_tree.specs.Rules.{IsCause}
 
--- no rule fails for the text of so many stages, and over its rows the parallel meaning of its program allows this trace, and no other
+-- no rule fails for the text of so many stages, and the semantics of its program allows only this trace over its rows
 pub record HasTrace (stages : ℕ) (trace : Trace) : Type 0 where
   pub program : Program
   pub has : HasProgram (program_text stages) program
   pub one : (shows : ShownTrace) → Means program.structs program.units program.entry input_rows shows ↔ (shows ≡ shown_trace trace)
 
--- what is told of the rows of outputs of a run that stands so after them: four lines, unless it trapped
+-- the text that is reported of a run, from its rows of outputs and its last state: four lines, unless it trapped
 abbrev pub run_text : ℕ → List (List ℤ) → Last → List ℕ
 run_text stages rows Open = report_text stages rows
 run_text stages rows Ended = report_text stages rows

@@ -6,7 +6,7 @@ use Rattle.bl_machine.specs.declared.slots.Slot.{Slot}
 use Rattle.bl_machine_pass.specs.Transitions.{Age, Asked, Change, Needed, Transition}
 use Rattle.bl_machine_pass.specs.Transitions.{ClearsBoth, ClearsCounter, Ended, EndsWhen, Finishes, Flagged, IsAny, IsNew, IsOld, Rested, RestedIn, SetsCounter, SetsFlag, SetsMark}
 
--- the registers of a pass. Nodes are told by numbers, which differ for the nodes of a body
+-- the registers of a pass, by the numbers of nodes, which differ for the nodes of a body
 pub record Registers : Type 0 where
   -- what each counter of the instance holds: 0 where it doesn't rest there
   pub counters : ℕ → ℕ
@@ -60,7 +60,7 @@ abbrev pub all_changed : (Node → ℕ) → List Change → Registers → Regist
 all_changed number [] r = r
 all_changed number (change ∷ rest) r = all_changed number rest (changed number change r)
 
--- what a rule leaves where its node has acted with this answer
+-- the registers after a rule whose node has acted with this answer
 abbrev pub after_rule : (Node → ℕ) → Transition → Bool → Registers → Registers
 after_rule number rule answer r = all_changed number (if answer then rule.so else rule.otherwise) r
 

@@ -51,7 +51,7 @@ use Rattle.bl_machine.specs.Uses.{Slots}
 
 -- ---- changes
 
--- one change of what a pass keeps of where its instance stands
+-- one change of the registers of a pass
 pub data Change : Type 0 where
   -- the node waits for its turn
   SetsFlag : Node → Change
@@ -68,7 +68,7 @@ pub data Change : Type 0 where
   -- the body of the activity has ended
   Finishes : Change
 
--- what a block does where it is entered: its entry waits or, where nothing stands in it, what follows it happens
+-- the change where a block is entered: its entry waits, or what follows an empty block happens
 abbrev pub enter : Block → Change → Change
 enter Done next = next
 enter (Then s rest) next = SetsFlag (entry s)
@@ -100,23 +100,22 @@ pub data Asked : Type 0 where
   -- whether as many branches of a `cobegin` rest at their ends as are needed
   Ended : Age → Needed → Asked
 
--- a node, what is asked there, and what changes where its answer is true, and where it is false. A node without a test answers true; that
--- of a `run` which goes on tells whether the body of the activity that it calls has ended
+-- the rule of a node: what it asks, and what changes where the answer is true, and where it is false. A node without a test answers true; a `run` that goes on
+-- answers whether the callee's body has ended
 pub record Transition : Type 0 where
   pub node : Node
   pub asked : Asked
   pub so : List Change
   pub otherwise : List Change
 
--- a node that waits by its flag, and has one way on
+-- the rule of a node that waits by its flag and has one way on
 abbrev pub flagged : Node → List Change → Transition
 flagged n so = record { node = n; asked = Flagged; so = so; otherwise = [] }
 
 -- ---- the places of a part
 
 abbrev mutual
-  -- the numbers at which a statement rests as long as it is paused: one of them is the number of its counter then. Of a `cobegin` the first
-  -- branch tells it
+  -- the numbers at which a statement rests as long as it is paused: its counter has one of them then. For a `cobegin` they are those of the first branch
   pub rests_of : Slots → Plain → List Slot
   rests_of slots (Act l s) = []
   rests_of slots (Await l at e) = slots.rest l ∷ []
@@ -129,7 +128,7 @@ abbrev mutual
   rests_of slots (While l at e body) = rests_in slots body
   rests_of slots (Again l at body e) = rests_in slots body
 
-  -- the numbers at which a statement rests as long as it is paused: its counter has one of them then. For a `cobegin` they are those of the first branch
+  -- the numbers at which a block rests as long as it is paused
   pub rests_in : Slots → Block → List Slot
   rests_in slots Done = []
   rests_in slots (Then s rest) = rests_of slots s ++ rests_in slots rest
@@ -198,7 +197,7 @@ abbrev pub body_ends : Label → Place → Block → Change
 body_ends l at body =
     if are_instant body then EndsWhen (StartAt l at) (SurfaceEndAt l at) (DepthEndAt l at) else SetsFlag (DepthEndAt l at)
 
--- a construct that may end in the tick in which it begins marks that it has begun in it
+-- the changes with the mark that a construct has begun in this tick, for one that may end in the tick in which it begins
 abbrev pub marked : Bool → Node → List Change → List Change
 marked instant n rest = if instant then SetsMark n ∷ rest else rest
 

@@ -92,7 +92,7 @@ abbrev pub recopied_kind : {A B C D : Type 0} → StmtKind-F A B C D → List Va
 recopied_kind (StmtKind-F.Declare k initial) now copies = unwrap_or (option_map (slice_set copies k) (slice_get now k)) copies
 recopied_kind _ now copies = copies
 
--- the copies after the node has had its turn, which left this store
+-- the copies after the turn of the node, which left this store
 abbrev pub recopied : Setting → ℕ → Node → Store → List Value → List Value
 recopied w i (ActAt l s) between copies = recopied_kind (out-StmtKind (out-Stmt s).what) (view_at w between i).now copies
 recopied w i _ between copies = copies

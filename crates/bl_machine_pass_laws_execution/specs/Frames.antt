@@ -60,7 +60,7 @@ abbrev mutual
   AllCallsMatchTree slots frames no_tree = ⊤
   AllCallsMatchTree slots frames (beside weak c branches) = CallsMatchTree slots frames c × AllCallsMatchTree slots frames branches
 
--- the frame of the instance in which the tree stands holds the tree's numbers, and so do those of all that is called in it
+-- the frames match a tree: that of its instance, and those of all that is called in it, have the trees' numbers
 abbrev pub FramesMatchTree : (ℕ → Slots) → Frames → ℕ → Tree → Type 0
 FramesMatchTree slots frames i c = CountersMatchTree (slots i) (frames i) c × CallsMatchTree slots frames c
 

@@ -13,7 +13,7 @@ use Rattle.bl_machine_pass_laws_execution.specs.Frames.{Frames}
 use Rattle.bl_machine_pass_laws_execution.specs.Executes.{ClearsInside}
 use Rattle.bl_machine_pass_laws_execution.specs.Passes.Laws.{TurnsPerform}
 
--- each instance has what the laws of a pass ask, with numbers of its own
+-- each instance has what the laws of a pass require, with numbers of its own
 abbrev pub AllInContext : Setting → (ℕ → Node → ℕ) → (ℕ → Slots) → Type 0
 AllInContext w rank slots = (i : ℕ) (unit : UnitDef) → unit_at w i ≡ Some unit → TurnContext w rank i (slots i) unit
 

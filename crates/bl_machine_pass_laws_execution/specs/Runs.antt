@@ -50,7 +50,7 @@ pub data RuleRun (w : Setting) (rank : ℕ → Node → ℕ) (slots : ℕ → Sl
 
 -- ---- traces
 
--- the trace of a program over the rows, the only one that its meaning allows, and a run by rules that shows it
+-- a run by rules over the rows has the one trace that the semantics of the program allows
 pub record RunByRules (structs : List StructDef) (units : List UnitDef) (entry : ℕ) (rank : ℕ → Node → ℕ) (slots : ℕ → Slots)
     (clear : ℕ → Frames → Frames) (unit : UnitDef) (rows : List (List ℤ)) (frames : Frames) : Type 0 where
   pub one : OneRun structs units entry rank rows

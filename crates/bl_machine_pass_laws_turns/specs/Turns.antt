@@ -53,8 +53,7 @@ pub record TurnContext (w : Setting) (rank : ℕ → Node → ℕ) (i : ℕ) (sl
 
 -- ---- the pass
 
--- a pass over a body that begins, with counters that hold 0, begins with the flag of its entry; over a tree that rested, with counters that hold
--- its numbers, it begins with no flag
+-- a pass begins with the flag of the entry over a body that begins, and with no flag over a tree that rested
 pub record PassesBegin : Type 0 where
   pub begins : (w : Setting) (rank : ℕ → Node → ℕ) (i : ℕ) (slots : Slots) (unit : UnitDef) (counters : ℕ → ℕ) →
       TurnContext w rank i slots unit → is_nil (do_block (plain_body unit.body)) ≡ false → ((j : ℕ) → counters j ≡ 0) →
@@ -81,7 +80,7 @@ NumbersPass =
     First rank i c n →
     PassInvariant slots (rank i) body k c r → PassInvariant slots (rank i) body (rank i n) c r
 
--- whatever a rule asks, it is due exactly where something waits at its node, where that is still to have its turn
+-- each rule is due iff something waits at its node, if the node is still to have its turn
 abbrev pub DueWaits : Type 0
 DueWaits =
     (w : Setting) (rank : ℕ → Node → ℕ) (i : ℕ) (slots : Slots) (unit : UnitDef) (stood : Bool) (k : ℕ) (c : Tree) (rule : Transition) (r : Registers) →

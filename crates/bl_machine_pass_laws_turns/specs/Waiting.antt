@@ -33,7 +33,7 @@ TurnsLeaveMore =
     (rule : Transition) (r : Registers) → Turns w rank i c done n c' → Turning w rank i slots unit stood c n rule →
     PassInvariant slots (rank i) (plain_body unit.body) (rank i n) c r → (m : Node) → Waits c' None m → suc (rank i n) ≤ rank i m
 
--- the flags tell after a turn what waits, and what rested tells it where a later tick goes on
+-- a turn keeps the flags telling what waits, and the resting places telling it at resume nodes
 abbrev pub TurnsKeepFlags : Type 0
 TurnsKeepFlags = StaysPlaced → KeepsDue IsFlagged
 

@@ -66,7 +66,7 @@ places_within s = length (spots_of s)
 -- ---- the resting places of a part, of which the first one has the position
 
 abbrev mutual
-  -- the numbers at which a statement rests as long as it is paused; of a `cobegin` the first branch tells it
+  -- the numbers at which a statement rests as long as it is paused; for a `cobegin` those of the first branch
   pub rests_of : Layout → ℕ → Plain → List Slot
   rests_of layout p (Act l s) = []
   rests_of layout p (Await l at e) = layout.slot p ∷ []
@@ -120,12 +120,12 @@ needed layout p bodies =
 
 -- ---- changes
 
--- what a block does where it is entered, whose first node has the position
+-- the change where a block is entered, whose first node has the position
 abbrev pub enter : Layout → ℕ → Block → Change → Change
 enter layout k Done next = next
 enter layout k (Then s rest) next = SetFlag (layout.number k)
 
--- the branches begin; the first node and the first place in them have these positions
+-- the changes by which branches begin, where the first node and place in them have these positions
 abbrev pub enter_each : Layout → ℕ → ℕ → Bodies → List Change
 enter_each layout k p Last = []
 enter_each layout k p (BodyOf weak body rest) =

@@ -44,7 +44,7 @@ after_part r = record {
   rule = r.plant.rule;
 }
 
--- what is left of it: nothing where it was dropped
+-- what is left of a plant after its part: nothing where it was dropped
 abbrev pub left_of : Role → List PlantView
 left_of r = if r.part.gone then [] else after_part r ∷ []
 
@@ -58,7 +58,7 @@ abbrev pub left_by : Option Role → PlantView → List PlantView
 left_by None p = p ∷ []
 left_by (Some r) p = left_of r
 
--- what is left of a list of plants, in its order: a plant has a role where no earlier one has its name, and these are earlier names
+-- what is left of a list of plants, in order. A plant has a role where no earlier one has its name
 abbrev pub left_in : List Role → List ℕ → List PlantView → List PlantView
 left_in cast earlier [] = []
 left_in cast earlier (p ∷ plants) =

@@ -44,7 +44,7 @@ pub record HasDriven (left : Option (List ℕ)) (plants : Plants) (ticks : ℕ) 
   pub parts : Parts
   pub one_trace : OneTrace (typed_of raw).structs (typed_of raw).units (typed_of raw).entry (behaviour_of parts)
   pub is_driven : IsDriven (setting_of parts plants.before ticks names) plants.after driven how
-  -- over the rows that the plants gave the parallel meaning allows its trace, and no other
+  -- the semantics allows the trace over the rows that the plants gave, and no other
   pub means : (shows : Shows) → Means (typed_of raw).structs (typed_of raw).units (typed_of raw).entry driven.ins shows
       ↔ (shows ≡ shown_trace driven.trace)
   -- the drive shows the text of the trace, or nothing where the names and widths don't fit

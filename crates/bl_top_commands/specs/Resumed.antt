@@ -77,7 +77,7 @@ pub record ResumesCourse (structs : List StructDef) (units : List UnitDef) (entr
   -- the course stands as the rest does after further rows, and shows the text of the rest, with its own header
   pub stands : (rows : List (List ℤ)) → course.last rows ≡ (rest rows).last
   pub shows : (rows : List (List ℤ)) → course.text rows ≡ text_of (rest rows) (output_columns unit)
-  -- the rows of any bytes fit, and so do those of the lines that are whole in some first bytes
+  -- the rows of any bytes fit, and so do the rows of the complete lines in a prefix
   pub fit : (bytes : List ℕ) → RowsFit (input_columns unit) (rows_of bytes course.ins).rows
   pub fit_so_far : (bytes : List ℕ) → RowsFit (input_columns unit) (rows_in (empty_reading course.ins) bytes)
 

@@ -12,7 +12,7 @@ use Rattle.bl_tree.specs.declared.tree.StructDef.{StructDef}
 use Rattle.bl_tree.specs.declared.tree.Unit.{Unit as UnitDef}
 use Rattle.bl_tree.specs.Ports.{RowsFit, input_columns, output_columns}
 
--- a program has one trace, and a C file that behaves so has it
+-- the C file has the one trace that the semantics of the program allows
 pub record OneTrace (structs : List StructDef) (units : List UnitDef) (entry : ℕ) (behaviour : Behaviour) : Type 0 where
   pub unit : UnitDef
   pub is_entry : slice_get units entry ≡ Some unit
@@ -20,7 +20,7 @@ pub record OneTrace (structs : List StructDef) (units : List UnitDef) (entry : �
   pub small : behaviour.needed ≤ 1000000
   pub inputs : behaviour.inputs ≡ input_columns unit
   pub outputs : behaviour.outputs ≡ output_columns unit
-  -- over all rows that fit its inputs the parallel meaning allows the trace of the C file, and no other
+  -- the semantics allows the trace of the C file, and no other, over all rows that fit its inputs
   pub trace : (rows : List (List ℤ)) (shows : ShownTrace) → RowsFit (input_columns unit) rows →
       Means structs units entry rows shows ↔ (shows ≡ shown_trace (behaviour.trace rows))
   -- no list of steps within a tick is longer than the number of the program's steps

@@ -42,7 +42,7 @@ join_kind kind.SurfaceJoin = true
 join_kind kind.DepthJoin = true
 join_kind _ = false
 
--- whether the node that was found is of such a kind
+-- whether an optional node is of such a kind
 abbrev pub some_kind : (NodeKind → Bool) → Option Node → Bool
 some_kind test None = false
 some_kind test (Some node) = test node.kind

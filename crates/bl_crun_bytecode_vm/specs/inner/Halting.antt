@@ -7,7 +7,7 @@ use Rattle.bl_crun_bytecode.specs.Vm.{Room, StepResult, VmState, done, goes, hei
 abbrev pub has : Room → VmState → Bool
 has room s = nat_le (height s) room.numbers && (nat_le (length s.waiting) room.calls && nat_eq (length s.cells) room.cells)
 
--- a step comes to an end where it should, and else goes on so
+-- whether a step's result is an end at the right step, or goes on so
 abbrev pub halts_after : Bool → (VmState → Bool) → StepResult → Bool
 halts_after last then (goes s) = then s
 halts_after last then (done cells count result) = last

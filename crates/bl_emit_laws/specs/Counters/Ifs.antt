@@ -16,7 +16,7 @@ use Rattle.bl_emit_laws.specs.Counters.Own.{functions_named}
 
 -- ---- forms of statements
 
--- whether a form is that of an assignment
+-- whether a statement's form is an assignment
 abbrev pub kind_sets : CStmtKind-F Bool Bool → Bool
 kind_sets (CStmtKind-F.Set place expr) = true
 kind_sets _ = false

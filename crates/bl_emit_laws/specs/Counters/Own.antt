@@ -60,8 +60,7 @@ names_counter place = list_any is_counter_name place.members
 
 -- ---- what a function names
 
--- the function is `a_A` of an activity A of the program, its `f` points to `struct f_A`, and the place is a member of that, `(*f).cN`: a counter of
--- A's own frame
+-- the function is `a_A` of an activity A, its `f` points to `struct f_A`, and the place is a member `(*f).cN`: a counter of A's own frame
 pub record NamesItsOwn (units : List UnitDef) (function : CFunc) (place : CPath) : Type 0 where
   pub activity : UnitDef
   pub is_there : Contains units activity

@@ -74,7 +74,7 @@ written_by unit remembers given =
     ∷ (where_true remembers given.memory
     ++ (given.outputs ++ (where_true (is_some unit.result) given.result ++ given.over ∷ [])))
 
--- a function that runs at this depth may give them: what may be written has nothing in common, nor with the inputs', and is there
+-- a function at this depth may give these places: those that may be written are live, and apart from each other and from the inputs
 pub record MayGive (unit : UnitDef) (remembers : Bool) (depth : ℕ) (given : CallAddresses) : Type 0 where
   pub apart : all_apart (written_by unit remembers given) ≡ true
   pub inputs_apart : list_all (λ place. list_all (are_apart place) (places_in_args given.inputs)) (written_by unit remembers given) ≡ true
@@ -120,8 +120,7 @@ pub record CallLeaves (w : Setting) (activities : Activities) (i : ℕ) (unit : 
       number_in (value_at called.memory given.result) ≡ number_or_zero value
   pub kept : UnchangedOutside depth (written_by unit (remembers_any (activity_at w activities i)) given) here called.memory
 
--- the C function of the activity at a position, where a function that runs at a depth calls it: what it does for each instance of the activity is what a
--- pass by rules does, and it traps where that is cut
+-- the C function of the activity at a position simulates the passes by rules of its instances, traps included, if a function at this depth calls it
 pub record ActivitySimulates (w : Setting) (activities : Activities) (u : ℕ) (known : Table Meaning) (depth : ℕ) : Type 0 where
   pub executes : (i : ℕ) (unit : UnitDef) (given : CallAddresses) (frames : Frames) (store : Store) (r : Registers) (frames' : Frames) (left : Store)
       (r' : Registers) (here : Memory) → unit_number w i ≡ u → unit_at w i ≡ Some unit →

@@ -52,7 +52,7 @@ pub record PlacesAreSeparate (site : TypingContext) (unit : UnitDef) (remembers 
 
 -- ---- what the function knows
 
--- the function for an instance of the unit at a position: its pointers stand, and the functions before it do in C what they do in the program
+-- the premises for the function of an instance: its unit is at the position, its pointers are valid, and the functions before it agree
 pub record FunctionContext (structs : List StructDef) (units : List UnitDef) (w : Setting) (activities : Activities) (i : ℕ) (unit : UnitDef)
     (scope : Scope) : Type 0 where
   pub is_there : slice_get units (unit_number w i) ≡ Some unit

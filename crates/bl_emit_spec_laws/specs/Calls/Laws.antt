@@ -218,7 +218,7 @@ AllKnownUpTo structs units activities (suc k) known =
     AllKnownUpTo structs units activities k known × (KnownAt structs units k (AllKnownUpTo structs units activities k) known
     × ActivityKnown activities units k (AllKnownUpTo structs units activities k) known)
 
--- wherever the functions are known, that of each activity does what the passes of its instances do, at any depth in the chain of calls
+-- the C function of each activity simulates the passes of its instances, wherever it is known, at any depth of calls
 abbrev pub ActivitiesSimulate : List StructDef → List UnitDef → ℕ → List InMachine → Activities → Type 0
 ActivitiesSimulate structs units entry machine activities =
     (k u : ℕ) (known : Table Meaning) (depth : ℕ) → CompilationContext structs units entry machine activities → NoneOverlaps units →

@@ -42,7 +42,7 @@ pub record Registered : Type 0 where
   pub flags : ℕ → Bool
   pub marks : ℕ → Bool
 
--- whether a register is one of them
+-- whether a register is one of the activity's
 abbrev pub has_register : Registered → Register → Bool
 has_register has (Counter k) = has.counters k
 has_register has (Before k) = has.copied k

@@ -19,7 +19,7 @@ ActivitiesBuilt =
     (structs : List StructDef) (units : List UnitDef) (machine : List InMachine) → AreActivitiesOf units machine →
     AreBuilt structs units machine (activities_of structs units machine)
 
--- the table of the C functions of all units knows them, and so does that of the units before a position
+-- the table of the C functions of all units knows every unit's function, and that of the units before a position knows theirs
 abbrev pub TablesKnowAll : Type 0
 TablesKnowAll =
     (structs : List StructDef) (units : List UnitDef) (entry : ℕ) (machine : List InMachine) (activities : Activities) (k : ℕ) →

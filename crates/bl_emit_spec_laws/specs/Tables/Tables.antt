@@ -68,7 +68,7 @@ functions_of_all structs units activities = each_from (unit_function structs uni
 abbrev pub table_up_to : List StructDef → List UnitDef → Activities → ℕ → Table Meaning
 table_up_to structs units activities k = known_after no_entries (take k (functions_of_all structs units activities))
 
--- the table that all of them make
+-- the table of the C functions of all units
 abbrev pub table_of_all : List StructDef → List UnitDef → Activities → Table Meaning
 table_of_all structs units activities = known_after no_entries (functions_of_all structs units activities)
 

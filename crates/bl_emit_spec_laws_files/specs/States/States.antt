@@ -97,7 +97,7 @@ RunsFound structs units entry =
 
 -- ---- the law
 
--- a well-formed file that declares them keeps what its program needs
+-- a well-formed file that declares these structs keeps what its program needs
 abbrev pub StatesAreKept : Type 0
 StatesAreKept =
     (structs : List StructDef) (units : List UnitDef) (entry : ℕ) (machine : List InMachine) (activities : Activities) (unit : UnitDef)

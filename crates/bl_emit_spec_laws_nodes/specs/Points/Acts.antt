@@ -70,7 +70,7 @@ ActNodesSimulate structs units entry =
     Remembering (setting_of structs units entry) activities → NodesStand structs units → ViewsFit structs units entry → PrevsAgree →
     NodesApart units → ActsSeen (setting_of structs units entry) activities → BlocksSimulate structs units entry machine activities IsActNode
 
--- the blocks of nodes at which a `return` is done do what a pass by rules does there
+-- the blocks of nodes with a `return` simulate them
 abbrev pub ReturnNodesSimulate : List StructDef → List UnitDef → ℕ → Type 0
 ReturnNodesSimulate structs units entry =
     (machine : List InMachine) (activities : Activities) → IsWellTyped structs units entry → RulesOwn (setting_of structs units entry) activities →

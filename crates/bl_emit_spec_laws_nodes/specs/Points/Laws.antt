@@ -74,7 +74,7 @@ pub record ReturnsEnd (units : List UnitDef) (activities : Activities) : Type 0 
 
 -- ---- what is asked of activities
 
--- an activity that remembers a variable, itself or in what it calls, is told to remember
+-- an activity is marked as remembering if it, or what it calls, remembers a variable
 pub record Remembering (w : Setting) (activities : Activities) : Type 0 where
   pub each : (i k : ℕ) (f m f' m' : Location) (x : ℕ) (var : Var) → Nests w activities i f m k f' m' →
       var_at (site_at w activities k) x ≡ Some var →
@@ -110,7 +110,7 @@ GuardsSimulate =
     (structs : List StructDef) (units : List UnitDef) (entry : ℕ) (machine : List InMachine) (activities : Activities) →
     RulesOwn (setting_of structs units entry) activities → GuardsChoose structs units entry machine activities
 
--- A block whose rule is due ends as the C of its node ends, and leaves what that leaves
+-- the block of a due rule ends as the C of its node ends, with the same memory
 abbrev pub BlocksChoose : Type 0
 BlocksChoose =
     (structs : List StructDef) (units : List UnitDef) (entry : ℕ) (machine : List InMachine) (activities : Activities) →

@@ -114,13 +114,13 @@ pub data InstancePoint (w : Setting) : ℕ → Tree → Bool → Deed → Node �
   -- a guard ends where its body has ended
   guard_ends : {i : ℕ} {s : Watch} {stood : Bool} →
       InstancePoint w i (Guard s Body stood Nil) true (deed i s.place Silent) (end_node stood s.label s.place) Nil
-  -- a `cobegin` ends where its branches are settled and so many have ended as are needed
+  -- a `cobegin` ends where its branches are settled and enough of them have ended
   joins : {i : ℕ} {s : Fork} {stood : Bool} {branches : Trees} → are_settled branches ≡ true → are_done branches ≡ true →
       InstancePoint w i (Par s stood branches) true (deed i s.place Silent) (join_node stood s.label s.place) Nil
 
 mutual
-  -- Turns w rank i c done n c': in one turn of the node n the tree c, which stands in the instance i, becomes c', and these deeds are done in
-  -- order. Where a `run` begins or goes on, the whole pass of the instance that it calls belongs to the turn, and its end, where its body ends
+  -- Turns w rank i c done n c': one turn of the node n leads from the tree c of the instance i to c', with these deeds in order. The whole pass of a callee
+  -- belongs to the turn of its `run`
   pub data Turns (w : Setting) (rank : ℕ → Node → ℕ) : ℕ → Tree → List AnsweredDeed → Node → Tree → Type 0 where
     point : {i : ℕ} {c : Tree} {d : Bool} {a : Deed} {n : Node} {c' : Tree} → InstancePoint w i c d a n c' → Turns w rank i c (did a d) n c'
     -- a `run` begins; its body does not end in the tick in which it begins

@@ -31,7 +31,7 @@ test_of s = TestAt s.label s.place s.test
 abbrev pub check_of : Watch → Node
 check_of s = CheckAt s.label s.place s.test
 
--- the node that acts where a block begins: its entry or, where nothing stands in it, the one that acts behind it
+-- the node that acts where a block begins: its entry, or the one behind an empty block
 abbrev pub first_in : Block → Option Node → Option Node
 first_in Done next = next
 first_in (Then s rest) next = Some (entry s)

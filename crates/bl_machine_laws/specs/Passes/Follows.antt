@@ -126,7 +126,7 @@ mutual
     later_traps : {i : ℕ} {weak : Bool} {c : Tree} {others : Trees} {store : Store} {n : Node} →
         OneTurnTraps w rank i others store n → OneTurnTraps w rank i (beside weak c others) store n
 
-  -- Fails w rank i k c store: such turns lead to one that traps
+  -- Fails w rank i k c store: turns of the instance from the number k on, each of the first waiting node, lead to one that traps
   pub data Fails (w : Setting) (rank : ℕ → Node → ℕ) : ℕ → ℕ → Tree → Store → Type 0 where
     breaks : {i k : ℕ} {c : Tree} {store : Store} {n : Node} → k ≤ rank i n → First rank i c n → TurnTraps w rank i c store n →
         Fails w rank i k c store

@@ -20,8 +20,8 @@ use Rattle.bl_ctree_laws.specs.Trees.{
 }
 
 abbrev mutual
-  -- each `run` in the tree that has its inputs has been passed: nothing is left to do in what it called, which hasn't ended. So it is in what
-  -- stands under a `run` whose inputs are still to be copied
+  -- each `run` in the tree that has its inputs has been passed: nothing is left to do in its callee, which hasn't ended. Inside of `run`s without their inputs
+  -- the same holds
   pub Steady : Tree → Type 0
   Steady Nil = ⊤
   Steady (Wait s) = ⊤

@@ -71,8 +71,8 @@ abbrev pub WaitsInPart : Type 0
 WaitsInPart =
     (w : Setting) (i : ℕ) (stood : Bool) (body : Block) (c : Tree) (n : Node) → FitsGraph w i c (whole stood body) → Waits c None n → In stood body n
 
--- what waits after a turn waited before it at another node, or control edges lead to it from the node that had the turn. So where numbers
--- rise along control edges no node waits again after its own turn
+-- what waits after a turn waited before it at another node, or control edges lead to it from the turn's node. With numbers that rise along control edges no
+-- node waits again after its turn
 abbrev pub TurnsLeadOn : Type 0
 TurnsLeadOn =
     (w : Setting) (rank : ℕ → Node → ℕ) (i : ℕ) (stood : Bool) (unit : UnitDef) (c : Tree) (done : List AnsweredDeed) (n : Node) (c' : Tree)

@@ -44,8 +44,8 @@ use Rattle.bl_ctree_laws.specs.Trees.{
 -- ---- what is left of a body
 
 abbrev mutual
-  -- BegunResidual w i s c: the statement has begun in the instance, and the tree, which has not ended, is what is left of it. After a turn of a loop
-  -- its test or the loop itself follows; a `run` has begun the instance of its place
+  -- BegunResidual w i s c: the statement has begun in the instance, has not ended, and leaves the tree. After a turn of a loop its test or the loop follows; a
+  -- `run` has begun the instance of its place
   pub BegunResidual : Setting → ℕ → Plain → Tree → Type 0
   BegunResidual w i (Act l s) c = ⊥
   BegunResidual w i (Await l at e) c = (c ≡ Wait (pause l at e)) ⊎ (c ≡ Test (pause l at e))
@@ -69,7 +69,7 @@ abbrev mutual
   InstanceResidualIn w i (Then s rest) after c = ((part : Tree) × ((part ≡ Do s) ⊎ BegunResidual w i s part) × (c ≡ followed part (before rest after)))
       ⊎ InstanceResidualIn w i rest after c
 
-  -- each branch has ended, or is left of its body
+  -- each branch has ended, or leaves the residual of its body
   pub InstanceResidualEach : Setting → ℕ → Bodies → Trees → Type 0
   InstanceResidualEach w i Last no_tree = ⊤
   InstanceResidualEach w i Last (beside weak c branches) = ⊥
@@ -77,7 +77,7 @@ abbrev mutual
   InstanceResidualEach w i (BodyOf weak body rest) (beside weak' c branches) =
       (weak ≡ weak') × ((c ≡ Nil) ⊎ InstanceResidualIn w i body Done c) × InstanceResidualEach w i rest branches
 
--- the statement is to begin, or the tree is what is left of it
+-- the statement is to begin, or the tree is its residual
 abbrev pub InstanceResidualOf : Setting → ℕ → Plain → Tree → Type 0
 InstanceResidualOf w i s c = (c ≡ Do s) ⊎ BegunResidual w i s c
 

@@ -11,7 +11,7 @@ use Rattle.bl_machine_pass.specs.SlotLayout.{SlotsAreDistinct}
 use Rattle.bl_machine_pass.specs.Numbered.{slots_of}
 use Rattle.bl_machine_pass_laws.specs.Slots.Branches.{EachBranches}
 
--- the places of a body whose numbers stand in a list are told apart by these, by labels
+-- the places of a body are distinguished by their numbers, found by labels, where a list of these has them
 abbrev pub NumbersAreDistinct : Type 0
 NumbersAreDistinct =
     (body : List Stmt) (list : List Slot) → Counters (plain_body body) list → EachBranches (plain_body body) →

@@ -66,12 +66,11 @@ abbrev mutual
   MarkEach number marks no_tree = ⊤
   MarkEach number marks (beside weak c branches) = Marked number marks c × MarkEach number marks branches
 
--- one holds exactly where the other does
+-- the test is true iff the proposition holds
 abbrev pub Exactly : Bool → Type 0 → Type 0
 Exactly test there = (test ≡ true → there) × (there → test ≡ true)
 
--- PassInvariant slots number body k c r: before the node with number k has its turn the registers tell how the tree c stands in the body. What is
--- passed below k doesn't matter any more
+-- PassInvariant slots number body k c r: the registers represent the tree c before the node number k has its turn; what lies below k no longer matters
 pub record PassInvariant (slots : Slots) (number : Node → ℕ) (body : Block) (k : ℕ) (c : Tree) (r : Registers) : Type 0 where
   -- each counter holds the number of the tree there
   pub counters : (j : ℕ) → r.counters j ≡ numbers_of slots c Over j

@@ -46,7 +46,7 @@ pub record Placed (slots : Slots) (body : Block) (c : Tree) : Type 0 where
   pub lies : Lies slots 0 c
   pub uses : UsesOnly slots (uses_in slots body) c
 
--- the rules of a body are those of its nodes, in their order; the body stands so as it begins, waking leaves that, and so does each turn
+-- the rules of a body are those of its nodes, in order. The tree with which a body begins is placed, and waking and turns keep that
 pub record StaysPlaced : Type 0 where
   pub nodes : (slots : Slots) (body : Block) → map (λ rule. rule.node) (rules slots body) ≡ nodes_in body
   pub begins : (slots : Slots) (body : Block) → SlotsAreDistinct slots body → Placed slots body (do_block body)
@@ -56,7 +56,7 @@ pub record StaysPlaced : Type 0 where
 
 -- ---- what a turn changes
 
--- a turn of an instance of a unit, with the rule of its node: the law of a turn has all this as its premise
+-- the premises of the laws of a turn: a turn of an instance of a unit, with the rule of its node
 pub record Turning (w : Setting) (rank : ℕ → Node → ℕ) (i : ℕ) (slots : Slots) (unit : UnitDef) (stood : Bool) (c : Tree) (n : Node) (rule : Transition) :
     Type 0 where
   pub paces : Paces w

@@ -56,7 +56,7 @@ pub record Around : Type 1 where
   pub spots : Spot → Type 0
   -- the nodes of the conditions of these `when`s
   pub checks : Node → Type 0
-  -- the numbers that each of them takes for those of its body, where the part rests at their counter
+  -- the numbers that these `when`s take for places of their bodies, where the part rests at their counter
   pub home : Slot → Type 0
 
 -- a part of the body that stands in none
@@ -83,7 +83,7 @@ AsksOf (Rested other) slot = ⊥
 AsksOf (RestedIn slots) slot = Contains slots slot
 AsksOf (Ended age needed) slot = ⊥
 
--- the place is one of the body, and its number is taken for one of its body by the `when`s around it, and by no others
+-- the place is one of the body, and only the `when`s around it ask for its number
 pub record Held (slots : Slots) (all : List Transition) (around : Around) (spot : Spot) : Type 0 where
   pub inside : around.spots spot
   pub home : around.home (slot_at slots spot)

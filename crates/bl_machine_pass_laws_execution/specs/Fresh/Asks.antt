@@ -97,8 +97,8 @@ declared_at (ActAt l s) = declared_in s
 declared_at _ = []
 
 abbrev mutual
-  -- Asks w i unit known c: what is left of the unit's body in the instance asks for none but these variables and those that it declares before;
-  -- and what is called asks for none but its locals
+  -- Asks w i unit known c: the residual of the unit's body asks only for known variables and those that it declares before, and callees ask only for their
+  -- locals
   pub Asks : Setting → ℕ → UnitDef → List ℕ → Tree → Type 0
   Asks w i unit known Nil = ⊤
   Asks w i unit known (Wait s) = are_known known (prevs_in_expr s.test) ≡ true
@@ -114,7 +114,7 @@ abbrev mutual
       × ((other : UnitDef) → unit_at w callee ≡ Some other →
       InputsFit (length s.arguments.inputs) other × Asks w callee other (locals other) c)
 
-  -- each branch does
+  -- each branch asks only for known variables and those that it declares before
   pub EachAsks : Setting → ℕ → UnitDef → List ℕ → Trees → Type 0
   EachAsks w i unit known no_tree = ⊤
   EachAsks w i unit known (beside weak c branches) = Asks w i unit known c × EachAsks w i unit known branches

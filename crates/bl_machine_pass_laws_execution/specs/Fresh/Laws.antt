@@ -83,7 +83,7 @@ pub record PointAsks (w : Setting) (i : ℕ) (unit : UnitDef) (known : List ℕ)
   -- the variables that the node declares are declared by the body
   pub bound : (x : ℕ) → IsAmongVariables (declared_at n) x → IsAmongVariables (locals unit) x
   pub next : (x : ℕ) → IsAmongVariables (next_declared c) x → IsAmongVariables (declared_at n) x
-  -- the next tree asks for them, and for what is declared
+  -- the next tree asks only for known variables and those that the node declares
   pub asks : Asks w i unit (declared_at n ++ known) c'
   -- no call becomes due in the next tree
   pub due : (j : ℕ) → DueIn w c' j → DueIn w c j

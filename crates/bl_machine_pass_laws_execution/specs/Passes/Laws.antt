@@ -72,7 +72,7 @@ pub record Executed (w : Setting) (rank : ℕ → Node → ℕ) (slots : ℕ →
   pub change : ChangeOnly (InCall w i) frames inner
   pub stands : FitsBody (slots i) (plain_body unit.body) c'
   pub standing : Standing w slots i unit stood inner c'
-  -- what is left asks for no other variables than those that its body declares
+  -- the next tree asks only for variables that the body declares
   pub asks : Asks w i unit (locals unit) c'
   pub framed : Framed w left
   pub leaves : InstanceChanges w i store left

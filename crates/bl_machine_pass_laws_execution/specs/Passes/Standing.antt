@@ -42,7 +42,7 @@ pub record Rested (w : Setting) (slots : ℕ → Slots) (i : ℕ) (unit : UnitDe
   pub settled : is_settled c ≡ true
   pub unended : is_nil c ≡ false
 
--- what a `run` has called: where its inputs are still to be copied that is woken, and rested before; else it stands in its body
+-- the tree of a callee is woken and rested before, if its inputs are still to be copied, and else stands in its body
 pub record Woken (w : Setting) (slots : ℕ → Slots) (i : ℕ) (c : Tree) : Type 0 where
   pub unit : UnitDef
   pub is : unit_at w i ≡ Some unit

@@ -15,7 +15,7 @@ use Rattle.bl_machine_pass_laws.specs.Turns.Invariant.{Exactly, IsJoin, Marked, 
 use Rattle.bl_machine_pass_laws.specs.Turns.Laws.{StaysPlaced, Turning, answer_of}
 use Rattle.bl_machine_pass_laws_turns.specs.Joins.Stems.{Stemmed}
 
--- the tree with which an instance begins is left of the body; waking leaves that, and so does each turn
+-- the tree with which an instance begins is left of its body, and waking and turns keep that
 pub record StaysStemmed : Type 0 where
   pub begins : (unit : UnitDef) → Stemmed (plain_body unit.body) (do_block (plain_body unit.body))
   pub wakes : (body : Block) (c : Tree) → Stemmed body c → Stemmed body (woken c)

@@ -52,8 +52,8 @@ OwnAll Rests Part Done = ⊤
 OwnAll Rests Part (Then s rest) = Own Rests Part s × OwnAll Rests Part rest
 
 abbrev mutual
-  -- Stems Rests Part c: the tree is left of statements of the part with these resting places. What stands in a branch of a `cobegin` is left
-  -- of the body of that branch, and what stands under a `when` is left of its body
+  -- Stems Rests Part c: the tree is the residual of statements of the part with these resting places. Branches and bodies of `when`s in it are residuals of
+  -- theirs
   pub Stems : (Spot → Type 0) → (Node → Type 0) → Tree → Type 0
   Stems Rests Part Nil = ⊤
   Stems Rests Part (Wait s) = Rests (RestOf s.label)
@@ -66,7 +66,7 @@ abbrev mutual
   Stems Rests Part (Guard s phase stood c) = Own Rests Part (watch_stmt s) × Stems Rests (Member (nodes_in s.body)) c
   Stems Rests Part (Run s callee phase stood c) = Rests (RestOf s.label)
 
-  -- each tree is left of its body
+  -- each tree is the residual of its body
   pub StemEach : (Spot → Type 0) → Bodies → Trees → Type 0
   StemEach Rests Last no_tree = ⊤
   StemEach Rests Last (beside weak c branches) = ⊥

@@ -88,7 +88,7 @@ fork_size fork = record { nodes = fork_nodes (fork_instant fork) + fork.nodes; p
 
 -- ---- changes
 
--- what a block does where it is entered, which may be empty, and whose first node has the position
+-- the change where a block is entered, whose first node has the position, if it isn't empty
 abbrev pub entered : Layout → Bool → ℕ → Change → Change
 entered layout true k next = next
 entered layout false k next = SetFlag (layout.number k)
@@ -100,7 +100,7 @@ fired layout k Reset empty ends next = entered layout empty k ends
 
 -- ---- counters that were found
 
--- the table tells of each of its counters, which begin with the low one, whether it was found
+-- the table says for each counter from the low one on whether it is among those found
 abbrev pub Seen : ℕ → List Bool → List ℕ → Type 0
 Seen low seen found = (j : ℕ) → j < length seen → slice_index_or seen j false ≡ list_any (nat_eq (low + j)) found
 

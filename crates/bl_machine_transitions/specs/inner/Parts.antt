@@ -126,7 +126,7 @@ abbrev pub ArmsListed : Layout → List ArmPart → Bool → ℕ → ℕ → ℕ
 ArmsListed layout arms bare k p node place next before after = (other : Part) → bare ≡ other.empty →
     after ++ other.rules layout node place next ≡ before ++ (chain arms other).rules layout k p next
 
--- no `if` of a program is without an arm; one would do its `else` part, whatever its condition
+-- the part of an `if`. No program has one without an arm, which would do its `else` part
 abbrev pub chosen : Place → List ArmPart → Part → Part
 chosen place [] other = choice (never place) other other
 chosen place (arm ∷ rest) other = chain (arm ∷ rest) other

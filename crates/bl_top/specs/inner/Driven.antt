@@ -36,7 +36,7 @@ abbrev pub MayHaveDriven : List StructDef → List UnitDef → ℕ → Plants �
 MayHaveDriven structs units entry plants ticks names = (plants.after ≡ plants.before)
     ⊎ ((parts : Parts) × ((driven : Driven) × ((how : Result (Unit {0}) DriveFault) × Drives structs units entry plants ticks names parts driven how)))
 
--- what was written of what is told, and the answer
+-- the text of a report was written, or a prefix where a write failed or memory was refused, with the answer for that
 pub data WritesReport (report : Report) (out : Output) (answer : Answer) : Type 0 where
   wrote : Appends out.before report.text.items out.after → answer.told.items ≡ report.told.items →
       answer.outcome.status ≡ status_at report.end → answer.outcome.line.items ≡ report.line.items → WritesReport report out answer

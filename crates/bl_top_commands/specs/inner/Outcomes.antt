@@ -40,7 +40,7 @@ lines_in answer = answer.told.items ++ line_in answer.outcome
 abbrev pub IsTold : Status → List ℕ → Outcome → Type 0
 IsTold ended line outcome = ((outcome.status ≡ ended) × (outcome.line.items ≡ line)) ⊎ (outcome.status ≡ status.NoMemory)
 
--- the outcome is that of a source that is refused so
+-- the outcome is that of a source that is refused for this reason
 abbrev pub IsRefusedBy : Refusal → Outcome → Type 0
 IsRefusedBy (refusal.Rule rule place also) outcome = IsTold status.Refused (refusal_line rule place also) outcome
 IsRefusedBy refusal.NoMemory outcome = outcome.status ≡ status.NoMemory

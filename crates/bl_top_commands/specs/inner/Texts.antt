@@ -19,7 +19,7 @@ pub record IsFileIn (text : List ℕ) (file : CFile) : Type 0 where
   pub spells : SpellsC file text
   pub placed : HasPlaces text file
 
--- the text that was left of a file does
+-- the text that was left of a file spells this C file, with its places
 pub record IsFileOf (left : Option (List ℕ)) (file : CFile) : Type 0 where
   pub text : List ℕ
   pub of_source : IsSource left text
