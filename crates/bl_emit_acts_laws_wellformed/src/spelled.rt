@@ -1,8 +1,7 @@
-//! Laws of the C of expressions and paths as a text: it has a spelling. None of these functions does anything: the contract is
-//! the law. What is made of an expression names what may be named, has literals in the range of their types and lengths that
-//! arrays may have, and at most two brackets more are open in it at once than twice as many as operators, casts, calls and
-//! indices stand inside one another in the expression (`specs/Spelled.antt`, `ExpressionsFit`); so with the place of a path
-//! (`PlacesFit`).
+//! Laws of the C of expressions and paths as a text: it has a spelling. What is made of an expression names what may be
+//! named, has literals in the range of their types and lengths that arrays may have, and at most two brackets more are
+//! open in it at once than twice as many as operators, casts, calls and indices stand inside one another in the
+//! expression (`specs/Spelled.antt`, `ExpressionsFit`); so with the place of a path (`PlacesFit`).
 
 ghost use Rattle.bl_emit_acts_laws_wellformed.specs.Spelled.{ExpressionsFit, PlacesFit};
 

@@ -1,9 +1,9 @@
-//! Laws of the C of functions. None of these functions does anything: the contract is the law. Where memory stands for the
-//! values of a function's variables (`specs/Bodies.antt`, `Represents`), the C of its statements traps exactly where they trap;
-//! else it goes on or returns as they do, with their number, leaves memory that stands for the values after them, and leaves
-//! all numbers as they were that belong to no variable that may be written and to no flag of theirs (`FlowSimulates`). The law
-//! asks that the earlier functions do in C what they do in the program, and that the pointers of the function lead to what
-//! keeps apart (`FunctionIsRunning`). `units` says so of whole functions.
+//! Laws of the C of functions. Where memory stands for the values of a function's variables (`specs/Bodies.antt`,
+//! `Represents`), the C of its statements traps exactly where they trap; else it goes on or returns as they do, with
+//! their number, leaves memory that stands for the values after them, and leaves all numbers as they were that belong
+//! to no variable that may be written and to no flag of theirs (`FlowSimulates`). The law asks that the earlier
+//! functions do in C what they do in the program, and that the pointers of the function lead to what keeps apart
+//! (`FunctionIsRunning`). `units` says so of whole functions.
 
 ghost use Rattle.bl_emit_functions_laws_simulation.specs.Bodies.{StatementsSimulate};
 

@@ -1,13 +1,14 @@
-//! Laws of the C functions of a program's functions, one behind the other. None of these functions does anything: the contract is
-//! the law. The C function of a unit calls functions of the prelude and those of the units that the unit calls alone, so it heads no
-//! longer chain of calls than the unit does (`specs/Files/Laws.antt`, `ChainsFollow`), and none of more than 100 where rule Frames
-//! doesn't fail (`ChainsShort`). A table that tells the chains of the earlier functions (`ChainsKnown`) still does so once the
-//! function of the next unit joins it (`ChainsGrow`). So no clause of a well-formed file fails in the C functions of a program's
-//! functions in order, no two of which have one name, where the structs of its types and those of its functions' variables stand
-//! before them (`specs/Files/List.antt`, `FunctionListsWellFormed`): what fails in a list that begins with them fails in what stands behind them.
-//! No two of the structs of variables have one name (`MemoriesStand`), and nothing fails in all these structs, which have what the
-//! functions need (`StructsPrecede`). Of a file that begins with these structs and functions the law asks only that neither rule
-//! Frames nor Cells fails, and that 64 bits hold the numbers in the functions' names (`FunctionFilesWellFormed`).
+//! Laws of the C functions of a program's functions, one behind the other. The C function of a unit calls functions of
+//! the prelude and those of the units that the unit calls alone, so it heads no longer chain of calls than the unit
+//! does (`specs/Files/Laws.antt`, `ChainsFollow`), and none of more than 100 where rule Frames doesn't fail
+//! (`ChainsShort`). A table that tells the chains of the earlier functions (`ChainsKnown`) still does so once the
+//! function of the next unit joins it (`ChainsGrow`). So no clause of a well-formed file fails in the C functions of a
+//! program's functions in order, no two of which have one name, where the structs of its types and those of its
+//! functions' variables stand before them (`specs/Files/List.antt`, `FunctionListsWellFormed`): what fails in a list
+//! that begins with them fails in what stands behind them. No two of the structs of variables have one name
+//! (`MemoriesStand`), and nothing fails in all these structs, which have what the functions need (`StructsPrecede`). Of
+//! a file that begins with these structs and functions the law asks only that neither rule Frames nor Cells fails, and
+//! that 64 bits hold the numbers in the functions' names (`FunctionFilesWellFormed`).
 
 ghost use Rattle.bl_emit_functions_laws_wellformed.specs.Files.Laws.{ChainsFollow, ChainsGrow, ChainsShort};
 ghost use Rattle.bl_emit_functions_laws_wellformed.specs.Files.List.{FunctionFilesWellFormed, FunctionListsWellFormed, MemoriesStand, StructsPrecede};

@@ -1,7 +1,8 @@
-//! Laws of the C functions of all units of a program, one behind the other. None of these functions does anything: the contract is the
-//! law. `activities_of` (`specs/Tables/Tables.antt`) tells what the C of each activity is made of, as the machine has it (`ActivitiesBuilt`). The
-//! table of the C functions of all units knows them all, each over those before it (`TablesKnowAll`). The file that is written has those
-//! functions of the units that are needed, in the same order, and then those of its interface (`WrittenIsKept`).
+//! Laws of the C functions of all units of a program, one behind the other. `activities_of`
+//! (`specs/Tables/Tables.antt`) tells what the C of each activity is made of, as the machine has it
+//! (`ActivitiesBuilt`). The table of the C functions of all units knows them all, each over those before it
+//! (`TablesKnowAll`). The file that is written has those functions of the units that are needed, in the same order, and
+//! then those of its interface (`WrittenIsKept`).
 
 ghost use Rattle.bl_emit_spec_laws.specs.Tables.Laws.{ActivitiesBuilt, TablesKnowAll, WrittenIsKept};
 

@@ -1,7 +1,7 @@
-//! Laws of the C structs of a program. None of these functions does anything: the contract is the law. No two of the structs
-//! have one name (`specs/Names.antt`, `NamesDiffer`), nor have two members of one (`MembersDiffer`). Each member is of a
-//! scalar type or of a struct that stands before (`UsesEarlier`), and where the type of a variable is a struct in C, this is
-//! among them (`TypesDeclared`). Types that differ have different names (`TypesApart`).
+//! Laws of the C structs of a program. No two of the structs have one name (`specs/Names.antt`, `NamesDiffer`), nor
+//! have two members of one (`MembersDiffer`). Each member is of a scalar type or of a struct that stands before
+//! (`UsesEarlier`), and where the type of a variable is a struct in C, this is among them (`TypesDeclared`). Types that
+//! differ have different names (`TypesApart`).
 
 ghost use Rattle.bl_emit_structs_laws_wellformed.specs.Names.{MembersDiffer, NamesDiffer, TypesApart, TypesDeclared, UsesEarlier};
 
