@@ -1,8 +1,9 @@
-//! What the rules of an activity's body ask and change is told by registers that its C function has. There is no code here. Laws, as
-//! contracts of functions that do nothing (`specs/Own.antt`): the number of each resting place is a value of one of the counters
-//! (`PlacesCount`), and so are the counters that C copies (`CopiesAreCounters`, `CopiesAreRead`); all that a rule changes is a register
-//! (`ChangesAreOwn`), and so is all that it asks; the numbers at which the body of a `when` rests follow one another (`AskedAreOwn`).
-//! And the numbers of registers are small where there are few enough nodes and counters (`RegistersAreFew`).
+//! What the rules of an activity's body ask and change is told by registers that its C function has. Lemmas only
+//! (`specs/Own.antt`): the number of each resting place is a value of one of the counters (`PlacesCount`), and so are
+//! the counters that C copies (`CopiesAreCounters`, `CopiesAreRead`); all that a rule changes is a register
+//! (`ChangesAreOwn`), and so is all that it asks; the numbers at which the body of a `when` rests follow one another
+//! (`AskedAreOwn`). And the numbers of registers are small where there are few enough nodes and counters
+//! (`RegistersAreFew`).
 
 ghost use Rattle.bl_emit_spec_laws.specs.Own.{AskedAreOwn, ChangesAreOwn, CopiesAreCounters, CopiesAreRead, PlacesCount, RegistersAreFew};
 

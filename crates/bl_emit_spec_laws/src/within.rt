@@ -1,7 +1,7 @@
-//! Counters stay within the values that they may have. There is no code here. A law, as the contract of a function that does nothing:
-//! where no counter of an instance holds more than its greatest value, none does in the registers with which a pass begins, and in a compiled
-//! program none comes to hold more by what changes once a node has had its turn, by what is done at a node, by a whole pass, or
-//! by what the start of a `run` clears (`specs/Within.antt`).
+//! Counters stay within the values that they may have. One lemma: where no counter of an instance holds more than its
+//! greatest value, none does in the registers with which a pass begins, and in a compiled program none comes to hold
+//! more by what changes once a node has had its turn, by what is done at a node, by a whole pass, or by what the start
+//! of a `run` clears (`specs/Within.antt`).
 
 ghost use Rattle.bl_emit_spec_laws.specs.Within.{AllStayWithin};
 

@@ -1,6 +1,6 @@
-//! What the call that a `run` makes leaves. There is no code here. A law, as the contract of a function that does nothing: in the middle of a
-//! pass, once the C function of the called activity has done what a pass of its instance does, memory stands for the caller again, with the
-//! variables, counters and results that the pass left; nothing was written that the caller's function may not write; and the locals of the
+//! What the call that a `run` makes leaves. One lemma: in the middle of a pass, once the C function of the called
+//! activity has done what a pass of its instance does, memory stands for the caller again, with the variables, counters
+//! and results that the pass left; nothing was written that the caller's function may not write; and the locals of the
 //! `run` tell whether the called body has ended, and with which result (`specs/Leaves.antt`, `AllRunsLeave`).
 
 ghost use Rattle.bl_emit_spec_laws_simulation.specs.Leaves.{AllRunsLeave};

@@ -1,5 +1,5 @@
-//! The structs of the C file of an accepted program. Laws, as contracts of functions that do nothing. The structs of the units that the
-//! entry needs use those before them alone, and no two have one name (`specs/Structs/Laws.antt`, `PartsAreSound`). No clause of a
+//! The structs of the C file of an accepted program. Lemmas only. The structs of the units that the entry needs use
+//! those before them alone, and no two have one name (`specs/Structs/Laws.antt`, `PartsAreSound`). No clause of a
 //! well-formed file fails in the structs of the whole file, and each is declared (`FilesDeclare`).
 
 ghost use Rattle.bl_emit_spec_laws_wellformed_bodies.specs.Structs.Laws.{FilesDeclare, PartsAreSound};
