@@ -3,7 +3,7 @@ use Rattle.std.specs.Prelude.{ℕ, ℤ, List, [], ◌∷◌, Option, Some, None}
 use Rattle.bl_ctext_semantics.specs.Parts.{Parts}
 use Rattle.bl_ctext_semantics.specs.Trace.{Reply, TickOfFile, ended, row, start_c, tick_c, trapped}
 
--- what one tick does, by the numbers of the cells before it and a row of inputs
+-- the meaning of one tick, by the numbers of the cells before it and a row of inputs
 abbrev pub Ticking : Type 0
 Ticking = List ℤ → List ℤ → TickOfFile
 
@@ -13,7 +13,7 @@ counts_if row rest = rest
 counts_if ended rest = []
 counts_if trapped rest = []
 
--- the counts of the ticks of rows from these numbers of the cells: one that ends the run or traps is the last, and is counted
+-- the counts of the ticks over rows from these numbers of the cells. A tick that ends the run or traps is the last, and is counted
 abbrev pub counts_from : Ticking → List (List ℤ) → List ℤ → List ℕ
 counts_from tick [] cells = []
 counts_from tick (ins ∷ rest) cells =

@@ -217,7 +217,7 @@ named own (one_of group) = one_of group
 named own a_name = a_name
 named own (number of) = number of
 
--- what stands in a production, where so many brackets may still be opened around it and this is the name of the loop's turns
+-- the symbol of a production's shape, with the brackets that may still be opened and the name of the loop's turns
 abbrev pub placed : ℕ → Token → Shape → Wanted
 placed room own (Terminal class) = Terminal (named own class)
 placed room own (Nonterminal within) = Nonterminal (record { part = within.part; room = room - within.around })
@@ -227,7 +227,7 @@ pub data IsAmong (production : Production) : List Production → Type 0 where
   here : {others : List Production} → IsAmong production (production ∷ others)
   later : {other : Production} {others : List Production} → IsAmong production others → IsAmong production (other ∷ others)
 
--- the part may stand for these classes and parts
+-- the part derives these classes and parts
 pub record Produces (whole : Roomed) (next : Option Token) (wanted : List Wanted) : Type 0 where
   pub production : Production
   pub is_one : IsAmong production (productions whole.part)
@@ -236,7 +236,7 @@ pub record Produces (whole : Roomed) (next : Option Token) (wanted : List Wanted
   pub is_turn : is_turn_name name ≡ true
   pub made : wanted ≡ map (placed whole.room name) production.shapes
 
--- the classes and parts stand for the pieces up to these that are left
+-- the classes and parts derive the pieces up to those that are left
 abbrev pub CDerives : List Wanted → List Token → List Token → Type 0
 CDerives wanted pieces left = Derivations.Derives Produces matches wanted pieces left
 

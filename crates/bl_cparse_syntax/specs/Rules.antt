@@ -4,11 +4,11 @@ use Rattle.bl_ctext.specs.Token.{Token, is_blank}
 use Rattle.bl_cparse_syntax.specs.Pieces.{pieces}
 use Rattle.bl_cparse_syntax.specs.Grammar.{SpellText}
 
--- some pieces can follow these so that all of them spell a text
+-- the pieces begin a text: some further pieces complete them
 abbrev pub BeginsText : List Token → Type 0
 BeginsText front = (more : List Token) × SpellText (front ++ more)
 
--- what stands in the text from an offset on spells a text of the subset
+-- the text from an offset on is a text of the subset
 abbrev pub Passes : List ℕ → ℕ → Type 0
 Passes text start = SpellText (pieces (drop start text))
 

@@ -73,7 +73,7 @@ after_tick r ins = record { parts = r.parts; cells = (tick_at r ins).cells; read
 abbrev pub outputs_after : Running → List ℤ → List ℤ → List ℤ
 outputs_after r ins before = unless_trapped (answer_of (reply_at r ins)) (tick_at r ins).outputs before
 
--- a number of statements that 128 bits can't hold is told as the greatest that they can
+-- the count of statements of a tick, at most the greatest number that 128 bits hold
 abbrev pub count_after : Running → List ℤ → ℕ
 count_after r ins = min (tick_at r ins).count (2 ^ 128 - 1)
 

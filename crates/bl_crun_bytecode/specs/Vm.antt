@@ -31,7 +31,7 @@ use Rattle.bl_crun_bytecode.specs.declared.instruction.Callee.{Callee}
 use Rattle.bl_crun_bytecode.specs.declared.instruction.Instruction.{Instruction}
 use Rattle.bl_crun_bytecode.specs.declared.instruction.Instruction.TheVariants as ins
 
--- a function that waits for one that it called: where it goes on, the base of its frame, and what stands on its stack
+-- a function that waits for its callee: where it goes on, the base of its frame, and its stack
 pub record Waiting : Type 0 where
   pub back : ℕ
   pub base : ℕ
@@ -47,7 +47,7 @@ pub record VmState : Type 0 where
   pub waiting : List Waiting
   pub count : ℕ
 
--- what a step comes to
+-- the result of a step
 pub data StepResult : Type 0 where
   goes : VmState → StepResult
   -- the first function has returned a number
@@ -149,7 +149,7 @@ step code s = step_at s (slice_get code s.at)
 
 -- ---- runs
 
--- how much room there is: for the numbers on all stacks, and for functions that wait; and how many cells there are
+-- the room of a machine: for numbers on all stacks, for waiting functions, and for cells
 pub record Room : Type 0 where
   pub numbers : ℕ
   pub calls : ℕ

@@ -24,18 +24,18 @@ bits_types = (codes "b8", Bits W8) ∷ (codes "b16", Bits W16) ∷ (codes "b32",
 abbrev pub Operations : Type 0
 Operations = List (List ℕ × (Scalar → Builtin))
 
--- what there is for every type
+-- the operations for every type
 abbrev pub for_all : Operations
 for_all =
     (codes "add", λ t. Two Add t) ∷ (codes "sub", λ t. Two Sub t) ∷ (codes "mul", λ t. Two Mul t) ∷ (codes "div", λ t. Two Div t)
     ∷ (codes "rem", λ t. Two Rem t) ∷
     (codes "of_s", λ t. Cast true t) ∷ (codes "of_u", λ t. Cast false t) ∷ []
 
--- what there is for types with a sign and for those of binary digits
+-- the operations for signed types and for those of binary digits
 abbrev pub for_signs : Operations
 for_signs = (codes "neg", λ t. One Minus t) ∷ []
 
--- what there is for binary digits alone
+-- the operations for binary digits alone
 abbrev pub for_bits : Operations
 for_bits =
     (codes "not", λ t. One BitNot t) ∷ (codes "and", λ t. Two BitAnd t) ∷ (codes "or", λ t. Two BitOr t) ∷ (codes "xor", λ t. Two BitXor t) ∷

@@ -49,7 +49,7 @@ use Rattle.bl_ctext.specs.Folds.{EachIs}
 use Rattle.bl_ctext.specs.Names.{is_name, is_struct_name, is_function_name, is_callee, is_turn_name}
 use Rattle.bl_ctext.specs.Spelling.{negatives, tokens_of}
 
--- a type other than bits
+-- whether C has the type: any but bits
 abbrev pub is_c_scalar : Scalar → Bool
 is_c_scalar (scalar.Bits w) = false
 is_c_scalar _ = true
@@ -107,7 +107,7 @@ is_expr_kind (CExprKind-F.Two o left right) = is_c_operator o && (left && right)
 abbrev pub is_call : EachIs Bool CCall-F → Bool
 is_call c = is_callee c.name && all_of c.args
 
--- an expression has a spelling where its form has one
+-- whether an expression has a spelling: its form has one
 abbrev pub is_expr : EachIs Bool CExpr-F → Bool
 is_expr e = e.what
 
@@ -156,7 +156,7 @@ abbrev pub spells_result : Option CExpr → Bool
 spells_result None = true
 spells_result (Some e) = spells_expr e
 
--- all of a block that may be absent
+-- whether each part of an optional block has a spelling
 abbrev pub all_if_any : Option (List Bool) → Bool
 all_if_any None = true
 all_if_any (Some answers) = all_of answers
@@ -197,7 +197,7 @@ spells_length (Some n) = is_length n
 abbrev pub spells_member : CMember → Bool
 spells_member m = spells_type m.ty && (is_name m.name && spells_length m.length)
 
--- a struct has a member
+-- whether a struct has a spelling: its name is one, it has a member, and all members have spellings
 abbrev pub spells_struct : CStruct → Bool
 spells_struct s = is_struct_name s.name && (has_any s.members && all_of (map spells_member s.members))
 
@@ -239,7 +239,7 @@ abbrev pub most_open : ℕ → List Token → ℕ
 most_open n [] = n
 most_open n (token ∷ tokens) = max n (most_open (open_behind n token) tokens)
 
--- at most 2,000 brackets are open at once
+-- whether at most 2,000 brackets are open at once
 abbrev pub shallow : List CStruct → List CFunc → Bool
 shallow structs funcs = nat_le (most_open 0 (tokens_of structs funcs)) 2000
 

@@ -8,7 +8,7 @@ use Rattle.bl_ctext_semantics.specs.Course.{End, breaks, goes_on, returns, traps
 use Rattle.bl_ctext_semantics.specs.Meaning.{Scope, block_c}
 use Rattle.bl_ctext_semantics.specs.Faults.{WellFormed}
 
--- a body ends by a trap or a `return`, or, in a function without a result, by its last statement; never by a `break`
+-- an end that a body with this result may have: a trap, a `return` or, without a result, the last statement; never `break`
 abbrev pub EndsAs : Option Scalar → End → Type 0
 EndsAs result traps = Unit {0}
 EndsAs result (returns n) = Unit {0}

@@ -59,7 +59,7 @@ use Rattle.bl_ctext_semantics.specs.Loops.{turns_in_block}
 
 -- ---- what can fail, and where
 
--- what a well-formed file keeps
+-- the clauses of well-formed files
 pub data Clause : Type 0 where
   -- structs, functions, the members of a struct, the parameters and locals of a function, and what counts the turns of its loops have different names
   distinct_names : Clause
@@ -256,7 +256,7 @@ Judges A = Context → Place → A
 abbrev pub StepJudgement : Type 0
 StepJudgement = Context → Place → Option CType → Judged
 
--- a part of an expression, where each part within it is judged so
+-- the judgement of an open part, where each part within it is judged
 abbrev pub Judging : OpenPart → Type 0
 Judging Of = Of (Judges JudgedArg) (Judges Judged) (Judges JudgedCall) (Context → Judged) (Judges JudgedIndex) (Judges JudgedPlace) StepJudgement
 
@@ -277,7 +277,7 @@ fit_each widens (p ∷ ps) (a ∷ rest) = fits_arg widens p a && fit_each widens
 fit_each widens [] (a ∷ rest) = false
 fit_each widens (p ∷ ps) [] = false
 
--- whether a call's arguments are those that a function wants
+-- whether the arguments of a call suit its function
 abbrev pub fit_args : Option Signature → List JudgedArg → Bool
 fit_args None args = true
 fit_args (Some s) args = fit_each s.widens s.params args
@@ -352,14 +352,14 @@ judge_index index context place =
     let i : Judged = index.at context in
     record { length = index.length; faults = i.faults ++ unless (if_typed i.ty (indexes index.signed)) indices place }
 
--- the type of a variable or of what a pointer leads to, used in the one way or the other
+-- the type of a variable, or of what a pointer leads to, used as the one or the other
 abbrev pub judge_root : Option Variable → Bool → Place → Judged
 judge_root None through place = record { ty = None; faults = unless false declared_before place }
 judge_root (Some v) through place =
     let right : Bool = if v.pointer then through else not through in
     record { ty = if right then Some v.ty else None; faults = unless right pointer_use place }
 
--- the steps of a place, each into the type before it
+-- the judgement of a place's steps, each into the type before it
 abbrev pub judge_steps : List StepJudgement → StepJudgement
 judge_steps [] context place ty = record { ty = ty; faults = [] }
 judge_steps (step ∷ steps) context place ty =
@@ -367,7 +367,7 @@ judge_steps (step ∷ steps) context place ty =
     let last : Judged = judge_steps steps context place first.ty in
     record { ty = last.ty; faults = first.faults ++ last.faults }
 
--- a place: the variable that it begins with is used in the right way, and each step suits the type before it
+-- the judgement of a place: its variable is used in the right way, and each step suits the type before it
 abbrev pub judge_place : Judging CPlace-F → Judges JudgedPlace
 judge_place target context place =
     let root : Judged = judge_root (context.variables target.name) target.through place in
@@ -390,7 +390,7 @@ abbrev pub member_of : Context → CType → Text → Option CMember
 member_of context (OfScalar s) name = None
 member_of context (OfStruct struct) name = option_and_then (λ members. members name) (context.structs struct)
 
--- a step into a type, where nothing is known of what comes after no type
+-- the judgement of a step into a type; without a type nothing fails
 abbrev pub judge_into : Context → Text → Option ℕ → Place → Option CType → Judged
 judge_into context name length place None = record { ty = None; faults = [] }
 judge_into context name length place (Some ty) = judge_member (member_of context ty name) length place

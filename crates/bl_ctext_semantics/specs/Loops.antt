@@ -21,7 +21,7 @@ stmt_kind_turns (CStmtKind-F.If condition block other) place = joined block ++ t
 stmt_kind_turns (CStmtKind-F.Loop turn condition body) place = (turn, place) ∷ joined body
 stmt_kind_turns _ place = []
 
--- the loops of a statement count as those of its form, a loop at the statement's place
+-- the loop counters of a statement are those of its form, a loop at the statement's place
 abbrev pub stmt_turns_step : CStmt-F (Place → LoopCounters) LoopCounters → LoopCounters
 stmt_turns_step stmt = stmt.what stmt.place
 

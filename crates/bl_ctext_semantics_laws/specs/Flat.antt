@@ -55,7 +55,7 @@ Cells = List ℤ
 
 -- ---- answers
 
--- what an evaluation leaves: the cells, how many statements the functions that it called executed, and its answer, none where it traps
+-- the result of an evaluation: the cells, the count of statements of called functions, and its answer, none where it traps
 pub record FlatAnswer (A : Type 0) : Type 0 where
   pub cells : Cells
   pub count : ℕ
@@ -69,12 +69,12 @@ flat_answer cells answer = record { cells = cells; count = 0; answer = answer }
 abbrev pub more : {A : Type 0} → ℕ → FlatAnswer A → FlatAnswer A
 more n l = record { cells = l.cells; count = n + l.count; answer = l.answer }
 
--- what comes after n statements and this answer; nothing comes after a trap
+-- the evaluation after n statements and this answer; nothing follows a trap
 abbrev pub going_on : {A B : Type 0} → Cells → ℕ → Option A → (Cells → A → FlatAnswer B) → FlatAnswer B
 going_on cells n None rest = record { cells = cells; count = n; answer = None }
 going_on cells n (Some a) rest = more n (rest cells a)
 
--- one evaluation, and then another with its answer
+-- one evaluation followed by another that uses its answer
 abbrev pub next : {A B : Type 0} → FlatAnswer A → (Cells → A → FlatAnswer B) → FlatAnswer B
 next first rest = going_on first.cells first.count first.answer rest
 
@@ -84,7 +84,7 @@ next first rest = going_on first.cells first.count first.answer rest
 abbrev pub Evaluates : Type 0 → Type 0
 Evaluates A = ℕ → Cells → FlatAnswer A
 
--- what a function does whose frame begins at this base, with these arguments: its result, 0 where it has none
+-- the meaning of a function whose frame begins at this base, with these arguments: its result, 0 where it has none
 abbrev pub Routine : Type 0
 Routine = ℕ → List ℤ → Cells → FlatAnswer ℤ
 
@@ -206,7 +206,7 @@ abbrev pub call_step : Evaluating CCall-F → Grounded (Evaluates ℤ)
 call_step call here base cells =
     next (each_of (map (λ arg. arg here) call.args) base cells) (λ after args. called here call.name base args after)
 
--- an expression has the value of its form
+-- the value of an expression is that of its form
 abbrev pub expr_step : Evaluating CExpr-F → Grounded (Evaluates ℤ)
 expr_step expr = expr.what
 
@@ -240,7 +240,7 @@ call_flat = fold-CCall _ _ _ _ _ _ _ arg_step kind_step call_step expr_step inde
 
 -- ---- statements
 
--- what a statement does, where these things are known, in a frame with this base, over the cells
+-- the meaning of a statement: its effect in a frame with this base, over the cells
 abbrev pub FlatStmtMeaning : Type 0
 FlatStmtMeaning = Ground Routine → ℕ → Cells → Outcome Cells
 
@@ -248,7 +248,7 @@ FlatStmtMeaning = Ground Routine → ℕ → Cells → Outcome Cells
 abbrev pub block_of : List FlatStmtMeaning → FlatStmtMeaning
 block_of block here base = in_order (map (λ runs. runs here base) block)
 
--- a statement that first evaluates something, and traps where that traps; it counts so many of its own
+-- the outcome of a statement that first evaluates something, and traps where that traps; it counts n statements of its own
 abbrev pub executed : {A : Type 0} → ℕ → FlatAnswer A → (Cells → A → Outcome Cells) → Outcome Cells
 executed own evaluated rest = ended_by evaluated.cells (own + evaluated.count) evaluated.answer (rest evaluated.cells)
 
@@ -257,7 +257,7 @@ abbrev pub copied : ℕ → ℕ → ℕ → Cells → Cells
 copied size from at cells =
     if nat_le (from + size) (length cells) && nat_le (at + size) (length cells) then copy_within cells from (from + size) at else cells
 
--- a value is written at a place of a type: a number, or a copy of the struct that begins at a cell
+-- the cells after a value is written at a place of a type: a number, or a copy of the struct at a cell
 abbrev pub written_at : Sizes → Option CType → ℕ → ℤ → Cells → Cells
 written_at known (Some (OfStruct name)) at value cells = copied (entry_or 0 known name) (cell_number value) at cells
 written_at known _ at value cells = slice_set cells at value
@@ -289,11 +289,11 @@ stmt_kind_step (CStmtKind-F.Return None) here base cells = record { memory = cel
 stmt_kind_step (CStmtKind-F.Return (Some expr)) here base cells =
     executed 1 (value_flat expr here base cells) (λ c v. ending (returns v) c)
 
--- a statement does what its form does
+-- the effect of a statement is that of its form
 abbrev pub stmt_step : CStmt-F FlatStmtMeaning FlatStmtMeaning → FlatStmtMeaning
 stmt_step stmt = stmt.what
 
--- what a statement does
+-- the effect of a statement
 abbrev pub runs_flat : CStmt → FlatStmtMeaning
 runs_flat = fold-CStmt FlatStmtMeaning FlatStmtMeaning stmt_kind_step stmt_step
 
@@ -321,7 +321,7 @@ abbrev pub ground_of : Sizes → Layouts → Table Routine → CFunc → Ground 
 ground_of known structs earlier function =
     record { sizes = known; structs = structs; known = earlier; slots = slots_of known function; frame = frame_cells known function }
 
--- what a function does where the earlier ones are known
+-- the routine of a function over the earlier ones
 abbrev pub routine_flat : Sizes → Layouts → Table Routine → CFunc → Routine
 routine_flat known structs earlier function base args cells =
     ended_as (block_flat function.body (ground_of known structs earlier function) base (frame_begun (frame_cells known function) base args cells))

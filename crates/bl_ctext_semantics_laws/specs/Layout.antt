@@ -13,7 +13,7 @@ use Rattle.bl_ctext_semantics.specs.Sizes.{Sizes, size_of_member, size_of_param,
 
 -- ---- numbers of cells. A file that runs has far fewer than 2 to the 32; types that nothing has may be larger, and are told as that large
 
--- a number of cells, of which 4294967295 is the largest that is told
+-- a number of cells, at most 4294967295
 abbrev pub capped : ℕ → ℕ
 capped n = min n 4294967295
 

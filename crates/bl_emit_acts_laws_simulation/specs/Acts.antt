@@ -27,7 +27,7 @@ use Rattle.bl_emit_acts_laws_simulation.specs.Simulation.{ArgumentsEncoded}
 abbrev pub lies_in : Location → Root → List Projection → Bool
 lies_in place root way = same_root place.root root && is_some (left_after place.parts way)
 
--- the numbers that are there and lie in none of the places are as they were
+-- numbers of memory that are allocated and lie in none of the places are unchanged
 pub record UnchangedOutside (depth : ℕ) (places : List Location) (here after : Memory) : Type 0 where
   pub each : (root : Root) (way : List Projection) → is_live depth root ≡ true → list_any (λ place. lies_in place root way) places ≡ false →
       after root way ≡ here root way
@@ -62,7 +62,7 @@ copied_in_layer copied (StmtKind-F.Assign path e) = copied_in_path copied path &
 copied_in_layer copied (StmtKind-F.Call f inputs outputs) = all_of (map (copied_in copied) inputs) && all_of (map (copied_in_path copied) outputs)
 copied_in_layer copied _ = true
 
--- a declared variable had before what it has now
+-- the earlier value of a declared variable is its current one
 abbrev pub remembered : ℕ → List Value → List Value → List Value
 remembered k now before = unwrap_or (option_map (slice_set before k) (slice_get now k)) before
 
@@ -73,7 +73,7 @@ before_after _ now before = before
 
 -- ---- what an act leaves
 
--- a number of memory that is there and belongs to no variable of the unit that may be written, and to no copy of one
+-- a number of memory that is allocated and belongs to no variable of the unit that may be written, nor to a copy
 pub record Foreign (site : TypingContext) (copied : ℕ → Bool) (scope : Scope) (root : Root) (way : List Projection) : Type 0 where
   pub live : is_live scope.depth root ≡ true
   pub variables : (k : ℕ) (var : Var) → var_at site k ≡ Some var → is_input var.role ≡ false
@@ -120,7 +120,7 @@ abbrev pub all_apart : List Location → Bool
 all_apart [] = true
 all_apart (place ∷ rest) = list_all (are_apart place) rest && all_apart rest
 
--- places that a call may hand over for outputs: they have nothing in common with one another or with the inputs', and are there
+-- a call may hand over the places for outputs: they are allocated, and apart from each other and from the inputs
 pub record MayPass (depth : ℕ) (inputs : List ArgumentValue) (outputs : List Location) : Type 0 where
   pub apart : all_apart outputs ≡ true
   pub inputs_apart : list_all (λ output. list_all (are_apart output) (places_in_args inputs)) outputs ≡ true

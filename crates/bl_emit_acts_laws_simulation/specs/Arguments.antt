@@ -34,7 +34,7 @@ argument_c = fold-CArg _ _ _ _ _ _ _ arg_step kind_step call_step expr_step inde
 abbrev pub arguments_c : List CArg → Scope → Memory → Option (List ArgumentValue)
 arguments_c args scope here = (each_of (map argument_c args) scope here).answer
 
--- the place is that of the part of a variable that lies at a static path, where this value is
+-- the place is that of the part of a variable at a static path, which has this value
 pub record OutputLeads (site : TypingContext) (now : List Value) (scope : Scope) (static : Static) (value : Value) (place : Location) : Type 0 where
   pub var : Var
   pub is_there : var_at site static.root ≡ Some var
@@ -52,8 +52,8 @@ OutputsLead site now scope _ _ _ = ⊥
 abbrev pub ApartFromVariables : TypingContext → Scope → Location → Type 0
 ApartFromVariables site scope place = (k : ℕ) (var : Var) → var_at site k ≡ Some var → are_apart place (location_in scope site k []) ≡ true
 
--- The arguments of a call, once they are evaluated: those of inputs, which have these values, and the places of outputs. Each place of an output is
--- where its path leads, and has the value that is there; a call may hand them over. All places among the arguments are in variables
+-- the evaluated arguments of a call: inputs with these values, and the places of outputs. Each place of an output is where its path leads and has the value
+-- there. A call may hand them over, and all places among the arguments are in variables
 pub record ArgumentsGiven (structs : List StructDef) (site : TypingContext) (view : View) (scope : Scope) (here : Memory) (ins outs : List Var)
     (paths : List Path) (values : List Value) (answer : Option (List ArgumentValue)) : Type 0 where
   pub inputs : List ArgumentValue

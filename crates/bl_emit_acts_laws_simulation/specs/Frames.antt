@@ -23,8 +23,8 @@ lent_at scope k = start_of scope true (variable_name k)
 abbrev pub remembered_at : Scope → Location
 remembered_at scope = start_of scope true (codes "m")
 
--- The pointers of a unit lead to what was there before it began; of these the one to what an activity remembers matters only where it remembers a
--- variable. Where one leads that is written through has nothing in common with where any other leads
+-- a unit's pointers are valid: they lead to older memory, and those that are written through are apart from all others. That to remembered variables counts
+-- only if there are any
 pub record PointersAreValid (site : TypingContext) (scope : Scope) : Type 0 where
   pub few : length site.vars ≤ 2 ^ 64
   pub lent_older : (k : ℕ) (var : Var) → var_at site k ≡ Some var → home_at site k ≡ Lent → is_older scope.depth (lent_at scope k).root ≡ true

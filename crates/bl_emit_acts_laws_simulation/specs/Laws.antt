@@ -57,7 +57,7 @@ ExpressionsSimulate structs units entry =
     Beside structs units k unit view copied scope here → type_of (site_of structs (take k units) unit) e ≡ Some ty → copied_in copied e ≡ true →
     ExpressionSimulates structs ty scope here (made_of (site_of structs (take k units) unit) e) (meaning_of (scope_of (site_of structs (take k units) unit)) e view)
 
--- the place of a path leads where the path leads
+-- the place of a path simulates the path
 abbrev pub PlacesSimulate : List StructDef → List UnitDef → ℕ → Type 0
 PlacesSimulate structs units entry =
     (k : ℕ) (unit : UnitDef) (path : Path) (ty : Ty) (view : View) (copied : ℕ → Bool) (scope : Scope) (here : Memory) → IsWellTyped structs units entry →
@@ -108,7 +108,7 @@ CopiesBegin =
     → (var : Var) × (var_at site k ≡ Some var) × (copied k ≡ true)) →
     ((block_c (map (c_copied site) ks) scope here).end ≡ goes_on) × BegunWith site scope here now ks (block_c (map (c_copied site) ks) scope here).memory
 
--- what overlaps in the arguments of an act
+-- the overlaps in the arguments of an act
 abbrev pub overlaps_in : {A B C D : Type 0} → StmtKind-F A B C D → List Aliased
 overlaps_in (StmtKind-F.Call f inputs outputs) = aliases_of None inputs outputs
 overlaps_in _ = []

@@ -146,8 +146,8 @@ pub record MayRun (structs : List StructDef) (units : List UnitDef) (k : ℕ) (u
   pub procedures : ProceduresAgree structs (take k units) (callees_of structs (take k units))
       (scope_begun known (function_code structs (take k units) unit) depth passed)
 
--- A call of the C function of a function without a result traps exactly where the function does. Else it leaves the function's outputs at their
--- places, and all else as it was that was there before the call
+-- a call of the C function of a function without a result traps iff the function does. Otherwise it leaves the function's outputs at their places, and all
+-- older memory else unchanged
 abbrev pub ProceduresSimulate : List StructDef → List UnitDef → ℕ → Type 0
 ProceduresSimulate structs units entry =
     (k : ℕ) (unit : UnitDef) (known : Table Meaning) (depth : ℕ) (values given : List Value) (passed : List ArgumentValue) (outputs : List Location)

@@ -47,8 +47,8 @@ is_join (SurfaceJoinAt l at) = true
 is_join (DepthJoinAt l at) = true
 is_join _ = false
 
--- the second node acts where the first has, and nowhere else: so the two could stand in one block. Joins look at what their branches are,
--- and resume nodes and the body's entry at how the tick began
+-- the two nodes could stand in one block: the second acts iff the first has. Joins depend on their branches, and resume nodes and the body's entry on how the
+-- tick began
 pub record CouldFollow (body : Block) (n m : Node) : Type 0 where
   pub straight : goes_straight n ≡ true
   pub leads : EdgeAll body n m

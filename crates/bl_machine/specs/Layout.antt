@@ -50,8 +50,7 @@ abbrev mutual
 -- ---- counters
 
 abbrev mutual
-  -- how many counters a statement takes: one for all that rest one after another or instead of one another, and others for what rests
-  -- beside it
+  -- how many counters a statement takes: one for all places that never rest at once, and others for branches beside it
   pub width_of : Plain → ℕ
   width_of (Act l s) = 0
   width_of (Await l at e) = 1

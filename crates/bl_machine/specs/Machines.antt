@@ -20,11 +20,11 @@ pub record IsActivityOf (unit : UnitDef) (activity : Activity) : Type 0 where
   pub order : Ordered (plain_body unit.body) activity.blocks
   pub counters : Counters (plain_body unit.body) activity.slots
 
--- one for each activity among the units, in their order
+-- the list has one activity for each activity among the units, in their order
 abbrev pub AreActivitiesOf : List UnitDef → List Activity → Type 0
 AreActivitiesOf units machine = EachTwo IsActivityOf (activities units) machine
 
--- what each machine keeps
+-- the invariant of machines
 abbrev pub IsMachine : SeenMachine → Type 0
 IsMachine machine = AreActivitiesOf machine.program.units machine.activities
 

@@ -45,7 +45,7 @@ with_mark k r = record { counters = r.counters; rested = r.rested; flags = r.fla
 abbrev pub finished : Registers → Registers
 finished r = record { counters = r.counters; rested = r.rested; flags = r.flags; marks = r.marks; over = true }
 
--- what a change leaves, where nodes have these numbers
+-- the registers after a change, where nodes have these numbers
 abbrev pub changed : (Node → ℕ) → Change → Registers → Registers
 changed number (SetsFlag n) r = with_flag (number n) r
 changed number (SetsCounter slot) r = with_counter slot.counter slot.value r
@@ -80,7 +80,7 @@ is_aged number marks (IsNew n) = marks (number n)
 is_aged number marks (IsOld n) = not (marks (number n))
 is_aged number marks IsAny = true
 
--- whether what is asked before a node acts is so
+-- whether the answer to what is asked before a node acts is true
 abbrev pub due_by : (Node → ℕ) → Registers → Node → Asked → Bool
 due_by number r n Flagged = r.flags (number n)
 due_by number r n (Rested slot) = is_at r.rested slot

@@ -63,7 +63,7 @@ pub data Change : Type 0 where
   ClearsBoth : ℕ → Change
   -- the `cobegin` or `when` that begins at the node has begun in this tick
   SetsMark : Node → Change
-  -- a `when` that begins at the first node ends: at the second one where it has begun in this tick, else at the third one
+  -- a `when` that begins at the first node ends: at the second node if it has begun in this tick, else at the third
   EndsWhen : Node → Node → Node → Change
   -- the body of the activity has ended
   Finishes : Change
@@ -79,12 +79,12 @@ enter (Then s rest) next = SetsFlag (entry s)
 pub data Age : Type 0 where
   -- in this tick: the mark of its first node is set
   IsNew : Node → Age
-  -- an earlier one
+  -- in an earlier tick
   IsOld : Node → Age
   -- at any time, for a `cobegin` that never ends in the tick in which it begins
   IsAny : Age
 
--- the ends that a `cobegin` waits for: all of these numbers, or some one
+-- the ends that a `cobegin` waits for: all of these numbers, or one of them
 pub record Needed : Type 0 where
   pub all : Bool
   pub slots : List Slot
@@ -185,7 +185,7 @@ abbrev mutual
   strong_endings slots l k (BodyOf weak body rest) =
       if weak then strong_endings slots l (suc k) rest else slots.ending l k ∷ strong_endings slots l (suc k) rest
 
--- all strong branches have to end, or some one where none is strong
+-- the ends that a `cobegin` waits for: those of all strong branches, or any one where none is strong
 abbrev pub needed : Slots → Label → Bodies → Needed
 needed slots l bodies =
     if some_strong bodies
@@ -201,21 +201,21 @@ body_ends l at body =
 abbrev pub marked : Bool → Node → List Change → List Change
 marked instant n rest = if instant then SetsMark n ∷ rest else rest
 
--- the branches begin, from the one with this number on
+-- the changes by which branches begin, from the one with this number on
 abbrev pub enter_each : Slots → Label → ℕ → Bodies → List Change
 enter_each slots l k Last = []
 enter_each slots l k (BodyOf weak body rest) = enter body (SetsCounter (slots.ending l k)) ∷ enter_each slots l (suc k) rest
 
--- a condition that was true: `abort` goes on behind the body, and `reset` begins it anew
+-- the change of a condition that was true: `abort` goes on behind the body, and `reset` begins it anew
 abbrev pub fires : Guard → Label → Place → Block → Change → Change
 fires Abort l at body next = next
 fires Reset l at body next = enter body (body_ends l at body)
 
--- the rule, where the test is true
+-- the rule alone where the test is true, else none
 abbrev pub rule_where : Bool → Transition → List Transition
 rule_where test rule = if test then rule ∷ [] else []
 
--- the end of a `cobegin` at the node: it no longer rests anywhere
+-- the rule of the node at which a `cobegin` ends: it no longer rests anywhere
 abbrev pub joins : Slots → Label → Bodies → Age → Node → Change → Transition
 joins slots l bodies age n next = record {
   node = n;
@@ -224,7 +224,7 @@ joins slots l bodies age n next = record {
   otherwise = [];
 }
 
--- a `cobegin` in a later tick
+-- the age that a `cobegin` needs at its later join: any, if it can't end in the tick in which it begins
 abbrev pub age_of : Bool → Node → Age
 age_of instant n = if instant then IsOld n else IsAny
 

@@ -81,6 +81,6 @@ order =
 abbrev pub begins : List AnsweredDeed
 begins = still 0 1 ++ (act 0 begins_o ++ (still 0 3 ++ still 0 4))
 
--- one in which c is true
+-- a tick in which c is true
 abbrev pub aborts : List AnsweredDeed
 aborts = asked 0 1 (flag 0) true ++ (act 0 ends_o ++ still 0 7)

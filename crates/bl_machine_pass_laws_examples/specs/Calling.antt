@@ -167,6 +167,6 @@ turn = still 0 11 ++ (still 0 7 ++ (first_begins ++ second_begins))
 abbrev pub begins : List AnsweredDeed
 begins = act 0 declares_x ++ turn
 
--- a later one
+-- a later tick
 abbrev pub goes_on : List AnsweredDeed
 goes_on = first_ends ++ (second_ends ++ (still 0 7 ++ turn))

@@ -93,6 +93,6 @@ turns = act 0 sets_a ++ (act 0 sets_b ++ (act 0 sets_o ++ (still 0 3 ++ still 0 
 abbrev pub begins : List AnsweredDeed
 begins = act 0 declares_s ++ (still 0 9 ++ (still 0 6 ++ (still 0 7 ++ turns)))
 
--- a later one
+-- a later tick
 abbrev pub goes_on : List AnsweredDeed
 goes_on = asked 0 3 always true ++ (still 0 6 ++ (asked 0 5 always true ++ (still 0 7 ++ turns)))

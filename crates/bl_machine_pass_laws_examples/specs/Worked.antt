@@ -24,7 +24,7 @@ use Rattle.bl_ctree_laws_examples.specs.Trees.Made.{at, expr}
 abbrev pub never : Expr
 never = expr (ExprKind-F.Literal (pos 0) OfBool)
 
--- a program of which nothing is asked but that it has one instance
+-- a program with one instance and no other requirement
 abbrev pub alone : Setting
 alone = record { structs = []; units = []; instances = record { unit = 0; depth = 0; origin = None } ∷ [] }
 
@@ -59,7 +59,7 @@ pub record Lists (order : List Node) (body : Block) : Type 0 where
   pub all : list_all (λ n. nat_lt (position_where (same_node n) order) (length order)) (nodes_in body) ≡ true
   pub as_many : length order ≡ length (nodes_in body)
 
--- one pass a tick leads from the tree to each of these in turn, and these deeds are done in it
+-- one pass a tick leads from the tree to each of these trees in turn, with these deeds
 abbrev pub Ticks : Setting → List (List Node) → Tree → List (List AnsweredDeed) → List Tree → Type 0
 Ticks w orders c [] [] = ⊤
 Ticks w orders c (done ∷ later) (after ∷ others) = Passes w (ranked orders) 0 0 (woken c) done after × Ticks w orders after later others

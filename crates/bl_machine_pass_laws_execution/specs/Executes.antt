@@ -82,7 +82,7 @@ pub data PassStart (rank : ℕ → Node → ℕ) (i : ℕ) (unit : UnitDef) (fra
 
 -- ---- copies
 
--- the copies hold what the variables were of which the node asks that
+-- the copies hold the earlier values of the variables for which the node asks
 abbrev pub CopiesMatch : Setting → ℕ → Node → Store → List Value → Type 0
 CopiesMatch w i n store copies =
     (x : ℕ) → list_any (nat_eq x) (prevs_at n) ≡ true → slice_get copies x ≡ slice_get (view_at w store i).before x
@@ -158,7 +158,7 @@ mutual
         Performs w rank slots clear i (ResumeAt l at arguments) frames store true (with_at callee r'.counters frames') left
 
 mutual
-  -- PassTraps w rank slots clear i k frames store copies r: nodes of the instance have their turns as above, until a deed traps
+  -- PassTraps w rank slots clear i k frames store copies r: the nodes of the instance from the number k on have their turns in order, until a deed traps
   pub data PassTraps (w : Setting) (rank : ℕ → Node → ℕ) (slots : ℕ → Slots) (clear : ℕ → Frames → Frames) :
       ℕ → ℕ → Frames → Store → List Value → Registers → Type 0 where
     skips_on : {i k : ℕ} {frames : Frames} {store : Store} {copies : List Value} {r : Registers} {unit : UnitDef} → unit_at w i ≡ Some unit →

@@ -95,7 +95,7 @@ pub record FramesNest (structs : List StructDef) (units : List UnitDef) (entry :
   -- what is called in a tree is inside a call of its instance, and has a greater number
   pub called : (i k : ℕ) (c : Tree) (stood : Bool) (body : Block) → let w = setting_of structs units entry in
       FitsGraph w i c (whole stood body) → CalledIn c k → InCall w i k × (i < k)
-  -- what isn't called doesn't matter
+  -- frames of instances that aren't called don't matter
   pub others : (slots : ℕ → Slots) (frames frames' : Frames) (c : Tree) → ((k : ℕ) → CalledIn c k → (j : ℕ) → frames' k j ≡ frames k j) →
       CallsMatchTree slots frames c → CallsMatchTree slots frames' c
   -- a new frame for the instance itself keeps the match of the frames of its callees
@@ -107,7 +107,7 @@ pub record FramesNest (structs : List StructDef) (units : List UnitDef) (entry :
       let w = setting_of structs units entry in
       FitsGraph w i c (whole stood body) → CallsMatchTree slots frames c → CountersMatchTree (slots i) counters c →
       FramesMatchTree slots (with_at i counters frames) i c
-  -- other frames inside one call of an instance leave what is inside another one
+  -- other frames inside one call of an instance keep what is inside another call
   pub apart : (slots : ℕ → Slots) (frames frames' : Frames) (i one two : ℕ) (place other : Source) (c : Tree) (stood : Bool) (body : Block) →
       let w = setting_of structs units entry in
       callee_of w i place ≡ Some one → callee_of w i other ≡ Some two → (one ≡ two → ⊥) → FitsGraph w two c (whole stood body) →

@@ -15,7 +15,7 @@ use Rattle.bl_machine_pass.specs.Transitions.{Transition}
 use Rattle.bl_machine_pass_laws_execution.specs.Executes.{Executes, HasRule, Performs, recopied}
 use Rattle.bl_machine_pass_laws_execution.specs.Frames.{Frames}
 
--- the turn of a node leaves a typed store so, and typed copies; a pass by rules leaves a typed store so
+-- the turn of a node keeps a typed store and typed copies, and a pass by rules keeps a typed store
 pub record TurnsKeepTypes (structs : List StructDef) (units : List UnitDef) (entry : ℕ) : Type 0 where
   pub performs : (rank : ℕ → Node → ℕ) (slots : ℕ → Slots) (clear : ℕ → Frames → Frames) (i : ℕ) (unit : UnitDef) (rule : Transition)
       (frames : Frames)

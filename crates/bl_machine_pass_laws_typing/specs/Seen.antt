@@ -37,7 +37,7 @@ ActsAreSeen =
     fits (site_of structs (take instance.unit units) unit) s ≡ true → StoreFits w store → outcome_there w store i s ≡ Some values →
     acted_kind w i s (stmt_kind s) store ≡ Some left → (view_at w left i).now ≡ values
 
--- a target of a `run` that fits leads somewhere among the variables of the instance, which sees there what the target gets, and all else as before
+-- a target of a `run` leads among the instance's variables, which sees there what the target gets, and all else as before
 abbrev pub TargetsAreSeen : Type 0
 TargetsAreSeen =
     (structs : List StructDef) (units : List UnitDef) (entry i : ℕ) (unit : UnitDef) (earlier : List UnitDef) (result : Option ScalarType)

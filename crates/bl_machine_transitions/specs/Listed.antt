@@ -111,7 +111,7 @@ strong_endings layout p (BodyOf weak body rest) =
     if weak then strong_endings layout (suc (p + place_count body)) rest
     else layout.slot p ∷ strong_endings layout (suc (p + place_count body)) rest
 
--- all strong branches have to end, or some one where none is strong
+-- the ends that a `cobegin` waits for: those of all strong branches, or any one where none is strong
 abbrev pub needed : Layout → ℕ → Bodies → Needed
 needed layout p bodies =
     if some_strong bodies
@@ -136,7 +136,7 @@ abbrev pub body_ends : Layout → ℕ → Bool → Change
 body_ends layout k true = EndWhen (layout.number k) (layout.number (k + 1)) (layout.number (k + 3))
 body_ends layout k false = SetFlag (layout.number (k + 2))
 
--- a condition that was true: `abort` goes on behind the body, and `reset` begins it anew
+-- the change of a condition that was true: `abort` goes on behind the body, and `reset` begins it anew
 abbrev pub fires : Layout → ℕ → Guard → Block → Change → Change → Change
 fires layout k Abort body ends next = next
 fires layout k Reset body ends next = enter layout k body ends
@@ -146,7 +146,7 @@ abbrev pub marked : Bool → ℕ → List Change → List Change
 marked true number rest = SetMark number ∷ rest
 marked false number rest = rest
 
--- the counters that are freed or forgotten, each once
+-- the changes that free or forget counters, each once
 abbrev pub freed : Layout → ℕ → ℕ → List Change
 freed layout p n = map ClearCounter (once (counters_from layout p n))
 
@@ -179,13 +179,13 @@ joins layout k p bodies age next = record {
   otherwise = [];
 }
 
--- the joins of a `cobegin` that begins at the node with the position: two where it may end in the tick in which it begins
+-- the rules of the joins of a `cobegin` that begins at the node with the position: two if it may end in the tick in which it begins
 abbrev pub joins_of : Layout → Bool → ℕ → ℕ → Bodies → Change → List NumberedTransition
 joins_of layout true k p bodies next =
     joins layout (k + 1) p bodies (New (layout.number k)) next ∷ joins layout (k + 2) p bodies (Old (layout.number k)) next ∷ []
 joins_of layout false k p bodies next = joins layout (k + 1) p bodies Any next ∷ []
 
--- the check of a `when` at the node with the position; the first node of its body has the second one
+-- the rule of the check of a `when` at the node with the position, where its body's first node has the second position
 abbrev pub checked : Layout → ℕ → ℕ → ℕ → Guard → Task → Block → Change → Change → NumberedTransition
 checked layout k inner p guard task body ends next = record {
   number = layout.number k;
@@ -195,7 +195,7 @@ checked layout k inner p guard task body ends next = record {
   otherwise = [];
 }
 
--- the nodes of a `when` itself, which begins at the node with the position
+-- the rules of the nodes of a `when` itself, which begins at the node with the position
 abbrev pub guarded : Layout → Bool → ℕ → ℕ → Guard → Task → Block → Change → List NumberedTransition
 guarded layout true k p guard task body next =
     flagged layout k Nothing (SetMark (layout.number k) ∷ enter layout (k + 4) body (body_ends layout k true) ∷ [])
@@ -209,7 +209,7 @@ guarded layout false k p guard task body next =
     ∷ flagged layout (k + 2) Nothing (next ∷ [])
     ∷ []
 
--- the nodes of a loop with its test at the end, which that change flags
+-- the rules of the nodes of a loop with its test at the end, which the change flags
 abbrev pub turns : Layout → ℕ → Task → Block → Change → Change → List NumberedTransition
 turns layout k task body test next =
     flagged layout k Nothing (enter layout (k + 2) body test ∷ [])

@@ -20,7 +20,7 @@ abbrev pub first_number : List NumberedTransition → List ℕ
 first_number [] = []
 first_number (rule ∷ rest) = rule.number ∷ []
 
--- whatever the order of blocks and the numbers of places are
+-- the numbered rules of a body are the rules of its nodes, whatever the order of blocks and the numbers of places are
 pub record RulesAreListed : Type 0 where
   -- the rules of nodes, by numbers, are the list of numbered rules
   pub told : (body : List Stmt) (order : List ℕ) (list : List Slot) →

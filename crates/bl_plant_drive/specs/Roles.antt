@@ -66,11 +66,11 @@ left_in cast earlier (p ∷ plants) =
 
 -- ---- by its rule
 
--- the log of a plant in the tick before which so many were complete, with these outputs
+-- the log of a plant in the tick after so many complete ones, with these outputs
 abbrev pub log_at : Role → List (List ℤ) → ℕ → Log
 log_at r outs k = record { given = r.plant.log.given ++ take k r.part.given; told = r.plant.log.told ++ take k outs }
 
--- each row that a plant gave is the one that its rule says of its log in that tick, where it tells its rule
+-- each row that a plant gave is the one that its rule, if it states one, says of its log in that tick
 abbrev pub GivesByRule : List (List ℤ) → Role → Type 0
 GivesByRule outs r = IfSome r.plant.rule (λ rule. (k : ℕ) (row : List ℤ) → slice_get r.part.given k ≡ Some row → rule (log_at r outs k) ≡ Some row)
 
@@ -83,7 +83,7 @@ pub record IsThere (rows : List (List ℤ)) (asked : ℕ) (r : Role) : Type 0 wh
   pub given : length r.part.given ≡ asked
   pub told : r.part.told ≡ rows
 
--- one that was dropped: in the last tick in which it was asked, or before that
+-- a plant that was dropped in the last tick in which it was asked, or before
 pub record IsGone (outs : List (List ℤ)) (asked : ℕ) (r : Role) : Type 0 where
   pub earlier : length r.part.given < asked
   pub rule : EndsByRule outs r
@@ -103,7 +103,7 @@ abbrev pub last_of : List ℤ → List (List ℤ) → List ℤ
 last_of first [] = first
 last_of first (row ∷ rows) = last_of row rows
 
--- the numbers of a plant's columns in the tick before which so many were complete: the last row that it gave by then, or zeros
+-- the numbers of a plant's columns in the tick after so many complete ones: the last row that it gave, or zeros
 abbrev pub numbers_at : ℕ → Role → List ℤ
 numbers_at k r = last_of (replicate r.plant.width (pos 0)) (take (suc k) r.part.given)
 
@@ -118,7 +118,7 @@ inputs_before cast (suc k) = inputs_before cast k ++ inputs_at k cast ∷ []
 
 -- ---- the plants that were dropped
 
--- what is recorded of a plant, where it was dropped in the tick before which so many were complete
+-- the record of a plant that was dropped in the tick after so many complete ones
 abbrev pub gone_in : ℕ → Role → List Gone
 gone_in k r = if r.part.gone && nat_eq (length r.part.given) k then record { name = record { number = r.plant.name }; rows = k } ∷ [] else []
 

@@ -142,8 +142,7 @@ told s = record { rows = s.rows; fault = fault_at_end s.at s.fault }
 unfoldable pub rows_of : List ℕ → List Column → RowsRead
 rows_of bytes columns = told (scan columns at_start (lines_of bytes))
 
--- a reader between two pieces: its columns, where it stands, the bytes of the unfinished line,
--- the fault that stopped it, and whether it was told that the bytes end
+-- a reader between two pieces: its columns, its position, the unfinished line, the fault that stopped it, and whether the bytes have ended
 pub record Reading : Type 0 where
   pub columns : List Column
   pub at : RowPlace
@@ -206,7 +205,7 @@ Unrefused (Err (BadHeader line)) P = P
 Unrefused (Err (BadRow line)) P = P
 Unrefused (Err (LongLine line)) P = P
 
--- what was handed over is a front of these rows
+-- the rows that were handed over are a prefix of these rows
 pub record Front (old new rows : List (List ℤ)) : Type 0 where
   pub handed : List (List ℤ)
   pub left : List (List ℤ)

@@ -23,7 +23,7 @@ abbrev pub after_rows : Running → List (List ℤ) → Running
 after_rows r [] = r
 after_rows r (ins ∷ rows) = after_rows (after_tick r ins) rows
 
--- a runner that has run rows: all of them where they leave the run open, and else it isn't live any more
+-- a runner that has run rows: all of them if they leave the run open, and else it isn't live any more
 pub record HasRun (r : Running) (rows : List (List ℤ)) (now : Running) : Type 0 where
   pub going : (trace_from r rows).last ≡ Open → now ≡ after_rows r rows
   pub closed : ((trace_from r rows).last ≡ Open → ⊥) → now.live ≡ false
@@ -47,7 +47,7 @@ unless_trap tick.Row line = line
 unless_trap tick.Ended line = line
 unless_trap tick.Trap line = []
 
--- what is written of a tick of this number that was answered so, with these outputs and this count
+-- what is written of a tick with this number, answer, outputs and count
 abbrev pub tick_text : Report → ℕ → List Column → TickAnswer → List ℤ → ℕ → List ℕ
 tick_text Trace n outs answer outputs count = unless_trap answer (line_text n outs outputs) ++ end_text answer
 tick_text Counts n outs answer outputs count = count_text n count ++ end_text answer

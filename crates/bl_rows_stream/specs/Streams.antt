@@ -19,7 +19,7 @@ use Rattle.bl_rows_stream.specs.declared.finish.Finish.{Finish}
 use Rattle.bl_rows_stream.specs.declared.finish.Finish.TheVariants as finish
 use Rattle.bl_rows_stream.specs.declared.ticks.Report.{Report}
 
--- what runs: the columns of its rows, how it stands after rows, and the text that is shown of them
+-- a course: the columns of its rows, how it stands after rows, and the text that is shown of them
 pub record Course : Type 0 where
   pub ins : List Column
   pub last : List (List ℤ) → Last
@@ -87,8 +87,8 @@ AreLeft left bytes = IfSome left (λ all. all ≡ bytes)
 abbrev pub HasRead : Option (List ℕ) → List ℕ → Option (List ℕ) → Type 0
 HasRead all read now = IfSome all (λ bytes. (rest : List ℕ) × ((bytes ≡ read ++ rest) × (now ≡ Some rest)))
 
--- the file failed behind the bytes that it handed over: the lines in them that a line feed ends are good, their rows leave the run
--- open, and the text of these rows grew on `out`. So a trap, an end or a bad line that was handed over decides
+-- the file failed after the bytes that it handed over. Their complete lines are good, their rows leave the run open, and the text of these rows grew on `out`.
+-- A trap, an end or a bad line among them decides instead
 pub record Unread (c : Course) (left rest before after : Option (List ℕ)) : Type 0 where
   pub read : List ℕ
   pub handed_over : HasRead left read rest
@@ -102,7 +102,7 @@ pub data Streamed (c : Course) (left rest before after : Option (List ℕ)) : Fi
   all : {ended : Finish} (bytes : List ℕ) → AreLeft left bytes → ended ≡ finish_of (last_over c bytes) (rows_of bytes c.ins).fault →
       Appends before (text_over c bytes) after → Streamed c left rest before after ended
   unread : Unread c left rest before after → Streamed c left rest before after finish.ReadFault
-  -- a write of the text failed, or memory was refused, and a front of it grew
+  -- a write of the text failed, or memory was refused, and a prefix of it grew
   front : {ended : Finish} (bytes : List ℕ) → AreLeft left bytes → (ended ≡ finish.WriteFault) ⊎ (ended ≡ finish.NoMemory) →
       AppendsFront before (text_over c bytes) after → Streamed c left rest before after ended
 
@@ -116,8 +116,8 @@ report_over report r bytes = report_of report r (rows_of bytes (inputs_of r.part
 abbrev pub rows_so_far : Running → List ℕ → List (List ℤ)
 rows_so_far r bytes = rows_in (empty_reading (inputs_of r.parts)) bytes
 
--- the file failed behind the bytes that it handed over: their whole lines are good, their rows have run and leave the run
--- open, and what is written of them grew on `out`
+-- the file failed after the bytes that it handed over. Their complete lines are good, their rows have run and leave the run open, and the report of them grew
+-- on `out`
 pub record BreaksOff (report : Report) (r : Running) (left rest before after : Option (List ℕ)) (now : Running) : Type 0 where
   pub read : List ℕ
   pub handed : HasRead left read rest
@@ -134,7 +134,7 @@ pub data Reported (report : Report) (r : Running) (left rest before after : Opti
       Appends before (report_over report r bytes) after → HasRun r (rows_of bytes (inputs_of r.parts)).rows now →
       Reported report r left rest before after now ended
   broken : BreaksOff report r left rest before after now → Reported report r left rest before after now finish.ReadFault
-  -- a write failed, or memory was refused, and a front grew of what is written of the rows
+  -- a write failed, or memory was refused, and a prefix of the report grew
   cut : {ended : Finish} (bytes : List ℕ) → AreLeft left bytes → (ended ≡ finish.WriteFault) ⊎ (ended ≡ finish.NoMemory) →
       AppendsFront before (report_over report r bytes) after → Reported report r left rest before after now ended
 

@@ -6,7 +6,7 @@ use Rattle.bl_rows.specs.Text.{last_text}
 use Rattle.bl_rows_stream.specs.Reports.{count_text}
 use Rattle.bl_rows_stream.specs.Streams.{Course}
 
--- a number of statements that 128 bits can't hold is told as the greatest that they can
+-- a count of statements, at most the greatest number that 128 bits hold
 abbrev pub told_count : ℕ → ℕ
 told_count n = min n (2 ^ 128 - 1)
 

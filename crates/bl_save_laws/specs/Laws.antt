@@ -12,7 +12,7 @@ use Rattle.bl_save.specs.States.{IsReady, SavedState, ShowsBadState, with_number
 abbrev pub OneState : Parts → Type 0
 OneState file = (numbers : List ℤ) (bytes others : List ℕ) → SavedState file numbers bytes → SavedState file numbers others → bytes ≡ others
 
--- bytes show at no two places that they are no saved state
+-- bytes first fail to be a saved state at one place only
 abbrev pub OnePlace : Parts → Type 0
 OnePlace file = (bytes : List ℕ) (here there : ℕ) → ShowsBadState file bytes here → ShowsBadState file bytes there → here ≡ there
 
@@ -20,8 +20,8 @@ OnePlace file = (bytes : List ℕ) (here there : ℕ) → ShowsBadState file byt
 abbrev pub ShortStates : Parts → Type 0
 ShortStates file = WellFormed file → (numbers : List ℤ) (bytes : List ℕ) → SavedState file numbers bytes → length bytes ≤ 8 * cells_needed file + 10
 
--- a run of a file whose start doesn't trap may be stopped while it is open, and gone on with later: the trace over all rows is that of the
--- first, and then the one over the others that goes on from the cells that they leave
+-- a run of a file whose start doesn't trap can be stopped while open and continued: the trace over all rows is the first, followed by that from the cells that
+-- they leave
 abbrev pub TraceGoesOn : Parts → Type 0
 TraceGoesOn file = (first rest : List (List ℤ)) → starts file ≡ true → (c_trace file first).last ≡ Open →
     c_trace file (first ++ rest) ≡ trace_then (c_trace file first) (c_trace_from file rest (cells_after file first (start_cells file)))

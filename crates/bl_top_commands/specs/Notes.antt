@@ -64,8 +64,7 @@ bad_state_line at = numbered_line (codes "bad state: at ") at
 
 -- ---- on `notes`
 
--- the lines of a job that ends with this status were to be written: they were, or a write failed behind a front of them, and the call
--- ends with that
+-- the lines of a job with this status were written, or a write failed or wanted memory after a prefix, with the status for that
 pub data Written (notes : Output) (lines : List ℕ) (meant : Status) : Status → Type 0 where
   whole : Appends notes.before lines notes.after → Written notes lines meant meant
   fault : lines ≢ [] → AppendsPart notes.before lines notes.after → HasRisen notes.faults → Written notes lines meant status.WriteFault

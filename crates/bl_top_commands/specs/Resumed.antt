@@ -66,7 +66,7 @@ pub record ResumesCourse (structs : List StructDef) (units : List UnitDef) (entr
   -- the columns of the course's rows are the entry's inputs, which the first rows fit
   pub inputs : course.ins ≡ input_columns unit
   pub first_fit : RowsFit (input_columns unit) first
-  -- over the first rows the parallel meaning allows this trace, and no other
+  -- the semantics allows this trace over the first rows, and no other
   pub before : Trace
   pub running : before.last ≡ Open
   pub one_before : (shows : ShownTrace) → Means structs units entry first shows ↔ (shows ≡ shown_trace before)

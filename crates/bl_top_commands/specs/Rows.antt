@@ -17,7 +17,7 @@ pub record Ran (course : Course) (left : Option (List ℕ)) (out : Output) (how 
   pub ends : finish_of (last_over course bytes) (rows_of bytes course.ins).fault ≡ how
   pub grew : Appends out.before (text_over course bytes) out.after
 
--- a front of that text grew
+-- a prefix of the course's text grew
 pub record RanInPart (course : Course) (left : Option (List ℕ)) (out : Output) : Type 0 where
   pub bytes : List ℕ
   pub are_left : AreLeft left bytes

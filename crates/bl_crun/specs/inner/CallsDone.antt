@@ -28,7 +28,7 @@ abbrev pub Comes : ℕ → Code → Option CodeEntry → ℕ → List ℤ → Vm
 Comes steps code None base args m l = l ≡ flat_answer m.state.cells None
 Comes steps code (Some entry) base args m l = Halting steps code entry base args m l
 
--- a machine has done so
+-- a call by the machine has this answer
 pub record CallDone (l : FlatAnswer ℤ) (before : VmView) (called : Called) (after : VmView) : Type 0 where
   pub answer : called.answer ≡ l.answer
   pub count : called.count ≡ min l.count (2 ^ 128 - 1)
@@ -36,13 +36,13 @@ pub record CallDone (l : FlatAnswer ℤ) (before : VmView) (called : Called) (af
   pub numbers : after.numbers ≡ before.numbers
   pub calls : after.calls ≡ before.calls
 
--- a routine does what the start does
+-- the routine simulates the start of a file
 pub record IsStart (file : Parts) (flat_answer : FlatAnswer ℤ) : Type 0 where
   pub ready : is_some flat_answer.answer ≡ starts file
   pub cells : first_cells file flat_answer.cells ≡ start_cells file
   pub keeps : CellsKeep file flat_answer.cells
 
--- a routine does what a tick does
+-- the routine simulates a tick of a file
 pub record IsTick (file : Parts) (cells ins : List ℤ) (flat_answer : FlatAnswer ℤ) : Type 0 where
   pub reply : reply_of flat_answer.answer ≡ (tick_c file cells ins).reply
   pub outputs : take (length (outputs_of file)) (drop (outputs_start file.structs + 1) flat_answer.cells) ≡ (tick_c file cells ins).outputs

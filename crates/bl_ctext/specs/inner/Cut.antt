@@ -35,15 +35,15 @@ meets [] next = false
 meets (b ∷ []) next = goes_on b next
 meets (b ∷ c ∷ bs) next = meets (c ∷ bs) next
 
--- the bytes, and a space where the next ones would go on their last token
+-- the bytes, and a space where the next bytes would continue their last token
 unfoldable pub parted : List ℕ → List ℕ → List ℕ
 parted bytes next = cond (meets bytes next) (bytes ++ 32 ∷ []) bytes
 
--- what stands behind the prelude
+-- the bytes behind the prelude
 unfoldable pub behind_prelude : List ℕ → List ℕ
 behind_prelude bytes = drop (length prelude) bytes
 
--- The bytes are the prelude and then tokens.
+-- the bytes are the prelude and then tokens
 pub record IsText (bytes : List ℕ) : Type 0 where
   pub begins : bytes ≡ prelude ++ behind_prelude bytes
   pub tokens : IsTrue (are_tokens (tokens_in (behind_prelude bytes)))

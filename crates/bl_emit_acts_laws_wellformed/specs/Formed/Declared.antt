@@ -88,8 +88,7 @@ signature_for structs unit =
 abbrev pub InActivity : TypingContext → Bool → Type 0
 InActivity site holds = is_activity site.kind ≡ true → holds ≡ true
 
--- What a unit's expressions and acts name is declared in C, with its C type: structs and arrays, the variables, the copies of those that are
--- copied, and the functions of earlier functions
+-- all that a unit's expressions and acts name is declared in C with its type: structs and arrays, variables, copies, and earlier functions
 pub record Declared (site : TypingContext) (copied : ℕ → Bool) (context : Context) : Type 0 where
   pub types : TypesDeclared site context.structs
   pub variables : (k : ℕ) (var : Var) → var_at site k ≡ Some var →

@@ -28,7 +28,7 @@ widths all = map (λ laid. laid.width) all
 abbrev pub counters_from : ℕ → List Laid → List ℕ
 counters_from low all = joined (map (λ laid. laid.counters low) all)
 
--- parts of which the widest tells how many counters they take
+-- the layout of a block from those of its parts: it takes as many counters as the widest
 abbrev pub block_laid : List Laid → Laid
 block_laid all = record { width = greatest (widths all); counters = λ low. counters_from low all }
 
@@ -39,7 +39,7 @@ either_laid some others = record {
   counters = λ low. counters_from low some ++ counters_from low others;
 }
 
--- what an `if` does where its condition is true. No `if` of a program is without an arm; one would do its `else` part
+-- the layout of an `if`. No `if` of a program is without an arm, which would do its `else` part
 abbrev pub chosen : List Laid → List Laid → List Laid
 chosen [] other = other
 chosen (arm ∷ rest) other = arm ∷ rest
@@ -92,6 +92,6 @@ laid_arm = fold-Arm Laid Laid Laid Laid kind_laid arm_laid branch_laid stmt_laid
 abbrev pub laid_branch : Branch → Laid
 laid_branch = fold-Branch Laid Laid Laid Laid kind_laid arm_laid branch_laid stmt_laid
 
--- a block
+-- the layout of a block
 abbrev pub laid_block : List Stmt → Laid
 laid_block body = block_laid (map laid body)

@@ -142,10 +142,10 @@ mutual
     -- a turn of a node in a tree before what follows it
     in_seq : {i : ℕ} {c : Tree} {s : Plain} {rest : Block} {done : List AnsweredDeed} {n : Node} {c' : Tree} →
         Turns w rank i c done n c' → Turns w rank i (Seq c (Then s rest)) done n (seq c' (Then s rest))
-    -- inside a branch
+    -- a turn of a node inside a branch
     in_par : {i : ℕ} {s : Fork} {stood : Bool} {branches : Trees} {done : List AnsweredDeed} {n : Node} {branches' : Trees} →
         OneTurns w rank i branches done n branches' → Turns w rank i (Par s stood branches) done n (Par s stood branches')
-    -- inside a guard that let its body go on
+    -- a turn of a node inside a guard that let its body go on
     in_guard : {i : ℕ} {s : Watch} {stood : Bool} {c : Tree} {done : List AnsweredDeed} {n : Node} {c' : Tree} →
         Turns w rank i c done n c' → Turns w rank i (Guard s Body stood c) done n (Guard s Body stood c')
 

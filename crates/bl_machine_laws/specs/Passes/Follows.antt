@@ -46,7 +46,7 @@ abbrev pub DeedYields : Setting → Deed → Store → Bool → Store → Type 0
 DeedYields w a store d left = done_by w a store ≡ Some (record { answer = d; store = left })
 
 mutual
-  -- TurnSteps w rank i c store n c' left: in a turn of the node n the tree c, which stands in the instance i, becomes c', and the store is left so
+  -- TurnSteps w rank i c store n c' left: one turn of the node n leads from the tree c of the instance i to c', and from the store to `left`
   pub data TurnSteps (w : Setting) (rank : ℕ → Node → ℕ) : ℕ → Tree → Store → Node → Tree → Store → Type 0 where
     point : {i : ℕ} {c : Tree} {store : Store} {d : Bool} {a : Deed} {n : Node} {c' : Tree} {left : Store} →
         InstancePoint w i c d a n c' → DeedYields w a store d left → TurnSteps w rank i c store n c' left
@@ -69,10 +69,10 @@ mutual
     -- a turn of a node in a tree before what follows it
     in_seq : {i : ℕ} {c : Tree} {s : Plain} {rest : Block} {store : Store} {n : Node} {c' : Tree} {left : Store} →
         TurnSteps w rank i c store n c' left → TurnSteps w rank i (Seq c (Then s rest)) store n (seq c' (Then s rest)) left
-    -- inside a branch
+    -- a turn of a node inside a branch
     in_par : {i : ℕ} {s : Fork} {stood : Bool} {branches : Trees} {store : Store} {n : Node} {branches' : Trees} {left : Store} →
         OneTurnSteps w rank i branches store n branches' left → TurnSteps w rank i (Par s stood branches) store n (Par s stood branches') left
-    -- inside a guard that let its body go on
+    -- a turn of a node inside a guard that let its body go on
     in_guard : {i : ℕ} {s : Watch} {stood : Bool} {c : Tree} {store : Store} {n : Node} {c' : Tree} {left : Store} →
         TurnSteps w rank i c store n c' left → TurnSteps w rank i (Guard s Body stood c) store n (Guard s Body stood c') left
 

@@ -36,7 +36,7 @@ pub record RestsBetweenTicks (w : Setting) (i : ℕ) (slots : Slots) (body : Blo
   pub settled : is_settled c ≡ true
   pub unended : is_nil c ≡ false
 
--- whatever a `run` that stands in both trees has called goes on alike
+-- the callees of a `run` that stands in both trees continue alike
 abbrev pub CallAlike : Tree → Tree → Type 0
 CallAlike c c' = (l : Label) (d d' : Tree) → Calls c l d → Calls c' l d' → woken d ≡ woken d'
 

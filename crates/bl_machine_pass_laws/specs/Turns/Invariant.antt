@@ -79,7 +79,7 @@ pub record PassInvariant (slots : Slots) (number : Node → ℕ) (body : Block) 
   -- the flag of a node is set iff something waits at it
   pub flags : (rule : Transition) → Contains (rules slots body) rule → IsFlagged rule.asked → k ≤ number rule.node →
       Exactly (is_due number rule r) (Waits c None rule.node)
-  -- a node at which a later tick goes on is due exactly where what rested there still waits
+  -- a resume node is due iff what rested there still waits
   pub resumes : (rule : Transition) → Contains (rules slots body) rule → IsResume rule.asked → k ≤ number rule.node →
       Exactly (is_due number rule r) (Waits c None rule.node)
   pub marks : Marked number r.marks c

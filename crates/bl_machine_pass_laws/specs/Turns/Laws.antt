@@ -21,7 +21,7 @@ use Rattle.bl_machine_pass_laws.specs.Turns.Sits.{Lies, Sits, UsesOnly}
 -- ---- turns
 
 abbrev mutual
-  -- the answer by which a rule goes on: that of the deed or, where a `run` goes on, whether the body that it called has ended
+  -- the answer by which a rule goes on: that of the deed, or for a `run` that goes on, whether its callee's body has ended
   pub answer_of : {w : Setting} {rank : ℕ → Node → ℕ} {i : ℕ} {c : Tree} {done : List AnsweredDeed} {n : Node} {c' : Tree} →
       Turns w rank i c done n c' → Bool
   answer_of (point {d = d} p) = d

@@ -71,7 +71,7 @@ in_when slots l at e body around = record {
   home = λ slot. Contains (rests_in slots body) slot × around.home slot;
 }
 
--- a branch: the first one alone rests at the counter of what is around
+-- the `when`s around a branch: only the first branch rests at the counter of what is around
 abbrev pub in_branch : ℕ → Around → Around
 in_branch zero around = around
 in_branch (suc k) around = record { spots = around.spots; checks = around.checks; home = λ slot. ⊤ }

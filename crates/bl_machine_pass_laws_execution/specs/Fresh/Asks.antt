@@ -80,7 +80,7 @@ abbrev mutual
   BoundedEach w i unit Last = ⊤
   BoundedEach w i unit (BodyOf weak body rest) = BoundedAll w i unit body × BoundedEach w i unit rest
 
--- a block asks for none but these variables and those that it declares before, and is bounded
+-- a block asks only for known variables and those that it declares before, and is bounded
 abbrev pub BlockAsks : Setting → ℕ → UnitDef → List ℕ → Block → Type 0
 BlockAsks w i unit known body = (prevs_stand_in known body ≡ true) × BoundedAll w i unit body
 

@@ -76,7 +76,7 @@ pub record OwnIsSeen : Type 0 where
 
 -- ---- trees
 
--- a point of a tree that asks for none but the known variables
+-- a point of a tree that asks only for known variables
 pub record PointAsks (w : Setting) (i : ℕ) (unit : UnitDef) (known : List ℕ) (c : Tree) (n : Node) (c' : Tree) : Type 0 where
   -- the node asks for known variables only
   pub asked : (x : ℕ) → IsAmongVariables (prevs_at n) x → IsAmongVariables known x
@@ -103,7 +103,7 @@ pub record TreesAsk : Type 0 where
       Asks w i unit (declared_at n ++ known) c' → Asks w i unit (declared_at n ++ known) (seq c' (Then s rest))
   pub follows_due : (w : Setting) (c : Tree) (s : Plain) (rest : Block) (j : ℕ) → DueIn w (seq c (Then s rest)) j → DueIn w c j
 
--- the body of each unit that has an instance, in a typed program that is made of a source text, asks for none
+-- the body of each unit with an instance asks for no variables before, in a typed program that is made of a source text
 abbrev pub BodiesAsk : Type 0
 BodiesAsk =
     (structs : List StructDef) (units : List UnitDef) (entry i : ℕ) (unit : UnitDef) → let w = setting_of structs units entry in
@@ -111,7 +111,7 @@ BodiesAsk =
 
 -- ---- stores between ticks
 
--- the first store has a value for each variable, and a woken one has; and there each frame is fresh
+-- the first store of a run has a value for each variable, and so has a woken store; each frame in them is fresh
 pub record StoresAreFresh : Type 0 where
   pub first : (w : Setting) → Framed w (first_store w)
   pub woken : (w : Setting) (row : List ℤ) (store : Store) → ((unit : UnitDef) → unit_at w 0 ≡ Some unit → InputsFit (length row) unit) →

@@ -60,7 +60,7 @@ pub record TurnsPerform (w : Setting) (rank : ℕ → Node → ℕ) (slots : ℕ
 
 -- ---- a pass
 
--- a pass by rules, from the number k on, that leaves the store so, and counters and frames that hold what is left of the tree
+-- a pass by rules from the number k on leaves this store, and counters and frames that match the tree that is left
 pub record Executed (w : Setting) (rank : ℕ → Node → ℕ) (slots : ℕ → Slots) (clear : ℕ → Frames → Frames) (i k : ℕ)
     (unit : UnitDef) (stood : Bool)
     (frames : Frames) (store : Store) (copies : List Value) (r : Registers) (c' : Tree) (left : Store) : Type 0 where

@@ -121,7 +121,7 @@ joined layout k p places needed age next = record {
   otherwise = [];
 }
 
--- how far behind the first node of a construct the one stands by which it goes on in a later tick
+-- how far behind the first node of a construct its resume node stands
 abbrev pub later : Bool → ℕ
 later true = 2
 later false = 1
