@@ -87,7 +87,7 @@ GuardsEvaluate =
 
 -- ---- what keeps apart
 
--- registers keep apart from one another, from variables and from copies, where pointers lead to what keeps apart
+-- the places of registers are apart from one another, from variables and from copies, where the pointers are valid
 abbrev pub RegistersKeepApart : Type 0
 RegistersKeepApart =
     (site : TypingContext) (has : Registered) (scope : Scope) → FewRegisters has → FramePointersAreValid scope → PointersOlder site scope →
