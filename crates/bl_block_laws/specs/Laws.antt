@@ -19,7 +19,7 @@ pub record ShowsTrace (program : Program) (machine : List Activity) (rows : List
   pub go_by : GoBy (setting program) machine rank
   pub runs : RunsByPasses program.structs program.units program.entry rank rows trace
 
--- a pass goes by the same numbers through a machine and through one merged from it, and so both show the same traces
+-- a machine and one merged from it have the same traces, since a pass goes by the same numbers through both
 pub record MergedShowTheSame : Type 0 where
   pub numbers : (program : Program) (from to : List Activity) → AreMergedFrom program.units from to → (rank : ℕ → Node → ℕ) →
       GoBy (setting program) from rank ↔ GoBy (setting program) to rank

@@ -26,7 +26,7 @@ pub record Outcome (M : Type 0) : Type 0 where
   pub end : End
   pub count : ℕ
 
--- the outcome that ends so, with this memory
+-- the outcome with this end and this memory
 abbrev pub ending : {M : Type 0} → End → M → Outcome M
 ending end memory = record { memory = memory; end = end; count = 0 }
 

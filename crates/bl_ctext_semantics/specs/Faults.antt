@@ -557,7 +557,7 @@ depth_of_type depths (OfStruct name) = entry_or 0 depths name
 abbrev pub depth_of_struct : Table ℕ → CStruct → ℕ
 depth_of_struct depths s = limited (1 + greatest (map (λ m. depth_of_type depths m.ty) s.members))
 
--- the members of an interface struct, whose names begin so
+-- whether a member is the `pad` with which an interface struct begins
 abbrev pub is_pad : CMember → Bool
 is_pad m = bytes_eq m.name (codes "pad") && (same_type m.ty (OfScalar (Nat W8)) && is_none m.length)
 

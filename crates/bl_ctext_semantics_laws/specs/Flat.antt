@@ -180,7 +180,7 @@ called here name base args cells = called_as (builtin_of name) (here.known name)
 abbrev pub Grounded : Type 0 → Type 0
 Grounded A = Ground Routine → A
 
--- a part of an expression, where each part within it is evaluated so
+-- the evaluation of an open part, where each part within it is evaluated
 abbrev pub Evaluating : OpenPart → Type 0
 Evaluating Of = Of (Grounded (Evaluates ℤ)) (Grounded (Evaluates ℤ)) (Grounded (Evaluates ℤ)) (Grounded (Evaluates ℤ))
     (Grounded (Index (Evaluates ℤ)))

@@ -96,7 +96,7 @@ output_arg site path = Address (stands site path).place
 abbrev pub call_args : TypingContext → List Expr → List Path → List CArg
 call_args site inputs outputs = map arg_of (map (made_of site) inputs) ++ map (output_arg site) outputs
 
--- the C call of an activity or function with its inputs and outputs
+-- the C call of a function, with the arguments for its inputs and outputs
 abbrev pub call_made : TypingContext → ℕ → List Expr → List Path → CCall
 call_made site f inputs outputs = c_call (name_of_callee (slice_get site.earlier f)) (call_args site inputs outputs)
 

@@ -52,7 +52,7 @@ way_to structs [] ty = []
 way_to structs (k ∷ ks) None = []
 way_to structs (k ∷ ks) (Some ty) = lead_to structs k ty ++ way_to structs ks (part_type structs k ty)
 
--- the type of what lies there
+-- the type of what lies at positions in a value of a type
 abbrev pub type_after : List StructDef → List ℕ → Option Ty → Option Ty
 type_after structs [] ty = ty
 type_after structs (k ∷ ks) None = None
@@ -74,7 +74,7 @@ start_in scope activity Held k = start_of scope activity (codes "m")
 start_in scope activity Given k = start_of scope false (variable_name k)
 start_in scope activity Lent k = start_of scope true (variable_name k)
 
--- what leads from there to the variable
+-- the steps from the start of a variable's place to the variable, by its home
 abbrev pub lead_in : Home → ℕ → List Projection
 lead_in Held k = member (variable_name k) ∷ []
 lead_in Given k = []

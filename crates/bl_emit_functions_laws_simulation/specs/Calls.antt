@@ -123,7 +123,7 @@ pub record FrameBegun (site : TypingContext) (scope : Scope) (now : List Value) 
       → slice_get now k ≡ Some value → is_copied_input site k var ≡ true →
       (is_older scope.depth (lent_at scope k).root ≡ true) × Encodes site.structs var.ty value (value_at here (lent_at scope k))
 
--- the frame of the C function of each function begins so
+-- a call of the C function of each function begins a frame as `FrameBegun` says, from the arguments that are handed over
 abbrev pub FramesBegin : List StructDef → List UnitDef → ℕ → Type 0
 FramesBegin structs units entry =
     (k : ℕ) (unit : UnitDef) (known : Table Meaning) (depth : ℕ) (values : List Value) (passed : List ArgumentValue) (here : Memory) →

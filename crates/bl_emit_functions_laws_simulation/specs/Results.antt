@@ -23,7 +23,7 @@ use Rattle.bl_emit_functions_laws_simulation.specs.Calls.{FrameBegun, MayRun, is
 
 -- ---- inputs that are copied
 
--- memory in which the inputs that a function copies were set: each variable has its value, and all that lies in no such input is as it was
+-- memory after the inputs that a function copies were set: each variable has its value, and memory outside of these inputs is unchanged
 pub record InputsBegun (site : TypingContext) (scope : Scope) (here : Memory) (now : List Value) (after : Memory) : Type 0 where
   pub variables : VariablesEncoded site now scope after
   pub kept : (root : Root) (way : List Projection) →

@@ -41,7 +41,7 @@ pub record NamesSuffice (structs : List StructDef) (units : List UnitDef) (k : �
   pub vars : length unit.vars ≤ 2 ^ 64
   pub flags : (body_coded (site_of structs (take k units) unit) unit).free.flags ≤ 2 ^ 64
 
--- each function of the program has
+-- each function of the program has no more variables and flags than there are names
 abbrev pub AllNamesSuffice : List StructDef → List UnitDef → Type 0
 AllNamesSuffice structs units =
     (k : ℕ) (unit : UnitDef) → slice_get units k ≡ Some unit → is_function unit.kind ≡ true → NamesSuffice structs units k unit

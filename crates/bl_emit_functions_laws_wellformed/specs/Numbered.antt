@@ -22,7 +22,7 @@ pub record IsCounted (structs : List StructDef) (earlier : List UnitDef) (unit :
   pub numbers : (body_coded (site_of structs earlier unit) unit).free.flags + (body_coded (site_of structs earlier unit) unit).free.turns
       ≤ cell_statements_of unit
 
--- each unit of a typed program is counted so
+-- each unit of a typed program has at most as many variables as scalars, and as many flags and turns as statements
 abbrev pub UnitsCounted : List StructDef → List UnitDef → ℕ → Type 0
 UnitsCounted structs units entry =
     (k : ℕ) (unit : UnitDef) → IsWellTyped structs units entry → slice_get units k ≡ Some unit → IsCounted structs (take k units) unit

@@ -26,7 +26,7 @@ abbrev pub table_of_needed : List StructDef → List UnitDef → ℕ → Activit
 table_of_needed structs units entry activities =
     known_after no_entries (kept (needed_units units entry) (functions_of_all structs units activities))
 
--- under the name of each of these units it has what the table of all units has there
+-- the table of needed functions has, for each needed unit, the function that the table of all units has
 abbrev pub NeededAreKnown : List StructDef → List UnitDef → ℕ → Type 0
 NeededAreKnown structs units entry =
     (machine : List InMachine) (activities : Activities) (k : ℕ) (unit : UnitDef) → IsWellTyped structs units entry →

@@ -55,7 +55,7 @@ pub record RunOf (w : Setting) (activities : Activities) (i : ℕ) (unit : UnitD
   -- the called unit stands before the caller's
   pub earlier : unit_number w j < unit_number w i
 
--- the number of the node at which it begins
+-- the number of the node at which a `run` begins
 abbrev pub run_number : Setting → Activities → ℕ → Label → Place → Arguments → ℕ
 run_number w activities i l at arguments = rank_by w activities i (EnterAt l at arguments)
 
@@ -160,7 +160,7 @@ RunsLeave structs units entry machine activities =
 
 -- ---- targets
 
--- A target of a `run` of the instance i gets the result of the instance j, which is this value
+-- a target of a `run` of the instance i gets the result of the instance j, which is this value
 pub record TargetGiven (w : Setting) (i j : ℕ) (path : Path) (value : Value) (store left : Store) : Type 0 where
   pub unit : UnitDef
   pub is_there : unit_at w i ≡ Some unit
@@ -174,8 +174,7 @@ pub record TargetGiven (w : Setting) (i j : ℕ) (path : Path) (value : Value) (
   pub result : result_at store j ≡ Some value
   pub done : DeedYields w (deed i at (Gives j (Some path))) store true left
 
--- The instance sees then the value at the target, and else what it saw. What is inside the instances that it calls has the variables that it had, and
--- the instance's own result is what it was
+-- an instance sees the value at the target of its `run`, and all else as before. Variables inside its callees and its own result are unchanged
 pub record TargetsSeen (w : Setting) (activities : Activities) : Type 0 where
   pub own : (i j : ℕ) (path : Path) (value : Value) (store left : Store) → TargetGiven w i j path value store left →
       put_at (static_of path).root (static_of path).fields value (view_at w store i).now ≡ Some (view_at w left i).now

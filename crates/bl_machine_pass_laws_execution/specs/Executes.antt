@@ -74,8 +74,7 @@ begun_registers rank i unit = started (λ k. 0) (entry_flag (rank i) (plain_body
 abbrev pub resumed_registers : Frames → ℕ → Registers
 resumed_registers frames i = started (frames i) (λ k. false)
 
--- with which of them a pass of an instance that isn't told to begin starts: where all its counters hold 0 its body begins, and where its first one
--- doesn't it goes on
+-- the registers with which a pass starts: the body begins where all counters of the instance hold 0, and goes on where the first one doesn't
 pub data PassStart (rank : ℕ → Node → ℕ) (i : ℕ) (unit : UnitDef) (frames : Frames) : Registers → Type 0 where
   begins : ((c : ℕ) → frames i c ≡ 0) → PassStart rank i unit frames (begun_registers rank i unit)
   goes_on : (frames i 0 ≡ 0 → ⊥) → PassStart rank i unit frames (resumed_registers frames i)

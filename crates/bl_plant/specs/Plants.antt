@@ -43,7 +43,7 @@ AnsweredBy before give.Finished row after = (after.log ≡ before.log) × AsRule
 AnsweredBy before give.Failed row after = (after.log ≡ before.log) × Rose before.faults after.faults
 AnsweredBy before give.NoMemory row after = after.log ≡ before.log
 
--- a plant that was asked for a row has answered so
+-- a plant has given this answer when asked for a row
 pub record Gives (before : PlantView) (answer : Give) (row : List ℤ) (after : PlantView) : Type 0 where
   pub same : IsSame before after
   pub answered : AnsweredBy before answer row after

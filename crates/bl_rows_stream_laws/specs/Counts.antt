@@ -20,7 +20,7 @@ abbrev pub counts_text : Behaviour → List (List ℤ) → List ℕ
 counts_text behaviour rows =
     codes "tick,statements\n" ++ (count_lines 1 (counts_after behaviour.tick behaviour.start rows) ++ last_text (behaviour.trace rows).last)
 
--- the course that runs a C file which behaves so, and shows how many statements each tick executes
+-- the course that runs a C file with this behaviour, and shows how many statements each tick executes
 abbrev pub counts_by : Behaviour → Course
 counts_by behaviour = record {
   ins = behaviour.inputs;

@@ -36,7 +36,7 @@ pub record Plants : Type 0 where
 abbrev pub setting_of : Parts → List PlantView → ℕ → List ℕ → DriveSetting
 setting_of parts plants ticks names = record { runner = loaded parts; plants = plants; names = names; ticks = ticks }
 
--- a C file that has the one trace of a source's program was driven against the plants: it recorded this and ended so
+-- a C file with the one trace of a source's program was driven against the plants, with this record and end
 pub record HasDriven (left : Option (List ℕ)) (plants : Plants) (ticks : ℕ) (names : List ℕ) (driven : Driven)
     (how : Result (Unit {0}) DriveFault) (text : List ℕ) : Type 0 where
   pub raw : Raw
@@ -50,7 +50,7 @@ pub record HasDriven (left : Option (List ℕ)) (plants : Plants) (ticks : ℕ) 
   -- the drive shows the text of the trace, or nothing where the names and widths don't fit
   pub shows : text ≡ text_shown (output_columns one_trace.unit) driven.trace how
 
--- the status of a drive that ended so
+-- the status of a drive with this end
 abbrev pub status_at : End → Status
 status_at end.Done = status.Ok
 status_at end.Trapped = status.Trapped

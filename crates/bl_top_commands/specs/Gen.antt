@@ -11,7 +11,7 @@ use Rattle.bl_io.specs.Left.{IsKept}
 use Rattle.bl_tree.specs.declared.row.Last.{Last}
 use Rattle.bl_tree.specs.declared.row.Last.TheVariants.{Open, Ended, Trap}
 
--- the status of a run that stands so
+-- the status of a generated run with this last state
 abbrev pub status_at : Last → Status
 status_at Open = status.Ok
 status_at Ended = status.Ok

@@ -28,7 +28,7 @@ pub record OneTrace (structs : List StructDef) (units : List UnitDef) (entry : �
   -- no tick is stuck: where no point is enabled, nothing is left to do
   pub never_stuck : NeverStuck structs units entry
 
--- the course that runs a C file which behaves so, and shows its trace
+-- the course that runs a C file with this behaviour, and shows its trace
 abbrev pub course_by : Behaviour → Course
 course_by behaviour = record {
   ins = behaviour.inputs;
@@ -49,7 +49,7 @@ pub record HasCourse (structs : List StructDef) (units : List UnitDef) (entry : 
   -- the course stands as this trace does after rows, and shows its text
   pub stands : (rows : List (List ℤ)) → course.last rows ≡ (trace rows).last
   pub shows : (rows : List (List ℤ)) → course.text rows ≡ text_of (trace rows) (output_columns unit)
-  -- the rows of any bytes fit, and so do those of the lines that are whole in some first bytes
+  -- the rows of any bytes fit, and so do the rows of the complete lines in a prefix
   pub fit : (bytes : List ℕ) → RowsFit (input_columns unit) (rows_of bytes course.ins).rows
   pub fit_so_far : (bytes : List ℕ) → RowsFit (input_columns unit) (rows_in (empty_reading course.ins) bytes)
   -- no list of steps within a tick is longer than the number of the program's steps, and where no point may act nothing is left

@@ -8,7 +8,7 @@ use Rattle.bl_ctext_semantics.specs.inner.Maps.{text_at}
 use Rattle.bl_bound.specs.declared.cost.Cost.{Cost}
 use Rattle.bl_bound.specs.declared.cost.Cost.TheVariants.{Number, Over}
 
--- a number; one that 128 bits can't hold counts as the least such
+-- a number, or 2 ^ 128 for all that 128 bits can't hold
 abbrev pub capped : ℕ → ℕ
 capped n = min n (2 ^ 128)
 

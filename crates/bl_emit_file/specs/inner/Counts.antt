@@ -6,6 +6,6 @@ use Rattle.bl_tree.specs.declared.tree.Unit.{Unit as UnitDef}
 abbrev pub is_few : ℕ → Bool
 is_few n = nat_le n (2 ^ 62)
 
--- whether the unit has so few variables
+-- whether the unit has at most 2 ^ 62 variables
 abbrev pub has_few : UnitDef → Bool
 has_few unit = is_few (length unit.vars)

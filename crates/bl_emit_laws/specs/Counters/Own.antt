@@ -54,7 +54,7 @@ abbrev pub is_counter_name : Text → Bool
 is_counter_name [] = false
 is_counter_name (first ∷ rest) = first == 99 && is_digit_run rest
 
--- whether a place names a counter: some member that it goes through has such a name
+-- whether a place names a counter: some member that it goes through has the name of one
 abbrev pub names_counter : CPath → Bool
 names_counter place = list_any is_counter_name place.members
 

@@ -55,7 +55,7 @@ pub record CallAddresses : Type 0 where
   pub result : Location
   pub over : Location
 
--- one thing, where the test is true
+-- a list of the one thing, where the test is true, else an empty one
 abbrev pub where_true : {X : Type 0} → Bool → X → List X
 where_true test x = if test then x ∷ [] else []
 

@@ -78,7 +78,7 @@ asks_its_own view has n (RestedIn slots) =
     list_all (λ slot. has.copied slot.counter) slots && (list_all (fits_counter view.sizes) slots && are_in_a_row slots)
 asks_its_own view has n (Ended age needed) = has_age view.number has age && list_all (λ slot. has.counters slot.counter) needed.slots
 
--- the C of a guard doesn't trap, and is 1 where what is asked is so, and 0 where it isn't
+-- the C of a guard doesn't trap, and is 1 where the guard holds, and 0 where it doesn't
 abbrev pub GuardsEvaluate : Type 0
 GuardsEvaluate =
     (view : ActivityView) (has : Registered) (scope : Scope) (n : Node) (asked : Asked) (r : Registers) (here : Memory) →

@@ -68,7 +68,7 @@ ViewsFit structs units entry =
     (i : ℕ) (unit : UnitDef) (store : Store) → unit_at w i ≡ Some unit → StoreFits w store →
     values_fit structs unit.vars (view_at w store i).now ≡ true
 
--- the lists have the same at these positions
+-- the two lists have the same elements at these positions
 abbrev pub AgreeAt : List ℕ → List Value → List Value → Type 0
 AgreeAt ks before other = (x : ℕ) → list_any (nat_eq x) ks ≡ true → slice_get before x ≡ slice_get other x
 

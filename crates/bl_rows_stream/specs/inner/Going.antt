@@ -48,7 +48,7 @@ pub record Start : Type 0 where
   pub cells : List ℤ
   pub ready : Bool
 
--- a live runner of a file from there on
+-- a live runner of a file in this state
 abbrev pub runner_at : Start → Parts → Running
 runner_at start file = record { parts = file; cells = start.cells; ready = start.ready; live = true }
 
@@ -87,7 +87,7 @@ progress_of Open (Some fault) = progress.Over (finish_of Open (Some fault))
 progress_of Ended fault = progress.Over finish.Done
 progress_of Trap fault = progress.Over finish.Trapped
 
--- a piece with which these bytes are read has left the run so
+-- a piece with which these bytes are read has left the run in this state
 abbrev pub Leaves : Report → Start → Parts → List ℕ → Option (List ℕ) → Session → Running → Option (List ℕ) → Progress → Type 0
 Leaves report start file read before s r now progress.Open = RunStands report start file read before s r now
 Leaves report start file read before s r now (progress.Over ended) =
@@ -100,7 +100,7 @@ pub record Going (report : Report) (start : Start) (file : Parts) (all before : 
   pub has_read : HasRead all read left
   pub stands : RunStands report start file read before s r now
 
--- a piece of the file has left the run so
+-- a piece of the file has left the run going on, or has ended it
 abbrev pub GoesOrEnds : Report → Start → Parts → Option (List ℕ) → Option (List ℕ) → Session → Running → Option (List ℕ)
     → Option (List ℕ) →
     Progress → Type 0

@@ -23,7 +23,7 @@ abbrev pub at_fault : Option RowFault → Option RowsEnd
 at_fault None = None
 at_fault (Some fault) = Some (Read (Some fault))
 
--- a piece of the file leaves the rows so, or it is the last one
+-- a piece of the file has left these rows taken, or the rows have ended
 abbrev pub TakesOn : List Column → Option (List ℕ) → Option (List ℕ) → Reading → List (List ℤ) → Option RowsEnd → Type 0
 TakesOn ins all left reader rows None = Taken ins all left reader rows
 TakesOn ins all left reader rows (Some end) = Gathers ins all left rows end

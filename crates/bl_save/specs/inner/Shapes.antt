@@ -10,7 +10,7 @@ pub data Allowed : Type 0 where
   exactly : ℕ → Allowed
   at_most : ℕ → Allowed
 
--- whether a byte may stand there
+-- whether a byte may stand at a place
 abbrev pub allows : Allowed → ℕ → Bool
 allows (exactly n) byte = byte == n
 allows (at_most n) byte = nat_le byte n

@@ -60,7 +60,7 @@ IsEndAtLoad load.NoMemory outcome = outcome.status ≡ status.NoMemory
 abbrev pub IsEndAtState : StateFault → Outcome → Type 0
 IsEndAtState (state.BadState at) outcome = IsTold status.BadState (bad_state_line at) outcome
 
--- the status of a run that ended so
+-- the status of a run with this end
 abbrev pub status_of : Finish → Status
 status_of finish.Done = status.Ok
 status_of finish.Trapped = status.Trapped
