@@ -15,7 +15,7 @@ NothingLeft body blocks =
     (k : ℕ) (one two : List ℕ) (i j : ℕ) → slice_get blocks k ≡ Some one → slice_get blocks (suc k) ≡ Some two →
     slice_get one (length one - 1) ≡ Some i → slice_get two 0 ≡ Some j → EdgeBetween (nodes_in body) (CouldFollow body) i j → ⊥
 
--- the same nodes in the same order, the same numbers, and nothing left to merge
+-- `to` has the nodes of `from` in the same order, with the same counters, and no two of its neighbouring blocks can be merged
 pub record IsMergedFrom (unit : UnitDef) (from to : Activity) : Type 0 where
   pub nodes : joined to.blocks ≡ joined from.blocks
   pub slots : to.slots ≡ from.slots
@@ -27,6 +27,6 @@ EachThree R [] [] [] = ⊤
 EachThree R (x ∷ xs) (y ∷ ys) (z ∷ zs) = R x y z × EachThree R xs ys zs
 EachThree R _ _ _ = ⊥
 
--- each activity among the units is merged from the one at its place
+-- each activity of the second list is merged from the one at its position in the first
 abbrev pub AreMergedFrom : List UnitDef → List Activity → List Activity → Type 0
 AreMergedFrom units from to = EachThree IsMergedFrom (activities units) from to

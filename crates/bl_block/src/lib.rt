@@ -1,9 +1,10 @@
-//! Machines with fewer and larger blocks. Two neighbouring blocks of an activity could be one where the last node of the
-//! first leads to the first node of the second and to no other, joins aside, and nothing else leads there (`CouldFollow` of
-//! `bl_machine`). `merge` joins such neighbours until none are left. The machine that it gives has the same program and, for
-//! each activity, the same nodes in the same order and the same numbers of resting places (`specs/Merged.antt`, `IsMergedFrom`),
-//! and no two neighbours in it could be one (`NothingLeft`). It takes one walk over the edges of each tick graph and one over
-//! the nodes of each activity, and fails for want of memory alone. `nodes_of` gives the nodes of blocks, one block after another.
+//! Machines with fewer and larger blocks. Two neighbouring blocks of an activity can be merged if the only successor of
+//! the first, joins aside, is the second, and its only predecessor is the first (`CouldFollow` of `bl_machine`).
+//! `merge` merges such neighbours until none are left. The new machine has the same program. For each activity, it has
+//! the same nodes in the same order and the same numbers of resting places (`specs/Merged.antt`, `IsMergedFrom`), and
+//! no two neighbours can be merged (`NothingLeft`). `merge` walks once over the edges of each tick graph and once over
+//! the nodes of each activity, and fails for want of memory alone. `nodes_of` gives the nodes of blocks, one block
+//! after another.
 #![tactic(auto)]
 
 mod groups;

@@ -13,13 +13,13 @@ use Rattle.bl_block.specs.Merged.{AreMergedFrom}
 abbrev pub setting : Program → Setting
 setting program = setting_of program.structs program.units program.entry
 
--- over these rows a run of the program, each tick of which is one pass over the blocks of this machine, shows the trace
+-- a run of the program over the rows has the trace, and each of its ticks is one pass over the blocks of the machine
 pub record ShowsTrace (program : Program) (machine : List Activity) (rows : List (List ℤ)) (trace : Trace) : Type 0 where
   pub rank : ℕ → Node → ℕ
   pub go_by : GoBy (setting program) machine rank
   pub runs : RunsByPasses program.structs program.units program.entry rank rows trace
 
--- a pass goes by the same numbers through a machine and through one merged from it, and so both show the same traces
+-- a machine and one merged from it have the same traces, since a pass goes by the same numbers through both
 pub record MergedShowTheSame : Type 0 where
   pub numbers : (program : Program) (from to : List Activity) → AreMergedFrom program.units from to → (rank : ℕ → Node → ℕ) →
       GoBy (setting program) from rank ↔ GoBy (setting program) to rank

@@ -1,6 +1,6 @@
-//! Merged machines show what they showed before. There is no code here. A law, as the contract of a function that does nothing: a pass
-//! goes by the blocks of a machine, one block after another, so it goes by the same numbers where its blocks are joined, and the
-//! traces of its runs are the same (`specs/Laws.antt`, `MergedShowTheSame`).
+//! Merged machines have the traces that they had before. Lemmas only. A pass takes the blocks of a machine one after
+//! another. So it takes nodes in the same order once blocks are merged, and runs have the same traces
+//! (`specs/Laws.antt`, `MergedShowTheSame`).
 #![tactic(auto)]
 
 ghost use Rattle.bl_block_laws.specs.Laws.{MergedShowTheSame};

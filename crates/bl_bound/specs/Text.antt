@@ -21,6 +21,6 @@ line_text name cost = name ++ (32 ∷ (cost_text cost ++ (10 ∷ [])))
 abbrev pub costs_text : List (Text × ℕ) → List ℕ
 costs_text costs = joined (map (λ cost. line_text cost.0 (told cost.1)) costs)
 
--- those of the functions of a file
+-- the lines of a file's functions with their costs, in order
 abbrev pub bound_text : List CFunc → List ℕ
 bound_text functions = costs_text (costs functions)

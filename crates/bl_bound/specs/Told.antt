@@ -5,10 +5,10 @@ use Rattle.bl_ctext_semantics.specs.Cost.{costs}
 use Rattle.bl_bound.specs.declared.cost.Cost.{Cost}
 use Rattle.bl_bound.specs.declared.cost.Cost.TheVariants.{Number, Over}
 
--- a number that 128 bits hold is told exactly; of any other it is told that it is over them
+-- the cost that is reported for a number: the number if 128 bits hold it, and else that it is over them
 abbrev pub told : ℕ → Cost
 told n = if nat_lt n (2 ^ 128) then Number n else Over
 
--- what is told of each of these functions, in order
+-- the reported costs of the functions, in order
 abbrev pub told_costs : List CFunc → List Cost
 told_costs functions = map (λ cost. told cost.1) (costs functions)

@@ -1,7 +1,7 @@
-//! How many C statements the functions of a file can execute. `costs` tells the cost of each function in order
-//! (`Cost.antt` of `bl_ctext_semantics`, `costs`), or that 128 bits can't hold it (`specs/Told.antt`, `told_costs`), and
-//! `bound_text` writes them (`specs/Text.antt`); want of memory aside. A function is looked at once, with what was found
-//! of those before it.
+//! How many C statements the functions of a file can execute. `costs` gives the cost of each function in order
+//! (`Cost.antt` of `bl_ctext_semantics`, `costs`), or says that 128 bits can't hold it (`specs/Told.antt`,
+//! `told_costs`). `bound_text` writes them (`specs/Text.antt`); want of memory aside. Each function is visited once,
+//! with the costs of those before it.
 #![tactic(auto)]
 
 mod calls;

@@ -3,9 +3,8 @@ use Rattle.std.specs.Prelude.{◌≤◌, ℤ, List, All}
 use Rattle.bl_ctext_semantics_laws_places.specs.Behaviour.{Behaviour}
 use Rattle.bl_bound_laws.specs.Counts.{counts_after}
 
--- no tick executes more statements than the bound, which is the cost of `bl_tick`: whatever the cells have and whatever comes in, a tick
--- that traps or ends the run included
+-- no tick executes more statements than the bound, the cost of `bl_tick`, from any cells and with any inputs. This includes ticks that trap or end the run
 pub record IsBounded (behaviour : Behaviour) : Type 0 where
   pub ticks : (cells ins : List ℤ) → (behaviour.tick cells ins).count ≤ behaviour.bound
-  -- and so each tick of a run over rows
+  -- no tick of a run over rows executes more statements than the bound
   pub runs : (rows : List (List ℤ)) → All (λ n. n ≤ behaviour.bound) (counts_after behaviour.tick behaviour.start rows)

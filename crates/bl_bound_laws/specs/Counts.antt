@@ -3,7 +3,7 @@ use Rattle.std.specs.Prelude.{ℕ, ℤ, List, [], ◌∷◌, Option, Some, None}
 use Rattle.bl_ctext_semantics.specs.Parts.{Parts}
 use Rattle.bl_ctext_semantics.specs.Trace.{Reply, TickOfFile, ended, row, start_c, tick_c, trapped}
 
--- what one tick does, by the numbers of the cells before it and a row of inputs
+-- the meaning of one tick, by the numbers of the cells before it and a row of inputs
 abbrev pub Ticking : Type 0
 Ticking = List ℤ → List ℤ → TickOfFile
 
@@ -13,14 +13,14 @@ counts_if row rest = rest
 counts_if ended rest = []
 counts_if trapped rest = []
 
--- the counts of the ticks of rows from these numbers of the cells: one that ends the run or traps is the last, and is counted
+-- the counts of the ticks over rows from these numbers of the cells. A tick that ends the run or traps is the last, and is counted
 abbrev pub counts_from : Ticking → List (List ℤ) → List ℤ → List ℕ
 counts_from tick [] cells = []
 counts_from tick (ins ∷ rest) cells =
     let t : TickOfFile = tick cells ins in
     t.count ∷ counts_if t.reply (counts_from tick rest t.cells)
 
--- where the start has trapped the first tick traps, and executes nothing
+-- the counts of a run whose start has trapped: the first tick traps, and executes nothing
 abbrev pub counts_at_trap : List (List ℤ) → List ℕ
 counts_at_trap [] = []
 counts_at_trap (ins ∷ rest) = 0 ∷ []
@@ -30,6 +30,6 @@ abbrev pub counts_after : Ticking → Option (List ℤ) → List (List ℤ) → 
 counts_after tick None rows = counts_at_trap rows
 counts_after tick (Some cells) rows = counts_from tick rows cells
 
--- those of a file over rows of inputs
+-- how many statements each tick of a file executes, over rows of inputs
 abbrev pub counts_of : Parts → List (List ℤ) → List ℕ
 counts_of file rows = counts_after (tick_c file) (start_c file) rows

@@ -1,6 +1,6 @@
-//! Laws of how many C statements a tick executes. None of these functions does anything: the contract is the law. No
-//! tick of a run over any rows executes more than the file's bound, one that ends the run or traps included
-//! (`specs/Counts.antt`, `counts_of`), and so it is with what C texts mean (`specs/Bounded.antt`, `IsBounded`).
+//! Laws of how many C statements a tick executes. Lemmas only. No tick of a run over any rows executes more statements
+//! than the file's bound, also one that ends the run or traps (`specs/Counts.antt`, `counts_of`). The same bound holds
+//! for C texts (`specs/Bounded.antt`, `IsBounded`).
 #![tactic(auto)]
 
 ghost use Rattle.std.specs.Prelude.{◌≤◌, ℕ, ℤ, List, All};

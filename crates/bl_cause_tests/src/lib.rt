@@ -1,4 +1,4 @@
-//! Tests of `bl_cause` on graphs built by hand (docs/LANGUAGE.md, "Tick graphs"). There is nothing else here.
+//! Tests of `bl_cause` on graphs built by hand (docs/LANGUAGE.md, "Tick graphs").
 #![tactic(auto)]
 
 #[cfg(test)]

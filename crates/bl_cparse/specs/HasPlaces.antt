@@ -57,7 +57,7 @@ use Rattle.bl_ctext.specs.Prelude.{prelude}
 use Rattle.bl_ctext.specs.declared.file.CFile.{CFile}
 use Rattle.bl_cparse_syntax.specs.Pieces.{pieces, first_of}
 
--- where a walk stands: behind the pieces of the text before this offset
+-- the position of a walk over the pieces of a text: behind those before this offset
 pub record TextSpot : Type 0 where
   pub text : List ℕ
   pub at : ℕ
@@ -67,11 +67,11 @@ abbrev pub blanks : List ℕ → ℕ
 blanks [] = 0
 blanks (b ∷ bs) = cond (is_blank b) (suc (blanks bs)) 0
 
--- where the next piece starts
+-- the offset at which the next piece starts
 unfoldable pub start_of : TextSpot → ℕ
 start_of s = s.at + blanks (drop s.at s.text)
 
--- where the next piece ends
+-- the offset at which the next piece ends
 unfoldable pub end_of : TextSpot → ℕ
 end_of s = start_of s + length (first_of (pieces (drop s.at s.text)))
 
@@ -83,7 +83,7 @@ next s = record { text = s.text; at = end_of s }
 abbrev pub past : List Token → TextSpot → TextSpot
 past tokens s = fold (λ spot token. next spot) s tokens
 
--- from the start of the next piece up to where another walk stands
+-- the place from the start of the next piece up to the other walk's position
 abbrev pub span : TextSpot → TextSpot → Place
 span s behind = record { start = start_of s; end = behind.at }
 

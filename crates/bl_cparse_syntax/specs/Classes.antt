@@ -47,7 +47,7 @@ least (Int w) = 0
 least (Negated w) = 1
 least (Unsigned w) = 0
 
--- how far their numbers go: all are below
+-- the bound that the digits' number must be below
 abbrev pub bound : Digits → ℕ
 bound Elements = 65537
 bound (Int w) = negatives w

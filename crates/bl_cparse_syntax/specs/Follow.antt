@@ -47,31 +47,31 @@ use Rattle.bl_cparse_syntax.specs.Grammar.{Shape, Production, plain, productions
 abbrev pub function_starts : List Class
 function_starts = exactly (codes "static") ∷ exactly (codes "void") ∷ one_of ScalarTypes ∷ []
 
--- those that a type begins with
+-- the classes that a type begins with
 abbrev pub type_starts : List Class
 type_starts = one_of ScalarTypes ∷ exactly (codes "struct") ∷ []
 
--- those that a statement begins with
+-- the classes that a statement begins with
 abbrev pub statement_starts : List Class
 statement_starts =
     a_name ∷ one_of PreludeFunctions ∷ exactly (codes "(") ∷ exactly (codes "if") ∷ exactly (codes "{") ∷ exactly (codes "break")
     ∷ exactly (codes "return") ∷ []
 
--- those that a constant begins with
+-- the classes that a constant begins with
 abbrev pub constant_starts : List Class
 constant_starts =
     exactly (codes "INT8_C") ∷ exactly (codes "INT16_C") ∷ exactly (codes "INT32_C") ∷ exactly (codes "INT64_C") ∷
     exactly (codes "UINT8_C") ∷ exactly (codes "UINT16_C") ∷ exactly (codes "UINT32_C") ∷ exactly (codes "UINT64_C") ∷ []
 
--- those that an argument begins with, but for `(`
+-- the classes that an argument begins with, but for `(`
 abbrev pub argument_starts : List Class
 argument_starts = exactly (codes "&") ∷ a_name ∷ one_of PreludeFunctions ∷ one_of PlainLiterals ∷ constant_starts
 
--- those that go on with a place
+-- the classes that continue a place
 abbrev pub after_place : List Class
 after_place = exactly (codes ".") ∷ exactly (codes "[") ∷ []
 
--- those that go on with an expression
+-- the classes that continue an expression
 abbrev pub after_expression : List Class
 after_expression = exactly (codes "(") ∷ after_place
 
@@ -134,7 +134,7 @@ abbrev pub depth_of : (Part → ℕ) → List Production → ℕ
 depth_of known [] = 1
 depth_of known (production ∷ others) = max (begun known production.shapes) (depth_of known others)
 
--- the same, as far as so many productions in turn show it
+-- the depth of a part, as far as n steps through its productions show it
 abbrev pub depth_within : ℕ → Part → ℕ
 depth_within zero part = 1
 depth_within (suc n) part = depth_of (depth_within n) (productions part)

@@ -74,15 +74,15 @@ Shape = Symbol Class Within
 abbrev pub Wanted : Type 0
 Wanted = Symbol Class Roomed
 
--- this word or sign
+-- the symbol of a word or sign
 abbrev pub word : Token → Shape
 word bytes = Terminal (exactly bytes)
 
--- any name
+-- the symbol of any name
 abbrev pub name : Shape
 name = Terminal a_name
 
--- digits of such numbers
+-- the symbol of digits
 abbrev pub digits : Digits → Shape
 digits of = Terminal (number of)
 
@@ -98,8 +98,7 @@ the part = Nonterminal (record { part = part; around = 0 })
 abbrev pub inside : ℕ → Part → Shape
 inside around part = Nonterminal (record { part = part; around = around })
 
--- what a part may stand for where so many brackets may still be opened, by itself and by the parts that it can't do without;
--- the number is told where it can fail to be so
+-- a production of a part, and how many brackets must still be allowed so that it and its parts can be completed
 pub record Production : Type 0 where
   pub needs : ℕ
   pub shapes : List Shape
@@ -112,11 +111,11 @@ plain shapes = record { needs = 0; shapes = shapes }
 abbrev pub needing : ℕ → List Shape → Production
 needing needs shapes = record { needs = needs; shapes = shapes }
 
--- a constant by its word, and its digits in parentheses
+-- the symbols of a constant: its word, and its digits in parentheses
 abbrev pub constant : Token → Digits → List Shape
 constant bytes of = word bytes ∷ word (codes "(") ∷ digits of ∷ word (codes ")") ∷ []
 
--- a loop behind its brace and the type of its turns; two of its brackets are open around its condition and its statements
+-- the symbols of a loop behind its brace and the type of its turns. Two of its brackets are open around its condition and its statements
 abbrev pub turns : List Shape
 turns =
     turn_name ∷ word (codes "=") ∷ word (codes "0") ∷ word (codes ";") ∷ word (codes "while") ∷ word (codes "(") ∷ inside 2 Expr
@@ -186,7 +185,7 @@ productions Constant =
     ∷ plain (constant (codes "INT32_C") (Int W32)) ∷ plain (constant (codes "INT64_C") (Int W64)) ∷
     plain (constant (codes "UINT8_C") (Unsigned W8)) ∷ plain (constant (codes "UINT16_C") (Unsigned W16))
     ∷ plain (constant (codes "UINT32_C") (Unsigned W32)) ∷ plain (constant (codes "UINT64_C") (Unsigned W64)) ∷ []
--- the parenthesis before it is the first of its brackets
+-- an expression behind its parenthesis, which is the first of its brackets
 productions Inside =
     plain (word (codes "*") ∷ name ∷ word (codes ")") ∷ the Steps ∷ []) ∷
     plain (word (codes "!") ∷ inside 1 Expr ∷ word (codes ")") ∷ []) ∷
@@ -210,7 +209,7 @@ productions Arg = plain (word (codes "&") ∷ the Place ∷ []) ∷ plain (the E
 productions Place = plain (name ∷ the Steps ∷ []) ∷ needing 1
     (word (codes "(") ∷ word (codes "*") ∷ name ∷ word (codes ")") ∷ the Steps ∷ []) ∷ []
 
--- the class, where this is the name of the loop's turns
+-- the class, with the name of the loop's turns for the class of such names
 abbrev pub named : Token → Class → Class
 named own turn = exactly own
 named own (exactly bytes) = exactly bytes
@@ -218,17 +217,17 @@ named own (one_of group) = one_of group
 named own a_name = a_name
 named own (number of) = number of
 
--- what stands in a production, where so many brackets may still be opened around it and this is the name of the loop's turns
+-- the symbol of a production's shape, with the brackets that may still be opened and the name of the loop's turns
 abbrev pub placed : ℕ → Token → Shape → Wanted
 placed room own (Terminal class) = Terminal (named own class)
 placed room own (Nonterminal within) = Nonterminal (record { part = within.part; room = room - within.around })
 
--- it is one of the productions
+-- the production is in the list
 pub data IsAmong (production : Production) : List Production → Type 0 where
   here : {others : List Production} → IsAmong production (production ∷ others)
   later : {other : Production} {others : List Production} → IsAmong production others → IsAmong production (other ∷ others)
 
--- the part may stand for these classes and parts
+-- the part derives these classes and parts
 pub record Produces (whole : Roomed) (next : Option Token) (wanted : List Wanted) : Type 0 where
   pub production : Production
   pub is_one : IsAmong production (productions whole.part)
@@ -237,7 +236,7 @@ pub record Produces (whole : Roomed) (next : Option Token) (wanted : List Wanted
   pub is_turn : is_turn_name name ≡ true
   pub made : wanted ≡ map (placed whole.room name) production.shapes
 
--- the classes and parts stand for the pieces up to these that are left
+-- the classes and parts derive the pieces up to those that are left
 abbrev pub CDerives : List Wanted → List Token → List Token → Type 0
 CDerives wanted pieces left = Derivations.Derives Produces matches wanted pieces left
 

@@ -4,8 +4,7 @@ use Rattle.std.specs.Cmp.Lexicographic.{pointwise}
 use Rattle.bl_ctext.specs.Token.{Token, is_blank, is_word_byte, is_double_sign}
 use Rattle.bl_ctext.specs.Token.{put_before}
 
--- the pieces of bytes that begin with two: white space is no part of them, and the two are a sign, go on in one word, or
--- the first is a piece of its own; `far` are the pieces behind the two, and `near` those behind the first
+-- the pieces of bytes whose first two are a and b, cut before a. `far` are the pieces behind both, and `near` those behind a
 abbrev pub cut_off : (blank pair word : Bool) → ℕ → ℕ → (far near : List Token) → List Token
 cut_off true pair word a b far near = near
 cut_off false true word a b far near = (a ∷ b ∷ []) ∷ far

@@ -48,6 +48,6 @@ file = record { part = File; room = most_open }
 abbrev pub IsGood : List Wanted → Type 0
 IsGood stack = Predictive.Good Produces matches tables stack
 
--- after these pieces the stack stands for just what completes a text
+-- the stack after these pieces derives exactly what completes a text
 abbrev pub CStackCompletes : List Token → List Wanted → Type 0
 CStackCompletes front stack = Runs.StackCompletes Produces matches tables file front stack

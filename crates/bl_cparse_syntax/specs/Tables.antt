@@ -38,7 +38,7 @@ pub record Choice : Type 0 where
   pub on : List Class
   pub production : Production
 
--- before others, the choice of a production that stands for something
+-- the choices with that of a nonempty production in front
 abbrev pub choice_before : Production → List Shape → List Choice → List Choice
 choice_before production [] others = others
 choice_before production (first ∷ rest) others = record { on = firsts starts (first ∷ rest); production = production } ∷ others
@@ -71,11 +71,11 @@ abbrev pub chosen : List Choice → Token → Option Production
 chosen [] piece = None
 chosen (choice ∷ others) piece = cond (has choice.on piece) (Some choice.production) (chosen others piece)
 
--- the piece, where it can name the turns of a loop, and else some such name
+-- the piece, if it can name the turns of a loop, and else some such name
 abbrev pub turn_of : Token → Token
 turn_of piece = cond (is_turn_name piece) piece (codes "t0")
 
--- the production in this room before this piece
+-- the symbols of the production in this room, where the piece comes next
 abbrev pub wanted_of : ℕ → Token → Production → List Wanted
 wanted_of room piece production = map (placed room (turn_of piece)) production.shapes
 
@@ -85,6 +85,6 @@ decided room piece may (Some production) = cond (nat_le production.needs room) (
 decided room piece true None = Some []
 decided room piece false None = None
 
--- what the next piece decides on
+-- the symbols on which the next piece decides
 unfoldable pub pick : Roomed → Token → Option (List Wanted)
 pick whole piece = decided whole.room piece (absent whole.part) (chosen (choices whole.part) piece)

@@ -1,10 +1,10 @@
-//! Which pieces spell a text of the C subset, and where the others fail first (docs/C_SUBSET.md, "Grammar" and "Where a
-//! text fails"). `check` answers None exactly where the pieces of a text behind its prelude spell one
-//! (`specs/Grammar.antt`, `SpellText`), and else the offset at which they stop beginning one (`specs/Rules.antt`,
-//! `FailsFirst`), with both halves, as in `bl_parse_syntax`; want of memory aside. The limit of 2,000 open brackets is part
-//! of the grammar.
+//! Which pieces spell a text of the C subset, and where the others first fail (docs/C_SUBSET.md, "Grammar" and "Where a
+//! text fails"). `check` answers None iff the pieces of a text behind its prelude spell one (`specs/Grammar.antt`,
+//! `SpellText`). Otherwise it answers the offset at which they stop beginning one (`specs/Rules.antt`, `FailsFirst`):
+//! the pieces before it can be completed, and with the next one they can't, as in `bl_parse_syntax`; want of memory
+//! aside. The limit of 2,000 open brackets is part of the grammar.
 //!
-//! Laws: a text fails first at one place, the pieces of a part are read in one way, and a reader knows what follows.
+//! Laws: a text first fails at one place, the pieces of a part are read in one way, and a parser knows what follows.
 #![tactic(auto)]
 
 mod choice;

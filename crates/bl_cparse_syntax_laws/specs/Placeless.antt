@@ -14,7 +14,7 @@ use Rattle.bl_tree.specs.declared.c.CStmt.{CStmt, CStmt-F, fold-CStmt, roll-CStm
 use Rattle.bl_tree.specs.declared.c.CStmtKind.{CStmtKind, CStmtKind-F, roll-CStmtKind}
 use Rattle.bl_ctext.specs.declared.file.CFile.{CFile}
 
--- the one place that every part is given
+-- the place that stands for all places
 abbrev pub nowhere : Place
 nowhere = record { start = 0; end = 0 }
 
@@ -22,7 +22,7 @@ nowhere = record { start = 0; end = 0 }
 abbrev pub expr_aside : CExpr-F CArg CExprKind CCall CExpr CIndex CPlace CStep → CExpr
 expr_aside e = roll-CExpr (record { place = nowhere; what = e.what })
 
--- an expression without its places, and the same of its parts
+-- an expression without places in it
 abbrev pub placeless_expr : CExpr → CExpr
 placeless_expr = fold-CExpr _ _ _ _ _ _ _ roll-CArg roll-CExprKind roll-CCall expr_aside roll-CIndex roll-CPlace roll-CStep
 
@@ -53,7 +53,7 @@ stmt_kind_aside (CStmtKind-F.Return value) = roll-CStmtKind (CStmtKind-F.Return 
 abbrev pub stmt_aside : CStmt-F CStmtKind CStmt → CStmt
 stmt_aside s = roll-CStmt (record { place = nowhere; what = s.what })
 
--- a statement without its places
+-- a statement without places in it
 abbrev pub placeless_stmt : CStmt → CStmt
 placeless_stmt = fold-CStmt _ _ stmt_kind_aside stmt_aside
 
@@ -61,7 +61,7 @@ placeless_stmt = fold-CStmt _ _ stmt_kind_aside stmt_aside
 abbrev pub placeless_struct : CStruct → CStruct
 placeless_struct s = record { place = nowhere; name = s.name; members = s.members }
 
--- a function without its place and those of its statements
+-- a function without places in it
 abbrev pub placeless_func : CFunc → CFunc
 placeless_func f = record {
   place = nowhere;

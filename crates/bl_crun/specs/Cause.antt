@@ -12,13 +12,13 @@ pub record IsRunnable (file : Parts) : Type 0 where
   pub formed : WellFormed file
   pub small : cells_needed file ≤ 1000000
 
--- a well-formed file that needs more
+-- a well-formed file that needs more than 1,000,000 cells
 pub record IsTooLarge (file : Parts) (cells : ℕ) : Type 0 where
   pub formed : WellFormed file
   pub large : 1000000 < cells_needed file
   pub told : cells ≡ saturated (cells_needed file)
 
--- an ill-formed file fails first at the place that is told; want of memory needs no cause
+-- the cause of a fault: an ill-formed file first fails at the place; want of memory needs no cause
 abbrev pub IsCause : Parts → LoadFault → Type 0
 IsCause file (IllFormed at) = first_fault file ≡ Some at
 IsCause file (TooLarge cells) = IsTooLarge file cells

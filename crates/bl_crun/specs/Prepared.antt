@@ -11,7 +11,7 @@ use Rattle.bl_crun.specs.Cause.{IsRunnable}
 use Rattle.bl_crun.specs.Done.{CellsKeep}
 use Rattle.bl_crun.specs.declared.prepared.Prepared.{Prepared}
 
--- what is prepared is the file's; the machine has room for its code
+-- the prepared code is the file's, and the machine has room for it
 pub record PreparedInvariant (file : Parts) (p : Prepared) : Type 0 where
   pub runs : IsRunnable file
   pub code : p.code.items ≡ code_of_file file.structs file.funcs

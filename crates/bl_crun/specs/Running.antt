@@ -61,7 +61,7 @@ OutputsFit outs Row numbers = row_fits outs numbers ≡ true
 OutputsFit outs Ended numbers = row_fits outs numbers ≡ true
 OutputsFit outs Trap numbers = Unit {0}
 
--- what it replies, the runner after it, the row of outputs, and how many statements it executed
+-- the reply of a tick over a row of inputs; also the runner after it, its row of outputs, and its count of statements
 abbrev pub reply_at : Running → List ℤ → Reply
 reply_at r ins = (tick_at r ins).reply
 
@@ -73,7 +73,7 @@ after_tick r ins = record { parts = r.parts; cells = (tick_at r ins).cells; read
 abbrev pub outputs_after : Running → List ℤ → List ℤ → List ℤ
 outputs_after r ins before = unless_trapped (answer_of (reply_at r ins)) (tick_at r ins).outputs before
 
--- a number of statements that 128 bits can't hold is told as the greatest that they can
+-- the count of statements of a tick, at most the greatest number that 128 bits hold
 abbrev pub count_after : Running → List ℤ → ℕ
 count_after r ins = min (tick_at r ins).count (2 ^ 128 - 1)
 

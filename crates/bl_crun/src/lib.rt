@@ -1,9 +1,9 @@
-//! The runner of C files. `Runner::load` checks a file, compiles it and does its start. With a fault it gives the file
-//! back: the place at which it is ill formed, the number of cells where it needs more than 1,000,000, or want of memory
-//! (`specs/Cause.antt`, `IsCause`). `tick`, of a row that fits, answers as the file's tick does, and leaves its outputs
-//! and its cells (`specs/Running.antt`, `after_tick`; `Trace.antt` of `bl_ctext_semantics`, `tick_c`); `tick_counted` counts
-//! its statements too. After the run's end and after a trap the runner isn't live.
-//! `cell` and `put` give and set the number of a cell, also where the start or a tick has trapped.
+//! The runner of C files. `Runner::load` checks a file, compiles it and runs its start. On a fault it gives the file
+//! back with the cause (`specs/Cause.antt`, `IsCause`). That is the place at which it is ill formed, its number of
+//! cells if more than 1,000,000, or want of memory. `tick`, on a row that fits, answers as the file's tick does, and
+//! leaves its outputs and its cells (`specs/Running.antt`, `after_tick`; `Trace.antt` of `bl_ctext_semantics`,
+//! `tick_c`). `tick_counted` counts its statements too. The runner isn't live after the run's end or a trap. `cell` and
+//! `put` read and write the number of a cell, also where the start or a tick has trapped.
 #![tactic(auto)]
 
 mod answer;

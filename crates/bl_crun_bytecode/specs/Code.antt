@@ -32,7 +32,7 @@ pub record Entry : Type 0 where
   pub entry : ℕ
   pub frame : ℕ
 
--- where the earlier functions are known by their entries
+-- something compiled by the entries of the earlier functions
 abbrev pub Coded : Type 0 → Type 0
 Coded A = Ground Entry → A
 
@@ -99,7 +99,7 @@ call_step call here = joined (map (λ arg. arg here) call.args) ++ call_as here 
 abbrev pub expr_step : Coding CExpr-F → Coded Code
 expr_step expr = expr.what
 
--- an index: its length, and the code of the expression that chooses the element
+-- the index with its length, and the code of the expression that chooses the element
 abbrev pub index_step : Coding CIndex-F → Coded (Index Code)
 index_step index here = record { length = index.length; index = index.at here }
 
@@ -194,12 +194,12 @@ abbrev pub ground_of : Sizes → Layouts → Table Entry → CFunc → Ground En
 ground_of known structs earlier function =
     record { sizes = known; structs = structs; known = earlier; slots = slots_of known function; frame = frame_cells known function }
 
--- a function: its statements; where they go on behind the last, it returns 0
+-- the code of a function: its statements, and a return of 0 behind the last
 abbrev pub function_code : Sizes → Layouts → Table Entry → CFunc → Code
 function_code known structs earlier function =
     code_of_block function.body (ground_of known structs earlier function) 0 ++ ins.Push (pos 0) ∷ ins.Return ∷ []
 
--- where a function's code begins, and how many cells its frame has
+-- the entry of a function: where its code begins, and how many cells its frame has
 abbrev pub entry_of : Sizes → ℕ → CFunc → Entry
 entry_of known at function = record { entry = at; frame = frame_cells known function }
 

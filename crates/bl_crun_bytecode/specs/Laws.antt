@@ -11,7 +11,7 @@ use Rattle.bl_ctext_semantics_laws.specs.Layout.{Layouts, capped_sizes, layouts}
 use Rattle.bl_crun_bytecode.specs.Code.{Code, Entry, entries_from, entry_of, function_code, functions_code}
 use Rattle.bl_crun_bytecode.specs.Vm.{Room, StepResult, StepsInRoom, VmState, Waiting, returned, stops}
 
--- in some number of steps the machine comes from a state to this, and never takes more room than there is
+-- the machine comes from the state to the result in some number of steps, and never takes more room than there is
 pub record Arrives (code : Code) (room : Room) (s : VmState) (end : StepResult) : Type 0 where
   pub steps : ℕ
   pub runs : StepsInRoom code room steps s end
@@ -34,14 +34,14 @@ ended s (Some result) = returned s result s.waiting
 abbrev pub ended_as : VmState → FlatAnswer ℤ → StepResult
 ended_as s left = ended (record s { cells = left.cells; count = s.count + left.count }) left.answer
 
--- from its entry on, the machine does what a routine does, wherever there is room for so many more numbers and waiting functions
+-- the machine does what the routine does, from its entry on, given room for so many more numbers and waiting functions
 pub record ImplementsRoutine (code : Code) (room : Room) (numbers calls : ℕ) (entry : Entry) (routine : Routine) : Type 0 where
   pub does : (base : ℕ) (args : List ℤ) (cells : Cells) (waiting : List Waiting) (count : ℕ) →
       waiting_height waiting + numbers ≤ room.numbers → length waiting + calls ≤ room.calls → length cells ≡ room.cells →
       Arrives code room (entry_state entry base args cells waiting count) (ended_as (entry_state entry base args cells waiting count) (routine base args cells))
 
--- each of these functions, where so many instructions and functions stand before the first, does what its routine does. It takes at most
--- as many numbers as there are instructions up to its end, and at most as many functions wait as there are up to it
+-- each function of the list implements its routine, where so many instructions and functions precede. It takes at most as many numbers as instructions up to
+-- its end, and as many waiting functions as functions up to it
 abbrev pub EachDoes : Code → Room → Sizes → Layouts → ℕ → ℕ → Table Entry → Table Routine → List CFunc → Type 0
 EachDoes code room known structs at calls entries routines [] = Unit {0}
 EachDoes code room known structs at calls entries routines (function ∷ rest) =
@@ -50,7 +50,7 @@ EachDoes code room known structs at calls entries routines (function ∷ rest) =
     × EachDoes code room known structs end (calls + 1) (with_entry entries function.name (entry_of known at function))
     (with_entry routines function.name (routine_flat known structs routines function)) rest
 
--- known to neither, or to both, and the one does what the other does
+-- a function is known to neither table, or to both, and the entry implements the routine
 abbrev pub BothDo : Code → Room → ℕ → ℕ → Option Entry → Option Routine → Type 0
 BothDo code room numbers calls None None = Unit {0}
 BothDo code room numbers calls (Some entry) (Some routine) = ImplementsRoutine code room numbers calls entry routine
@@ -61,15 +61,15 @@ BothDo code room numbers calls (Some entry) None = ⊥
 abbrev pub code_of_file : List CStruct → List CFunc → Code
 code_of_file structs functions = functions_code (capped_sizes structs) (layouts structs) 0 no_entries functions
 
--- where the code of a file's function of a name begins
+-- the entry of a file's function of a name
 abbrev pub entry_in_file : List CStruct → List CFunc → Table Entry
 entry_in_file structs functions = entries_from (capped_sizes structs) (layouts structs) 0 no_entries functions
 
--- what a file's function of a name does
+-- the routine of a file's function of a name
 abbrev pub routine_in_file : List CStruct → List CFunc → Table Routine
 routine_in_file structs functions = table_of (routines_after (capped_sizes structs) (layouts structs) no_entries functions)
 
--- each function of a file by its name, where there is room for as many numbers as the file has instructions and for as many calls as it has functions
+-- each function of a file implements its routine, by name, given room for as many numbers as instructions and as many calls as functions
 abbrev pub NamedFunctionsRun : List CStruct → List CFunc → Type 0
 NamedFunctionsRun structs functions =
     let code : Code = code_of_file structs functions in

@@ -31,14 +31,14 @@ use Rattle.bl_crun_bytecode.specs.declared.instruction.Callee.{Callee}
 use Rattle.bl_crun_bytecode.specs.declared.instruction.Instruction.{Instruction}
 use Rattle.bl_crun_bytecode.specs.declared.instruction.Instruction.TheVariants as ins
 
--- a function that waits for one that it called: where it goes on, the base of its frame, and what stands on its stack
+-- a function that waits for its callee: where it goes on, the base of its frame, and its stack
 pub record Waiting : Type 0 where
   pub back : ℕ
   pub base : ℕ
   pub stack : List ℤ
 
--- the position of the next instruction, the base of the running function's frame, the cells, what stands on the running function's
--- stack, the last number first, the functions that wait, the last first, and how many statements have begun
+-- the state of the machine, with the next instruction's position and the base of the running function's frame. The stack is the running function's, last number
+-- first. Functions that wait stand last first, and `count` is how many statements have begun
 pub record VmState : Type 0 where
   pub at : ℕ
   pub base : ℕ
@@ -47,7 +47,7 @@ pub record VmState : Type 0 where
   pub waiting : List Waiting
   pub count : ℕ
 
--- what a step comes to
+-- the result of a step
 pub data StepResult : Type 0 where
   goes : VmState → StepResult
   -- the first function has returned a number
@@ -60,7 +60,7 @@ pub data StepResult : Type 0 where
 abbrev pub on : VmState → List ℤ → StepResult
 on s stack = goes (record s { at = s.at + 1; stack = stack })
 
--- the same, so many instructions further
+-- a state so many instructions behind the next one, with another stack
 abbrev pub past : ℕ → VmState → List ℤ → StepResult
 past n s stack = goes (record s { at = s.at + 1 + n; stack = stack })
 
@@ -89,7 +89,7 @@ element length size at i = option_map (λ k. cell_of (cell_number at + cell_numb
 abbrev pub next_turn : ℤ → Option ℤ
 next_turn n = if int_lt n (pos 65536) then Some (n +ℤ pos 1) else None
 
--- the last so many numbers of a stack, the first of them first
+-- the last n numbers of a stack, the first of them first
 abbrev pub args_on : ℕ → List ℤ → List ℤ
 args_on n stack = reverse (take n stack)
 
@@ -111,7 +111,7 @@ entering s callee =
       count = s.count;
     })
 
--- an instruction, where these numbers stand on the stack; a stack that lacks what is to be taken traps
+-- a step of an instruction with these numbers on the stack; a stack that is too short traps
 abbrev pub step_with : VmState → Instruction → List ℤ → StepResult
 step_with s ins.Count stack = goes (record s { at = s.at + 1; count = s.count + 1 })
 step_with s (ins.Push n) stack = on s (n ∷ stack)
@@ -149,7 +149,7 @@ step code s = step_at s (slice_get code s.at)
 
 -- ---- runs
 
--- how much room there is: for the numbers on all stacks, and for functions that wait; and how many cells there are
+-- the room of a machine: for numbers on all stacks, for waiting functions, and for cells
 pub record Room : Type 0 where
   pub numbers : ℕ
   pub calls : ℕ
@@ -165,7 +165,7 @@ pub record Has (room : Room) (s : VmState) : Type 0 where
   pub calls : length s.waiting ≤ room.calls
   pub cells : length s.cells ≡ room.cells
 
--- in so many steps, each from a state that has its room, the machine comes from a state to this
+-- the machine comes from the state to the result in n steps, each from a state within the room
 pub data StepsInRoom (code : List Instruction) (room : Room) : ℕ → VmState → StepResult → Type 0 where
   here : (s : VmState) → Has room s → StepsInRoom code room 0 s (goes s)
   last : (s : VmState) (end : StepResult) → Has room s → step code s ≡ end → StepsInRoom code room 1 s end

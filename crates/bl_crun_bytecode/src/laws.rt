@@ -1,4 +1,4 @@
-//! Laws of the code of C texts. None of these functions does anything: the contract is the law.
+//! Laws of the code of C texts.
 
 ghost use Rattle.std.specs.Prelude.{List};
 ghost use Rattle.bl_tree.specs.declared.c.CFunc.{CFunc};

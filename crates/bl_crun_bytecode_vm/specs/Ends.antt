@@ -11,7 +11,7 @@ IsEnd (goes s) = ⊥
 IsEnd (done cells count result) = Unit {0}
 IsEnd (trapped cells count) = Unit {0}
 
--- in so many steps the machine comes from a state to its end, and the room that a machine has is enough
+-- the machine comes from a state to its end in so many steps, within its room
 pub record Halts (code : Code) (steps : ℕ) (s : VmState) (m : VmView) : Type 0 where
   pub room : Room
   pub end : StepResult

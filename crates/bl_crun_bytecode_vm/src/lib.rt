@@ -1,6 +1,6 @@
-//! The machine that runs the code of C files. Where a run ends within the room that was reserved (`specs/Ends.antt`,
-//! `Halts`), `Vm::run` answers what the machine of `bl_crun_bytecode` comes to, and the cells and the count are those
-//! of that end, of which there is only one (`Ended`); the count shows at most 2^128 - 1. A run takes no memory.
+//! The machine that runs the code of C files. Where a run ends within the reserved room (`specs/Ends.antt`, `Halts`),
+//! `Vm::run` answers the result of the machine of `bl_crun_bytecode`. The cells and the count are those of that end,
+//! which is unique (`Ended`); the count is at most 2^128 - 1. A run allocates no memory.
 #![tactic(auto)]
 
 mod address;

@@ -11,15 +11,15 @@ use Rattle.bl_ctext_semantics.specs.Faults.{WellFormed}
 use Rattle.bl_ctext_semantics.specs.Cells.{cells_of, inner_of, port, ports_of}
 use Rattle.bl_ctext_semantics.specs.Memory.{Root, input_object, output_object}
 
--- with some functions these are the structs of a well-formed file
+-- the structs are those of a well-formed file, with some functions
 abbrev pub StructsOfWellFormed : List CStruct → Type 0
 StructsOfWellFormed structs = (funcs : List CFunc) × WellFormed (parts_from structs funcs)
 
--- where the cells of the input object begin, and where those of the output object
+-- the first cell of the input object
 abbrev pub inputs_start : List CStruct → ℕ
 inputs_start structs = length (inner_of structs (codes "bl_state"))
 
--- where the cells of the output object begin
+-- the first cell of the output object
 abbrev pub outputs_start : List CStruct → ℕ
 outputs_start structs = inputs_start structs + length (inner_of structs (codes "bl_in"))
 

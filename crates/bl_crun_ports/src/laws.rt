@@ -1,4 +1,4 @@
-//! Where the cells of a file's ports stand. This function does nothing: the contract is the law.
+//! Where the cells of a file's ports stand.
 
 ghost use Rattle.bl_ctext_semantics.specs.Parts.{parts_of};
 ghost use Rattle.bl_crun_ports.specs.Ports.{PortsStand};

@@ -4,6 +4,6 @@
 abbrev pub OpenPart : Type 1
 OpenPart = Type 0 → Type 0 → Type 0 → Type 0 → Type 0 → Type 0 → Type 0 → Type 0
 
--- such a part, where the same kind of thing stands for each part within it
+-- an open part in which one type of thing stands for every part within it
 abbrev pub EachIs : Type 0 → OpenPart → Type 0
 EachIs A Of = Of A A A A A A A

@@ -7,7 +7,7 @@ use Rattle.bl_tree.specs.Reduce.{all_of, any_of}
 use Rattle.bl_ctext.specs.Builtins.{builtins}
 use Rattle.bl_ctext.specs.Token.{is_word}
 
--- whether the word is one of these
+-- whether the word is in the list
 unfoldable pub is_among : List ℕ → List (List ℕ) → Bool
 is_among word words = any_of (map (λ w. pointwise nat_eq w word) words)
 
@@ -41,17 +41,17 @@ abbrev pub begins_with_digit : List ℕ → Bool
 begins_with_digit [] = false
 begins_with_digit (b ∷ bs) = is_ascii_digit b
 
--- A name is a word that begins with no digit and not with `bl_`, and isn't a word of the grammar, a keyword of C99 or `abort`.
+-- whether a word is a name: it begins with neither a digit nor `bl_`, and isn't a word of the grammar, a keyword of C99 or `abort`
 unfoldable pub is_name : List ℕ → Bool
 is_name word =
     is_word word && (not (begins_with_digit word) && (not (starts_with nat_eq word (codes "bl_")) &&
     (not (is_among word grammar_words) && (not (is_among word c_keywords) && not (is_among word (codes "abort" ∷ []))))))
 
--- a name, or that of the state, of the inputs or of the outputs
+-- whether a word may name a struct: a name, or that of the state, of the inputs or of the outputs
 unfoldable pub is_struct_name : List ℕ → Bool
 is_struct_name word = is_name word || is_among word (codes "bl_state" ∷ codes "bl_in" ∷ codes "bl_out" ∷ [])
 
--- a name, or that of one of the two functions which the outside calls
+-- whether a word may name a function: a name, or that of one of the two functions that are called from outside
 unfoldable pub is_function_name : List ℕ → Bool
 is_function_name word = is_name word || is_among word (codes "bl_init" ∷ codes "bl_tick" ∷ [])
 
@@ -59,7 +59,7 @@ is_function_name word = is_name word || is_among word (codes "bl_init" ∷ codes
 abbrev pub prelude_functions : List (List ℕ)
 prelude_functions = map (λ e. e.0) builtins
 
--- a name, or that of a function of the prelude
+-- whether a word may be called: a name, or that of a function of the prelude
 unfoldable pub is_callee : List ℕ → Bool
 is_callee word = is_name word || is_among word prelude_functions
 

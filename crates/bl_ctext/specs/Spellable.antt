@@ -49,7 +49,7 @@ use Rattle.bl_ctext.specs.Folds.{EachIs}
 use Rattle.bl_ctext.specs.Names.{is_name, is_struct_name, is_function_name, is_callee, is_turn_name}
 use Rattle.bl_ctext.specs.Spelling.{negatives, tokens_of}
 
--- a type other than bits
+-- whether C has the type: any but bits
 abbrev pub is_c_scalar : Scalar → Bool
 is_c_scalar (scalar.Bits w) = false
 is_c_scalar _ = true
@@ -103,19 +103,19 @@ is_expr_kind (CExprKind-F.Call call) = call
 is_expr_kind (CExprKind-F.Not operand) = operand
 is_expr_kind (CExprKind-F.Two o left right) = is_c_operator o && (left && right)
 
--- a call: its name is that of a function, and each argument has a spelling
+-- whether a call has a spelling: its name is a function's, and each argument has one
 abbrev pub is_call : EachIs Bool CCall-F → Bool
 is_call c = is_callee c.name && all_of c.args
 
--- an expression has a spelling where its form has one
+-- whether an expression has a spelling: its form has one
 abbrev pub is_expr : EachIs Bool CExpr-F → Bool
 is_expr e = e.what
 
--- an index: its expression has a spelling, and its length is one of an array
+-- whether an index has a spelling: its expression has one, and its length is an array's
 abbrev pub is_index : EachIs Bool CIndex-F → Bool
 is_index i = i.at && is_length i.length
 
--- a place: its name is one, and each step has a spelling
+-- whether a place has a spelling: its name is one, and each step has one
 abbrev pub is_place : EachIs Bool CPlace-F → Bool
 is_place p = is_name p.name && all_of p.steps
 
@@ -123,31 +123,31 @@ is_place p = is_name p.name && all_of p.steps
 abbrev pub is_step : EachIs Bool CStep-F → Bool
 is_step s = is_name s.member && none_or s.index
 
--- whether the names, literals, operators and lengths of an expression have a spelling; the same of its parts
+-- whether the names, literals, operators and lengths of an expression and its parts have a spelling
 abbrev pub spells_expr : CExpr → Bool
 spells_expr = fold-CExpr _ _ _ _ _ _ _ is_arg is_expr_kind is_call is_expr is_index is_place is_step
 
--- the same of an expression's form
+-- whether the names, literals, operators and lengths of an expression's form have a spelling
 abbrev pub spells_kind : CExprKind → Bool
 spells_kind = fold-CExprKind _ _ _ _ _ _ _ is_arg is_expr_kind is_call is_expr is_index is_place is_step
 
--- the same of a place
+-- whether the names, literals, operators and lengths of a place have a spelling
 abbrev pub spells_place : CPlace → Bool
 spells_place = fold-CPlace _ _ _ _ _ _ _ is_arg is_expr_kind is_call is_expr is_index is_place is_step
 
--- the same of a step of a place
+-- whether the member and the index of a step of a place have a spelling
 abbrev pub spells_step : CStep → Bool
 spells_step = fold-CStep _ _ _ _ _ _ _ is_arg is_expr_kind is_call is_expr is_index is_place is_step
 
--- the same of an index
+-- whether an index has a spelling
 abbrev pub spells_index : CIndex → Bool
 spells_index = fold-CIndex _ _ _ _ _ _ _ is_arg is_expr_kind is_call is_expr is_index is_place is_step
 
--- the same of a call
+-- whether the names, literals, operators and lengths of a call have a spelling
 abbrev pub spells_call : CCall → Bool
 spells_call = fold-CCall _ _ _ _ _ _ _ is_arg is_expr_kind is_call is_expr is_index is_place is_step
 
--- the same of an argument
+-- whether the names, literals, operators and lengths of an argument have a spelling
 abbrev pub spells_arg : CArg → Bool
 spells_arg = fold-CArg _ _ _ _ _ _ _ is_arg is_expr_kind is_call is_expr is_index is_place is_step
 
@@ -156,7 +156,7 @@ abbrev pub spells_result : Option CExpr → Bool
 spells_result None = true
 spells_result (Some e) = spells_expr e
 
--- all of a block that may be absent
+-- whether each part of an optional block has a spelling
 abbrev pub all_if_any : Option (List Bool) → Bool
 all_if_any None = true
 all_if_any (Some answers) = all_of answers
@@ -175,7 +175,7 @@ is_stmt_kind (CStmtKind-F.Return value) = spells_result value
 abbrev pub is_stmt : CStmt-F Bool Bool → Bool
 is_stmt s = s.what
 
--- the same of a statement
+-- whether a statement has a spelling
 abbrev pub spells_stmt : CStmt → Bool
 spells_stmt = fold-CStmt _ _ is_stmt_kind is_stmt
 
@@ -197,7 +197,7 @@ spells_length (Some n) = is_length n
 abbrev pub spells_member : CMember → Bool
 spells_member m = spells_type m.ty && (is_name m.name && spells_length m.length)
 
--- a struct has a member
+-- whether a struct has a spelling: its name is one, it has a member, and all members have spellings
 abbrev pub spells_struct : CStruct → Bool
 spells_struct s = is_struct_name s.name && (has_any s.members && all_of (map spells_member s.members))
 
@@ -225,7 +225,7 @@ abbrev pub is_opening : Token → Bool
 is_opening (b ∷ []) = b == 40 || b == 91 || b == 123
 is_opening _ = false
 
--- whether it is `)`, `]` or `}`
+-- whether the token is `)`, `]` or `}`
 abbrev pub is_closing : Token → Bool
 is_closing (b ∷ []) = b == 41 || b == 93 || b == 125
 is_closing _ = false
@@ -239,12 +239,12 @@ abbrev pub most_open : ℕ → List Token → ℕ
 most_open n [] = n
 most_open n (token ∷ tokens) = max n (most_open (open_behind n token) tokens)
 
--- at most 2,000 brackets are open at once
+-- whether at most 2,000 brackets are open at once
 abbrev pub shallow : List CStruct → List CFunc → Bool
 shallow structs funcs = nat_le (most_open 0 (tokens_of structs funcs)) 2000
 
--- Whether a text of these structs and functions has a spelling: it has a struct and a function, each struct has a member,
--- all names, literals, types, operators and lengths are some of the subset's, and at most 2,000 brackets are open at once.
+-- whether a text of these structs and functions has a spelling. There are a struct and a function, each struct has a member, all parts have spellings, and at
+-- most 2,000 brackets are open at once
 abbrev pub is_spellable : List CStruct → List CFunc → Bool
 is_spellable structs funcs =
     has_any structs && (has_any funcs && (all_of (map spells_struct structs) && (all_of (map spells_func funcs) &&

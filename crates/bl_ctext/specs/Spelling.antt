@@ -102,7 +102,7 @@ negative_tokens w n = cond (n == negatives w)
     ((codes "INT" ++ (width_digits w ++ codes "_MIN")) ∷ [])
     (codes "(" ∷ codes "-" ∷ (constant_tokens (constant_word (codes "INT") w) n ++ codes ")" ∷ []))
 
--- A literal; what isn't in the range of its type has no spelling, but then no file holds it.
+-- the tokens of a literal. A number out of the range of its type has none, but no file has one
 abbrev pub literal_tokens : Scalar → ℤ → List Token
 literal_tokens scalar.Bool (pos n) = cond (n == 0) (codes "false") (codes "true") ∷ []
 literal_tokens scalar.Bool (negsuc n) = []
@@ -124,7 +124,7 @@ operator_sign op.And = codes "&&"
 operator_sign op.Or = codes "||"
 operator_sign _ = []
 
--- a call of these arguments
+-- the tokens of a call
 abbrev pub call_tokens : List ℕ → List (List Token) → List Token
 call_tokens name args = name ∷ codes "(" ∷ (with_commas args ++ codes ")" ∷ [])
 
@@ -149,7 +149,7 @@ kind_spelling (CExprKind-F.Two o left right) = codes "(" ∷ (left ++ (operator_
 abbrev pub call_spelling : EachIs Spelled CCall-F → Spelled
 call_spelling c = call_tokens c.name c.args
 
--- an expression has the tokens of its form
+-- the tokens of an expression are those of its form
 abbrev pub expr_spelling : EachIs Spelled CExpr-F → Spelled
 expr_spelling e = e.what
 
@@ -222,7 +222,7 @@ abbrev pub result_tokens : Option CExpr → List Token
 result_tokens None = []
 result_tokens (Some e) = expr_tokens e
 
--- a condition in its parentheses
+-- the tokens of a condition in its parentheses
 abbrev pub condition_tokens : CExpr → List Token
 condition_tokens e = codes "(" ∷ (expr_tokens e ++ codes ")" ∷ [])
 
@@ -230,7 +230,7 @@ condition_tokens e = codes "(" ∷ (expr_tokens e ++ codes ")" ∷ [])
 abbrev pub zeros_tokens : List ℕ → List Token
 zeros_tokens name = codes "=" ∷ codes "(" ∷ codes "struct" ∷ name ∷ codes ")" ∷ codes "{" ∷ codes "0" ∷ codes "}" ∷ codes ";" ∷ []
 
--- a loop up to its condition, and the front of its body: its counter is declared and counts each turn
+-- the tokens of a loop up to its condition, and of the front of its body: its counter is declared and counts each turn
 abbrev pub turn_declared : List ℕ → List Token
 turn_declared turn = codes "{" ∷ codes "uint32_t" ∷ turn ∷ codes "=" ∷ codes "0" ∷ codes ";" ∷ codes "while" ∷ []
 
@@ -249,7 +249,7 @@ stmt_kind_spelling (CStmtKind-F.Loop turn test body) =
 stmt_kind_spelling CStmtKind-F.Break = codes "break" ∷ codes ";" ∷ []
 stmt_kind_spelling (CStmtKind-F.Return value) = codes "return" ∷ (result_tokens value ++ codes ";" ∷ [])
 
--- a statement has the tokens of its form
+-- the tokens of a statement are those of its form
 abbrev pub stmt_spelling : CStmt-F Spelled Spelled → Spelled
 stmt_spelling s = s.what
 
@@ -302,7 +302,7 @@ abbrev pub static_if : Bool → List Token
 static_if true = codes "static" ∷ []
 static_if false = []
 
--- a function up to its parameters, and behind the brace of its body
+-- the tokens of a function up to its parameters, and of the front of its body
 abbrev pub func_front : CFunc → List Token
 func_front f = static_if f.fixed ++ (returned_tokens f.result ++ (f.name ∷ codes "(" ∷ []))
 

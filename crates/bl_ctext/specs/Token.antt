@@ -4,7 +4,7 @@ use Rattle.std.specs.Prelude.{[]}
 use Rattle.std.specs.Char.{is_ascii_alphanumeric}
 use Rattle.bl_tree.specs.Reduce.{all_of, any_of}
 
--- a token is its bytes
+-- a token, as its bytes
 abbrev pub Token : Type 0
 Token = List ℕ
 
@@ -41,11 +41,11 @@ is_sign (a ∷ b ∷ c ∷ more) = false
 abbrev pub is_token : Token → Bool
 is_token bytes = is_word bytes || is_sign bytes
 
--- No longer token begins where this one does, with these bytes behind it.
+-- the token is the longest at its place: no longer token begins there, with these bytes behind it
 abbrev pub IsLongest : Token → List ℕ → Type 0
 IsLongest token after = (longer others : List ℕ) → longer ++ others ≡ token ++ after → IsTrue (is_token longer) → length longer ≤ length token
 
--- The bytes begin, white space aside, with the token, and go on with these bytes behind it.
+-- the bytes begin with the token, white space aside, and go on with these bytes
 pub record Begins (token : Token) (bytes after : List ℕ) : Type 0 where
   pub blanks : List ℕ
   pub blank : IsTrue (all_of (map is_blank blanks))
@@ -53,7 +53,7 @@ pub record Begins (token : Token) (bytes after : List ℕ) : Type 0 where
   pub is_one : IsTrue (is_token token)
   pub longest : IsLongest token after
 
--- The bytes are the tokens in order, each as long as possible, with white space free before, between and behind them.
+-- the bytes are the tokens in order, each as long as possible, with any white space before, between and behind them
 abbrev pub SpacedC : List Token → List ℕ → Type 0
 SpacedC [] bytes = IsTrue (all_of (map is_blank bytes))
 SpacedC (token ∷ tokens) bytes = (after : List ℕ) × (Begins token bytes after × SpacedC tokens after)

@@ -52,7 +52,7 @@ abbrev pub widest : Bool → Scalar
 widest true = Int W64
 widest false = Nat W64
 
--- the types of its parameters
+-- the types of a built-in function's parameters
 abbrev pub builtin_params : Builtin → List Scalar
 builtin_params (Two op t) = in_c t ∷ in_c t ∷ []
 builtin_params (One op t) = in_c t ∷ []
@@ -61,7 +61,7 @@ builtin_params (Index signed) = widest signed ∷ Nat W32 ∷ []
 builtin_params Turn = Nat W32 ∷ []
 builtin_params Stop = []
 
--- the type of its result, where it has one
+-- the type of a built-in function's result, where it has one
 abbrev pub builtin_result : Builtin → Option Scalar
 builtin_result (Two op t) = Some (in_c t)
 builtin_result (One op t) = Some (in_c t)
@@ -78,7 +78,7 @@ only_if holds n = if holds then Some n else None
 abbrev pub index_within : ℤ → ℤ → Option ℤ
 index_within i length = only_if (int_le (pos 0) i && int_lt i length) i
 
--- what it gives for these numbers; none where it traps
+-- the result of a built-in function for these numbers; none where it traps
 abbrev pub builtin_value : Builtin → List ℤ → Option ℤ
 builtin_value (Two op t) (a ∷ b ∷ []) = checked_of op t a b
 builtin_value (One op t) (a ∷ []) = checked_one_of op t a

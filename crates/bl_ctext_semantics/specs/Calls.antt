@@ -36,15 +36,15 @@ kind_calls (CExprKind-F.Two op left right) = left ++ right
 abbrev pub call_calls : EachIs Names CCall-F → Names
 call_calls call = call.name ∷ joined call.args
 
--- an expression calls what its form calls
+-- the names called in an expression, from those of its form
 abbrev pub expr_calls : EachIs Names CExpr-F → Names
 expr_calls expr = expr.what
 
--- an index calls what the expression in it calls
+-- the names called in an index, from those of its expression
 abbrev pub index_calls : EachIs Names CIndex-F → Names
 index_calls index = index.at
 
--- a place calls what its steps call
+-- the names called in a place, from those of its steps
 abbrev pub place_calls : EachIs Names CPlace-F → Names
 place_calls place = joined place.steps
 
@@ -53,7 +53,7 @@ abbrev pub names_or_none : Option Names → Names
 names_or_none None = []
 names_or_none (Some names) = names
 
--- a step calls what its index calls, where it has one
+-- the names called in a step, from those of its index
 abbrev pub step_calls : EachIs Names CStep-F → Names
 step_calls step = names_or_none step.index
 
@@ -99,7 +99,7 @@ stmt_kind_calls (CStmtKind-F.Loop turn condition body) = calls_in condition ++ j
 stmt_kind_calls CStmtKind-F.Break = []
 stmt_kind_calls (CStmtKind-F.Return expr) = calls_or_none expr
 
--- a statement calls what its form calls
+-- the names called in a statement, from those of its form
 abbrev pub stmt_calls : CStmt-F Names Names → Names
 stmt_calls stmt = stmt.what
 

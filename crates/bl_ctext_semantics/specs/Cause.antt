@@ -5,7 +5,7 @@ use Rattle.bl_ctext_semantics.specs.declared.check.CheckFault.TheVariants.{IllFo
 use Rattle.bl_ctext_semantics.specs.Faults.{first_fault}
 use Rattle.bl_ctext_semantics.specs.Parts.{Parts}
 
--- an ill-formed file fails first at the place that is told; want of memory needs no cause
+-- the cause of a fault: an ill-formed file first fails at the place; want of memory needs no cause
 abbrev pub IsCause : Parts → CheckFault → Type 0
 IsCause file (IllFormed at) = first_fault file ≡ Some at
 IsCause file NoMemory = Unit {0}

@@ -81,7 +81,7 @@ memory_of (cell ∷ cells) (n ∷ ns) = set_at (memory_of cells ns) cell.locatio
 memory_of [] ns = cleared
 memory_of (cell ∷ cells) [] = cleared
 
--- the numbers of these cells in a memory
+-- the numbers of cells in a memory
 abbrev pub numbers_of : List Cell → Memory → List ℤ
 numbers_of cells memory = map (λ cell. number_in (value_at memory cell.location)) cells
 

@@ -39,7 +39,7 @@ stmt_kind_cost (CStmtKind-F.Loop turn condition body) known =
 stmt_kind_cost CStmtKind-F.Break known = 1
 stmt_kind_cost (CStmtKind-F.Return expr) known = 1 + cost_of_calls known (calls_or_none expr)
 
--- a statement costs what its form costs
+-- the cost of a statement is that of its form
 abbrev pub stmt_cost_step : CStmt-F (Costs → ℕ) (Costs → ℕ) → Costs → ℕ
 stmt_cost_step stmt = stmt.what
 
@@ -61,6 +61,6 @@ costs_after known (function ∷ rest) =
 abbrev pub costs : List CFunc → List (Text × ℕ)
 costs = costs_after no_entries
 
--- no tick executes more statements than this
+-- the bound on the statements that a tick executes: the cost of `bl_tick`
 abbrev pub bound : Parts → ℕ
 bound file = unwrap_or (found (codes "bl_tick") (costs file.funcs)) 0

@@ -7,7 +7,7 @@ use Rattle.std.specs.Prelude.{ℕ, zero, suc, ◌+◌, ℤ, pos, Bool, true, fal
 pub data End : Type 0 where
   goes_on : End
   breaks : End
-  -- with the function's result, 0 where it has none
+  -- a return with the function's result, 0 where it has none
   returns : ℤ → End
   traps : End
 
@@ -20,13 +20,13 @@ result_at traps = None
 
 -- ---- outcomes
 
--- what a statement comes to: the memory after it, how it ended, and how many statements were executed
+-- the outcome of a statement: the memory after it, how it ended, and how many statements were executed
 pub record Outcome (M : Type 0) : Type 0 where
   pub memory : M
   pub end : End
   pub count : ℕ
 
--- the outcome that ends so, with this memory
+-- the outcome with this end and this memory
 abbrev pub ending : {M : Type 0} → End → M → Outcome M
 ending end memory = record { memory = memory; end = end; count = 0 }
 
@@ -34,49 +34,48 @@ ending end memory = record { memory = memory; end = end; count = 0 }
 abbrev pub going : {M : Type 0} → M → Outcome M
 going memory = ending goes_on memory
 
--- an outcome with so many statements before it
+-- an outcome with n more statements before it
 abbrev pub after : {M : Type 0} → ℕ → Outcome M → Outcome M
 after n o = record { memory = o.memory; end = o.end; count = n + o.count }
 
--- a statement is executed, and what it evaluated says how it ends; it counts itself
+-- the outcome of a statement whose evaluation says how it ends; the statement counts itself
 abbrev pub ended_by : {M A : Type 0} → M → ℕ → Option A → (A → Outcome M) → Outcome M
 ended_by memory n None rest = record { memory = memory; end = traps; count = n }
 ended_by memory n (Some a) rest = after n (rest a)
 
 -- ---- blocks
 
--- what follows where a statement goes on, and how else it ended
+-- the outcome of what follows a statement that goes on, or else its own end
 abbrev pub following_end : {M : Type 0} → ℕ → M → End → (M → Outcome M) → Outcome M
 following_end n memory goes_on rest = after n (rest memory)
 following_end n memory breaks rest = record { memory = memory; end = breaks; count = n }
 following_end n memory (returns result) rest = record { memory = memory; end = returns result; count = n }
 following_end n memory traps rest = record { memory = memory; end = traps; count = n }
 
--- what follows an outcome that goes on
+-- the outcome of what follows an outcome that goes on
 abbrev pub following : {M : Type 0} → Outcome M → (M → Outcome M) → Outcome M
 following o rest = following_end o.count o.memory o.end rest
 
--- statements one after the other, where it is known what each does
+-- the outcome of statements one after the other, from what each does
 abbrev pub in_order : {M : Type 0} → List (M → Outcome M) → M → Outcome M
 in_order [] memory = going memory
 in_order (run ∷ rest) memory = following (run memory) (λ m. in_order rest m)
 
 -- ---- loops
 
--- a turn of a loop that has ended: after `break` the loop goes on with what follows it, else comes its next turn
+-- the outcome after a turn of a loop: `break` goes on with what follows the loop, else the next turn comes
 abbrev pub turn_end : {M : Type 0} → ℕ → M → End → (M → Outcome M) → Outcome M
 turn_end n memory goes_on again = after n (again memory)
 turn_end n memory breaks again = record { memory = memory; end = goes_on; count = n }
 turn_end n memory (returns result) again = record { memory = memory; end = returns result; count = n }
 turn_end n memory traps again = record { memory = memory; end = traps; count = n }
 
--- where the condition is true a turn begins, which counts one
+-- a loop that goes on, by its condition: a turn begins where it is true, which counts one
 abbrev pub turn_or_none : {M : Type 0} → Bool → M → (M → Outcome M) → Outcome M
 turn_or_none true memory turn = after 1 (turn memory)
 turn_or_none false memory turn = going memory
 
--- A loop that can still end so many turns, where it is known what its condition does before a turn, and what its body does. The turn
--- after the last of them traps at its beginning.
+-- the outcome of a loop with so many turns left, from what its condition and its body do. The turn after the last one traps
 unfoldable pub turns : {M : Type 0} → ℕ → ((M → Outcome M) → M → Outcome M) → (M → Outcome M) → M → Outcome M
 turns zero once body = once (ending traps)
 turns (suc n) once body = once (λ m. let o = body m in turn_end o.count o.memory o.end (turns n once body))

@@ -8,7 +8,7 @@ use Rattle.bl_ctext_semantics.specs.Course.{End, breaks, goes_on, returns, traps
 use Rattle.bl_ctext_semantics.specs.Meaning.{Scope, block_c}
 use Rattle.bl_ctext_semantics.specs.Faults.{WellFormed}
 
--- a body ends by a trap or a `return`, or, in a function without a result, by its last statement; never by a `break`
+-- an end that a body with this result may have: a trap, a `return` or, without a result, the last statement; never `break`
 abbrev pub EndsAs : Option Scalar → End → Type 0
 EndsAs result traps = Unit {0}
 EndsAs result (returns n) = Unit {0}
@@ -16,7 +16,7 @@ EndsAs None goes_on = Unit {0}
 EndsAs (Some t) goes_on = ⊥
 EndsAs result breaks = ⊥
 
--- a function's body does so wherever it runs
+-- the body of the function ends as its result says, wherever it runs
 abbrev pub EndsInside : CFunc → Type 0
 EndsInside f = (scope : Scope) (memory : Memory) → EndsAs f.result (block_c f.body scope memory).end
 

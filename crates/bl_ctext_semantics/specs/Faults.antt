@@ -59,7 +59,7 @@ use Rattle.bl_ctext_semantics.specs.Loops.{turns_in_block}
 
 -- ---- what can fail, and where
 
--- what a well-formed file keeps
+-- the clauses of well-formed files
 pub data Clause : Type 0 where
   -- structs, functions, the members of a struct, the parameters and locals of a function, and what counts the turns of its loops have different names
   distinct_names : Clause
@@ -67,7 +67,7 @@ pub data Clause : Type 0 where
   declared_before : Clause
   -- at most 300 structs hold one another in a chain, and at most 300 functions call one another
   short_chain : Clause
-  -- there are the structs bl_state, bl_in and bl_out
+  -- the structs bl_state, bl_in and bl_out exist
   interface_structs : Clause
   -- bl_in and bl_out begin with the byte `pad`; their further members are scalars, named i_ or o_ and something
   interface_members : Clause
@@ -238,7 +238,7 @@ pub record JudgedArg : Type 0 where
   pub ty : Option CType
   pub faults : List Fault
 
--- a call: what is known of its function
+-- the judgement of a call: the signature of its function, and its faults
 pub record JudgedCall : Type 0 where
   pub signature : Option Signature
   pub faults : List Fault
@@ -248,7 +248,7 @@ pub record JudgedIndex : Type 0 where
   pub length : ℕ
   pub faults : List Fault
 
--- what has no place of its own is judged at the statement or expression that holds it
+-- a judgement at a place: what has no place of its own is judged at that of the statement or expression around it
 abbrev pub Judges : Type 0 → Type 0
 Judges A = Context → Place → A
 
@@ -256,7 +256,7 @@ Judges A = Context → Place → A
 abbrev pub StepJudgement : Type 0
 StepJudgement = Context → Place → Option CType → Judged
 
--- a part of an expression, where each part within it is judged so
+-- the judgement of an open part, where each part within it is judged
 abbrev pub Judging : OpenPart → Type 0
 Judging Of = Of (Judges JudgedArg) (Judges Judged) (Judges JudgedCall) (Context → Judged) (Judges JudgedIndex) (Judges JudgedPlace) StepJudgement
 
@@ -277,7 +277,7 @@ fit_each widens (p ∷ ps) (a ∷ rest) = fits_arg widens p a && fit_each widens
 fit_each widens [] (a ∷ rest) = false
 fit_each widens (p ∷ ps) [] = false
 
--- whether a call's arguments are those that a function wants
+-- whether the arguments of a call suit its function
 abbrev pub fit_args : Option Signature → List JudgedArg → Bool
 fit_args None args = true
 fit_args (Some s) args = fit_each s.widens s.params args
@@ -309,7 +309,7 @@ is_void (Some result) = is_none result
 abbrev pub hands_on : Option Signature → List JudgedArg → Bool
 hands_on signature args = is_void (known_result signature) && any_of (map (λ a. a.address && a.through) args)
 
--- an expression's form: its type, and what fails in it
+-- the type of an expression's form, and what fails in it
 abbrev pub judge_kind : Judging CExprKind-F → Judges Judged
 judge_kind (CExprKind-F.Literal type n) context place = record { ty = Some (OfScalar type); faults = [] }
 judge_kind (CExprKind-F.Read target) context place =
@@ -329,7 +329,7 @@ judge_kind (CExprKind-F.Two op left right) context place =
       faults = a.faults ++ (b.faults ++ unless (if_typed a.ty (takes op) && if_typed b.ty (takes op) && agree a.ty b.ty) operand_type place);
     }
 
--- a call: its function is declared before, and its arguments suit the parameters
+-- what fails in a call: its function is declared before, and its arguments suit the parameters
 abbrev pub judge_call : Judging CCall-F → Judges JudgedCall
 judge_call call context place =
     let signature : Option Signature = signature_of context call.name in
@@ -346,20 +346,20 @@ judge_call call context place =
 abbrev pub judge_expr : Judging CExpr-F → Context → Judged
 judge_expr expr context = expr.what context expr.place
 
--- an index: its expression has the type that its function takes
+-- what fails in an index: its expression has the type that its function takes
 abbrev pub judge_index : Judging CIndex-F → Judges JudgedIndex
 judge_index index context place =
     let i : Judged = index.at context in
     record { length = index.length; faults = i.faults ++ unless (if_typed i.ty (indexes index.signed)) indices place }
 
--- the type of a variable or of what a pointer leads to, used in the one way or the other
+-- the type of a variable, or of what a pointer leads to, used as the one or the other
 abbrev pub judge_root : Option Variable → Bool → Place → Judged
 judge_root None through place = record { ty = None; faults = unless false declared_before place }
 judge_root (Some v) through place =
     let right : Bool = if v.pointer then through else not through in
     record { ty = if right then Some v.ty else None; faults = unless right pointer_use place }
 
--- the steps of a place, each into the type before it
+-- the judgement of a place's steps, each into the type before it
 abbrev pub judge_steps : List StepJudgement → StepJudgement
 judge_steps [] context place ty = record { ty = ty; faults = [] }
 judge_steps (step ∷ steps) context place ty =
@@ -367,7 +367,7 @@ judge_steps (step ∷ steps) context place ty =
     let last : Judged = judge_steps steps context place first.ty in
     record { ty = last.ty; faults = first.faults ++ last.faults }
 
--- a place: the variable that it begins with is used in the right way, and each step suits the type before it
+-- the judgement of a place: its variable is used in the right way, and each step suits the type before it
 abbrev pub judge_place : Judging CPlace-F → Judges JudgedPlace
 judge_place target context place =
     let root : Judged = judge_root (context.variables target.name) target.through place in
@@ -390,7 +390,7 @@ abbrev pub member_of : Context → CType → Text → Option CMember
 member_of context (OfScalar s) name = None
 member_of context (OfStruct struct) name = option_and_then (λ members. members name) (context.structs struct)
 
--- a step into a type, where nothing is known of what comes after no type
+-- the judgement of a step into a type; without a type nothing fails
 abbrev pub judge_into : Context → Text → Option ℕ → Place → Option CType → Judged
 judge_into context name length place None = record { ty = None; faults = [] }
 judge_into context name length place (Some ty) = judge_member (member_of context ty name) length place
@@ -412,7 +412,7 @@ judge_step step context place ty =
     let m : Judged = judge_into context step.member (option_map (λ j. j.length) i) place ty in
     record { ty = m.ty; faults = faults_in_index i ++ m.faults }
 
--- an expression where these things are declared
+-- the type of an expression and what fails in it, where these things are declared
 abbrev pub judged_expr : CExpr → Context → Judged
 judged_expr = fold-CExpr _ _ _ _ _ _ _ judge_arg judge_kind judge_call judge_expr judge_index judge_place judge_step
 
@@ -526,13 +526,13 @@ surely_returns = fold-CStmt Bool Bool stmt_kind_returns stmt_returns_step
 
 -- ---- names
 
--- the places of those whose name stands among these, or earlier in the list
+-- the places of those entries whose name is in the table or stands earlier in the list
 abbrev pub repeated : Table (Unit {0}) → List (Text × Place) → List Fault
 repeated names [] = []
 repeated names (entry ∷ rest) =
     unless (is_none (names entry.0)) distinct_names entry.1 ++ repeated (with_entry names entry.0 tt) rest
 
--- whether none of these names stands twice, or among the others
+-- whether no name stands twice in the list, or is in the table
 abbrev pub all_distinct : Table (Unit {0}) → List Text → Bool
 all_distinct names [] = true
 all_distinct names (name ∷ rest) = is_none (names name) && all_distinct (with_entry names name tt) rest
@@ -557,7 +557,7 @@ depth_of_type depths (OfStruct name) = entry_or 0 depths name
 abbrev pub depth_of_struct : Table ℕ → CStruct → ℕ
 depth_of_struct depths s = limited (1 + greatest (map (λ m. depth_of_type depths m.ty) s.members))
 
--- the members of an interface struct, whose names begin so
+-- whether a member is the `pad` with which an interface struct begins
 abbrev pub is_pad : CMember → Bool
 is_pad m = bytes_eq m.name (codes "pad") && (same_type m.ty (OfScalar (Nat W8)) && is_none m.length)
 
@@ -565,7 +565,7 @@ is_pad m = bytes_eq m.name (codes "pad") && (same_type m.ty (OfScalar (Nat W8)) 
 abbrev pub is_port : Text → CMember → Bool
 is_port prefix m = (starts_with nat_eq m.name prefix && nat_lt (length prefix) (length m.name)) && (is_scalar m.ty && is_none m.length)
 
--- whether each of these members can be a port
+-- whether each of the members can be a port
 abbrev pub are_ports : Text → List CMember → Bool
 are_ports prefix [] = false
 are_ports prefix (m ∷ ms) = is_pad m && list_all (is_port prefix) ms
@@ -615,7 +615,7 @@ variables_of f = map param_variable f.params ++ map local_variable f.locals
 abbrev pub signature_in : CFunc → Signature
 signature_in f = record { widens = false; params = map (λ p. record { pointer = p.pointer; ty = p.ty }) f.params; result = f.result }
 
--- bl_tick alone has a result and changes its objects
+-- whether a function has to leave its objects: it has a result and isn't bl_tick
 abbrev pub keeps_all : CFunc → Bool
 keeps_all f = is_some f.result && not (bytes_eq f.name (codes "bl_tick"))
 
@@ -632,7 +632,7 @@ depth_of_function depths f = limited (1 + most depths (calls_in_block f.body))
 abbrev pub variable_names : CFunc → List Text
 variable_names f = map (λ p. p.name) f.params ++ map (λ l. l.name) f.locals
 
--- these names as a table
+-- a set of names as a table
 abbrev pub names_table : List Text → Table (Unit {0})
 names_table names = table_of (map (λ name. (name, tt)) names)
 
@@ -741,7 +741,7 @@ faults_in file =
 pub record WellFormed (file : Parts) : Type 0 where
   pub none : faults_in file ≡ []
 
--- of two places the one that starts first, or ends first where they start together
+-- whether the first place starts before the second, or ends before it where they start together
 abbrev pub is_before : Place → Place → Bool
 is_before a b = nat_lt a.start b.start || (a.start == b.start && nat_le a.end b.end)
 
@@ -756,6 +756,6 @@ abbrev pub first_place : List Fault → Option Place
 first_place [] = None
 first_place (fault ∷ rest) = earlier_of (Some fault.at) (first_place rest)
 
--- where a file that isn't well formed fails first
+-- the first place at which a file isn't well formed
 abbrev pub first_fault : Parts → Option Place
 first_fault file = first_place (faults_in file)

@@ -9,7 +9,7 @@ use Rattle.bl_ctext_semantics.specs.Cost.{bound}
 abbrev pub WithinBound : Parts → Type 0
 WithinBound file = (cells ins : List ℤ) → (tick_c file cells ins).count ≤ bound file
 
--- a run may be stopped and gone on with: the trace over all rows is that of the first and then the one from the cells that they leave
+-- a run can be continued: the trace over all rows is the first one, followed by that from the cells that the first rows leave
 abbrev pub TraceResumes : Parts → Type 0
 TraceResumes file = (first rest : List (List ℤ)) (cells : List ℤ) → (c_trace_from file first cells).last ≡ Open →
     c_trace_from file (first ++ rest) cells ≡ trace_then (c_trace_from file first cells) (c_trace_from file rest (cells_after file first cells))

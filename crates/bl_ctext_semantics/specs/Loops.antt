@@ -21,7 +21,7 @@ stmt_kind_turns (CStmtKind-F.If condition block other) place = joined block ++ t
 stmt_kind_turns (CStmtKind-F.Loop turn condition body) place = (turn, place) ∷ joined body
 stmt_kind_turns _ place = []
 
--- the loops of a statement count as those of its form, a loop at the statement's place
+-- the loop counters of a statement are those of its form, a loop at the statement's place
 abbrev pub stmt_turns_step : CStmt-F (Place → LoopCounters) LoopCounters → LoopCounters
 stmt_turns_step stmt = stmt.what stmt.place
 
@@ -29,6 +29,6 @@ stmt_turns_step stmt = stmt.what stmt.place
 abbrev pub turns_in : CStmt → LoopCounters
 turns_in = fold-CStmt (Place → LoopCounters) LoopCounters stmt_kind_turns stmt_turns_step
 
--- those of a block
+-- what counts the turns of the loops in a block
 abbrev pub turns_in_block : List CStmt → LoopCounters
 turns_in_block block = joined (map turns_in block)

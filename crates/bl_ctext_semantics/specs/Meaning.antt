@@ -43,25 +43,25 @@ use Rattle.bl_ctext_semantics.specs.Course.{turn_or_none, turns, turn_limit}
 
 -- ---- answers with a count
 
--- what an evaluation comes to: its answer, none where it traps, and how many statements the functions that it called executed
+-- the result of an evaluation: its answer, none where it traps, and how many statements were executed by called functions
 pub record Counted (A : Type 0) : Type 0 where
   pub count : ℕ
   pub answer : Option A
 
--- an answer at once
+-- an answer of an evaluation that calls nothing
 abbrev pub given : {A : Type 0} → Option A → Counted A
 given answer = record { count = 0; answer = answer }
 
--- with so many statements before it
+-- an answer with n more statements before it
 abbrev pub more : {A : Type 0} → ℕ → Counted A → Counted A
 more n c = record { count = n + c.count; answer = c.answer }
 
--- what comes after n statements and this answer; nothing comes after a trap
+-- the evaluation after n statements and this answer; nothing follows a trap
 abbrev pub going_on : {A B : Type 0} → ℕ → Option A → (A → Counted B) → Counted B
 going_on n None rest = record { count = n; answer = None }
 going_on n (Some a) rest = more n (rest a)
 
--- one evaluation, and then another with its answer
+-- one evaluation followed by another that uses its answer
 abbrev pub next : {A B : Type 0} → Counted A → (A → Counted B) → Counted B
 next first rest = going_on first.count first.answer rest
 
@@ -72,17 +72,17 @@ pub data ArgumentValue : Type 0 where
   by_value : CValue → ArgumentValue
   by_address : Location → ArgumentValue
 
--- what a call comes to: the memory after it, how many statements it executed, and its result, none where it trapped; 0 without a result
+-- the result of a call: the memory after it, its count of statements, and its number, none where it trapped; 0 without a result
 pub record CallResult : Type 0 where
   pub memory : Memory
   pub count : ℕ
   pub result : Option ℤ
 
--- what a function does at a depth in the chain of calls, with these arguments
+-- the meaning of a function: its call at a depth in the chain of calls, with these arguments
 abbrev pub Meaning : Type 0
 Meaning = ℕ → List ArgumentValue → Memory → CallResult
 
--- what is known where an expression or statement stands: the earlier functions, the depth of the running function, and where its pointers lead
+-- the scope of an expression or statement: the earlier functions, the depth of the running function, and where its pointers lead
 pub record Scope : Type 0 where
   pub known : Table Meaning
   pub depth : ℕ
@@ -111,11 +111,11 @@ called_as None function depth passed memory = applied function depth passed memo
 abbrev pub called : Scope → Text → List ArgumentValue → Memory → CallResult
 called scope name passed memory = called_as (builtin_of name) (scope.known name) (scope.depth + 1) passed memory
 
--- a call after so many statements
+-- a call's result with n more statements before it
 abbrev pub later_call : ℕ → CallResult → CallResult
 later_call n c = record { memory = c.memory; count = n + c.count; result = c.result }
 
--- a call once its arguments are evaluated
+-- the result of a call once its arguments are evaluated
 abbrev pub called_after : Scope → Memory → Text → ℕ → Option (List ArgumentValue) → CallResult
 called_after scope memory name n (Some passed) = later_call n (called scope name passed memory)
 called_after scope memory name n None = record { memory = memory; count = n; result = None }
@@ -126,7 +126,7 @@ called_after scope memory name n None = record { memory = memory; count = n; res
 abbrev pub Evaluates : Type 0 → Type 0
 Evaluates A = Scope → Memory → Counted A
 
--- one after the other, up to the first that traps
+-- the values of parts, evaluated one after the other up to the first that traps
 abbrev pub each_of : {A : Type 0} → List (Evaluates A) → Evaluates (List A)
 each_of [] scope memory = given (Some [])
 each_of (evaluate ∷ rest) scope memory =
@@ -137,7 +137,7 @@ abbrev pub way_of : List (List Projection) → List Projection
 way_of [] = []
 way_of (parts ∷ rest) = parts ++ way_of rest
 
--- where the name of a place leads: a variable of the running function, or what a pointer points to
+-- the location to which the name of a place leads: a variable of the running function, or what a pointer points to
 abbrev pub start_of : Scope → Bool → Text → Location
 start_of scope false name = record { root = variable scope.depth name; parts = [] }
 start_of scope true name = entry_or (record { root = variable scope.depth name; parts = [] }) scope.pointers name
@@ -169,7 +169,7 @@ two_values op left right scope memory =
 abbrev pub result_of : CallResult → Counted CValue
 result_of c = record { count = c.count; answer = option_map scalar c.result }
 
--- a part of an expression, where each part within it does this
+-- the evaluation of an open part, where each part within it is evaluated
 abbrev pub Evaluating : OpenPart → Type 0
 Evaluating Of = Of (Evaluates ArgumentValue) (Evaluates CValue) (Scope → Memory → CallResult) (Evaluates CValue) (Evaluates (List Projection)) (Evaluates Location)
     (Evaluates (List Projection))
@@ -188,13 +188,13 @@ kind_step (CExprKind-F.Not operand) scope memory =
     next (operand scope memory) (λ a. given (option_map scalar (checked_one_of Not OfBool (number_in a))))
 kind_step (CExprKind-F.Two op left right) scope memory = two_values op left right scope memory
 
--- a call: its arguments are evaluated, then the function is called
+-- the result of a call: its arguments are evaluated, then the function is called
 abbrev pub call_step : Evaluating CCall-F → Scope → Memory → CallResult
 call_step call scope memory =
     let passed = each_of call.args scope memory in
     called_after scope memory call.name passed.count passed.answer
 
--- an expression has the value of its form
+-- the value of an expression is that of its form
 abbrev pub expr_step : Evaluating CExpr-F → Evaluates CValue
 expr_step expr = expr.what
 
@@ -225,13 +225,13 @@ value_c = fold-CExpr _ _ _ _ _ _ _ arg_step kind_step call_step expr_step index_
 abbrev pub location_c : CPlace → Evaluates Location
 location_c = fold-CPlace _ _ _ _ _ _ _ arg_step kind_step call_step expr_step index_step place_step step_step
 
--- what a call does
+-- the effect of a call
 abbrev pub call_c : CCall → Scope → Memory → CallResult
 call_c = fold-CCall _ _ _ _ _ _ _ arg_step kind_step call_step expr_step index_step place_step step_step
 
 -- ---- statements
 
--- what a statement does, in a scope and a memory
+-- the meaning of a statement: its effect in a scope and a memory
 abbrev pub CStmtMeaning : Type 0
 CStmtMeaning = Scope → Memory → Outcome Memory
 
@@ -239,7 +239,7 @@ CStmtMeaning = Scope → Memory → Outcome Memory
 abbrev pub block_of : List CStmtMeaning → CStmtMeaning
 block_of block scope = in_order (map (λ runs. runs scope) block)
 
--- a statement that first evaluates something, and traps where that traps
+-- the outcome of a statement that first evaluates something, and traps where that traps
 abbrev pub executed : {A : Type 0} → Memory → Counted A → (A → Outcome Memory) → Outcome Memory
 executed memory evaluated rest = ended_by memory (1 + evaluated.count) evaluated.answer rest
 
@@ -274,21 +274,21 @@ stmt_kind_step (CStmtKind-F.Return None) scope memory = record { memory = memory
 stmt_kind_step (CStmtKind-F.Return (Some expr)) scope memory =
     executed memory (value_c expr scope memory) (λ v. ending (returns (number_in v)) memory)
 
--- a statement does what its form does
+-- the effect of a statement is that of its form
 abbrev pub stmt_step : CStmt-F CStmtMeaning CStmtMeaning → CStmtMeaning
 stmt_step stmt = stmt.what
 
--- what a statement does
+-- the effect of a statement
 abbrev pub runs_c : CStmt → CStmtMeaning
 runs_c = fold-CStmt CStmtMeaning CStmtMeaning stmt_kind_step stmt_step
 
--- what the statements of a block do
+-- the effect of the statements of a block
 abbrev pub block_c : List CStmt → CStmtMeaning
 block_c stmts = block_of (map runs_c stmts)
 
 -- ---- functions and files
 
--- where the pointers of a function lead
+-- the locations to which the pointers of a function lead
 abbrev pub pointers_of : List CParam → List ArgumentValue → List (Text × Location)
 pointers_of (param ∷ params) (by_address place ∷ rest) = (param.name, place) ∷ pointers_of params rest
 pointers_of (param ∷ params) (by_value value ∷ rest) = pointers_of params rest
@@ -303,7 +303,7 @@ with_params depth (param ∷ params) (by_address place ∷ rest) memory = with_p
 with_params depth params [] memory = memory
 with_params depth [] passed memory = memory
 
--- what a function does where the earlier ones are known: its variables begin at 0, its parameters at the arguments, and all of them are gone after it
+-- the meaning of a function over earlier ones: its variables begin at 0, its parameters at the arguments, and all are gone after it
 abbrev pub function_c : Table Meaning → CFunc → Meaning
 function_c known function depth passed memory =
     let scope : Scope = record { known = known; depth = depth; pointers = table_of (pointers_of function.params passed) } in
@@ -316,6 +316,6 @@ meanings_after known [] = []
 meanings_after known (function ∷ rest) =
     (function.name, function_c known function) ∷ meanings_after (with_entry known function.name (function_c known function)) rest
 
--- what each function of a file does
+-- the meaning of each function of a file
 abbrev pub meanings : List CFunc → List (Text × Meaning)
 meanings = meanings_after no_entries

@@ -25,7 +25,7 @@ pub data Projection : Type 0 where
   member : Text → Projection
   element : ℕ → Projection
 
--- where a way into memory begins: at one of the three objects, or at a parameter or local of the function that runs at a depth in the chain of calls
+-- the root of a way into memory: one of the three objects, or a parameter or local of the function at a depth in the chain of calls
 pub data Root : Type 0 where
   state_object : Root
   input_object : Root
@@ -37,7 +37,7 @@ pub record Location : Type 0 where
   pub root : Root
   pub parts : List Projection
 
--- a value of a C type: the number of each scalar in it, by the parts that lead to that scalar. A scalar's own number stands at no parts
+-- a value of a C type: the number of each scalar in it, by the parts that lead there, none for a scalar's own
 abbrev pub CValue : Type 0
 CValue = List Projection → ℤ
 

@@ -4,15 +4,15 @@ use Rattle.bl_tree.specs.declared.c.CStruct.{CStruct}
 use Rattle.bl_tree.specs.declared.c.CFunc.{CFunc}
 use Rattle.bl_ctext.specs.declared.file.CFile.{CFile}
 
--- its structs and its functions, in order
+-- a file's structs and functions, in order
 pub record Parts : Type 0 where
   pub structs : List CStruct
   pub funcs : List CFunc
 
--- those of a file
+-- the structs and functions of a file
 abbrev pub parts_of : CFile → Parts
 parts_of file = record { structs = file.structs; funcs = file.funcs }
 
--- those of two lists
+-- a file's parts, made of a list of structs and a list of functions
 abbrev pub parts_from : List CStruct → List CFunc → Parts
 parts_from structs funcs = record { structs = structs; funcs = funcs }

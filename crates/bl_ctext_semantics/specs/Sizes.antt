@@ -76,7 +76,7 @@ own_cells known function =
     total (map (size_of_param known) function.params)
     + (total (map (λ l. size_of_type known l.ty) function.locals) + length (turns_in_block function.body))
 
--- the cells of the deepest chain of calls that begins with a function: its own, and the most of a function that it calls. The prelude's have none
+-- the cells of the deepest chain of calls that a function heads: its own, and the most of its callees. Functions of the prelude have none
 abbrev pub chain_cells : Sizes → Table ℕ → CFunc → ℕ
 chain_cells known earlier function = own_cells known function + most earlier (calls_in_block function.body)
 

@@ -18,7 +18,7 @@ object root = by_address (record { root = root; parts = [] })
 unfoldable pub entered : Parts → Text → List ArgumentValue → Memory → CallResult
 entered file name passed memory = applied (found name (meanings file.funcs)) 0 passed memory
 
--- what a tick comes to
+-- the reply of a tick
 pub data Reply : Type 0 where
   -- a row, and the run can go on
   row : Reply
@@ -26,12 +26,12 @@ pub data Reply : Type 0 where
   ended : Reply
   trapped : Reply
 
--- what one tick does
+-- the result of one tick
 pub record TickOfFile : Type 0 where
   pub reply : Reply
   -- the outputs
   pub outputs : List ℤ
-  -- the numbers of all cells after it
+  -- the numbers of all cells after the tick
   pub cells : List ℤ
   -- how many statements `bl_tick` executed
   pub count : ℕ
@@ -73,7 +73,7 @@ abbrev pub cells_if : Bool → List ℤ → Option (List ℤ)
 cells_if false cells = None
 cells_if true cells = Some cells
 
--- those before the first tick
+-- the numbers of the cells before the first tick: none where the start traps
 abbrev pub start_c : Parts → Option (List ℤ)
 start_c file = cells_if (starts file) (start_cells file)
 

@@ -1,4 +1,4 @@
-//! Laws of the meaning of C texts. None of these functions does anything: the contract is the law.
+//! Laws of the meaning of C texts.
 
 ghost use Rattle.bl_ctext_semantics.specs.Ends.{AlwaysEnds};
 ghost use Rattle.bl_ctext_semantics.specs.Laws.{TraceResumes, WithinBound};

@@ -54,12 +54,12 @@ fits known ty value = list_all (holds value) (inner_of_type known ty)
 
 -- ---- parts of values
 
--- what a way into a value has led to: a value of a type, or an array of so many, of which an element must follow
+-- the end of a way into a value: a value of a type, or an array, of which an element must follow
 pub data ValueSpot : Type 0 where
   whole : CType → ValueSpot
   row : ℕ → CType → ValueSpot
 
--- a value of this type, or an array of so many
+-- the spot of a value of the type, or of an array of them with this length
 abbrev pub spot_of_length : CType → Option ℕ → ValueSpot
 spot_of_length ty None = whole ty
 spot_of_length ty (Some length) = row length ty
@@ -151,7 +151,7 @@ abbrev pub CellsFit : Parts → Type 0
 CellsFit file = (types : RootTypes) (memory : Memory) → ObjectsAre types → MemoryFits file.structs types memory →
     list_all (cell_holds memory) (cells_of file) ≡ true
 
--- a function of the prelude that is given numbers of its parameters' types gives one of its result's type, where it doesn't trap
+-- a function of the prelude gives a number of its result's type for numbers of its parameters' types, or traps
 abbrev pub BuiltinsFit : Type 0
 BuiltinsFit = (name : Text) (b : Builtin) (numbers : List ℤ) (t : Scalar) (n : ℤ) → builtin_of name ≡ Some b →
     in_ranges (builtin_params b) numbers ≡ true →

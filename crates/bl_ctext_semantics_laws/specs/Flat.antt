@@ -55,7 +55,7 @@ Cells = List ℤ
 
 -- ---- answers
 
--- what an evaluation leaves: the cells, how many statements the functions that it called executed, and its answer, none where it traps
+-- the result of an evaluation: the cells, the count of statements of called functions, and its answer, none where it traps
 pub record FlatAnswer (A : Type 0) : Type 0 where
   pub cells : Cells
   pub count : ℕ
@@ -65,26 +65,26 @@ pub record FlatAnswer (A : Type 0) : Type 0 where
 abbrev pub flat_answer : {A : Type 0} → Cells → Option A → FlatAnswer A
 flat_answer cells answer = record { cells = cells; count = 0; answer = answer }
 
--- with so many statements before it
+-- an answer with n more statements before it
 abbrev pub more : {A : Type 0} → ℕ → FlatAnswer A → FlatAnswer A
 more n l = record { cells = l.cells; count = n + l.count; answer = l.answer }
 
--- what comes after n statements and this answer; nothing comes after a trap
+-- the evaluation after n statements and this answer; nothing follows a trap
 abbrev pub going_on : {A B : Type 0} → Cells → ℕ → Option A → (Cells → A → FlatAnswer B) → FlatAnswer B
 going_on cells n None rest = record { cells = cells; count = n; answer = None }
 going_on cells n (Some a) rest = more n (rest cells a)
 
--- one evaluation, and then another with its answer
+-- one evaluation followed by another that uses its answer
 abbrev pub next : {A B : Type 0} → FlatAnswer A → (Cells → A → FlatAnswer B) → FlatAnswer B
 next first rest = going_on first.cells first.count first.answer rest
 
 -- ---- where expressions and statements stand
 
--- from the base of a frame and the cells
+-- the evaluation of a part, from the base of a frame and the cells
 abbrev pub Evaluates : Type 0 → Type 0
 Evaluates A = ℕ → Cells → FlatAnswer A
 
--- what a function does whose frame begins at this base, with these arguments: its result, 0 where it has none
+-- the meaning of a function whose frame begins at this base, with these arguments: its result, 0 where it has none
 abbrev pub Routine : Type 0
 Routine = ℕ → List ℤ → Cells → FlatAnswer ℤ
 
@@ -108,7 +108,7 @@ start_address (through k) base cells = cell_number (cell_at cells (base + k))
 abbrev pub element_address : Term (Evaluates ℤ) → ℕ → ℤ → Option ℕ
 element_address term at i = option_map (λ k. capped (at + cell_number k * term.size)) (index_within i (pos term.length))
 
--- from a cell on, by indices from left to right
+-- the address behind a cell along indices, evaluated from left to right
 abbrev pub address_along : List (Term (Evaluates ℤ)) → ℕ → Evaluates ℕ
 address_along [] at base cells = flat_answer cells (Some at)
 address_along (term ∷ terms) at base cells =
@@ -125,7 +125,7 @@ abbrev pub read_at : Option CType → Cells → ℕ → ℤ
 read_at (Some (OfScalar s)) cells at = cell_at cells at
 read_at _ cells at = pos at
 
--- one after the other, up to the first that traps
+-- the values of parts, evaluated one after the other up to the first that traps
 abbrev pub each_of : {A : Type 0} → List (Evaluates A) → Evaluates (List A)
 each_of [] base cells = flat_answer cells (Some [])
 each_of (evaluate ∷ rest) base cells =
@@ -152,7 +152,7 @@ two_values Or first second base cells = next (first base cells) (λ after a. (if
 two_values op first second base cells =
     next (first base cells) (λ after a. next (second base after) (λ last b. flat_answer last (compared op a b)))
 
--- whether an operator is one that takes its type; every function of the prelude that has a name is so
+-- whether an operator takes its type, as every named function of the prelude does
 abbrev pub is_typed : Builtin → Bool
 is_typed (Two op t) = takes_two op t
 is_typed (One op t) = takes_one op t
@@ -180,7 +180,7 @@ called here name base args cells = called_as (builtin_of name) (here.known name)
 abbrev pub Grounded : Type 0 → Type 0
 Grounded A = Ground Routine → A
 
--- a part of an expression, where each part within it is evaluated so
+-- the evaluation of an open part, where each part within it is evaluated
 abbrev pub Evaluating : OpenPart → Type 0
 Evaluating Of = Of (Grounded (Evaluates ℤ)) (Grounded (Evaluates ℤ)) (Grounded (Evaluates ℤ)) (Grounded (Evaluates ℤ))
     (Grounded (Index (Evaluates ℤ)))
@@ -201,16 +201,16 @@ kind_step (CExprKind-F.Not operand) here base cells =
     next (operand here base cells) (λ after a. flat_answer after (Some (number_of (if is_one a then false else true))))
 kind_step (CExprKind-F.Two op first second) here base cells = two_values op (first here) (second here) base cells
 
--- a call: its arguments are evaluated, then the function is called
+-- the evaluation of a call: its arguments are evaluated, then the function is called
 abbrev pub call_step : Evaluating CCall-F → Grounded (Evaluates ℤ)
 call_step call here base cells =
     next (each_of (map (λ arg. arg here) call.args) base cells) (λ after args. called here call.name base args after)
 
--- an expression has the value of its form
+-- the value of an expression is that of its form
 abbrev pub expr_step : Evaluating CExpr-F → Grounded (Evaluates ℤ)
 expr_step expr = expr.what
 
--- an index: its length, and how the element is chosen
+-- the index with its length, and how the element is chosen
 abbrev pub index_step : Evaluating CIndex-F → Grounded (Index (Evaluates ℤ))
 index_step index here = record { length = index.length; index = index.at here }
 
@@ -240,7 +240,7 @@ call_flat = fold-CCall _ _ _ _ _ _ _ arg_step kind_step call_step expr_step inde
 
 -- ---- statements
 
--- what a statement does, where these things are known, in a frame with this base, over the cells
+-- the meaning of a statement: its effect in a frame with this base, over the cells
 abbrev pub FlatStmtMeaning : Type 0
 FlatStmtMeaning = Ground Routine → ℕ → Cells → Outcome Cells
 
@@ -248,21 +248,21 @@ FlatStmtMeaning = Ground Routine → ℕ → Cells → Outcome Cells
 abbrev pub block_of : List FlatStmtMeaning → FlatStmtMeaning
 block_of block here base = in_order (map (λ runs. runs here base) block)
 
--- a statement that first evaluates something, and traps where that traps; it counts so many of its own
+-- the outcome of a statement that first evaluates something, and traps where that traps; it counts n statements of its own
 abbrev pub executed : {A : Type 0} → ℕ → FlatAnswer A → (Cells → A → Outcome Cells) → Outcome Cells
 executed own evaluated rest = ended_by evaluated.cells (own + evaluated.count) evaluated.answer (rest evaluated.cells)
 
--- so many cells from one on are copied to others, where all of them are there
+-- the cells after a copy of `size` of them from one position to another, where both ranges exist
 abbrev pub copied : ℕ → ℕ → ℕ → Cells → Cells
 copied size from at cells =
     if nat_le (from + size) (length cells) && nat_le (at + size) (length cells) then copy_within cells from (from + size) at else cells
 
--- a value is written at a place of a type: a number, or a copy of the struct that begins at a cell
+-- the cells after a value is written at a place of a type: a number, or a copy of the struct at a cell
 abbrev pub written_at : Sizes → Option CType → ℕ → ℤ → Cells → Cells
 written_at known (Some (OfStruct name)) at value cells = copied (entry_or 0 known name) (cell_number value) at cells
 written_at known _ at value cells = slice_set cells at value
 
--- so many cells from one on are set to 0, as far as there are cells
+-- the cells after `n` of them, from a position on, are set to 0, as far as there are cells
 abbrev pub zeroed : ℕ → ℕ → Cells → Cells
 zeroed zero at cells = cells
 zeroed (suc n) at cells = zeroed n (suc at) (slice_set cells at (pos 0))
@@ -289,15 +289,15 @@ stmt_kind_step (CStmtKind-F.Return None) here base cells = record { memory = cel
 stmt_kind_step (CStmtKind-F.Return (Some expr)) here base cells =
     executed 1 (value_flat expr here base cells) (λ c v. ending (returns v) c)
 
--- a statement does what its form does
+-- the effect of a statement is that of its form
 abbrev pub stmt_step : CStmt-F FlatStmtMeaning FlatStmtMeaning → FlatStmtMeaning
 stmt_step stmt = stmt.what
 
--- what a statement does
+-- the effect of a statement
 abbrev pub runs_flat : CStmt → FlatStmtMeaning
 runs_flat = fold-CStmt FlatStmtMeaning FlatStmtMeaning stmt_kind_step stmt_step
 
--- what the statements of a block do
+-- the effect of the statements of a block
 abbrev pub block_flat : List CStmt → FlatStmtMeaning
 block_flat stmts = block_of (map runs_flat stmts)
 
@@ -321,7 +321,7 @@ abbrev pub ground_of : Sizes → Layouts → Table Routine → CFunc → Ground 
 ground_of known structs earlier function =
     record { sizes = known; structs = structs; known = earlier; slots = slots_of known function; frame = frame_cells known function }
 
--- what a function does where the earlier ones are known
+-- the routine of a function over the earlier ones
 abbrev pub routine_flat : Sizes → Layouts → Table Routine → CFunc → Routine
 routine_flat known structs earlier function base args cells =
     ended_as (block_flat function.body (ground_of known structs earlier function) base (frame_begun (frame_cells known function) base args cells))

@@ -37,7 +37,7 @@ use Rattle.bl_ctext_semantics_laws.specs.Flat.{Cells, FlatAnswer, Routine, appli
 
 -- ---- a call from outside
 
--- what each function of a file does over numbered cells
+-- the routine of each function of a file, over numbered cells
 abbrev pub routines : Parts → List (Text × Routine)
 routines file = routines_after (capped_sizes file.structs) (layouts file.structs) no_entries file.funcs
 
@@ -45,11 +45,11 @@ routines file = routines_after (capped_sizes file.structs) (layouts file.structs
 abbrev pub cells_in : Parts → Text → ℕ
 cells_in file name = entry_or 0 (sizes file.structs) name
 
--- where the objects begin: the state at 0, then the input, then the output; and the first cell behind them
+-- the first cell of the input object, which stands behind the state
 abbrev pub input_at : Parts → ℕ
 input_at file = cells_in file (codes "bl_state")
 
--- where the cells of the output object begin
+-- the first cell of the output object, which stands behind the input
 abbrev pub output_at : Parts → ℕ
 output_at file = input_at file + cells_in file (codes "bl_in")
 
@@ -63,8 +63,8 @@ entered_flat file name args cells = applied (found name (routines file)) (behind
 
 -- ---- what holds
 
--- a call in a C text and over numbered cells: they count and answer alike, and the first cells have the numbers of the three objects'
--- scalars, each in its range
+-- a call in a C text and over numbered cells agree: counts and answers are the same, and the first cells have the numbers of the three objects' scalars, in
+-- their ranges
 pub record SameCall (file : Parts) (c : CallResult) (l : FlatAnswer ℤ) : Type 0 where
   pub count : c.count ≡ l.count
   pub answer : c.result ≡ l.answer
@@ -72,14 +72,14 @@ pub record SameCall (file : Parts) (c : CallResult) (l : FlatAnswer ℤ) : Type 
   pub room : cells_needed file ≤ length l.cells
   pub fits : list_all (cell_holds c.memory) (cells_of file) ≡ true
 
--- a call from a memory whose scalars are in their ranges, over cells that have their numbers and then any others, as many as the file needs
+-- calls agree from a memory whose scalars are in their ranges, over cells with their numbers and as many others as the file needs
 abbrev pub CallsAgree : Parts → Text → (Memory → CallResult) → List ℤ → Type 0
 CallsAgree file name call args =
     WellFormed file → cells_needed file ≤ 1000000 → (memory : Memory) (others : List ℤ) → list_all (cell_holds memory) (cells_of file) ≡ true →
     cells_needed file ≤ length (numbers_of (cells_of file) memory ++ others) →
     SameCall file (call memory) (entered_flat file name args (numbers_of (cells_of file) memory ++ others))
 
--- a tick
+-- ticks agree in a C text and over numbered cells
 abbrev pub TicksAgree : Parts → Type 0
 TicksAgree file =
     CallsAgree file (codes "bl_tick") (entered file (codes "bl_tick") (object state_object ∷ object input_object ∷ object output_object ∷ []))

@@ -13,7 +13,7 @@ use Rattle.bl_ctext_semantics.specs.Sizes.{Sizes, size_of_member, size_of_param,
 
 -- ---- numbers of cells. A file that runs has far fewer than 2 to the 32; types that nothing has may be larger, and are told as that large
 
--- a number of cells, of which 4294967295 is the largest that is told
+-- a number of cells, at most 4294967295
 abbrev pub capped : ℕ → ℕ
 capped n = min n 4294967295
 
@@ -37,11 +37,11 @@ members_laid known at (m ∷ rest) = (m.name, record { at = at; it = m }) ∷ me
 abbrev pub Layouts : Type 0
 Layouts = Table (Table MemberOffset)
 
--- where the members of a struct stand in it
+-- the offsets of the members of a struct
 abbrev pub layout_of : Sizes → CStruct → Text × Table MemberOffset
 layout_of known s = (s.name, table_of (members_laid known 0 s.members))
 
--- where the members of each struct stand in it
+-- the offsets of the members of each struct
 abbrev pub layouts : List CStruct → Layouts
 layouts structs = table_of (map (layout_of (capped_sizes structs)) structs)
 
@@ -53,7 +53,7 @@ pub record Slot : Type 0 where
   pub pointer : Bool
   pub ty : CType
 
--- where the locals stand in a frame
+-- the offsets of the locals in a frame
 abbrev pub locals_laid : Sizes → ℕ → List CLocal → List (Text × Slot)
 locals_laid known at [] = []
 locals_laid known at (l ∷ rest) = (l.name, record { at = at; pointer = Bool.false; ty = l.ty })

@@ -15,7 +15,7 @@ pub record Ground (K : Type 0) : Type 0 where
   pub slots : Table Slot
   pub frame : ℕ
 
--- where a place begins: so many cells behind the base, or at the cell of which the number stands there
+-- the start of a place: n cells behind the base, or the cell whose number stands there
 pub data Start : Type 0 where
   near : ℕ → Start
   through : ℕ → Start
@@ -26,7 +26,7 @@ pub record Term (I : Type 0) : Type 0 where
   pub size : ℕ
   pub index : I
 
--- an index as it is written: its length, and which it is
+-- an index as it is written, with its length
 pub record Index (I : Type 0) : Type 0 where
   pub length : ℕ
   pub index : I

@@ -1,5 +1,4 @@
-//! Values of C types and memories that fit a file, with their laws (docs/C_SUBSET.md, "Meaning"). None of these functions
-//! does anything: the contract is the law.
+//! Values of C types and memories that fit a file, with their laws (docs/C_SUBSET.md, "Meaning").
 
 ghost use Rattle.bl_ctext_semantics.specs.Parts.{parts_of};
 ghost use Rattle.bl_ctext_semantics_laws.specs.Fitting.{BuiltinsFit, CellsFit, ClearedFits, ReadingFits, SettingFits};

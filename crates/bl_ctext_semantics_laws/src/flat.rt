@@ -1,5 +1,4 @@
-//! What holds of every C file that is run over numbered cells. None of these functions does anything: the contract is the
-//! law.
+//! What holds of every C file that is run over numbered cells.
 
 ghost use Rattle.bl_ctext_semantics.specs.Parts.{parts_of};
 ghost use Rattle.bl_ctext_semantics_laws.specs.Laws.{StartsAgree, StartsRun, TicksAgree, TicksRun};

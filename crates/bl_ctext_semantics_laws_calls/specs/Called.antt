@@ -20,7 +20,7 @@ with_functions context functions = record {
 abbrev pub KnowAlike : Table Signature → Table Signature → Text → Type 0
 KnowAlike one other name = one name ≡ other name
 
--- where two tables have the same of all functions that are called in a block, the same fails in it
+-- the faults of a block are the same over two tables that agree on the functions that it calls
 abbrev pub FaultsFollow : Type 0
 FaultsFollow =
     (block : List CStmt) (context : Context) (one other : Table Signature) (looped : Bool) →

@@ -1,5 +1,5 @@
-//! A law of what fails in C. The function does nothing: the contract is the law. What fails in a block depends on the functions that
-//! are called in it alone (`specs/Called.antt`, `FaultsFollow`).
+//! A law of what fails in C. What fails in a block depends on the functions that are called in it alone
+//! (`specs/Called.antt`, `FaultsFollow`).
 
 ghost use Rattle.bl_ctext_semantics_laws_calls.specs.Called.{FaultsFollow};
 

@@ -1,5 +1,5 @@
-//! A C function depends on what is known of the functions alone that its body calls (`specs/Known.antt`, `CallsDecide`). There is no code
-//! here.
+//! A C function depends on what is known of the functions alone that its body calls (`specs/Known.antt`,
+//! `CallsDecide`). Lemmas only.
 
 ghost use Rattle.bl_ctext_semantics_laws_calls.specs.Known.{CallsDecide};
 

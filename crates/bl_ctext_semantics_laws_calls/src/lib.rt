@@ -1,5 +1,5 @@
-//! Which functions decide over a C function. None of these functions does anything: the contract is the law. It depends on what is known
-//! of the functions alone that its body calls (`known`), and so does what fails in a block (`called`).
+//! A C function's meaning depends only on the functions that its body calls (`known`), and so do the faults of a block
+//! (`called`). Lemmas only.
 #![tactic(auto)]
 
 pub mod called;

@@ -11,10 +11,10 @@ use Rattle.bl_ctext_semantics.specs.Trace.{TickOfFile, c_trace, start_c, start_c
 
 -- how a file behaves
 pub record Behaviour : Type 0 where
-  -- the columns of its rows and those of its trace
+  -- the columns of the input rows and those of the trace
   pub inputs : List Column
   pub outputs : List Column
-  -- the scalars of its three objects, and how many cells it needs while it runs
+  -- the scalars of the three objects, and how many cells the file needs while it runs
   pub cells : List Cell
   pub needed : ℕ
   -- no tick executes more statements than this
@@ -24,7 +24,7 @@ pub record Behaviour : Type 0 where
   pub start : Option (List ℤ)
   -- a tick by the numbers of the cells before it and a row of inputs
   pub tick : List ℤ → List ℤ → TickOfFile
-  -- its trace over rows of inputs
+  -- the trace over rows of inputs
   pub trace : List (List ℤ) → Trace
 
 -- the behaviour of a file

@@ -7,7 +7,7 @@ use Rattle.bl_ctext_semantics.specs.Faults.{WellFormed}
 use Rattle.bl_ctext_semantics.specs.Parts.{parts_of}
 use Rattle.bl_ctext_semantics_laws_places.specs.Behaviour.{Behaviour, behaviour_of}
 
--- the bytes spell a well-formed file, which behaves so
+-- the bytes spell a well-formed file, which has this behaviour
 pub record Behaves (bytes : List ℕ) (behaviour : Behaviour) : Type 0 where
   pub file : CFile
   pub spells : SpellsC file bytes

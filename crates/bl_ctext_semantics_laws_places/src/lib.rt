@@ -1,7 +1,6 @@
-//! Laws of C files and of C texts. None of these functions does anything: the contract is the law. `alike`: files that
-//! differ in the places of their parts alone (`SameButPlaces`) are well formed alike and behave alike
-//! (`specs/Behaviour.antt`). `bytes`: so what bytes mean is what any file means that they spell (`specs/Bytes.antt`,
-//! `Behaves` and `TraceOfBytes`), and it is one.
+//! Laws of C files and of C texts. Lemmas only. `alike`: files that differ only in the places of their parts
+//! (`SameButPlaces`) are equally well formed and behave the same (`specs/Behaviour.antt`). `bytes`: so bytes have one
+//! meaning, that of any file that they spell (`specs/Bytes.antt`, `Behaves` and `TraceOfBytes`).
 #![tactic(auto)]
 
 pub mod alike;

@@ -38,10 +38,10 @@ pub record ActivityInput : Type 0 where
   pub rules : List NumberedTransition
   -- how many values each counter has
   pub sizes : Sizes
-  -- which of the units before it remember variables
+  -- whether each of the earlier units remembers variables
   pub remember : List Bool
 
--- the activity as its blocks see it. They don't ask for the numbers of nodes
+-- the view that blocks have of the activity, without numbers of nodes
 abbrev pub view_told : ActivityInput → ActivityView
 view_told a = record {
   site = site_of a.structs a.earlier a.unit;
@@ -54,11 +54,11 @@ view_told a = record {
 
 -- ---- structs
 
--- where the activity that a `run` calls rests
+-- the struct member for where the activity that a `run` calls rests
 abbrev pub frame_member_told : List UnitDef → RunAt → CMember
 frame_member_told earlier run = struct_member (callee_name run.number) (frame_name (name_in (slice_get earlier run.unit)))
 
--- where an activity of this name rests: its counters, and where what it runs rests
+-- the struct of where an activity of this name rests: its counters, and the structs of the activities that it runs
 abbrev pub frame_by : List UnitDef → Text → Sizes → List RunAt → CStruct
 frame_by earlier name sizes runs = record {
   place = nowhere;
@@ -66,11 +66,11 @@ frame_by earlier name sizes runs = record {
   members = map (counter_member sizes) (up_to (length sizes)) ++ map (frame_member_told earlier) runs;
 }
 
--- where the activity rests
+-- the struct of where the activity rests
 abbrev pub frame_told : ActivityInput → CStruct
 frame_told a = frame_by a.earlier a.unit.name a.sizes (runs_told a.rules)
 
--- what the activity that a `run` calls remembers, where that is anything
+-- the struct member for what the activity that a `run` calls remembers, if anything
 abbrev pub memory_member_told : List UnitDef → List Bool → RunAt → List CMember
 memory_member_told earlier remember run =
     if unwrap_or (slice_get remember run.unit) false
@@ -81,25 +81,25 @@ memory_member_told earlier remember run =
 abbrev pub remembered_by : List StructDef → List UnitDef → List Bool → UnitDef → List RunAt → List CMember
 remembered_by structs earlier remember unit runs = members_of structs earlier unit ++ joined (map (memory_member_told earlier remember) runs)
 
--- what the activity remembers
+-- the members for what the activity remembers
 abbrev pub remembered_told : ActivityInput → List CMember
 remembered_told a = remembered_by a.structs a.earlier a.remember a.unit (runs_told a.rules)
 
--- the struct of that, where it is anything
+-- the struct of what the activity remembers, if anything
 abbrev pub remembered_struct_told : ActivityInput → List CStruct
 remembered_struct_told a = struct_of a.unit.name (remembered_told a)
 
--- whether it is
+-- whether the activity remembers anything
 abbrev pub remembers_told : ActivityInput → Bool
 remembers_told a = nat_lt 0 (length (remembered_told a))
 
 -- ---- the function
 
--- what it remembers
+-- the parameter for what the activity remembers, if anything
 abbrev pub memory_params_told : Text → Bool → List CParam
 memory_params_told name remembers = if remembers then pointer_param (codes "m") (memory_name name) ∷ [] else []
 
--- where it rests, what it remembers, its inputs and outputs, its result, and whether it has ended
+-- the parameters of the activity's function: for where it rests, what it remembers, its inputs and outputs, its result, and whether it has ended
 abbrev pub params_told : List StructDef → UnitDef → Bool → List CParam
 params_told structs unit remembers =
     pointer_param (codes "f") (frame_name unit.name)
@@ -123,7 +123,7 @@ abbrev pub run_locals_told : List UnitDef → RunAt → List CLocal
 run_locals_told earlier run =
     scalar_local OfBool (ended_name run.number) ∷ given_local run.number (option_and_then (λ unit. unit.result) (slice_get earlier run.unit))
 
--- the locals: what these counters held, flags, marks, copies of these variables, and those of each `run`
+-- the locals of the activity's function: copies of counters, flags, marks, copies of variables, and those of each `run`
 abbrev pub locals_by : List UnitDef → UnitDef → Sizes → List NumberedTransition → List ℕ → List ℕ → List RunAt → List CLocal
 locals_by earlier unit sizes rules counters copied runs =
     map (rested_local sizes) counters
@@ -137,7 +137,7 @@ locals_told a = locals_by a.earlier a.unit a.sizes a.rules (counters_told a.size
 abbrev pub entry_at : Sizes → ℕ → CStmt
 entry_at sizes number = c_set (flag_place number) (c_two Eq (c_read (counter_place 0)) (counter_value sizes 0 0))
 
--- the entry, where it may be known
+-- the C of an optional entry
 abbrev pub entry_where : Sizes → Option NumberedTransition → List CStmt
 entry_where sizes (Some rule) = entry_at sizes rule.number ∷ []
 entry_where sizes None = []

@@ -35,7 +35,7 @@ c_stmt what = roll-CStmt (record { place = nowhere; what = what })
 abbrev pub c_set : CPlace → CExpr → CStmt
 c_set place value = c_stmt (statement.Set place value)
 
--- a struct of this name is set to 0 or false everywhere
+-- the statement that sets a struct of this name to 0 or false everywhere
 abbrev pub c_clear : CPlace → Text → CStmt
 c_clear place name = c_stmt (statement.Clear place name)
 
@@ -50,7 +50,7 @@ abbrev pub c_zeroed : List StructDef → CPlace → Ty → Option ScalarType →
 c_zeroed structs place ty (Some s) = c_set place (c_literal (c_scalar s) (pos 0))
 c_zeroed structs place ty None = c_clear place (type_name structs ty)
 
--- the same of a place whose type may be known
+-- the statement that sets a place to 0 or false everywhere, if the type of the place is known
 abbrev pub zeroed : List StructDef → CPlace → Option Ty → List CStmt
 zeroed structs place (Some ty) = c_zeroed structs place ty (scalar_in ty) ∷ []
 zeroed structs place None = []
@@ -68,7 +68,7 @@ initial_code site k None = zeroed site.structs (place_in site k []) (type_at (va
 abbrev pub c_copied : TypingContext → ℕ → CStmt
 c_copied site k = c_set (c_place false (copy_name k) []) (c_read (place_in site k []))
 
--- a declared variable had before what it has now: its copy gets that, where it has one
+-- the statement that gives the copy of a declared variable its value, if it has a copy
 abbrev pub copy_code : TypingContext → Bool → ℕ → List CStmt
 copy_code site true k = c_copied site k ∷ []
 copy_code site false k = []
@@ -96,7 +96,7 @@ output_arg site path = Address (stands site path).place
 abbrev pub call_args : TypingContext → List Expr → List Path → List CArg
 call_args site inputs outputs = map arg_of (map (made_of site) inputs) ++ map (output_arg site) outputs
 
--- a call with its outputs
+-- the C call of a function, with the arguments for its inputs and outputs
 abbrev pub call_made : TypingContext → ℕ → List Expr → List Path → CCall
 call_made site f inputs outputs = c_call (name_of_callee (slice_get site.earlier f)) (call_args site inputs outputs)
 

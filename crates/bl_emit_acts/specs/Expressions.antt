@@ -107,8 +107,8 @@ cast_word false = codes "of_u"
 abbrev pub c_cast : ScalarType → ScalarType → CExpr → CExpr
 c_cast from to code = c_called (function_name (cast_word (is_int from)) to) (Value code ∷ [])
 
--- Comparisons are C's. A compiler warns where it can tell the answer of one from a constant or from two sides that are alike, so such a
--- side is hidden from it in a cast of a number to its own type, or in `&& true`
+-- the expression in a form whose value a compiler can't tell: in `&& true`, or in a cast to its own type. Compilers warn of comparisons with constants and of
+-- like sides
 abbrev pub hidden : ScalarType → CExpr → CExpr
 hidden OfBool code = c_two And code (c_literal OfBool (pos 1))
 hidden s code = c_cast s s code
@@ -118,7 +118,7 @@ abbrev pub is_literal_kind : {A B C D E F G : Type 0} → CExprKind-F A B C D E 
 is_literal_kind (CExprKind-F.Literal s n) = true
 is_literal_kind _ = false
 
--- whether it is what stands at a place
+-- whether a kind of expression reads a place
 abbrev pub is_read_kind : {A B C D E F G : Type 0} → CExprKind-F A B C D E F G → Bool
 is_read_kind (CExprKind-F.Read place) = true
 is_read_kind _ = false
@@ -127,7 +127,7 @@ is_read_kind _ = false
 abbrev pub is_constant : CExpr → Bool
 is_constant code = is_literal_kind (out-CExprKind (out-CExpr code).what)
 
--- whether it is what stands at a place
+-- whether an expression reads a place
 abbrev pub is_read : CExpr → Bool
 is_read code = is_read_kind (out-CExprKind (out-CExpr code).what)
 
@@ -249,7 +249,7 @@ kind_made site (ExprKind-F.Two op a b) = c_both op (type_made a) (code_of a) (co
 kind_made site (ExprKind-F.Cast target a) = Number target (c_cast (type_made a) target (code_of a))
 kind_made site (ExprKind-F.Call f inputs) = made_call (slice_get site.earlier f) (map arg_of inputs)
 
--- of an expression it is what is made of its kind
+-- what is made of an expression, by what is made of its kind
 abbrev pub expr_made : Expr-F Made PathStepTyping Made Stood → Made
 expr_made e = e.what
 

@@ -12,8 +12,8 @@ use Rattle.bl_emit_acts.specs.declared.home.Home.TheVariants.{Held, Given, Lent}
 use Rattle.bl_emit_acts.specs.Trees.{c_place, c_step}
 use Rattle.bl_emit_acts.specs.Types.{variable_name}
 
--- A scalar input is a parameter by value, and an aggregate one a pointer. A function with a result copies the latter first, since it
--- may hand on no pointer that it was given
+-- the home of an input: a scalar is a parameter by value, and an aggregate a pointer. A function with a result first copies the latter, as it may not hand on
+-- pointers that it was given
 abbrev pub home_of_input : Bool → Bool → Home
 home_of_input true copies = Given
 home_of_input false true = Held
@@ -35,12 +35,12 @@ abbrev pub home_of : TypingContext → Option Var → Home
 home_of site (Some var) = home_of_role var.role (is_some (scalar_in var.ty)) (copies_inputs site)
 home_of site None = Held
 
--- the place to which these steps lead from the variable at a position: an activity is given a pointer to what it remembers, a function has it
+-- the place to which the steps lead from the variable at a position. An activity is given a pointer to what it remembers; a function has it
 abbrev pub place_at : Bool → Home → ℕ → List CStep → CPlace
 place_at activity Held k steps = c_place activity (codes "m") (c_step (variable_name k) ∷ steps)
 place_at activity Given k steps = c_place false (variable_name k) steps
 place_at activity Lent k steps = c_place true (variable_name k) steps
 
--- the same at a site
+-- the place to which the steps lead from the variable at a position of the site
 abbrev pub place_in : TypingContext → ℕ → List CStep → CPlace
 place_in site k steps = place_at (is_activity site.kind) (home_of site (var_at site k)) k steps

@@ -16,7 +16,7 @@ c_field structs field = record { ty = c_type structs field.ty; name = field_name
 abbrev pub c_definition : List StructDef → StructDef → CStruct
 c_definition structs def = record { place = nowhere; name = struct_name def.name; members = map (c_field structs) def.fields }
 
--- the one member of an array's struct
+-- the only member of an array's struct
 abbrev pub c_elements : List StructDef → ℕ → Ty → CMember
 c_elements structs n element = record { ty = c_type structs element; name = elements_name; length = Some n }
 

@@ -33,7 +33,7 @@ c_index signed at length = roll-CIndex (record { signed = signed; at = at; lengt
 abbrev pub c_element : Text → CIndex → CStep
 c_element member index = roll-CStep (record { member = member; index = Some index })
 
--- what the steps lead to, from a variable (false) or from what a pointer leads to (true)
+-- the place to which the steps lead, from a variable (false) or from what a pointer leads to (true)
 abbrev pub c_place : Bool → Text → List CStep → CPlace
 c_place through name steps = roll-CPlace (record { through = through; name = name; steps = steps })
 

@@ -1,9 +1,9 @@
 //! The C of expressions, paths and acts (docs/C_SUBSET.md, "What `blechc` writes"). `expression` makes exactly the
-//! defined C expression (`specs/Expressions.antt`, `made_of`), `place` the defined place (`stands`), and `act` the defined
-//! statements of an assignment, a declaration or a call of a function without a result (`specs/Acts.antt`, `act_code`);
-//! want of memory aside. `c_type` gives the C type of a type (`specs/Types.antt`), `definition` and `array` give the C
-//! struct of a struct or an array (`specs/Structs.antt`), and `specs/Places.antt` says where variables stand. What the C
-//! means is `bl_emit_acts_laws_simulation`.
+//! specified C expression (`specs/Expressions.antt`, `made_of`), and `place` the specified place (`stands`). `act`
+//! makes the specified statements of an assignment, a declaration or a call of a function without a result
+//! (`specs/Acts.antt`, `act_code`); want of memory aside. `c_type` gives the C type of a type (`specs/Types.antt`).
+//! `definition` and `array` give the C struct of a struct or an array (`specs/Structs.antt`), and `specs/Places.antt`
+//! says where variables stand. `bl_emit_acts_laws_simulation` has what the C means.
 #![tactic(auto)]
 
 mod acts;

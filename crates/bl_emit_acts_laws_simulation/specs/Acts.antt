@@ -27,7 +27,7 @@ use Rattle.bl_emit_acts_laws_simulation.specs.Simulation.{ArgumentsEncoded}
 abbrev pub lies_in : Location → Root → List Projection → Bool
 lies_in place root way = same_root place.root root && is_some (left_after place.parts way)
 
--- the numbers that are there and lie in none of the places are as they were
+-- numbers of memory that are allocated and lie in none of the places are unchanged
 pub record UnchangedOutside (depth : ℕ) (places : List Location) (here after : Memory) : Type 0 where
   pub each : (root : Root) (way : List Projection) → is_live depth root ≡ true → list_any (λ place. lies_in place root way) places ≡ false →
       after root way ≡ here root way
@@ -43,7 +43,7 @@ is_act _ = false
 
 -- ---- copies
 
--- where the copy of what a variable was stands
+-- the location of the copy of a variable
 abbrev pub copy_location : Scope → ℕ → Location
 copy_location scope k = start_of scope false (copy_name k)
 
@@ -62,7 +62,7 @@ copied_in_layer copied (StmtKind-F.Assign path e) = copied_in_path copied path &
 copied_in_layer copied (StmtKind-F.Call f inputs outputs) = all_of (map (copied_in copied) inputs) && all_of (map (copied_in_path copied) outputs)
 copied_in_layer copied _ = true
 
--- a declared variable had before what it has now
+-- the earlier value of a declared variable is its current one
 abbrev pub remembered : ℕ → List Value → List Value → List Value
 remembered k now before = unwrap_or (option_map (slice_set before k) (slice_get now k)) before
 
@@ -73,25 +73,25 @@ before_after _ now before = before
 
 -- ---- what an act leaves
 
--- a number of memory that is there and belongs to no variable of the unit that may be written, and to no copy of one
+-- a number of memory that is allocated and belongs to no variable of the unit that may be written, nor to a copy
 pub record Foreign (site : TypingContext) (copied : ℕ → Bool) (scope : Scope) (root : Root) (way : List Projection) : Type 0 where
   pub live : is_live scope.depth root ≡ true
   pub variables : (k : ℕ) (var : Var) → var_at site k ≡ Some var → is_input var.role ≡ false
       → lies_in (location_in scope site k []) root way ≡ false
   pub copies : (k : ℕ) → copied k ≡ true → lies_in (copy_location scope k) root way ≡ false
 
--- memory stands for these values of the variables, now and before; all that an act may not write is as it was
+-- the memory represents these current and earlier values of the variables, and agrees with the one before on all that an act may not write
 pub record RepresentsAfter (site : TypingContext) (copied : ℕ → Bool) (scope : Scope) (here : Memory) (now before : List Value) (after : Memory) : Type 0 where
   pub variables : VariablesEncoded site now scope after
   pub copies : CopiesEncoded site before copied scope after
   pub kept : (root : Root) (way : List Projection) → Foreign site copied scope root way → after root way ≡ here root way
 
--- statements that trap where there are no values, and else go on and leave memory that stands for them
+-- C simulates an act: it traps where there are no values, and else goes on and leaves memory that represents them
 abbrev pub Simulates : TypingContext → (ℕ → Bool) → Scope → Memory → (List Value → List Value) → Option (List Value) → Outcome Memory → Type 0
 Simulates site copied scope here before None o = o.end ≡ traps
 Simulates site copied scope here before (Some now) o = (o.end ≡ goes_on) × RepresentsAfter site copied scope here now (before now) o.memory
 
--- Memory in which the copies of the variables at these positions were set: each has what its variable has, and all else is as it was
+-- memory after the copies of the variables at these positions were set: each has its variable's value, and all else is unchanged
 pub record BegunWith (site : TypingContext) (scope : Scope) (here : Memory) (now : List Value) (ks : List ℕ) (after : Memory) : Type 0 where
   pub variables : VariablesEncoded site now scope after
   pub copies : CopiesEncoded site now (λ k. list_any (nat_eq k) ks) scope after
@@ -120,20 +120,20 @@ abbrev pub all_apart : List Location → Bool
 all_apart [] = true
 all_apart (place ∷ rest) = list_all (are_apart place) rest && all_apart rest
 
--- places that a call may hand over for outputs: they have nothing in common with one another or with the inputs', and are there
+-- a call may hand over the places for outputs: they are allocated, and apart from each other and from the inputs
 pub record MayPass (depth : ℕ) (inputs : List ArgumentValue) (outputs : List Location) : Type 0 where
   pub apart : all_apart outputs ≡ true
   pub inputs_apart : list_all (λ output. list_all (are_apart output) (places_in_args inputs)) outputs ≡ true
   pub live : list_all (λ place. is_live depth place.root) outputs ≡ true
 
--- a call that leaves what a function leaves: its outputs at their places, and all else as it was
+-- a call leaves what a function leaves: its outputs at their places, and all else unchanged
 pub record RepresentsAfterCall (structs : List StructDef) (vars : List Var) (depth : ℕ) (places : List Location) (here : Memory) (left : Left) (called : CallResult)
     : Type 0 where
   pub returned : called.result ≡ Some (pos 0)
   pub outputs : OutputsEncoded structs called.memory vars left.outputs places
   pub kept : UnchangedOutside depth places here called.memory
 
--- a call that traps where the function does
+-- a C call simulates a function: it traps where the function does, and else leaves its outputs
 abbrev pub CallSimulates : List StructDef → List Var → ℕ → List Location → Memory → Option Left → CallResult → Type 0
 CallSimulates structs vars depth outputs here None called = called.result ≡ None
 CallSimulates structs vars depth outputs here (Some left) called = RepresentsAfterCall structs vars depth outputs here left called

@@ -34,14 +34,14 @@ argument_c = fold-CArg _ _ _ _ _ _ _ arg_step kind_step call_step expr_step inde
 abbrev pub arguments_c : List CArg → Scope → Memory → Option (List ArgumentValue)
 arguments_c args scope here = (each_of (map argument_c args) scope here).answer
 
--- the place is that of the part of a variable that lies at a static path, where this value is
+-- the place is that of the part of a variable at a static path, which has this value
 pub record OutputLeads (site : TypingContext) (now : List Value) (scope : Scope) (static : Static) (value : Value) (place : Location) : Type 0 where
   pub var : Var
   pub is_there : var_at site static.root ≡ Some var
   pub is : place ≡ location_in scope site static.root (way_to site.structs static.fields (Some var.ty))
   pub has : read_at static.root now static.fields ≡ Some value
 
--- so is each place of the paths
+-- each place is that of the part of a variable at the path of its position, with the value there
 abbrev pub OutputsLead : TypingContext → List Value → Scope → List Path → List Value → List Location → Type 0
 OutputsLead site now scope [] [] [] = Unit {0}
 OutputsLead site now scope (path ∷ paths) (value ∷ values) (place ∷ places) =
@@ -52,8 +52,8 @@ OutputsLead site now scope _ _ _ = ⊥
 abbrev pub ApartFromVariables : TypingContext → Scope → Location → Type 0
 ApartFromVariables site scope place = (k : ℕ) (var : Var) → var_at site k ≡ Some var → are_apart place (location_in scope site k []) ≡ true
 
--- The arguments of a call, once they are evaluated: those of inputs, which have these values, and the places of outputs. Each place of an output is
--- where its path leads, and has the value that is there; a call may hand them over. All places among the arguments are in variables
+-- the evaluated arguments of a call: inputs with these values, and the places of outputs. Each place of an output is where its path leads and has the value
+-- there. A call may hand them over, and all places among the arguments are in variables
 pub record ArgumentsGiven (structs : List StructDef) (site : TypingContext) (view : View) (scope : Scope) (here : Memory) (ins outs : List Var)
     (paths : List Path) (values : List Value) (answer : Option (List ArgumentValue)) : Type 0 where
   pub inputs : List ArgumentValue
@@ -68,14 +68,14 @@ pub record ArgumentsGiven (structs : List StructDef) (site : TypingContext) (vie
   pub inputs_apart : (place : Location) → ApartFromVariables site scope place → list_all (are_apart place) (places_in_args inputs) ≡ true
   pub outputs_apart : (place : Location) → ApartFromVariables site scope place → list_all (are_apart place) outputs ≡ true
 
--- they trap where an input does
+-- the arguments in C simulate those of the program: they trap where an input does, and else are given with these values
 abbrev pub ArgumentsSimulate : List StructDef → TypingContext → View → Scope → Memory → List Var → List Var → List Path → Option (List Value) →
     Option (List ArgumentValue) → Type 0
 ArgumentsSimulate structs site view scope here ins outs paths None answer = answer ≡ None
 ArgumentsSimulate structs site view scope here ins outs paths (Some values) answer =
     ArgumentsGiven structs site view scope here ins outs paths values answer
 
--- so it is with all arguments that fit inputs and outputs of these variables' types, where no output overlaps another or an aggregate input
+-- arguments simulate in every typed program, if they fit the types of inputs and outputs and no output overlaps another or an aggregate input
 abbrev pub ArgumentsPass : List StructDef → List UnitDef → ℕ → Type 0
 ArgumentsPass structs units entry =
     (k : ℕ) (unit : UnitDef) (view : View) (copies : List Bool) (scope : Scope) (here : Memory) (inputs : List Expr) (paths : List Path)

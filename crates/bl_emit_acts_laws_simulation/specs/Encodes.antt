@@ -52,7 +52,7 @@ way_to structs [] ty = []
 way_to structs (k ∷ ks) None = []
 way_to structs (k ∷ ks) (Some ty) = lead_to structs k ty ++ way_to structs ks (part_type structs k ty)
 
--- the type of what lies there
+-- the type of what lies at positions in a value of a type
 abbrev pub type_after : List StructDef → List ℕ → Option Ty → Option Ty
 type_after structs [] ty = ty
 type_after structs (k ∷ ks) None = None
@@ -62,19 +62,19 @@ type_after structs (k ∷ ks) (Some ty) = type_after structs ks (part_type struc
 abbrev pub number_at : List ℕ → Value → Option ℤ
 number_at ks value = option_and_then number_in (value_at ks value)
 
--- a C value is a value of a type: each number in the value is the number of its cell
+-- a C value encodes a value of a type: each number in the value is that of its cell
 pub record Encodes (structs : List StructDef) (ty : Ty) (value : Value) (held : CValue) : Type 0 where
   pub each : (ks : List ℕ) (n : ℤ) → number_at ks value ≡ Some n → held (way_to structs ks (Some ty)) ≡ n
 
 -- ---- variables
 
--- where the place of a variable starts
+-- the location at which the place of a variable starts
 abbrev pub start_in : Scope → Bool → Home → ℕ → Location
 start_in scope activity Held k = start_of scope activity (codes "m")
 start_in scope activity Given k = start_of scope false (variable_name k)
 start_in scope activity Lent k = start_of scope true (variable_name k)
 
--- what leads from there to the variable
+-- the steps from the start of a variable's place to the variable, by its home
 abbrev pub lead_in : Home → ℕ → List Projection
 lead_in Held k = member (variable_name k) ∷ []
 lead_in Given k = []
@@ -101,7 +101,7 @@ pub record CopiesEncoded (site : TypingContext) (before : List Value) (copied : 
 
 -- ---- copies that an expression needs
 
--- one level of an expression, where it is told of its parts whether all that they need is copied
+-- whether all that a kind of expression needs is copied, from what its parts tell
 abbrev pub kind_copied : (ℕ → Bool) → ExprKind-F Bool Bool Bool Bool → Bool
 kind_copied copied (ExprKind-F.Literal n s) = true
 kind_copied copied (ExprKind-F.Read path) = path
@@ -111,16 +111,16 @@ kind_copied copied (ExprKind-F.Two op a b) = a && b
 kind_copied copied (ExprKind-F.Cast target a) = a
 kind_copied copied (ExprKind-F.Call f inputs) = all_of inputs
 
--- the same of a part of a path
+-- whether all that a part of a path needs is copied, from what its index tells
 abbrev pub part_copied : Part-F Bool Bool Bool Bool → Bool
 part_copied (Part-F.Field k) = true
 part_copied (Part-F.Index e) = e
 
--- of an expression
+-- whether all that an expression needs is copied, from what its kind tells
 abbrev pub expr_copied : Expr-F Bool Bool Bool Bool → Bool
 expr_copied e = e.what
 
--- and of a path
+-- whether all that a path needs is copied, from what its parts tell
 abbrev pub path_copied : Path-F Bool Bool Bool Bool → Bool
 path_copied path = all_of path.parts
 
@@ -128,13 +128,13 @@ path_copied path = all_of path.parts
 abbrev pub copied_in : (ℕ → Bool) → Expr → Bool
 copied_in copied = fold-Expr Bool Bool Bool Bool (kind_copied copied) part_copied expr_copied path_copied
 
--- the same of a path
+-- whether each variable that the path names under a `prev` is copied
 abbrev pub copied_in_path : (ℕ → Bool) → Path → Bool
 copied_in_path copied = fold-Path Bool Bool Bool Bool (kind_copied copied) part_copied expr_copied path_copied
 
 -- ---- where variables don't meet
 
--- whether two ways part, so that neither is a front of the other
+-- whether two ways diverge: neither is a prefix of the other
 abbrev pub ways_part : List Projection → List Projection → Bool
 ways_part (p ∷ ps) (q ∷ qs) = not (memory.same_part p q) || ways_part ps qs
 ways_part _ _ = false
@@ -143,7 +143,7 @@ ways_part _ _ = false
 abbrev pub are_apart : Location → Location → Bool
 are_apart p q = not (memory.same_root p.root q.root) || ways_part p.parts q.parts
 
--- whether what begins at a root is there while a function runs at this depth: no variable of a function that this one calls
+-- whether a root is live while a function runs at this depth: it is no variable of a callee
 abbrev pub is_live : ℕ → Root → Bool
 is_live depth (variable d name) = nat_le d depth
 is_live depth _ = true
@@ -152,7 +152,7 @@ is_live depth _ = true
 pub record VariablesAllocated (site : TypingContext) (scope : Scope) : Type 0 where
   pub each : (k : ℕ) (var : Var) → var_at site k ≡ Some var → is_live scope.depth (location_in scope site k []).root ≡ true
 
--- a variable that may be written has nothing in common with any other. Inputs may: one struct may be handed over as two of them
+-- a variable that may be written is apart from all others. Inputs may overlap: one struct may be handed over twice
 pub record VariablesApart (site : TypingContext) (scope : Scope) : Type 0 where
   pub each : (j k : ℕ) (a b : Var) → var_at site j ≡ Some a → var_at site k ≡ Some b → is_input a.role ≡ false → nat_eq j k ≡ false →
       are_apart (location_in scope site j []) (location_in scope site k []) ≡ true

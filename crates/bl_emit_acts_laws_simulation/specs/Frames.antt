@@ -15,16 +15,16 @@ abbrev pub is_older : ℕ → Root → Bool
 is_older depth (variable d name) = nat_lt d depth
 is_older depth _ = true
 
--- where the pointer for a variable leads
+-- the location to which the pointer for a variable leads
 abbrev pub lent_at : Scope → ℕ → Location
 lent_at scope k = start_of scope true (variable_name k)
 
--- where the pointer to what an activity remembers leads
+-- the location to which the pointer to what an activity remembers leads
 abbrev pub remembered_at : Scope → Location
 remembered_at scope = start_of scope true (codes "m")
 
--- The pointers of a unit lead to what was there before it began; of these the one to what an activity remembers matters only where it remembers a
--- variable. Where one leads that is written through has nothing in common with where any other leads
+-- a unit's pointers are valid: they lead to older memory, and those that are written through are apart from all others. That to remembered variables counts
+-- only if there are any
 pub record PointersAreValid (site : TypingContext) (scope : Scope) : Type 0 where
   pub few : length site.vars ≤ 2 ^ 64
   pub lent_older : (k : ℕ) (var : Var) → var_at site k ≡ Some var → home_at site k ≡ Lent → is_older scope.depth (lent_at scope k).root ≡ true
@@ -35,7 +35,7 @@ pub record PointersAreValid (site : TypingContext) (scope : Scope) : Type 0 wher
   pub held_apart : is_activity site.kind ≡ true → (k : ℕ) (var : Var) → var_at site k ≡ Some var → home_at site k ≡ Lent →
       are_apart (remembered_at scope) (lent_at scope k) ≡ true
 
--- so what may be written keeps apart from other variables and from copies, and all of it is there
+-- the variables that may be written are apart from other variables and from copies, and all are allocated
 pub record FrameApart (site : TypingContext) (copied : ℕ → Bool) (scope : Scope) : Type 0 where
   pub variables : VariablesApart site scope
   pub copies : CopiesApart site copied scope

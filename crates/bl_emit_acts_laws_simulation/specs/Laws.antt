@@ -39,8 +39,8 @@ use Rattle.bl_emit_acts_laws_simulation.specs.Encodes.{
 }
 use Rattle.bl_emit_acts_laws_simulation.specs.Simulation.{ExpressionSimulates, FunctionsAgree, PlaceSimulates}
 
--- the memory of C beside the values of a unit's variables: the unit is at the position, the values are of its variables' types, each stands
--- at its place, which is there, so do the copies, and the earlier functions are there
+-- C memory encodes the values of the variables of the unit at a position. Values fit their types, variables and copies are allocated, and the functions of
+-- earlier units agree
 pub record Beside (structs : List StructDef) (units : List UnitDef) (k : ℕ) (unit : UnitDef) (view : View) (copied : ℕ → Bool) (scope : Scope)
     (here : Memory) : Type 0 where
   pub is_there : slice_get units k ≡ Some unit
@@ -50,14 +50,14 @@ pub record Beside (structs : List StructDef) (units : List UnitDef) (k : ℕ) (u
   pub copies : CopiesEncoded (site_of structs (take k units) unit) view.before copied scope here
   pub functions : FunctionsAgree structs (take k units) (callees_of structs (take k units)) scope
 
--- what is made of an expression does what the expression means
+-- the C of each expression simulates it
 abbrev pub ExpressionsSimulate : List StructDef → List UnitDef → ℕ → Type 0
 ExpressionsSimulate structs units entry =
     (k : ℕ) (unit : UnitDef) (e : Expr) (ty : Ty) (view : View) (copied : ℕ → Bool) (scope : Scope) (here : Memory) → IsWellTyped structs units entry →
     Beside structs units k unit view copied scope here → type_of (site_of structs (take k units) unit) e ≡ Some ty → copied_in copied e ≡ true →
     ExpressionSimulates structs ty scope here (made_of (site_of structs (take k units) unit) e) (meaning_of (scope_of (site_of structs (take k units) unit)) e view)
 
--- the place of a path leads where the path leads
+-- the place of a path simulates the path
 abbrev pub PlacesSimulate : List StructDef → List UnitDef → ℕ → Type 0
 PlacesSimulate structs units entry =
     (k : ℕ) (unit : UnitDef) (path : Path) (ty : Ty) (view : View) (copied : ℕ → Bool) (scope : Scope) (here : Memory) → IsWellTyped structs units entry →
@@ -67,7 +67,7 @@ PlacesSimulate structs units entry =
     (location_c (stands (site_of structs (take k units) unit) path).place scope here).answer
     (path_meaning_of (scope_of (site_of structs (take k units) unit)) path)
 
--- A part of a variable that may be written: it is there, the memory has its value, and the values after the write are these
+-- the premises of a write to part of a variable: the part exists, memory has its value, and these are the values after the write
 pub record PartWrite (structs : List StructDef) (units : List UnitDef) (k : ℕ) (unit : UnitDef) (scope : Scope) (here : Memory) (now made : List Value)
     (root : ℕ) (var : Var) (ks : List ℕ) (ty : Ty) (new : Value) (held : CValue) : Type 0 where
   pub is_there : slice_get units k ≡ Some unit
@@ -80,7 +80,7 @@ pub record PartWrite (structs : List StructDef) (units : List UnitDef) (k : ℕ)
   pub holds : Encodes structs ty new held
   pub put : put_at root ks new now ≡ Some made
 
--- each variable holds its value once what holds the new part was set at the part's place
+-- each variable holds its value after what holds the new part was set at the part's place
 abbrev pub WritesEncode : List StructDef → List UnitDef → ℕ → Type 0
 WritesEncode structs units entry =
     (k : ℕ) (unit : UnitDef) (scope : Scope) (here : Memory) (now made : List Value) (root : ℕ) (var : Var) (ks : List ℕ) (ty : Ty) (new : Value)
@@ -88,8 +88,7 @@ WritesEncode structs units entry =
     VariablesEncoded (site_of structs (take k units) unit) made scope
     (set_at here (location_in scope (site_of structs (take k units) unit) root (way_to structs ks (Some var.ty))) held)
 
--- the same as `Beside`, of memory in which acts are done: what is written has nothing in common with other variables or copies, and the earlier
--- functions without a result are there too
+-- C memory encodes the values of a unit's variables, and acts may write it: variables are apart from others and from copies, and earlier procedures agree
 pub record BesideActs (structs : List StructDef) (units : List UnitDef) (k : ℕ) (unit : UnitDef) (view : View) (copied : ℕ → Bool) (scope : Scope)
     (here : Memory) : Type 0 where
   pub beside : Beside structs units k unit view copied scope here
@@ -97,11 +96,11 @@ pub record BesideActs (structs : List StructDef) (units : List UnitDef) (k : ℕ
   pub copies_apart : CopiesApart (site_of structs (take k units) unit) copied scope
   pub procedures : ProceduresAgree structs (take k units) (callees_of structs (take k units)) scope
 
--- where the pointers of a unit lead to what keeps apart, so do its variables and copies
+-- the variables and copies of a unit are apart where its pointers are valid
 abbrev pub FramesApart : Type 0
 FramesApart = (site : TypingContext) (copied : ℕ → Bool) (scope : Scope) → PointersAreValid site scope → FrameApart site copied scope
 
--- once the C that copies them has run, the copies of these variables have what the variables have, as when a tick begins
+-- the C that copies these variables gives each copy the value of its variable, as at the start of a tick
 abbrev pub CopiesBegin : Type 0
 CopiesBegin =
     (site : TypingContext) (copied : ℕ → Bool) (scope : Scope) (now : List Value) (ks : List ℕ) (here : Memory) → CopiesApart site copied scope →
@@ -109,13 +108,13 @@ CopiesBegin =
     → (var : Var) × (var_at site k ≡ Some var) × (copied k ≡ true)) →
     ((block_c (map (c_copied site) ks) scope here).end ≡ goes_on) × BegunWith site scope here now ks (block_c (map (c_copied site) ks) scope here).memory
 
--- what overlaps in the arguments of an act
+-- the overlaps in the arguments of an act
 abbrev pub overlaps_in : {A B C D : Type 0} → StmtKind-F A B C D → List Aliased
 overlaps_in (StmtKind-F.Call f inputs outputs) = aliases_of None inputs outputs
 overlaps_in _ = []
 
--- the C of an act that fits, whose arguments don't overlap, traps exactly where the act traps; else it goes on, and leaves memory that stands for
--- the values after the act and is as it was wherever none of them stands
+-- the C of an act that fits simulates it, if its arguments don't overlap: it traps iff the act does, and else represents the values after it. Other memory is
+-- unchanged
 abbrev pub ActsSimulate : List StructDef → List UnitDef → ℕ → Type 0
 ActsSimulate structs units entry =
     (k : ℕ) (unit : UnitDef) (s : Stmt) (view : View) (copies : List Bool) (scope : Scope) (here : Memory) → IsWellTyped structs units entry →

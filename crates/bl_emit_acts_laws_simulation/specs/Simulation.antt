@@ -33,15 +33,14 @@ PlaceValueSimulates structs ty depth here (Some place) (Some (OfWhole value)) =
     (is_live depth place.root ≡ true) × Encodes structs ty value (memory.value_at here place)
 PlaceValueSimulates structs ty depth here _ _ = ⊥
 
--- What is made of an expression of a type does what the expression means: a number is exactly its number, or traps exactly where it does; a place
--- has its value, or traps exactly where it does
+-- C simulates an expression of a type: it has the expression's number, or a place with its value, or it traps iff the expression does
 abbrev pub ExpressionSimulates : List StructDef → Ty → Scope → Memory → Made → Option Datum → Type 0
 ExpressionSimulates structs ty scope here (Number s code) datum =
     (scalar_in ty ≡ Some s) × (option_map memory.number_in (value_c code scope here).answer ≡ option_map number_given datum)
 ExpressionSimulates structs ty scope here (Whole place) datum =
     (scalar_in ty ≡ None) × PlaceValueSimulates structs ty scope.depth here (location_c place scope here).answer datum
 
--- where a path leads in C, beside the positions that it stands for: to the part of its variable that lies at them
+-- a C location stands for a path of the program: it is that of the part of the path's variable at these positions
 pub record PathReaches (site : TypingContext) (now : List Value) (scope : Scope) (ty : Ty) (root : ℕ) (positions : Option (List ℕ)) (place : Location) : Type 0 where
   pub var : Var
   pub is_there : var_at site root ≡ Some var
@@ -52,7 +51,7 @@ pub record PathReaches (site : TypingContext) (now : List Value) (scope : Scope)
   pub value : Value
   pub is : read_at root now ks ≡ Some value
 
--- and it traps exactly where the path leads to no value
+-- a C place simulates a path: it is where the path leads, or traps iff the path leads to no value
 abbrev pub PlaceSimulates : TypingContext → View → Scope → Ty → Option Location → PathMeaning → Type 0
 PlaceSimulates site view scope ty None spot = option_and_then (read_at spot.root view.now) (spot.positions view) ≡ None
 PlaceSimulates site view scope ty (Some place) spot = PathReaches site view.now scope ty spot.root (spot.positions view) place
@@ -65,7 +64,7 @@ ArgumentEncoded structs depth here ty value (by_value held) = (s : ScalarType) �
 ArgumentEncoded structs depth here ty value (by_address place) =
     (scalar_in ty ≡ None) × (is_live depth place.root ≡ true) × Encodes structs ty value (memory.value_at here place)
 
--- each argument has its value
+-- each argument encodes its value
 abbrev pub ArgumentsEncoded : List StructDef → ℕ → Memory → List Var → List Value → List ArgumentValue → Type 0
 ArgumentsEncoded structs depth here [] [] [] = Unit {0}
 ArgumentsEncoded structs depth here (var ∷ vars) (value ∷ values) (arg ∷ args) =
@@ -76,7 +75,7 @@ ArgumentsEncoded structs depth here _ _ _ = ⊥
 abbrev pub number_returned : Option Left → Option ℤ
 number_returned left = option_map number_given (option_and_then (λ left. left.result) left)
 
--- the functions of C are those of the program: each returns what the program's returns, or traps where that does
+-- C functions agree with those of the program: each returns what the program's returns, or traps iff it does
 pub record FunctionsAgree (structs : List StructDef) (earlier : List UnitDef) (callees : List Callee) (scope : Scope) : Type 0 where
   pub each : (f : ℕ) (unit : UnitDef) (callee : Callee) (s : ScalarType) (values : List Value) (passed : List ArgumentValue) (here : Memory) →
       slice_get earlier f ≡ Some unit → slice_get callees f ≡ Some callee → is_function unit.kind ≡ true → unit.outputs ≡ 0 → unit.result

@@ -1,16 +1,19 @@
-//! Laws of the C of expressions, paths and acts. None of these functions does anything: the contract is the law. Where each
-//! variable of a unit has its value at its place in C's memory (`specs/Encodes.antt`, `VariablesEncoded`), the C of an
-//! expression gives exactly the expression's value, or traps exactly where it traps, and the C place of a path is that of
-//! the part to which the path leads (`specs/Simulation.antt`, `ExpressionSimulates` and `PlaceSimulates`). Once that place is set, each variable has
-//! what the program's put leaves (`specs/Laws.antt`, `WritesEncode`). Where no output of a call overlaps another or an
-//! aggregate input, the C of an act traps exactly where the act traps; else it goes on, the memory after it has the values
-//! after the act, and all numbers are as they were that belong to no variable that may be written and to no copy of one
-//! (`specs/Acts.antt`, `Simulates` and `RepresentsAfter`; `specs/Laws.antt`, `ActsSimulate`). The arguments of a call, whichever function it
-//! calls, pass its inputs' values and the places to which its outputs' paths lead, which keep apart (`specs/Arguments.antt`,
-//! `ArgumentsPass`). The C that sets copies as a tick begins leaves in each what its variable has (`CopiesBegin`). The laws
-//! ask that earlier functions do in C what they do in the program (`FunctionsAgree`, `ProceduresAgree`), and that what may be
-//! written has nothing in common with other variables and copies (`VariablesApart`, `CopiesApart`), which holds where the
-//! unit's pointers lead to what keeps apart (`specs/Frames.antt`, `PointersAreValid`; `FramesApart`).
+//! The C of expressions, paths and acts simulates them. Lemmas only. The premise is that each variable of a unit has
+//! its value at its place in C's memory (`specs/Encodes.antt`, `VariablesEncoded`). The C of an expression gives the
+//! expression's value, or traps iff the expression does. The C place of a path is that of the part to which the path
+//! leads (`specs/Simulation.antt`, `ExpressionSimulates` and `PlaceSimulates`). A write to that place has the effect of
+//! the source assignment (`specs/Laws.antt`, `WritesEncode`).
+//!
+//! Where no output of a call overlaps another or an aggregate input, the C of an act traps iff the act traps. Otherwise
+//! memory has the values after the act, and is unchanged outside of variables that may be written and their copies
+//! (`specs/Acts.antt`, `Simulates` and `RepresentsAfter`; `specs/Laws.antt`, `ActsSimulate`). The arguments of a call
+//! pass its inputs' values and the places to which its outputs' paths lead, which don't overlap
+//! (`specs/Arguments.antt`, `ArgumentsPass`). The C that sets copies at the start of a tick gives each copy its
+//! variable's value (`CopiesBegin`).
+//!
+//! The lemmas require that earlier functions agree in C and in the program (`FunctionsAgree`, `ProceduresAgree`). They
+//! also require that what may be written doesn't overlap other variables and copies (`VariablesApart`, `CopiesApart`),
+//! which holds where the unit's pointers are valid (`specs/Frames.antt`, `PointersAreValid`; `FramesApart`).
 #![tactic(auto)]
 
 ghost use Rattle.bl_emit_acts_laws_simulation.specs.Arguments.{ArgumentsPass};

@@ -12,14 +12,14 @@ use Rattle.bl_ctext.specs.inner.Fits.{expr_fits, place_fits}
 use Rattle.bl_emit_acts.specs.Acts.{code_made}
 use Rattle.bl_emit_acts.specs.Expressions.{stands}
 
--- What is made of an expression has a spelling, in which at most two brackets more are open at once than twice as many as the expression is deep
+-- the C of an expression has a spelling, with at most two more open brackets than twice the expression's depth
 abbrev pub ExpressionsFit : List StructDef → List UnitDef → ℕ → Type 0
 ExpressionsFit structs units entry =
     (k : ℕ) (unit : UnitDef) (e : Expr) (ty : Ty) → IsWellTyped structs units entry → slice_get units k ≡ Some unit → length unit.vars ≤ 2 ^ 64 →
     type_of (site_of structs (take k units) unit) e ≡ Some ty →
     expr_fits (2 * expr_depth e + 2) (code_made (site_of structs (take k units) unit) e) ≡ true
 
--- so has the place of a path
+-- the place of a path has a spelling, with at most two more open brackets than twice the path's depth
 abbrev pub PlacesFit : List StructDef → List UnitDef → ℕ → Type 0
 PlacesFit structs units entry =
     (k : ℕ) (unit : UnitDef) (path : Path) (ty : Ty) → IsWellTyped structs units entry → slice_get units k ≡ Some unit → length unit.vars ≤ 2 ^ 64 →

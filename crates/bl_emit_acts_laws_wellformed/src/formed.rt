@@ -1,9 +1,8 @@
-//! Laws of the C of expressions, paths and acts as a text: it is well formed. None of these functions does anything: the contract is
-//! the law. Where what a unit names is declared in C (`specs/Formed/Declared.antt`, `Declared`: the structs and arrays of its types,
-//! its variables where they stand, the functions that it may call), what is made of an expression has the C type of the
-//! expression's type, and no clause of a well-formed file fails in it (`specs/Formed/Laws.antt`, `ExpressionsTyped`); so has the place
-//! of a path (`PlacesTyped`). No clause fails in the C of an assignment, a declaration or a call either (`ActsWellFormed`), where a unit that
-//! may change nothing through a pointer has no variable that stands behind one (`ChangesNone`).
+//! The C of expressions, paths and acts is well formed. If all names of a unit are declared in C
+//! (`specs/Formed/Declared.antt`, `Declared`), the C expression has the corresponding C type, and no clause of a
+//! well-formed file fails in it (`specs/Formed/Laws.antt`, `ExpressionsTyped`). The same holds for the place of a path
+//! (`PlacesTyped`). No clause fails in the C of an assignment, a declaration or a call (`ActsWellFormed`). A premise is
+//! that a unit that may change nothing through a pointer has no variable behind one (`ChangesNone`).
 
 ghost use Rattle.bl_emit_acts_laws_wellformed.specs.Formed.Laws.{ActsWellFormed, ExpressionsTyped, PlacesTyped};
 

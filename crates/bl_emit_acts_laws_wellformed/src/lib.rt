@@ -1,5 +1,4 @@
-//! Laws of the C of expressions, paths and acts as a text. None of these functions does anything: the contract is the law. It is well
-//! formed (`formed`) and has a spelling (`spelled`).
+//! The C of expressions, paths and acts is well formed (`formed`) and has a spelling (`spelled`). Lemmas only.
 #![tactic(auto)]
 
 pub mod formed;

@@ -1,8 +1,7 @@
-//! Laws of the C of expressions and paths as a text: it has a spelling. None of these functions does anything: the contract is
-//! the law. What is made of an expression names what may be named, has literals in the range of their types and lengths that
-//! arrays may have, and at most two brackets more are open in it at once than twice as many as operators, casts, calls and
-//! indices stand inside one another in the expression (`specs/Spelled.antt`, `ExpressionsFit`); so with the place of a path
-//! (`PlacesFit`).
+//! The C of expressions and paths has a spelling. It names only what may be named, and has literals in the range of
+//! their types and lengths that arrays may have. At most two more brackets are open in it than twice the nesting of
+//! operators, casts, calls and indices in the expression (`specs/Spelled.antt`, `ExpressionsFit`). The same holds for
+//! the place of a path (`PlacesFit`).
 
 ghost use Rattle.bl_emit_acts_laws_wellformed.specs.Spelled.{ExpressionsFit, PlacesFit};
 

@@ -12,6 +12,6 @@ pub record Alike (v w : ActivityView) : Type 0 where
   pub is_read : (k : ℕ) → v.is_read k ≡ w.is_read k
   pub remembers : (k : ℕ) → v.remembers k ≡ w.remembers k
 
--- by such views the turn of a rule is the same
+-- the turn of a rule is the same in two views that differ only in the numbers of nodes
 abbrev pub BlocksAlike : Type 0
 BlocksAlike = (v w : ActivityView) → Alike v w → (rule : NumberedTransition) → numbered_turn v rule ≡ numbered_turn w rule

@@ -27,7 +27,7 @@ abbrev pub numbered_ends : ActivityView → Needed → CExpr
 numbered_ends view needed =
     if needed.all then all_tests (map (at_slot view) needed.slots) else some_test (map (at_slot view) needed.slots)
 
--- the same, of a `cobegin` of that age
+-- the test whether enough branches of a `cobegin` of that age have ended
 abbrev pub numbered_aged : Age → CExpr → CExpr
 numbered_aged (age.New k) ends = c_two And (c_read (mark_place k)) ends
 numbered_aged (age.Old k) ends = c_two And (c_not (c_read (mark_place k))) ends
@@ -58,7 +58,7 @@ numbered_change view (change.EndWhen start surface depth) =
     c_if (c_read (mark_place start)) (flag_set surface ∷ []) (Some (flag_set depth ∷ [])) ∷ []
 numbered_change view change.Finish = c_set over_place (c_truth true) ∷ []
 
--- of changes one after another
+-- the C of changes one after another
 abbrev pub numbered_changes : ActivityView → List Change → List CStmt
 numbered_changes view [] = []
 numbered_changes view (change ∷ rest) = numbered_change view change ++ numbered_changes view rest
@@ -69,13 +69,13 @@ numbered_changes view (change ∷ rest) = numbered_change view change ++ numbere
 abbrev pub numbered_tested : ActivityView → CExpr → NumberedTransition → List CStmt
 numbered_tested view test rule = c_if test (numbered_changes view rule.so) (else_code (numbered_changes view rule.otherwise)) ∷ []
 
--- what a `run` does where it begins: the number is that of the node at which it begins, and the position that of the activity that it calls
+-- the C of a `run` that begins, by the number of its first node and the position of the activity that it calls
 abbrev pub numbered_begun : ActivityView → ℕ → ℕ → Arguments → List Change → List CStmt
 numbered_begun view k a arguments so =
     c_clear (callee_frame k) (frame_name (name_in (slice_get view.site.earlier a)))
     ∷ (run_code view k a arguments ++ numbered_changes view so)
 
--- what it does where it goes on
+-- the C of a `run` that goes on, by the number of its first node and the position of the activity that it calls
 abbrev pub numbered_resumed : ActivityView → ℕ → ℕ → Arguments → List Change → List CStmt
 numbered_resumed view k a arguments so =
     run_code view k a arguments
@@ -93,6 +93,6 @@ numbered_task view rule (Resumes k a arguments) = numbered_resumed view k a argu
 abbrev pub numbered_turn : ActivityView → NumberedTransition → NodeCode
 numbered_turn view rule = record { test = numbered_guard view rule.number rule.asked; code = numbered_task view rule rule.task }
 
--- its `if`
+-- the `if` of a rule's node
 abbrev pub numbered_block : ActivityView → NumberedTransition → CStmt
 numbered_block view rule = turn_code (numbered_turn view rule)

@@ -5,7 +5,7 @@ use Rattle.bl_emit_spec.specs.Blocks.{ActivityView, NodeCode}
 use Rattle.bl_emit_blocks.specs.declared.turn.NodeCode.{NodeCode as KeptTurn}
 use Rattle.bl_emit_blocks.specs.declared.view.ActivityView.{ActivityView as Kept}
 
--- an activity as its blocks see it; the C of a block that has numbers doesn't ask which numbers nodes have
+-- the view that numbered blocks have of their activity; it has no numbers of nodes
 abbrev pub view_in : Kept → ActivityView
 view_in view = record {
   site = site_in view.site;

@@ -1,6 +1,6 @@
-//! The C of the blocks of a pass (docs/C_SUBSET.md, "What `blechc` writes"). `merged` makes exactly the
-//! `if` that is defined for the nodes of a block, by the turns of their rules (`specs/Numbered.antt`, `numbered_turn`); want of memory aside.
-//! `blocks_alike` is the law that this asks of an activity nothing but what `Alike` names (`specs/Laws.antt`).
+//! The C of the blocks of a pass (docs/C_SUBSET.md, "What `blechc` writes"). `merged` makes exactly the specified `if`
+//! of a block's nodes, by the turns of their rules (`specs/Numbered.antt`, `numbered_turn`); want of memory aside.
+//! `blocks_alike`: the result depends only on the fields in `Alike` (`specs/Laws.antt`).
 #![tactic(auto)]
 
 mod blocks;

@@ -18,7 +18,7 @@ pub record BlocksAreNumbered : Type 0 where
   pub all : (view : ActivityView) (units : List ℕ) (rules : List nodes.Transition) →
       turns_of view units rules ≡ map (numbered_turn view) (all_told view.number units rules)
 
--- so the turns of a body are those of its list of rules
+-- the turns of a body are those of its list of numbered rules
 abbrev pub BodiesAreNumbered : Type 0
 BodiesAreNumbered =
     (view : ActivityView) (body : List Stmt) (order : List ℕ) (list : List Slot) → view.number ≡ number_in order (plain_body body) →

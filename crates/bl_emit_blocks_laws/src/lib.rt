@@ -1,5 +1,5 @@
-//! The turns of rules by numbers are those of the nodes that have these numbers (`specs/Laws.antt`, `BlocksAreNumbered`); so the turns of a
-//! body are those of its list of rules (`BodiesAreNumbered`). There is no code here.
+//! The turns of numbered rules are those of the nodes with these numbers (`specs/Laws.antt`, `BlocksAreNumbered`). So
+//! the turns of a body are those of its list of rules (`BodiesAreNumbered`). Lemmas only.
 #![tactic(auto)]
 
 ghost use Rattle.bl_emit_blocks_laws.specs.Laws.{BlocksAreNumbered, BodiesAreNumbered};

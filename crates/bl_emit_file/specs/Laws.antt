@@ -13,8 +13,8 @@ use Rattle.bl_emit_spec_laws_simulation.specs.Compiled.{AreCountable}
 use Rattle.bl_emit_file.specs.Merged.{AreMerged}
 use Rattle.bl_emit_file.specs.Shows.{ShowsProgram}
 
--- no rule fails for a program that is made of a text, its machine shares counters and has merged blocks, and 64 bits count the variables and
--- statements of its units
+-- the program is made of a text, and no rule fails for it. Its machine shares counters and has merged blocks, and 64 bits count the variables and statements of
+-- its units
 pub record Known (program : Program) (machine : List InMachine) : Type 0 where
   pub keeps : IsWellTyped program.structs program.units program.entry
   pub passes : Passes program.units
@@ -25,7 +25,7 @@ pub record Known (program : Program) (machine : List InMachine) : Type 0 where
   pub merged : AreMerged program.units machine
   pub countable : AreCountable program.units
 
--- what is written of such a program shows what it means
+-- the file written of a program that passes the rules shows the trace that its semantics allows
 abbrev pub ProgramsShow : Program → Type 0
 ProgramsShow program =
     (machine : List InMachine) → Known program machine →

@@ -16,7 +16,7 @@ use Rattle.bl_emit_laws.specs.Kept.{written_file}
 abbrev pub IsMerged : UnitDef → Activity → Type 0
 IsMerged unit activity = NothingLeft (plain_body unit.body) activity.blocks
 
--- so it is of each activity among the units
+-- the blocks of each activity of the machine are merged: no two neighbours could be one
 abbrev pub AreMerged : List UnitDef → List Activity → Type 0
 AreMerged units machine = EachTwo IsMerged (activities units) machine
 
@@ -27,8 +27,7 @@ pub record IsOfMerged (program : Program) (file : Parts) : Type 0 where
   pub merged : AreMerged program.units machine
   pub is : file ≡ written_file program machine
 
--- there is a machine of the program with these structs, these units and this entry whose blocks are merged, and in the file the function of each
--- activity that has an instance has as many `if`s directly in its body as the machine has blocks for it
+-- a machine of the program has merged blocks. The function of each activity with an instance has as many `if`s directly in its body as the machine has blocks
 pub record HasMergedBlocks (structs : List StructDef) (units : List UnitDef) (entry : ℕ) (file : Parts) : Type 0 where
   pub machine : List Activity
   pub agrees : AreActivitiesOf units machine

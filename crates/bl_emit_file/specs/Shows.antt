@@ -17,18 +17,18 @@ use Rattle.bl_emit_file.specs.Merged.{HasMergedBlocks}
 pub record ShowsProgram (structs : List StructDef) (units : List UnitDef) (entry : ℕ) (file : Parts) : Type 0 where
   pub unit : UnitDef
   pub is_entry : slice_get units entry ≡ Some unit
-  -- no clause of a well-formed file fails in it
+  -- the file is well formed
   pub well_formed : WellFormed file
-  -- it needs no more cells than can be loaded, and its inputs and outputs are those of the entry
+  -- the file needs no more cells than can be loaded, and its inputs and outputs are those of the entry
   pub small : cells_needed file ≤ 1000000
   pub inputs : inputs_of file ≡ input_columns unit
   pub outputs : outputs_of file ≡ output_columns unit
   -- each activity that has an instance has one function and one struct in it, and no other function names its counters
   pub functions : FunctionsOwn structs units entry file
-  -- and that struct has as many counters as the activity's width: the most places of it that can rest at once
+  -- the struct of each such activity has as many counters as the activity's width: the most places of it that can rest at once
   pub frames : EachFrameHasWidth structs units entry file
   -- the body of that function is assignments, and then as many `if`s as a machine with merged blocks has blocks for the activity
   pub blocks : HasMergedBlocks structs units entry file
-  -- over all rows that fit its inputs the parallel meaning allows its trace, and no other
+  -- the semantics allows the trace of the file, and no other, over all rows that fit its inputs
   pub trace : (rows : List (List ℤ)) (shows : ShownTrace) → RowsFit (input_columns unit) rows →
       Means structs units entry rows shows ↔ (shows ≡ shown_trace (c_trace file rows))

@@ -73,7 +73,7 @@ members_of structs earlier unit = members_from (site_of structs earlier unit) 0 
 abbrev pub memory_name : Text → Text
 memory_name name = codes "m_" ++ name
 
--- the struct of these members; none where there are none
+-- the struct of the members; none without members
 abbrev pub struct_of : Text → List CMember → List CStruct
 struct_of name [] = []
 struct_of name (member ∷ rest) = record { place = nowhere; name = memory_name name; members = member ∷ rest } ∷ []
@@ -95,7 +95,7 @@ memory_local name false = []
 abbrev pub flag_local : ℕ → CLocal
 flag_local k = record { ty = OfScalar OfBool; name = flag_name k }
 
--- so many flags
+-- n flags as locals
 abbrev pub flag_locals : ℕ → List CLocal
 flag_locals zero = []
 flag_locals (suc n) = flag_locals n ++ flag_local n ∷ []
@@ -112,7 +112,7 @@ input_copied site Held k = c_input_copied site k ∷ []
 input_copied site Given k = []
 input_copied site Lent k = []
 
--- the copies of these inputs, the first of which is at this position
+-- the statements that copy inputs, the first of which is at this position
 abbrev pub copies_from : TypingContext → ℕ → List Var → List CStmt
 copies_from site k [] = []
 copies_from site k (var ∷ rest) = input_copied site (home_of site (Some var)) k ++ copies_from site (k + 1) rest
@@ -150,7 +150,7 @@ first_held site k (var ∷ rest) = if is_held (home_of site (Some var)) then Som
 abbrev pub c_set_again : TypingContext → ℕ → CStmt
 c_set_again site k = c_set (place_in site k []) (c_read (place_in site k []))
 
--- Compilers warn of a struct that is set and never read. So where nothing of it is read, a variable in it is set to what it has
+-- the statement that sets a variable of the struct to itself, if nothing reads the struct: compilers warn of structs that are set and never read
 abbrev pub read_code : TypingContext → Option ℕ → Bool → List CStmt
 read_code site None reads = []
 read_code site (Some k) true = []

@@ -12,7 +12,7 @@ use Rattle.bl_tree.specs.declared.c.CStmtKind.TheOpen.{CStmtKind-F, CStmt-F}
 use Rattle.bl_tree.specs.Reduce.{any_of}
 use Rattle.bl_ctext.specs.Folds.{EachIs}
 
--- whether this is the name of the struct of the variables
+-- whether the name is that of the local `m`, the struct of the variables
 abbrev pub is_memory : Text → Bool
 is_memory name = bytes_eq name (codes "m")
 
@@ -62,32 +62,32 @@ step_reads step = or_nothing step.index
 abbrev pub reads_in : CExpr → Bool
 reads_in = fold-CExpr _ _ _ _ _ _ _ arg_reads kind_reads call_reads expr_reads index_reads place_reads step_reads
 
--- whether a place that is read does
+-- whether a place that is read is, or has in an index, a variable that the function holds
 abbrev pub reads_in_place : CPlace → Bool
 reads_in_place = fold-CPlace _ _ _ _ _ _ _ arg_reads kind_reads call_reads expr_reads index_reads place_reads step_reads
 
--- whether a call does
+-- whether a call reads a variable that the function holds
 abbrev pub reads_in_call : CCall → Bool
 reads_in_call = fold-CCall _ _ _ _ _ _ _ arg_reads kind_reads call_reads expr_reads index_reads place_reads step_reads
 
--- whether an argument does
+-- whether an argument reads a variable that the function holds
 abbrev pub reads_in_arg : CArg → Bool
 reads_in_arg = fold-CArg _ _ _ _ _ _ _ arg_reads kind_reads call_reads expr_reads index_reads place_reads step_reads
 
--- whether a step does
+-- whether a step reads a variable that the function holds
 abbrev pub reads_in_step : CStep → Bool
 reads_in_step = fold-CStep _ _ _ _ _ _ _ arg_reads kind_reads call_reads expr_reads index_reads place_reads step_reads
 
--- whether a place that is set has an index that does
+-- whether a place that is set reads, in an index, a variable that the function holds
 abbrev pub reads_in_target : CPlace → Bool
 reads_in_target place = any_of (map reads_in_step (out-CPlace place).steps)
 
--- whether an expression that may be absent does
+-- whether an optional expression reads a variable that the function holds
 abbrev pub reads_in_option : Option CExpr → Bool
 reads_in_option None = false
 reads_in_option (Some e) = reads_in e
 
--- whether a block that may be absent does, where it is known of its statements
+-- whether an optional block reads a variable that the function holds, from what is known of its statements
 abbrev pub block_or_nothing : Option (List Bool) → Bool
 block_or_nothing None = false
 block_or_nothing (Some block) = any_of block
@@ -106,7 +106,7 @@ stmt_kind_reads (CStmtKind-F.Return e) = reads_in_option e
 abbrev pub stmt_reads : CStmt-F Bool Bool → Bool
 stmt_reads stmt = stmt.what
 
--- whether a statement does
+-- whether a statement reads a variable that the function holds
 abbrev pub reads_in_stmt : CStmt → Bool
 reads_in_stmt = fold-CStmt Bool Bool stmt_kind_reads stmt_reads
 

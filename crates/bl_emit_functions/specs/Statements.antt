@@ -16,11 +16,11 @@ use Rattle.bl_emit_functions.specs.Trees.{c_break, c_if, c_loop, c_return, c_tru
 
 -- ---- numbers
 
--- once the next flag is taken
+-- the free numbers after the next flag is taken
 abbrev pub flag_taken : Free → Free
 flag_taken free = record { flags = free.flags + 1; turns = free.turns }
 
--- once the next turn is
+-- the free numbers after the next turn is taken
 abbrev pub turn_taken : Free → Free
 turn_taken free = record { flags = free.flags; turns = free.turns + 1 }
 
@@ -45,7 +45,7 @@ block_codes (first ∷ rest) free = code_then (first free) (block_codes rest)
 
 -- ---- choices
 
--- an arm: its condition, and the C of its statements
+-- the C of an arm of an `if`: its condition and its statements
 pub record ArmCodes : Type 0 where
   pub test : CExpr
   pub body : Codes
@@ -103,7 +103,7 @@ choice_code (arm ∷ more ∷ rest) other free = flagged_code (arm ∷ more ∷ 
 
 -- ---- loops
 
--- a loop by its number, its condition, the C of its body, and what stands behind that in each turn
+-- the C of a loop, by its number, its condition, its body, and what stands behind the body in each turn
 abbrev pub loop_code : ℕ → CExpr → List CStmt → Coded → Coded
 loop_code turn test last body = record { code = c_loop (turn_name turn) test (body.code ++ last) ∷ []; free = body.free }
 
@@ -133,7 +133,7 @@ arm_codes site arm = record { test = code_made site arm.test; body = block_codes
 abbrev pub branch_codes : Branch-F Codes ArmCodes Codes Codes → Codes
 branch_codes branch free = only_code [] free
 
--- of a statement it is what is made of its kind
+-- the codes of a statement, by those of its kind
 abbrev pub stmt_codes : Stmt-F Codes ArmCodes Codes Codes → Codes
 stmt_codes s = s.what
 

@@ -19,7 +19,7 @@ turn_name k = codes "t" ++ decimal k
 abbrev pub flag_name : ℕ → Text
 flag_name k = codes "q" ++ decimal k
 
--- that flag
+-- the place of a flag that tells whether no arm of an `if` was taken
 abbrev pub flag_place : ℕ → CPlace
 flag_place k = c_place false (flag_name k) []
 

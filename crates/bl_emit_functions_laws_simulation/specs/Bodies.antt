@@ -24,7 +24,7 @@ use Rattle.bl_emit_functions.specs.declared.coded.Free.{Free}
 use Rattle.bl_emit_functions.specs.Statements.{block_codes, codes_of}
 use Rattle.bl_emit_functions.specs.Trees.{flag_name}
 
--- memory stands for values of a function's variables: each is of its variable's type, and its place has it
+-- memory represents values of a function's variables: each fits its variable's type, and its place has it
 pub record Represents (site : TypingContext) (scope : Scope) (now : List Value) (here : Memory) : Type 0 where
   pub fits : values_fit site.structs site.vars now ≡ true
   pub variables : VariablesEncoded site now scope here
@@ -34,7 +34,7 @@ pub record Untouched (site : TypingContext) (scope : Scope) (flags : ℕ) (root 
   pub foreign : Foreign site (is_copied []) scope root way
   pub no_flag : (j : ℕ) → flags ≤ j → j < 2 ^ 64 → same_root (variable scope.depth (flag_name j)) root ≡ false
 
--- such numbers are as they were
+-- numbers of memory are unchanged that belong to no variable that may be written and to no flag from this one on
 pub record Spared (site : TypingContext) (scope : Scope) (flags : ℕ) (here after : Memory) : Type 0 where
   pub each : (root : Root) (way : List Projection) → Untouched site scope flags root way → after root way ≡ here root way
 
@@ -43,15 +43,14 @@ abbrev pub number_back : Option Datum → ℤ
 number_back (Some datum) = number_given datum
 number_back None = pos 0
 
--- C comes to what statements of a function come to: it traps exactly where they trap; else it goes on where they do, or returns their number, and
--- leaves memory that stands for the values after them, and spares all else
+-- C simulates statements of a function: it traps iff they trap, goes on or returns as they do, represents the values after them, and spares all else
 abbrev pub FlowSimulates : TypingContext → Scope → ℕ → Memory → Option Flow → Outcome Memory → Type 0
 FlowSimulates site scope flags here None o = o.end ≡ traps
 FlowSimulates site scope flags here (Some (Flow.On now)) o = (o.end ≡ goes_on) × Represents site scope now o.memory × Spared site scope flags here o.memory
 FlowSimulates site scope flags here (Some (Flow.Back now result)) o =
     (o.end ≡ returns (number_back result)) × Represents site scope now o.memory × Spared site scope flags here o.memory
 
--- a function runs in C: it is at the position, its pointers lead where they may, and the earlier functions do what they do in the program
+-- a function runs in C: it is at the position, its pointers are valid, and earlier functions agree
 pub record FunctionIsRunning (structs : List StructDef) (units : List UnitDef) (k : ℕ) (unit : UnitDef) (scope : Scope) : Type 0 where
   pub is_there : slice_get units k ≡ Some unit
   pub is_function : is_activity unit.kind ≡ false
@@ -59,7 +58,7 @@ pub record FunctionIsRunning (structs : List StructDef) (units : List UnitDef) (
   pub functions : FunctionsAgree structs (take k units) (callees_of structs (take k units)) scope
   pub procedures : ProceduresAgree structs (take k units) (callees_of structs (take k units)) scope
 
--- the C of statements of a function comes to what they come to, where they fit and no arguments of their calls overlap
+-- the C of statements of a function simulates them, where they fit and no arguments of calls overlap
 abbrev pub StatementsSimulate : List StructDef → List UnitDef → ℕ → Type 0
 StatementsSimulate structs units entry =
     (k : ℕ) (unit : UnitDef) (scope : Scope) (body : List Stmt) (free : Free) (now : List Value) (here : Memory) → IsWellTyped structs units entry →

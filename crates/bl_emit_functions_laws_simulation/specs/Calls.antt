@@ -41,7 +41,7 @@ EndsFor result None = Unit {0}
 EndsFor result (Some (Flow.On now)) = result ≡ None
 EndsFor result (Some (Flow.Back now given)) = ResultGiven result given
 
--- the body of each function does, from all values of its variables
+-- the body of each function ends as its result requires, from all values of its variables
 abbrev pub BodiesEnd : List StructDef → List UnitDef → ℕ → Type 0
 BodiesEnd structs units entry =
     (k : ℕ) (unit : UnitDef) (sees : Sees) (now : List Value) → IsWellTyped structs units entry → slice_get units k ≡ Some unit →
@@ -49,7 +49,7 @@ BodiesEnd structs units entry =
 
 -- ---- what a call reaches
 
--- where the body of a called function stands: its pointers lead to the arguments
+-- the scope of a called function's body: its pointers lead to the arguments
 abbrev pub scope_begun : Table Meaning → CFunc → ℕ → List ArgumentValue → Scope
 scope_begun known function depth passed = record { known = known; depth = depth; pointers = table_of (pointers_of function.params passed) }
 
@@ -57,7 +57,7 @@ scope_begun known function depth passed = record { known = known; depth = depth;
 abbrev pub memory_begun : CFunc → ℕ → List ArgumentValue → Memory → Memory
 memory_begun function depth passed here = with_params depth function.params passed (without_frame depth here)
 
--- what its body comes to
+-- the outcome of a called function's body
 abbrev pub body_done : Table Meaning → CFunc → ℕ → List ArgumentValue → Memory → Outcome Memory
 body_done known function depth passed here =
     block_c function.body (scope_begun known function depth passed) (memory_begun function depth passed here)
@@ -68,7 +68,7 @@ pub record CallKeepsFrame (known : Table Meaning) (function : CFunc) (depth : �
   pub ends : (root : Root) (way : List Projection) → is_older depth root ≡ true →
       (function_c known function depth passed here).memory root way ≡ (body_done known function depth passed here).memory root way
 
--- each call does
+-- each call of a function reaches older memory by its body alone
 abbrev pub CallsKeepFrame : Type 0
 CallsKeepFrame =
     (known : Table Meaning) (function : CFunc) (depth : ℕ) (passed : List ArgumentValue) (here : Memory) → CallKeepsFrame known function depth passed here
@@ -98,8 +98,7 @@ pub record HandedOver (structs : List StructDef) (unit : UnitDef) (depth : ℕ) 
   pub apart : (j k : ℕ) (var : Var) (p q : Location) → slice_get (parameters_of unit) j ≡ Some var → is_output var.role ≡ true →
       slice_get passed j ≡ Some (by_address p) → slice_get passed k ≡ Some (by_address q) → nat_eq j k ≡ false → are_apart p q ≡ true
 
--- A call hands such arguments over: from a caller at this depth, whose arguments have the values of the inputs, and whose places for the outputs
--- have values and keep apart
+-- a call hands its arguments over, where these encode the inputs and the places of outputs are apart and hold values
 abbrev pub HandsOver : List StructDef → List UnitDef → ℕ → Type 0
 HandsOver structs units entry =
     (k : ℕ) (unit : UnitDef) (depth : ℕ) (here : Memory) (values given : List Value) (passed : List ArgumentValue) (outputs : List Location) →
@@ -124,7 +123,7 @@ pub record FrameBegun (site : TypingContext) (scope : Scope) (now : List Value) 
       → slice_get now k ≡ Some value → is_copied_input site k var ≡ true →
       (is_older scope.depth (lent_at scope k).root ≡ true) × Encodes site.structs var.ty value (value_at here (lent_at scope k))
 
--- the frame of the C function of each function begins so
+-- a call of the C function of each function begins a frame as `FrameBegun` says, from the arguments that are handed over
 abbrev pub FramesBegin : List StructDef → List UnitDef → ℕ → Type 0
 FramesBegin structs units entry =
     (k : ℕ) (unit : UnitDef) (known : Table Meaning) (depth : ℕ) (values : List Value) (passed : List ArgumentValue) (here : Memory) →
@@ -135,8 +134,8 @@ FramesBegin structs units entry =
 
 -- ---- functions without a result
 
--- what lets the C function of a function do what the function does, beside its arguments, where it runs at a depth: it has no more variables and flags
--- than there are names, the arguments of its calls don't overlap, and the earlier functions do in C what they do in the program
+-- the premises under which a C function simulates its function at a depth of calls, beside its arguments. Variables and flags can be named, arguments of calls
+-- don't overlap, and earlier functions agree
 pub record MayRun (structs : List StructDef) (units : List UnitDef) (k : ℕ) (unit : UnitDef) (known : Table Meaning) (depth : ℕ) (passed : List ArgumentValue)
     : Type 0 where
   pub vars : length unit.vars ≤ 2 ^ 64
@@ -147,8 +146,8 @@ pub record MayRun (structs : List StructDef) (units : List UnitDef) (k : ℕ) (u
   pub procedures : ProceduresAgree structs (take k units) (callees_of structs (take k units))
       (scope_begun known (function_code structs (take k units) unit) depth passed)
 
--- A call of the C function of a function without a result traps exactly where the function does. Else it leaves the function's outputs at their
--- places, and all else as it was that was there before the call
+-- a call of the C function of a function without a result traps iff the function does. Otherwise it leaves the function's outputs at their places, and all
+-- older memory else unchanged
 abbrev pub ProceduresSimulate : List StructDef → List UnitDef → ℕ → Type 0
 ProceduresSimulate structs units entry =
     (k : ℕ) (unit : UnitDef) (known : Table Meaning) (depth : ℕ) (values given : List Value) (passed : List ArgumentValue) (outputs : List Location)

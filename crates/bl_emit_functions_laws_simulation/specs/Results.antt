@@ -23,7 +23,7 @@ use Rattle.bl_emit_functions_laws_simulation.specs.Calls.{FrameBegun, MayRun, is
 
 -- ---- inputs that are copied
 
--- memory in which the inputs that a function copies were set: each variable has its value, and all that lies in no such input is as it was
+-- memory after the inputs that a function copies were set: each variable has its value, and memory outside of these inputs is unchanged
 pub record InputsBegun (site : TypingContext) (scope : Scope) (here : Memory) (now : List Value) (after : Memory) : Type 0 where
   pub variables : VariablesEncoded site now scope after
   pub kept : (root : Root) (way : List Projection) →
@@ -54,8 +54,8 @@ abbrev pub CallReturns : ℕ → Memory → Option Left → CallResult → Type 
 CallReturns depth here None called = called.result ≡ None
 CallReturns depth here (Some left) called = Returned depth here left called
 
--- A call of the C function of a function with a result traps exactly where the function does. Else it returns the number of the function's result,
--- and leaves all as it was that was there before the call
+-- a call of the C function of a function with a result traps iff the function does. Otherwise it returns the function's result, and leaves all older memory
+-- unchanged
 abbrev pub ResultsSimulate : List StructDef → List UnitDef → ℕ → Type 0
 ResultsSimulate structs units entry =
     (k : ℕ) (unit : UnitDef) (s : ScalarType) (known : Table Meaning) (depth : ℕ) (values : List Value) (passed : List ArgumentValue) (here : Memory) →

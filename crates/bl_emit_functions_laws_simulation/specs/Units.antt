@@ -19,7 +19,7 @@ use Rattle.bl_emit_functions.specs.Functions.{body_coded, function_code}
 
 -- ---- tables of C functions
 
--- under its name stands the C function of the unit at a position, where that is a function. The functions that it sees are known in this way
+-- the table has the C function of the unit at a position under its name, if the unit is a function. That function runs over a table with the property
 abbrev pub KnownAt : List StructDef → List UnitDef → ℕ → (Table Meaning → Type 0) → Table Meaning → Type 0
 KnownAt structs units k Below known =
     (unit : UnitDef) → slice_get units k ≡ Some unit → is_function unit.kind ≡ true → (below : Table Meaning)
@@ -41,7 +41,7 @@ pub record NamesSuffice (structs : List StructDef) (units : List UnitDef) (k : �
   pub vars : length unit.vars ≤ 2 ^ 64
   pub flags : (body_coded (site_of structs (take k units) unit) unit).free.flags ≤ 2 ^ 64
 
--- each function of the program has
+-- each function of the program has no more variables and flags than there are names
 abbrev pub AllNamesSuffice : List StructDef → List UnitDef → Type 0
 AllNamesSuffice structs units =
     (k : ℕ) (unit : UnitDef) → slice_get units k ≡ Some unit → is_function unit.kind ≡ true → NamesSuffice structs units k unit
@@ -53,7 +53,7 @@ pub record AllAgree (structs : List StructDef) (units : List UnitDef) (k : ℕ) 
   pub functions : FunctionsAgree structs (take k units) (callees_of structs (take k units)) scope
   pub procedures : ProceduresAgree structs (take k units) (callees_of structs (take k units)) scope
 
--- They do wherever they are known, at any depth in the chain of calls
+-- the C functions before a position simulate the functions of the program, wherever they are known, at any depth of calls
 abbrev pub FunctionsSimulate : List StructDef → List UnitDef → ℕ → Type 0
 FunctionsSimulate structs units entry =
     (k : ℕ) (scope : Scope) → IsWellTyped structs units entry → NoneOverlaps units

@@ -1,9 +1,8 @@
-//! Laws of the C of functions. None of these functions does anything: the contract is the law. Where memory stands for the
-//! values of a function's variables (`specs/Bodies.antt`, `Represents`), the C of its statements traps exactly where they trap;
-//! else it goes on or returns as they do, with their number, leaves memory that stands for the values after them, and leaves
-//! all numbers as they were that belong to no variable that may be written and to no flag of theirs (`FlowSimulates`). The law
-//! asks that the earlier functions do in C what they do in the program, and that the pointers of the function lead to what
-//! keeps apart (`FunctionIsRunning`). `units` says so of whole functions.
+//! The C of a function's statements simulates them, where memory represents the values of its variables
+//! (`specs/Bodies.antt`, `Represents`). It traps iff they trap, and else goes on or returns as they do. Memory then
+//! represents the values after them, and is unchanged outside of variables that may be written and of their flags
+//! (`FlowSimulates`). Premises are that earlier functions agree and that the function's pointers are valid
+//! (`FunctionIsRunning`). `units` has whole functions.
 
 ghost use Rattle.bl_emit_functions_laws_simulation.specs.Bodies.{StatementsSimulate};
 

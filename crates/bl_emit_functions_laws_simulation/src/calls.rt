@@ -1,9 +1,8 @@
-//! Laws of calls of C functions, which are made of the functions of a typed program. None of these functions does anything:
-//! the contract is the law. A call of the C function of a function without a result traps exactly where the function does;
-//! else it leaves the function's outputs at their places, and all else as it was that was there before (`specs/Calls.antt`,
-//! `ProceduresSimulate`). The law asks that the earlier functions do in C what they do in the program, that no arguments of the
-//! function's calls overlap, and that it has no more variables and flags than there are names (`MayRun`). The same of
-//! functions with a result is in `results`.
+//! Calls of the C functions of a typed program's functions. A call of the C function of a function without a result
+//! traps iff the function does. Otherwise it leaves the function's outputs at their places, and all older memory else
+//! unchanged (`specs/Calls.antt`, `ProceduresSimulate`). Premises are that earlier functions agree, that no arguments
+//! of the function's calls overlap, and that it has no more variables and flags than names (`MayRun`). `results` has
+//! functions with a result.
 
 ghost use Rattle.bl_emit_functions_laws_simulation.specs.Calls.{BodiesEnd, CallsKeepFrame, FramesBegin, HandsOver, ProceduresSimulate};
 

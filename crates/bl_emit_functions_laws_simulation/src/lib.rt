@@ -1,5 +1,5 @@
-//! Laws of what the C of functions does. None of these functions does anything: the contract is the law. Bodies (`bodies`), calls
-//! (`calls`), results (`results`), and all functions of a typed program (`units`).
+//! The C of functions simulates them. Lemmas only: bodies (`bodies`), calls (`calls`), results (`results`), and all
+//! functions of a typed program (`units`).
 #![tactic(auto)]
 
 pub mod bodies;

@@ -1,10 +1,7 @@
-//! Laws of C functions that are made of functions with a result. None of these functions does anything: the contract is the
-//! law. Such a function copies its aggregate inputs before its statements: the C that does so goes on, each variable has the value with
-//! which the body begins, and nothing else has changed (`specs/Results.antt`, `InputsBegin`). A call of the C function traps
-//! exactly where the function does; else it returns the number of the function's result, and leaves all as it was that was
-//! there before (`ResultsSimulate`). The law asks what that of functions without a result asks: that the earlier functions do in
-//! C what they do in the program, that no arguments of the function's calls overlap, and that it has no more variables and
-//! flags than there are names (`MayRun`).
+//! C functions of functions with a result. Such a function copies its aggregate inputs before its statements: that C
+//! goes on, each variable has its first value, and nothing else has changed (`specs/Results.antt`, `InputsBegin`). A
+//! call of the C function traps iff the function does. Otherwise it returns the function's result, and leaves all older
+//! memory unchanged (`ResultsSimulate`). The premises are those of functions without a result (`MayRun`).
 
 ghost use Rattle.bl_emit_functions_laws_simulation.specs.Results.{InputsBegin, ResultsSimulate};
 

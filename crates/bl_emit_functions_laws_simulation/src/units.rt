@@ -1,10 +1,9 @@
-//! Laws of the C functions of all functions of a typed program. None of these functions does anything: the contract is the
-//! law. In a table of C functions that knows the C function of each function up to a position, under its name and over the
-//! functions before it (`specs/Units.antt`, `KnownUpTo`), each returns what the function returns, or leaves what the function
-//! leaves, or traps where it does (`FunctionsSimulate`). The law asks that rule Alias doesn't fail, as in every accepted
-//! program, and that no function has more than 2 ^ 64 variables or flags, each of which takes a byte of the source at least
-//! (`AllNamesSuffice`). A table goes on to know what it knows as others join it (`TablesGrow`), and the C functions of a
-//! program's functions, one behind the other, make one that knows all of them (`TablesKnow`).
+//! The C functions of all functions of a typed program simulate them. The table knows the C function of each function
+//! up to a position, under its name and over the functions before it (`specs/Units.antt`, `KnownUpTo`). Then each
+//! returns or leaves what the function does, or traps where it does (`FunctionsSimulate`). Premises are that rule Alias
+//! holds, and that no function has more than 2 ^ 64 variables or flags (`AllNamesSuffice`). Each of these takes a byte
+//! of the source at least. A table keeps what it knows as others join it (`TablesGrow`). The C functions of a program's
+//! functions, in order, make a table that knows all of them (`TablesKnow`).
 
 ghost use Rattle.bl_emit_functions_laws_simulation.specs.Units.{FunctionsSimulate, TablesGrow, TablesKnow};
 

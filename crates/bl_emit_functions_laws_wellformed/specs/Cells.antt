@@ -42,7 +42,7 @@ pub record SizesGrow (structs : List StructDef) (units : List UnitDef) : Type 0 
   pub other : (known : Sizes) (name : Text) (n : ℕ) → SizesKnown structs units known → NamesNone structs units name →
       SizesKnown structs units (with_entry known name n)
 
--- so it is in every typed program
+-- a table of sizes stays within bounds as structs join it, in every typed program
 abbrev pub SizesStand : List StructDef → List UnitDef → ℕ → Type 0
 SizesStand structs units entry = (most : ℕ) → IsWellTyped structs units entry → NestsAtMost most structs units → SizesGrow structs units
 

@@ -47,7 +47,7 @@ TurnsDiffer structs units =
     (turns_in_block (function_code structs (take k units) unit).body)
     ≡ []
 
--- no clause fails in the C function of a function, where no function before it has its name, and it heads no chain of calls that is too long
+-- no clause fails in the C function of a function, if no earlier function has its name and its chain of calls isn't too long
 abbrev pub FunctionsWellFormed : List StructDef → List UnitDef → ℕ → Type 0
 FunctionsWellFormed structs units entry =
     (k : ℕ) (unit : UnitDef) (table : Table (Table CMember)) (functions : Table Signature) (depths : Table ℕ) → IsWellTyped structs units entry →

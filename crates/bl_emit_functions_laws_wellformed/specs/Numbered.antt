@@ -16,25 +16,24 @@ use Rattle.bl_emit_functions_laws_wellformed.specs.Formed.{IsNumbered}
 abbrev pub TypesHaveScalars : List StructDef → List UnitDef → ℕ → Type 0
 TypesHaveScalars structs units entry = (ty : Ty) → IsWellTyped structs units entry → type_stands (length structs) ty ≡ true → 1 ≤ size structs ty
 
--- a unit of a typed program has no more variables than they have scalars, and the C of its body no more flags and turns together than it has
--- statements
+-- a unit has no more variables than scalars in them, and its C no more flags and turns than statements
 pub record IsCounted (structs : List StructDef) (earlier : List UnitDef) (unit : UnitDef) : Type 0 where
   pub variables : length unit.vars ≤ variables_of structs unit
   pub numbers : (body_coded (site_of structs earlier unit) unit).free.flags + (body_coded (site_of structs earlier unit) unit).free.turns
       ≤ cell_statements_of unit
 
--- each unit of a typed program is counted so
+-- each unit of a typed program has at most as many variables as scalars, and as many flags and turns as statements
 abbrev pub UnitsCounted : List StructDef → List UnitDef → ℕ → Type 0
 UnitsCounted structs units entry =
     (k : ℕ) (unit : UnitDef) → IsWellTyped structs units entry → slice_get units k ≡ Some unit → IsCounted structs (take k units) unit
 
--- 64 bits hold the numbers in the names of a C function where they hold how many scalars its unit's variables have and how many statements it has
+-- 64 bits hold the numbers in the names of a C function where they hold the counts of its unit's scalars and statements
 abbrev pub CountsNumber : List StructDef → List UnitDef → ℕ → Type 0
 CountsNumber structs units entry =
     (k : ℕ) (unit : UnitDef) → IsWellTyped structs units entry → slice_get units k ≡ Some unit → variables_of structs unit ≤ 2 ^ 64 →
     cell_statements_of unit ≤ 2 ^ 64 → IsNumbered structs (take k units) unit
 
--- so they do where they hold the cells of its unit
+-- 64 bits hold the numbers in the names of a C function where they hold the cells of its unit
 abbrev pub CellsNumber : List StructDef → List UnitDef → ℕ → Type 0
 CellsNumber structs units entry =
     (k : ℕ) (unit : UnitDef) → IsWellTyped structs units entry → slice_get units k ≡ Some unit → cells_at structs units k ≤ 2 ^ 64 →

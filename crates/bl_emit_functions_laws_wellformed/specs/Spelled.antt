@@ -38,8 +38,7 @@ MemoriesSpelled structs units entry =
     (k : ℕ) (unit : UnitDef) → IsWellTyped structs units entry → slice_get units k ≡ Some unit → length unit.vars ≤ 2 ^ 64 →
     list_all spells_struct (memory_struct structs (take k units) unit) ≡ true
 
--- The C of an act has a spelling, in which at most three brackets more are open at once than twice as many as the act's expressions are deep; also
--- where some of the unit's variables have copies
+-- the C of an act has a spelling, with at most three more open brackets than twice its expressions' depth, whatever variables have copies
 abbrev pub ActsFit : List StructDef → List UnitDef → ℕ → Type 0
 ActsFit structs units entry =
     (k : ℕ) (unit : UnitDef) (copies : List Bool) (s : Stmt) → IsWellTyped structs units entry → slice_get units k ≡ Some unit →

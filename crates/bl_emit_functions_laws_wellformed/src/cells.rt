@@ -1,8 +1,7 @@
-//! Laws of the cells that C structs and functions need: rule Cells counts no fewer for them. None of these functions does anything: the
-//! contract is the law. A C struct of a type has no more scalars than a value of the type, and that of a function's variables no more than
-//! they have together, whatever stands between them in a file (`specs/Cells.antt`, `SizesStand`). So the deepest chain of calls that the C
-//! function of a function heads has no more cells than rule Cells counts for the function (`CellsFollow`), where the chains of earlier units
-//! are known, as they still are once it joins them (`CellsGrow`).
+//! The cells that C structs and functions need: rule Cells counts no fewer. A C struct of a type has no more scalars
+//! than a value of the type. That of a function's variables has no more than they have together (`specs/Cells.antt`,
+//! `SizesStand`). So the deepest chain of calls of a C function has no more cells than rule Cells counts for it
+//! (`CellsFollow`). The chains of earlier units are known, and still are once it joins them (`CellsGrow`).
 
 ghost use Rattle.bl_emit_functions_laws_wellformed.specs.Cells.{CellsFollow, CellsGrow, SizesStand};
 

@@ -1,13 +1,14 @@
-//! Laws of the C functions of a program's functions, one behind the other. None of these functions does anything: the contract is
-//! the law. The C function of a unit calls functions of the prelude and those of the units that the unit calls alone, so it heads no
-//! longer chain of calls than the unit does (`specs/Files/Laws.antt`, `ChainsFollow`), and none of more than 100 where rule Frames
-//! doesn't fail (`ChainsShort`). A table that tells the chains of the earlier functions (`ChainsKnown`) still does so once the
-//! function of the next unit joins it (`ChainsGrow`). So no clause of a well-formed file fails in the C functions of a program's
-//! functions in order, no two of which have one name, where the structs of its types and those of its functions' variables stand
-//! before them (`specs/Files/List.antt`, `FunctionListsWellFormed`): what fails in a list that begins with them fails in what stands behind them.
-//! No two of the structs of variables have one name (`MemoriesStand`), and nothing fails in all these structs, which have what the
-//! functions need (`StructsPrecede`). Of a file that begins with these structs and functions the law asks only that neither rule
-//! Frames nor Cells fails, and that 64 bits hold the numbers in the functions' names (`FunctionFilesWellFormed`).
+//! The C functions of a program's functions, in order. The C function of a unit calls only functions of the prelude and
+//! of the unit's callees. So it heads no longer chain of calls than the unit does (`specs/Files/Laws.antt`,
+//! `ChainsFollow`), and none of more than 100 where rule Frames holds (`ChainsShort`). A table of the chains of earlier
+//! functions (`ChainsKnown`) stays right once the next function joins it (`ChainsGrow`).
+//!
+//! So no clause fails in the C functions of a program's functions, which have different names, behind the structs of
+//! its types and of its functions' variables (`specs/Files/List.antt`, `FunctionListsWellFormed`). What fails in a list
+//! that begins with them fails behind them. The structs of variables have different names (`MemoriesStand`). Nothing
+//! fails in all these structs, and they have what the functions need (`StructsPrecede`). For a file that begins with
+//! these structs and functions, rules Frames and Cells must hold, and 64 bits the numbers in the functions' names
+//! (`FunctionFilesWellFormed`).
 
 ghost use Rattle.bl_emit_functions_laws_wellformed.specs.Files.Laws.{ChainsFollow, ChainsGrow, ChainsShort};
 ghost use Rattle.bl_emit_functions_laws_wellformed.specs.Files.List.{FunctionFilesWellFormed, FunctionListsWellFormed, MemoriesStand, StructsPrecede};

@@ -1,10 +1,10 @@
-//! Laws of the C functions of functions as a text: they are well formed. None of these functions does anything: the contract is the
-//! law. Where the structs of the program's types and of the function's variables stand before it, and so do earlier functions
-//! (`specs/Formed.antt`, `StandsBefore`), no clause of a well-formed file fails in the statements of the C function of a function
-//! (`BodiesWellFormed`), and none in the whole function (`FunctionsWellFormed`) where no function before it has its name and it heads no
-//! chain of more than 300 calls. Each of its loops is counted by a variable of its own (`TurnsDiffer`), and its parameters and
-//! its result are those that are asked of it where it is called (`FunctionsSigned`). The struct of its variables is one of those in
-//! which no clause fails behind the program's structs (`MemoriesHold`, and `StructsWellFormed` of `bl_emit_structs_laws_wellformed`).
+//! The C functions of functions are well formed. Before the function stand the structs of the program's types and of
+//! its variables, and earlier functions (`specs/Formed.antt`, `StandsBefore`). No clause fails in the statements of the
+//! C function (`BodiesWellFormed`). None fails in the whole function (`FunctionsWellFormed`), if no earlier function
+//! has its name and it heads no chain of more than 300 calls. Each loop is counted by a variable of its own
+//! (`TurnsDiffer`), and calls expect its parameters and result (`FunctionsSigned`). The struct of its variables is one
+//! in which no clause fails behind the program's structs (`MemoriesHold`, and `StructsWellFormed` of
+//! `bl_emit_structs_laws_wellformed`).
 
 ghost use Rattle.bl_emit_functions_laws_wellformed.specs.Formed.{BodiesWellFormed, FunctionsSigned, FunctionsWellFormed, MemoriesHold, TurnsDiffer};
 

@@ -1,6 +1,6 @@
-//! Laws of the C of functions as a text. None of these functions does anything: the contract is the law. It is well formed (`formed`),
-//! one function behind the other (`files`), has a spelling (`spelled`), with numbers that 64 bits hold (`numbered`), and needs no more cells
-//! than rule Cells counts (`cells`).
+//! The C of functions is well formed, each function alone (`formed`) and in order (`files`). It has a spelling
+//! (`spelled`), 64 bits hold its numbers (`numbered`), and it needs no more cells than rule Cells counts (`cells`).
+//! Lemmas only.
 #![tactic(auto)]
 
 pub mod cells;

@@ -1,7 +1,8 @@
-//! Laws of the numbers in the names of C functions: 64 bits hold them. None of these functions does anything: the contract is the
-//! law. A value of each type has a scalar (`specs/Numbered.antt`, `TypesHaveScalars`), so a unit has no more variables than cells; each flag
-//! is of an `if` and each turn of a loop, so the C of a body has no more of both together than it has statements (`UnitsCounted`). So where 64
-//! bits hold these counts of a unit (`CountsNumber`), or its cells (`CellsNumber`), they hold the numbers in the names of its C function.
+//! The numbers in the names of C functions: 64 bits hold them. A value of each type has a scalar
+//! (`specs/Numbered.antt`, `TypesHaveScalars`), so a unit has no more variables than cells. Each flag is of an `if` and
+//! each turn of a loop, so the C of a body has no more of both together than statements (`UnitsCounted`). Where 64 bits
+//! hold these counts of a unit (`CountsNumber`), or its cells (`CellsNumber`), they hold the numbers in the names of
+//! its C function.
 
 ghost use Rattle.bl_emit_functions_laws_wellformed.specs.Numbered.{CellsNumber, CountsNumber, TypesHaveScalars, UnitsCounted};
 

@@ -1,8 +1,7 @@
-//! Laws of the C of structs and functions as a text: it has a spelling. None of these functions does anything: the contract is
-//! the law. The C structs of a typed program's types have a spelling (`specs/Spelled.antt`, `StructsSpelled`), and so have those of the
-//! variables that its units hold (`MemoriesSpelled`), the C of its acts (`ActsFit`) and the C functions of its functions
-//! (`FunctionsFit`): what they name may be named, their literals and lengths are in range, and since nothing in a typed
-//! program is nested deeper than 200, no more brackets are open in them at once than in a C text may be.
+//! The C of structs and functions has a spelling: the structs of a typed program's types (`specs/Spelled.antt`,
+//! `StructsSpelled`), those of its units' variables (`MemoriesSpelled`), acts (`ActsFit`) and functions
+//! (`FunctionsFit`). What they name may be named, and their literals and lengths are in range. Since nothing in a typed
+//! program is nested deeper than 200, no more brackets are open than a C text may have.
 
 ghost use Rattle.bl_emit_functions_laws_wellformed.specs.Spelled.{ActsFit, FunctionsFit, MembersSpelled, MemoriesSpelled};
 ghost use Rattle.bl_emit_functions_laws_wellformed.specs.Spelled.{StructsSpelled, TypesSpelled};

@@ -12,7 +12,7 @@ use Rattle.bl_machine.specs.Machines.{AreActivitiesOf}
 use Rattle.bl_emit_spec.specs.Programs.{written}
 use Rattle.bl_emit_spec.specs.Shared.{IsSharedActivityOf}
 
--- no clause fails in what is written of a typed program with a machine that shares counters, where none of the rules Pause, Instant, Frames and Cells fails
+-- no clause fails in the file written of a program that passes the rules, with a machine that shares counters
 abbrev pub ProgramsWellFormed : Program → Type 0
 ProgramsWellFormed program =
     (machine : List InMachine) → IsWellTyped program.structs program.units program.entry → Passes program.units →

@@ -18,8 +18,7 @@ use Rattle.bl_emit_spec.specs.Shared.{IsSharedActivityOf}
 abbrev pub file_of : Program → List InMachine → Parts
 file_of program machine = file_from (written program machine).structs (written program machine).funcs
 
--- the file that is written of a typed program with a machine that shares counters needs no more cells than the entry has, where neither of the
--- rules Frames and Cells fails
+-- the file written of a typed program needs no more cells than its entry has, where rules Frames and Cells hold. The machine shares counters
 abbrev pub FilesCount : Program → Type 0
 FilesCount program =
     (machine : List InMachine) (unit : UnitDef) → IsWellTyped program.structs program.units program.entry →
@@ -27,7 +26,7 @@ FilesCount program =
     EachTwo IsSharedActivityOf (activities program.units) machine → slice_get program.units program.entry ≡ Some unit →
     cells_needed (file_of program machine) ≤ cells_at program.structs program.units program.entry
 
--- so it needs at most a million, where no rule fails
+-- the file written of a program that passes the rules needs at most a million cells, with a machine that shares counters
 abbrev pub FilesSmall : Program → Type 0
 FilesSmall program =
     (machine : List InMachine) → IsWellTyped program.structs program.units program.entry → Passes program.units →

@@ -18,7 +18,7 @@ use Rattle.bl_emit_spec_laws_wellformed_bodies.specs.Lists.{AllConditions}
 abbrev pub parts_of : Program → List InMachine → ProgramParts
 parts_of program machine = parts_from program.structs [] [] program.units (needed_units program.units program.entry) machine
 
--- the structs of its file by name
+-- the structs of a program's file by name
 abbrev pub table_of : Program → List InMachine → Table (Table CMember)
 table_of program machine = struct_table (written program machine).structs
 
@@ -30,7 +30,7 @@ pub record StructsSound (program : Program) (machine : List InMachine) (unit : U
   pub interface : AreDeclared (table_of program machine)
       (interface_structs program.structs unit (unwrap_or (slice_get (parts_of program machine).remember program.entry) false))
 
--- No clause fails in the file, where none fails in its structs, all is so that is asked of needed units, and neither rule Frames nor Cells fails
+-- no clause fails in a file whose structs are sound and whose needed units meet their conditions, where rules Frames and Cells hold
 abbrev pub FilesWellFormed : Program → Type 0
 FilesWellFormed program =
     (machine : List InMachine) (unit : UnitDef) → IsWellTyped program.structs program.units program.entry →

@@ -12,7 +12,7 @@ use Rattle.bl_emit_spec.specs.Programs.{needed_units}
 use Rattle.bl_emit_spec.specs.Shared.{IsSharedActivityOf}
 use Rattle.bl_emit_spec_laws_wellformed_bodies.specs.Lists.{AllConditions}
 
--- so it is of each unit that the entry of a typed program needs, with a machine that shares counters, where none of the rules Pause, Instant and Cells fails
+-- each needed unit meets the conditions of its C, with a machine that shares counters, where rules Pause, Instant and Cells hold
 abbrev pub UnitsMeetConditions : List StructDef → List UnitDef → ℕ → Type 0
 UnitsMeetConditions structs units entry =
     (machine : List InMachine) → IsWellTyped structs units entry → Passes units → KeepsLimits structs units entry → AreActivitiesOf units machine →

@@ -26,17 +26,17 @@ use Rattle.bl_emit_spec_laws.specs.Tables.Tables.{activities_of, functions_of_al
 abbrev pub written_file : Program → List InMachine → Parts
 written_file program machine = parts_from (written program machine).structs (written program machine).funcs
 
--- what the C of the program's activities is made of
+-- the activities of a program, as their C is made
 abbrev pub activities_in : Program → List InMachine → Activities
 activities_in program machine = activities_of program.structs program.units machine
 
--- its structs but those of the interface: those of types, and those of the units that the entry needs
+-- the file's structs but those of the interface: those of types, and those of needed units
 abbrev pub structs_before : Program → List InMachine → List CStruct
 structs_before program machine =
     structs_of program
     ++ (programs.parts_from program.structs [] [] program.units (needed_units program.units program.entry) machine).structs
 
--- its functions but those of the interface: those of the units that the entry needs
+-- the file's functions but those of the interface: those of needed units
 abbrev pub functions_before : Program → List InMachine → List CFunc
 functions_before program machine =
     kept (needed_units program.units program.entry) (functions_of_all program.structs program.units (activities_in program machine))
@@ -50,7 +50,7 @@ FramesAreDeclared program =
     AreActivitiesOf program.units machine → slice_get program.units program.entry ≡ Some unit →
     FramesDeclared program.structs program.units program.entry (activities_in program machine) unit (written_file program machine)
 
--- in a compiled program each `run` calls the unit that its node names
+-- each `run` of a compiled program calls the unit that its node names
 abbrev pub RunsAreFound : Type 0
 RunsAreFound =
     (structs : List StructDef) (units : List UnitDef) (entry : ℕ) (machine : List InMachine) (activities : Activities) →
@@ -63,7 +63,7 @@ pub record FileEnds (program : Program) (machine : List InMachine) (unit : UnitD
       ≡ file_with program.structs unit (remembers_any (activities_in program machine program.entry)) (structs_before program machine)
       (functions_before program machine)
 
--- so does the file of each typed program whose entry is this unit
+-- the file of each typed program with this entry ends with the structs and functions of the interface
 abbrev pub FilesEnd : Program → Type 0
 FilesEnd program =
     (machine : List InMachine) (unit : UnitDef) → IsWellTyped program.structs program.units program.entry → AreActivitiesOf program.units machine →

@@ -26,14 +26,14 @@ abbrev pub table_of_needed : List StructDef → List UnitDef → ℕ → Activit
 table_of_needed structs units entry activities =
     known_after no_entries (kept (needed_units units entry) (functions_of_all structs units activities))
 
--- under the name of each of these units it has what the table of all units has there
+-- the table of needed functions has, for each needed unit, the function that the table of all units has
 abbrev pub NeededAreKnown : List StructDef → List UnitDef → ℕ → Type 0
 NeededAreKnown structs units entry =
     (machine : List InMachine) (activities : Activities) (k : ℕ) (unit : UnitDef) → IsWellTyped structs units entry →
     AreBuilt structs units machine activities → slice_get units k ≡ Some unit → slice_get (needed_units units entry) k ≡ Some true →
     table_of_needed structs units entry activities (unit_name unit.name) ≡ table_of_all structs units activities (unit_name unit.name)
 
--- so the functions of these activities do what the passes of their instances do, as wherever the functions of all units are known
+-- the functions of needed activities simulate the passes of their instances, over the table of needed functions alone
 abbrev pub NeededSimulate : List StructDef → List UnitDef → ℕ → Type 0
 NeededSimulate structs units entry =
     (machine : List InMachine) (activities : Activities) (u depth : ℕ) → CompilationContext structs units entry machine activities → NoneOverlaps units →
@@ -47,14 +47,14 @@ pub record IsWritten (program : Program) (machine : List InMachine) (unit : Unit
   pub there : slice_get program.units program.entry ≡ Some unit
   pub funcs : file.funcs ≡ (written program machine).funcs
 
--- where the table of the file's functions is this, the start and a tick do what these functions do over it
+-- the start and the tick of the file run over this table of functions
 pub record Enters (file : Parts) (known : Table Meaning) (unit : UnitDef) (activities : Activities) (entry : ℕ) : Type 0 where
   pub init : (passed : List ArgumentValue) (memory : Memory) →
       entered file (codes "bl_init") passed memory ≡ function_c known (init_function unit.name) 0 passed memory
   pub tick : (passed : List ArgumentValue) (memory : Memory) →
       entered file (codes "bl_tick") passed memory ≡ function_c known (tick_function unit (remembers_any (activities entry))) 0 passed memory
 
--- so it is entered over the functions of the units that are needed
+-- the start and the tick of a file do what the needed functions do, in each file written of a program
 abbrev pub FilesEnter : Type 0
 FilesEnter =
     (program : Program) (machine : List InMachine) (unit : UnitDef) (file : Parts) → IsWritten program machine unit file →

@@ -10,7 +10,7 @@ use Rattle.bl_emit_spec_laws.specs.Calls.Laws.{ActivitiesSimulate, CompilationCo
 use Rattle.bl_emit_spec_laws_files.specs.Files.{FileShows}
 use Rattle.bl_emit_laws.specs.Kept.{activities_in, written_file}
 
--- where a program is compiled, its well-formed file shows what runs of passes by rules do, if the functions of all activities do what passes do
+-- the well-formed file of a compiled program shows the traces of runs by rules, if the functions of all activities simulate passes
 abbrev pub WrittenShows : Program → Type 0
 WrittenShows program =
     (machine : List InMachine) (unit : UnitDef) →

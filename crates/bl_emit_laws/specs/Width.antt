@@ -20,19 +20,19 @@ use Rattle.bl_emit_laws.specs.Counters.Own.{is_counter_name}
 abbrev pub is_counter : CMember → Bool
 is_counter member = is_counter_name member.name
 
--- the file has the struct of where the unit rests, with as many counters as its width: the most places of it that can rest at once
+-- the file has the struct of where the unit rests, with as many counters as the unit's width: the most places that can rest at once
 pub record FrameHasWidth (file : Parts) (unit : UnitDef) : Type 0 where
   pub frame : CStruct
   pub there : Contains file.structs frame
   pub named : frame.name ≡ frame_name unit.name
   pub counters : length (filter is_counter frame.members) ≡ width unit.body
 
--- so it has for the unit of each instance
+-- the file has a struct of counters for the unit of each instance, with as many members as the unit's width
 abbrev pub EachFrameHasWidth : List StructDef → List UnitDef → ℕ → Parts → Type 0
 EachFrameHasWidth structs units entry file =
     (i : ℕ) (unit : UnitDef) → unit_at (setting_of structs units entry) i ≡ Some unit → FrameHasWidth file unit
 
--- and so has the file that is written of a compiled program with a machine that shares counters
+-- the file of a compiled program has as many counters as the unit's width, for each instance's unit. The machine shares counters
 abbrev pub FramesHaveWidth : Program → Type 0
 FramesHaveWidth program =
     (machine : List InMachine) → CompilationContext program.structs program.units program.entry machine (activities_in program machine) →

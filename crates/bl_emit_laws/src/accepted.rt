@@ -1,5 +1,5 @@
-//! The C file of an accepted program is well formed. A law, as the contract of a function that does nothing: where no rule fails, no clause of a
-//! well-formed file fails in what is written of a program with a machine of it that shares counters (`specs/Accepted.antt`, `ProgramsWellFormed`).
+//! The C file of an accepted program is well formed. One lemma: where no rule fails, no clause fails in the file of a
+//! program with a machine that shares counters (`specs/Accepted.antt`, `ProgramsWellFormed`).
 
 ghost use Rattle.bl_emit_laws.specs.Accepted.{ProgramsWellFormed};
 

@@ -1,6 +1,6 @@
-//! The C file of an accepted program needs no more cells than rule Cells counts for the entry. Laws, as contracts of functions that do
-//! nothing (`specs/Cells.antt`): so it is where neither rule Frames nor Cells fails (`FilesCount`); hence it needs at most a million cells
-//! where no rule fails (`FilesSmall`).
+//! The C file of an accepted program needs no more cells than rule Cells counts for the entry. Lemmas only
+//! (`specs/Cells.antt`): this holds where rules Frames and Cells hold (`FilesCount`). So it needs at most a million
+//! cells where no rule fails (`FilesSmall`).
 
 ghost use Rattle.bl_emit_laws.specs.Cells.{FilesCount, FilesSmall};
 

@@ -1,10 +1,10 @@
-//! Which function of a program's C file stands for an activity, which names its counters, and what stands in its body. There is no code
-//! here. Laws, as contracts of functions that do nothing (`specs/Counters/Laws.antt`): in the file that is written of an accepted program
-//! (`FilesOwn`) each activity A that has an instance has exactly one function `a_A` and one struct `f_A` (`specs/Counters/Own.antt`,
-//! `EachHasOneFunctionAndFrame`), and a place that names a counter, a member `c` and digits, is `(*f).cN` in the function `a_A` whose `f`
-//! points to `struct f_A` (`CountersAreOwn`). So a counter of `struct f_A` is named in `a_A` alone (`CountersStandInOne`). The body of
-//! `a_A` is assignments, and then as many `if`s as the machine has blocks for A (`FilesHaveIfs`; `specs/Counters/Ifs.antt`,
-//! `HasIfForEach`).
+//! Which function of a program's C file stands for an activity, which names its counters, and what its body is. Lemmas
+//! only (`specs/Counters/Laws.antt`). In the file of an accepted program (`FilesOwn`), each activity A that has an
+//! instance has exactly one function `a_A` and one struct `f_A` (`specs/Counters/Own.antt`,
+//! `EachHasOneFunctionAndFrame`). A place that names a counter, a member `c` and digits, is `(*f).cN` in the function
+//! `a_A` whose `f` points to `struct f_A` (`CountersAreOwn`). So a counter of `struct f_A` is named in `a_A` alone
+//! (`CountersStandInOne`). The body of `a_A` is assignments, and then as many `if`s as the machine has blocks for A
+//! (`FilesHaveIfs`; `specs/Counters/Ifs.antt`, `HasIfForEach`).
 
 ghost use Rattle.bl_emit_laws.specs.Counters.Laws.{FilesHaveIfs, FilesOwn};
 

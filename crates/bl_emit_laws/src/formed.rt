@@ -1,5 +1,5 @@
-//! Laws of the C file that is written of a program with its machine. None of these functions does anything: the contract is the law. No
-//! clause of a well-formed file fails in it (`specs/Formed.antt`, `FilesWellFormed`).
+//! Laws of the C file that is written of a program with its machine. No clause of a well-formed file fails in it
+//! (`specs/Formed.antt`, `FilesWellFormed`).
 
 ghost use Rattle.bl_emit_laws.specs.Formed.{FilesWellFormed};
 

@@ -1,5 +1,5 @@
-//! What the C file of an accepted program asks of its units. A law, as the contract of a function that does nothing: where no rule fails, all is so
-//! that is asked of each unit that the entry needs, with a machine that shares counters (`specs/Forms.antt`, `UnitsMeetConditions`).
+//! The conditions of the C file of an accepted program on its units. One lemma: where no rule fails, each unit that the
+//! entry needs meets them, with a machine that shares counters (`specs/Forms.antt`, `UnitsMeetConditions`).
 
 ghost use Rattle.bl_emit_laws.specs.Forms.{UnitsMeetConditions};
 

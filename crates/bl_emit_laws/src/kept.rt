@@ -1,6 +1,6 @@
-//! What the C file of an accepted program declares and what stands in it. There is no code here. Laws, as contracts of functions that do nothing
-//! (`specs/Kept.antt`): the file that is written declares the structs in which its program is kept from tick to tick (`FramesAreDeclared`), each
-//! `run` of the program calls the unit that its node names (`RunsAreFound`), and the file ends with its interface (`FilesEnd`).
+//! What the C file of an accepted program declares and contains. Lemmas only (`specs/Kept.antt`). The file declares the
+//! structs in which its program is kept from tick to tick (`FramesAreDeclared`). Each `run` calls the unit that its
+//! node names (`RunsAreFound`), and the file ends with its interface (`FilesEnd`).
 
 ghost use Rattle.bl_emit_laws.specs.Kept.{FilesEnd, FramesAreDeclared, RunsAreFound};
 

@@ -1,7 +1,8 @@
-//! Laws of the C file that is written of a program. None of these functions does anything: the contract is the law. It is that of the
-//! rules of its nodes (`told`), has a spelling (`spelled`), few cells (`cells`), is well formed (`formed`, `accepted`), keeps what it declares
-//! (`kept`), shows what the program shows (`shows`), and has one function an activity, with as many `if`s as blocks (`counters`) and as many
-//! counters as its width (`width`). For these: what it asks of its units (`forms`), and that its functions know those that they call (`linked`).
+//! Laws of the C file that is written of a program. Lemmas only. The file is that of the rules of its nodes (`told`).
+//! It has a spelling (`spelled`) and few cells (`cells`), is well formed (`formed`, `accepted`), keeps its declared
+//! state (`kept`), and shows the program's trace (`shows`). It has one function for each activity, with as many `if`s
+//! as blocks (`counters`) and as many counters as its width (`width`). To that end, its units meet their conditions
+//! (`forms`), and its functions know their callees (`linked`).
 #![tactic(auto)]
 
 pub mod accepted;

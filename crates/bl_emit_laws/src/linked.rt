@@ -1,7 +1,7 @@
-//! Laws of the C functions of the file that is written of a program. None of these functions does anything: the contract is the law. The
-//! file leaves functions of units out that the entry doesn't need; those that it has call none of them, so each does what it does among
-//! the functions of all units (`specs/Linked.antt`, `NeededAreKnown`), and that of a needed activity does what passes of its instances do
-//! (`NeededSimulate`). What is called from outside are the two functions of the interface, which stand behind them (`FilesEnter`).
+//! The C functions in the file of a program. The file leaves out functions of units that the entry doesn't need. Those
+//! that it has call none of them, so each means what it means among the functions of all units (`specs/Linked.antt`,
+//! `NeededAreKnown`). The function of a needed activity simulates passes of its instances (`NeededSimulate`). The two
+//! functions of the interface, which are called from outside, stand behind them (`FilesEnter`).
 
 ghost use Rattle.bl_emit_laws.specs.Linked.{FilesEnter, NeededAreKnown, NeededSimulate};
 

@@ -1,6 +1,6 @@
-//! What the C file that is written of a compiled program shows. There is no code here. A law, as the contract of a function that does nothing
-//! (`specs/Shows.antt`, `WrittenShows`): where the functions of all activities do in C what passes by rules do, and the file is well formed, it shows
-//! over rows of inputs the trace of each run of such passes.
+//! The traces of the C file of a compiled program. One lemma (`specs/Shows.antt`, `WrittenShows`): the well-formed file
+//! has the trace of each run of passes by rules over rows of inputs. The functions of all activities must simulate such
+//! passes.
 
 ghost use Rattle.bl_emit_laws.specs.Shows.{WrittenShows};
 

@@ -1,5 +1,5 @@
-//! The C file of an accepted program has a spelling. A law, as the contract of a function that does nothing: where no rule fails, what is written
-//! of a program with a machine of it that shares counters can be spelled (`specs/Spelled.antt`, `ProgramsSpelled`).
+//! The C file of an accepted program has a spelling. One lemma: where no rule fails, the file of a program with a
+//! machine that shares counters can be spelled (`specs/Spelled.antt`, `ProgramsSpelled`).
 
 ghost use Rattle.bl_emit_laws.specs.Spelled.{ProgramsSpelled};
 

@@ -1,5 +1,5 @@
-//! The C that is made of a program by the lists of its rules is that of the rules of its nodes (`specs/Told.antt`, `WrittenIsComputed`). There
-//! is no code here.
+//! The C that is made of a program by the lists of its rules is that of the rules of its nodes (`specs/Told.antt`,
+//! `WrittenIsComputed`). Lemmas only.
 
 ghost use Rattle.bl_emit_laws.specs.Told.{ActivitiesAreComputed, WrittenIsComputed};
 

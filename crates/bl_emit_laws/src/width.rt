@@ -1,6 +1,5 @@
-//! The frames in the C file of an accepted program. There is no code here. A law, as the contract of a function that does nothing: the file has the
-//! struct of where an activity rests, with as many counters as its width: the most places of it that can rest at once (`specs/Width.antt`,
-//! `FramesHaveWidth`).
+//! The frames in the C file of an accepted program. One lemma: the file has the struct of where an activity rests, with
+//! as many counters as its width: the most places of it that can rest at once (`specs/Width.antt`, `FramesHaveWidth`).
 
 ghost use Rattle.bl_emit_laws.specs.Width.{FramesHaveWidth};
 

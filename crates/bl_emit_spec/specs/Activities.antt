@@ -54,18 +54,18 @@ pub record Activity : Type 0 where
   pub slots : Slots
   -- how many values each counter has
   pub sizes : Sizes
-  -- which of the units before it remember variables
+  -- whether each of the earlier units remembers variables
   pub remember : List Bool
 
--- its body
+-- the body of an activity
 abbrev pub body_of : Activity → Block
 body_of a = plain_body a.unit.body
 
--- the rules of its nodes, in source order
+-- the rules of an activity's nodes, in source order
 abbrev pub rules_at : Activity → List Transition
 rules_at a = rules a.slots (body_of a)
 
--- which of its variables have a copy of what they were when the tick began, in order
+-- which of the variables have a copy of their values at the start of the tick, in order
 abbrev pub copies_of : UnitDef → List Bool
 copies_of unit = map (λ k. list_any (nat_eq k) (prevs_of unit)) (up_to (length unit.vars))
 
@@ -87,7 +87,7 @@ is_flagged (Ended age needed) = false
 abbrev pub is_read_by : List Transition → ℕ → Bool
 is_read_by rules k = list_any (λ rule. reads_counter k rule.asked) rules
 
--- the activity as its blocks see it
+-- the view that an activity's blocks have of it
 abbrev pub view_of : Activity → ActivityView
 view_of a = record {
   site = site_of a.structs a.earlier a.unit;
@@ -125,11 +125,11 @@ struct_member name of = record { ty = OfStruct of; name = name; length = None }
 abbrev pub counter_member : Sizes → ℕ → CMember
 counter_member sizes k = record { ty = OfScalar (counter_type sizes k); name = counter_name k; length = None }
 
--- where the activity that a `run` calls rests
+-- the struct member for where the activity that a `run` calls rests
 abbrev pub frame_member : Activity → RunAt → CMember
 frame_member a run = struct_member (callee_name run.number) (frame_name (name_in (slice_get a.earlier run.unit)))
 
--- where an activity rests: its counters, and where what it runs rests
+-- the struct of where an activity rests: its counters, and the structs of the activities that it runs
 abbrev pub frame_struct : Activity → CStruct
 frame_struct a = record {
   place = nowhere;
@@ -137,7 +137,7 @@ frame_struct a = record {
   members = map (counter_member a.sizes) (up_to (length a.sizes)) ++ map (frame_member a) (runs_in_body a);
 }
 
--- what the activity that a `run` calls remembers, where that is anything
+-- the struct member for what the activity that a `run` calls remembers, if anything
 abbrev pub memory_member : Activity → RunAt → List CMember
 memory_member a run =
     if (view_of a).remembers run.unit
@@ -148,11 +148,11 @@ memory_member a run =
 abbrev pub remembered : Activity → List CMember
 remembered a = members_of a.structs a.earlier a.unit ++ joined (map (memory_member a) (runs_in_body a))
 
--- the struct of that, where it is anything
+-- the struct of what an activity remembers, if anything
 abbrev pub remembered_struct : Activity → List CStruct
 remembered_struct a = struct_of a.unit.name (remembered a)
 
--- whether it is
+-- whether an activity remembers anything
 abbrev pub remembers_any : Activity → Bool
 remembers_any a = nat_lt 0 (length (remembered a))
 
@@ -162,21 +162,21 @@ remembers_any a = nat_lt 0 (length (remembered a))
 abbrev pub pointer_param : Text → Text → CParam
 pointer_param name of = record { ty = OfStruct of; pointer = true; name = name }
 
--- where the activity puts its result, where it has one
+-- the parameter for the activity's result, where it has one
 abbrev pub result_params : Option Scalar → List CParam
 result_params (Some s) = record { ty = OfScalar (c_scalar s); pointer = true; name = codes "r" } ∷ []
 result_params None = []
 
--- where it tells that its body has ended
+-- the parameter that tells whether the activity's body has ended
 abbrev pub over_param : CParam
 over_param = record { ty = OfScalar OfBool; pointer = true; name = codes "e" }
 
--- what it remembers
+-- the parameter for what an activity remembers, if anything
 abbrev pub memory_params : Activity → Bool → List CParam
 memory_params a true = pointer_param (codes "m") (memory_name a.unit.name) ∷ []
 memory_params a false = []
 
--- where it rests, what it remembers, its inputs and outputs, its result, and whether it has ended
+-- the parameters of an activity's function: for where it rests, what it remembers, its inputs and outputs, its result, and whether it has ended
 abbrev pub activity_params : Activity → List CParam
 activity_params a =
     pointer_param (codes "f") (frame_name a.unit.name)
@@ -244,7 +244,7 @@ entry_code view Done = []
 entry_code view (Then s rest) =
     c_set (flag_place (view.number (entry s))) (c_two Eq (c_read (counter_place 0)) (counter_value view.sizes 0 0)) ∷ []
 
--- some of these, by their positions
+-- the elements of a list at these positions
 abbrev pub picked : {X : Type 0} → List X → List ℕ → List X
 picked all [] = []
 picked all (k ∷ rest) = option_to_list (slice_get all k) ++ picked all rest
@@ -258,7 +258,7 @@ abbrev pub blocks_code : List NodeCode → List (List ℕ) → List CStmt
 blocks_code turns [] = []
 blocks_code turns (block ∷ rest) = merged_code (picked turns block) ++ blocks_code turns rest
 
--- those of the activity
+-- the `if`s of the activity's blocks, in order
 abbrev pub blocks_in_order : Activity → List CStmt
 blocks_in_order a = blocks_code (turns_in_source a) a.blocks
 

@@ -49,17 +49,17 @@ counter_value sizes k v = c_literal (counter_type sizes k) (pos v)
 
 -- ---- what the C of a block needs to know
 
--- an activity as its blocks see it
+-- the view that blocks have of their activity
 pub record ActivityView : Type 0 where
-  -- its variables, and the units before it
+  -- the activity's variables, and the units before it
   pub site : TypingContext
-  -- which of its variables have a copy of what they were when the tick began
+  -- which of the variables have a copy of their values at the start of the tick
   pub copies : List Bool
-  -- the numbers of its nodes in C names
+  -- the numbers of the activity's nodes in C names
   pub number : Node → ℕ
-  -- how many values its counters have
+  -- how many values each counter has
   pub sizes : Sizes
-  -- which counters have a copy of what they held when the tick began
+  -- whether a counter has a copy of its value at the start of the tick
   pub is_read : ℕ → Bool
   -- whether a unit before it, an activity, remembers variables
   pub remembers : ℕ → Bool
@@ -72,7 +72,7 @@ in_pairs op [] = []
 in_pairs op (a ∷ []) = a ∷ []
 in_pairs op (a ∷ b ∷ rest) = c_two op a b ∷ in_pairs op rest
 
--- as often as there are tests at most, until one answer is left: a tree whose depth grows slowly. Without tests it is the first argument
+-- many tests as one, in a tree whose depth grows logarithmically, with at most so many rounds of pairing. Without tests it is the first argument
 abbrev pub in_tree : CExpr → Op → ℕ → List CExpr → CExpr
 in_tree none op fuel [] = none
 in_tree none op fuel (a ∷ []) = a
@@ -103,8 +103,8 @@ abbrev pub rested_by : ActivityView → Slot → Bool → CExpr
 rested_by view slot true = c_two Ne (c_read (rested_place slot.counter)) (counter_value view.sizes slot.counter 0)
 rested_by view slot false = c_two Eq (c_read (rested_place slot.counter)) (counter_value view.sizes slot.counter slot.value)
 
--- whether it rested at the number when the tick began. Of the one value beside 0 of a counter it is asked whether it wasn't 0: a C compiler sees then
--- that there is no third case
+-- the test whether the instance rested at the number when the tick began. A counter with one value beside 0 is compared with 0: C compilers see then that no
+-- third case exists
 abbrev pub rested_at : ActivityView → Slot → CExpr
 rested_at view slot = rested_by view slot (is_only view.sizes slot)
 
@@ -120,7 +120,7 @@ abbrev pub last_value : ℕ → List Slot → ℕ
 last_value v [] = v
 last_value v (slot ∷ rest) = last_value slot.value rest
 
--- whether it rested at one of these numbers, which have one counter and values that follow one another
+-- the test whether the instance rested at one of the numbers, which have one counter and consecutive values
 abbrev pub rested_in : ActivityView → List Slot → CExpr
 rested_in view [] = c_truth false
 rested_in view (slot ∷ []) = rested_at view slot
@@ -131,7 +131,7 @@ abbrev pub ends_test : ActivityView → Needed → CExpr
 ends_test view needed =
     if needed.all then all_tests (map (at_slot view) needed.slots) else some_test (map (at_slot view) needed.slots)
 
--- the same, of a `cobegin` of that age
+-- the test whether enough branches of a `cobegin` of that age have ended
 abbrev pub aged_test : ActivityView → Age → CExpr → CExpr
 aged_test view (IsNew n) ends = c_two And (c_read (mark_place (view.number n))) ends
 aged_test view (IsOld n) ends = c_two And (c_not (c_read (mark_place (view.number n)))) ends
@@ -150,7 +150,7 @@ guard_of view n (Ended age needed) = aged_test view age (ends_test view needed)
 abbrev pub freed : ActivityView → ℕ → CStmt
 freed view k = c_set (counter_place k) (counter_value view.sizes k 0)
 
--- so does its copy, where it has one
+-- a counter and its copy, where it has one, get 0
 abbrev pub forgotten : ActivityView → ℕ → Bool → List CStmt
 forgotten view k true = freed view k ∷ c_set (rested_place k) (counter_value view.sizes k 0) ∷ []
 forgotten view k false = freed view k ∷ []
@@ -170,7 +170,7 @@ change_code view (EndsWhen start surface depth) =
     c_if (c_read (mark_place (view.number start))) (flagged_now view surface ∷ []) (Some (flagged_now view depth ∷ [])) ∷ []
 change_code view Finishes = c_set over_place (c_truth true) ∷ []
 
--- of changes one after another
+-- the C of changes one after another
 abbrev pub changes_code : ActivityView → List Change → List CStmt
 changes_code view [] = []
 changes_code view (change ∷ rest) = change_code view change ++ changes_code view rest
@@ -264,7 +264,7 @@ merged_code (first ∷ rest) = c_if first.test (first.code ++ map turn_code rest
 abbrev pub turn_of : ActivityView → ℕ → Transition → NodeCode
 turn_of view a rule = record { test = guard_of view rule.node rule.asked; code = node_code view a rule rule.node }
 
--- its `if`
+-- the `if` of a rule's node
 abbrev pub block_code : ActivityView → ℕ → Transition → CStmt
 block_code view a rule = turn_code (turn_of view a rule)
 

@@ -38,7 +38,7 @@ mark_name k = codes "u" ++ decimal k
 abbrev pub ended_name : ℕ → Text
 ended_name k = codes "e" ++ decimal k
 
--- its result
+-- the name of the result of the activity that a `run` calls, by the number of the node at which the `run` begins
 abbrev pub given_name : ℕ → Text
 given_name k = codes "r" ++ decimal k
 
@@ -48,7 +48,7 @@ given_name k = codes "r" ++ decimal k
 abbrev pub counter_place : ℕ → CPlace
 counter_place k = c_place true (codes "f") (c_step (counter_name k) ∷ [])
 
--- what it held when the tick began
+-- the place of what a counter held when the tick began
 abbrev pub rested_place : ℕ → CPlace
 rested_place k = c_place false (rested_name k) []
 
@@ -72,14 +72,14 @@ result_place = c_place true (codes "r") []
 abbrev pub ended_place : ℕ → CPlace
 ended_place k = c_place false (ended_name k) []
 
--- its result
+-- the place of the result of the activity that a `run` calls, by the number of the node at which the `run` begins
 abbrev pub given_place : ℕ → CPlace
 given_place k = c_place false (given_name k) []
 
--- where the activity that a `run` calls rests
+-- the place of where the activity that a `run` calls rests
 abbrev pub callee_frame : ℕ → CPlace
 callee_frame k = c_place true (codes "f") (c_step (callee_name k) ∷ [])
 
--- what it remembers
+-- the place of what the activity that a `run` calls remembers
 abbrev pub callee_memory : ℕ → CPlace
 callee_memory k = c_place true (codes "m") (c_step (callee_name k) ∷ [])

@@ -42,12 +42,12 @@ use Rattle.bl_emit_spec.specs.Names.{frame_name}
 abbrev pub needs_of : UnitDef → List ℕ
 needs_of unit = calls_of unit ++ runs_of unit
 
--- tests from the one with this number on, with those at the positions set
+-- tests from the one with this number on, set at the given positions
 abbrev pub set_from : List ℕ → ℕ → List Bool → List Bool
 set_from positions k [] = []
 set_from positions k (test ∷ rest) = (test || list_any (nat_eq k) positions) ∷ set_from positions (suc k) rest
 
--- the units that one needs, where there is one
+-- the units that an optional unit needs
 abbrev pub needs_at : Option UnitDef → List ℕ
 needs_at (Some unit) = needs_of unit
 needs_at None = []
@@ -58,7 +58,7 @@ needed_below zero units needed = needed
 needed_below (suc k) units needed =
     needed_below k units (if unwrap_or (slice_get needed k) false then set_from (needs_at (slice_get units k)) 0 needed else needed)
 
--- which units the entry needs: itself, and what those that are needed call and run
+-- which units the entry needs: itself, and transitively what needed units call and run
 abbrev pub needed_units : List UnitDef → ℕ → List Bool
 needed_units units entry = needed_below (length units) units (map (λ k. nat_eq k entry) (up_to (length units)))
 
@@ -70,7 +70,7 @@ pub record ProgramParts : Type 0 where
   pub funcs : List CFunc
   pub remember : List Bool
 
--- those of no unit
+-- the parts of no unit
 abbrev pub no_parts : ProgramParts
 no_parts = record { structs = []; funcs = []; remember = [] }
 
@@ -82,12 +82,12 @@ parts_then first rest = record {
   remember = first.remember ++ rest.remember;
 }
 
--- those of a function
+-- the parts of a function
 abbrev pub parts_of_function : List StructDef → List UnitDef → UnitDef → ProgramParts
 parts_of_function structs earlier unit =
     record { structs = memory_struct structs earlier unit; funcs = function_code structs earlier unit ∷ []; remember = false ∷ [] }
 
--- those of an activity: where it rests, what it remembers, and its function
+-- the parts of an activity: the structs of where it rests and of what it remembers, and its function
 abbrev pub parts_of_activity : Activity → ProgramParts
 parts_of_activity a =
     record { structs = frame_struct a ∷ remembered_struct a; funcs = activity_function a ∷ []; remember = remembers_any a ∷ [] }
@@ -206,7 +206,7 @@ pub record Written : Type 0 where
   pub structs : List CStruct
   pub funcs : List CFunc
 
--- of a program with these parts, whose entry is this unit
+-- the structs and functions written of a program with these parts and this entry
 abbrev pub file_of : Program → ProgramParts → UnitDef → Written
 file_of program parts unit =
     let remembers = unwrap_or (slice_get parts.remember program.entry) false in record {
@@ -214,12 +214,12 @@ file_of program parts unit =
       funcs = parts.funcs ++ (init_function unit.name ∷ tick_function unit remembers ∷ []);
     }
 
--- of a program whose entry may be known
+-- the structs and functions written of a program with these parts, where the entry may be absent
 abbrev pub file_at : Program → ProgramParts → Option UnitDef → Written
 file_at program parts (Some unit) = file_of program parts unit
 file_at program parts None = record { structs = []; funcs = [] }
 
--- of a program with a machine
+-- the structs and functions written of a program with a machine
 abbrev pub written : Program → List InMachine → Written
 written program machine =
     file_at program (parts_from program.structs [] [] program.units (needed_units program.units program.entry) machine)

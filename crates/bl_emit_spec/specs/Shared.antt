@@ -11,6 +11,6 @@ use Rattle.bl_graph_nodes.specs.Plain.{plain_body}
 pub record IsSharedActivityOf (unit : UnitDef) (activity : Activity) : Type 0 where
   pub slots : activity.slots ≡ numbered (counters_in (plain_body unit.body) 0)
 
--- so it is of each activity among the units
+-- each activity of the machine shares counters among parts that never rest at once
 abbrev pub IsShared : List UnitDef → List Activity → Type 0
 IsShared units machine = EachTwo IsSharedActivityOf (activities units) machine

@@ -34,7 +34,7 @@ pub record PointersLead (w : Setting) (activities : Activities) (i : ℕ) (unit 
   pub result : is_some unit.result ≡ true → result_at_c scope ≡ given.result
   pub outputs : (k : ℕ) (place : Location) → slice_get given.outputs k ≡ Some place → lent_at scope (unit.inputs + k) ≡ place
 
--- so it is in each call
+-- the pointers of the called function lead to the places that it was given, in each call
 abbrev pub PointersAreGiven : List StructDef → List UnitDef → ℕ → List InMachine → Activities → Type 0
 PointersAreGiven structs units entry machine activities =
     let w = setting_of structs units entry in
@@ -45,7 +45,7 @@ PointersAreGiven structs units entry machine activities =
 
 -- ---- typed views
 
--- what the statements of an instance see in a typed store is of the types of the variables
+-- the values that the statements of an instance see in a typed store fit the types of the variables
 abbrev pub ViewsFit : List StructDef → List UnitDef → ℕ → List InMachine → Activities → Type 0
 ViewsFit structs units entry machine activities =
     let w = setting_of structs units entry in
@@ -69,7 +69,7 @@ abbrev pub KnowsActivity : Activities → List UnitDef → ℕ → Table Meaning
 KnowsActivity activities units u below known =
     (unit : UnitDef) → slice_get units u ≡ Some unit → known (unit_name unit.name) ≡ Some (function_c below (activity_function (activities u)))
 
--- where functions begin as passes do, and their blocks do what passes do, the C function of an activity does what the passes of its instances do
+-- the C function of an activity simulates the passes of its instances, where functions begin as passes do and their blocks simulate passes
 abbrev pub CallsSimulate : Type 0
 CallsSimulate =
     (structs : List StructDef) (units : List UnitDef) (entry : ℕ) (machine : List InMachine) (activities : Activities) →
@@ -81,7 +81,7 @@ CallsSimulate =
     ((v d : ℕ) → v < u → ActivitySimulates (setting_of structs units entry) activities v below d) →
     ActivitySimulates (setting_of structs units entry) activities u known depth
 
--- so do the C functions of all activities, each over those before it, where the functions of the program do in C what they do in the program
+-- the C functions of all activities simulate the passes of their instances, where the C functions of the program's functions agree
 abbrev pub AllActivitiesSimulate : Type 0
 AllActivitiesSimulate =
     (structs : List StructDef) (units : List UnitDef) (entry : ℕ) (machine : List InMachine) (activities : Activities) →

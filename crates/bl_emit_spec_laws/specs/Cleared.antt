@@ -7,11 +7,11 @@ use Rattle.bl_ctree.specs.Instances.{callee_of, setting_of}
 use Rattle.bl_machine_pass_laws_execution.specs.Executes.{ClearsInside}
 use Rattle.bl_emit_spec_laws.specs.Calls.Built.{cleared, origin_at}
 
--- in every program
+-- clearing is confined to the inside of the instance that begins, in every program
 pub record ClearingIsInside : Type 0 where
   -- each instance that a `run` began is what its caller finds at the place of the `run`
   pub found : (structs : List StructDef) (units : List UnitDef) (entry k : ℕ) (origin : Origin) → let w = setting_of structs units entry in
       origin_at w k ≡ Some origin → callee_of w origin.caller origin.place ≡ Some k
-  -- so as an instance begins nothing is cleared but what lies inside it
+  -- an instance that begins clears only what lies inside it
   pub inside : (structs : List StructDef) (units : List UnitDef) (entry : ℕ) → let w = setting_of structs units entry in
       ClearsInside w (cleared w)

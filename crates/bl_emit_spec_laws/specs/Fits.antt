@@ -6,7 +6,7 @@ use Rattle.bl_machine.specs.declared.machine.Activity.{Activity as InMachine}
 use Rattle.bl_emit_spec_laws.specs.Calls.Built.{Activities}
 use Rattle.bl_emit_spec_laws.specs.Passes.{TurnsFit}
 
--- in each program what is done at nodes leaves typed stores and copies so
+-- turns keep stores and copies typed, in each program
 abbrev pub AllTurnsFit : Type 0
 AllTurnsFit =
     (structs : List StructDef) (units : List UnitDef) (entry : ℕ) (machine : List InMachine) (activities : Activities) →

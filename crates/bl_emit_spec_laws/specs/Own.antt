@@ -30,7 +30,7 @@ pub record PlaceCounts (sizes : Sizes) (slot : Slot) : Type 0 where
   pub counter : slot.counter < length sizes
   pub high : slot.value ≤ unwrap_or (slice_get sizes slot.counter) 0
 
--- so is the number of each resting place
+-- the number of each resting place is one of a counter, within its greatest value
 abbrev pub PlacesCount : Type 0
 PlacesCount =
     (structs : List StructDef) (units : List UnitDef) (machine : List InMachine) (activities : Activities) (k : ℕ) (unit : UnitDef) (p : Spot) →

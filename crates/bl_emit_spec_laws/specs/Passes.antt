@@ -27,12 +27,12 @@ use Rattle.bl_emit_spec_laws.specs.Within.{PassesStayWithin}
 abbrev pub turns_in_blocks : Activity → List (List NodeCode)
 turns_in_blocks a = map (picked (turns_in_source a)) a.blocks
 
--- of each element of a list whether another one stands before it
+-- for each element of a list, whether another one stands before it
 abbrev pub behind_first : {X : Type 0} → List X → List Bool
 behind_first [] = []
 behind_first (x ∷ rest) = false ∷ map (λ y. true) rest
 
--- the same of many lists, one after another
+-- for each element of many lists, one after another, whether another one stands before it in its list
 abbrev pub behind_firsts : {X : Type 0} → List (List X) → List Bool
 behind_firsts [] = []
 behind_firsts (xs ∷ rest) = behind_first xs ++ behind_firsts rest
@@ -53,7 +53,7 @@ pub record RuleAt (w : Setting) (activities : Activities) (i : ℕ) (unit : Unit
   pub there : HasRule (slots_by w activities) i unit rule
   pub numbered : rank_by w activities i rule.node ≡ number
 
--- in the function of each instance's activity turns stand in the order of the numbers of their nodes, one for each rule
+-- turns stand in the order of their nodes' numbers, one for each rule, in the function of each instance's activity
 pub record BlocksPlaced (structs : List StructDef) (units : List UnitDef) (entry : ℕ) (machine : List InMachine) (activities : Activities) : Type 0 where
   pub of_rule : (i : ℕ) (unit : UnitDef) (rule : Transition) → let w = setting_of structs units entry in
       CompilationContext structs units entry machine activities → unit_at w i ≡ Some unit → HasRule (slots_by w activities) i unit rule →
@@ -65,12 +65,12 @@ pub record BlocksPlaced (structs : List StructDef) (units : List UnitDef) (entry
   pub waits : (i : ℕ) (unit : UnitDef) (rule : Transition) → let w = setting_of structs units entry in
       CompilationContext structs units entry machine activities → unit_at w i ≡ Some unit → HasRule (slots_by w activities) i unit rule →
       IsBehind (activity_at w activities i) (rank_by w activities i rule.node) → rule.asked ≡ Flagged
-  -- the rule of the one before it alone sets that
+  -- the flag of a node behind another one in its block is set only by the rule of the node before it
   pub before : (i : ℕ) (unit : UnitDef) (rule : Transition) (change : Change) (m : Node) → let w = setting_of structs units entry in
       CompilationContext structs units entry machine activities → unit_at w i ≡ Some unit → HasRule (slots_by w activities) i unit rule →
       Contains rule.so change ⊎ Contains rule.otherwise change → MayFlag change m →
       IsBehind (activity_at w activities i) (rank_by w activities i m) → rank_by w activities i m ≡ suc (rank_by w activities i rule.node)
-  -- and as a body begins it isn't set
+  -- the flag of a node behind the first of its block isn't set as a body begins
   pub begins : (i : ℕ) (unit : UnitDef) (number : ℕ) → let w = setting_of structs units entry in
       CompilationContext structs units entry machine activities → unit_at w i ≡ Some unit → IsBehind (activity_at w activities i) number →
       (begun_registers (rank_by w activities) i unit).flags number ≡ false
@@ -87,7 +87,7 @@ pub record TurnsFit (structs : List StructDef) (units : List UnitDef) (entry : �
       CompilationContext structs units entry machine activities → unit_at w i ≡ Some unit → StoreFits w left → values_fit structs unit.vars copies ≡ true →
       values_fit structs unit.vars (recopied w i n left copies) ≡ true
 
--- then the blocks of each function do what a pass by rules does
+-- the blocks of each function simulate a pass by rules, where the blocks of points and of `run`s simulate their nodes
 abbrev pub BlocksPass : Type 0
 BlocksPass =
     (structs : List StructDef) (units : List UnitDef) (entry : ℕ) (machine : List InMachine) (activities : Activities) →

@@ -6,7 +6,7 @@ use Rattle.bl_machine.specs.declared.machine.Activity.{Activity as InMachine}
 use Rattle.bl_emit_spec_laws.specs.Calls.Built.{Activities}
 use Rattle.bl_emit_spec_laws.specs.Passes.{BlocksPlaced}
 
--- in each program the blocks stand in the order of the numbers of their nodes
+-- blocks stand in the order of their nodes' numbers, in each program
 abbrev pub BlocksArePlaced : Type 0
 BlocksArePlaced =
     (structs : List StructDef) (units : List UnitDef) (entry : ℕ) (machine : List InMachine) (activities : Activities) →

@@ -19,23 +19,23 @@ use Rattle.bl_emit_spec_laws.specs.Registers.Laws.{RegistersWithin}
 -- no counter of an instance comes to hold more than its greatest value
 pub record PassesStayWithin (structs : List StructDef) (units : List UnitDef) (entry : ℕ) (machine : List InMachine) (activities : Activities) :
     Type 0 where
-  -- by what changes once a node has had its turn
+  -- changes after a node's turn keep registers within their greatest values
   pub changes : (i : ℕ) (unit : UnitDef) (rule : Transition) (answer : Bool) (r : Registers) → let w = setting_of structs units entry in
       CompilationContext structs units entry machine activities → unit_at w i ≡ Some unit → HasRule (slots_by w activities) i unit rule →
       RegistersWithin (activity_at w activities i).sizes r →
       RegistersWithin (activity_at w activities i).sizes (after_rule (rank_by w activities i) rule answer r)
-  -- by what is done at a node
+  -- the deed of a node keeps frames within their greatest values
   pub performs : (i : ℕ) (n : Node) (frames : Frames) (store : Store) (answer : Bool) (frames' : Frames) (left : Store) →
       let w = setting_of structs units entry in
       CompilationContext structs units entry machine activities → FramesWithin w activities frames →
       Performs w (rank_by w activities) (slots_by w activities) (cleared w) i n frames store answer frames' left → FramesWithin w activities frames'
-  -- by a pass
+  -- a pass keeps frames and registers within their greatest values
   pub executes : (i k : ℕ) (frames : Frames) (store : Store) (copies : List Value) (r : Registers) (frames' : Frames) (left : Store) (r' : Registers) →
       let w = setting_of structs units entry in
       CompilationContext structs units entry machine activities → FramesWithin w activities frames → RegistersWithin (activity_at w activities i).sizes r →
       Executes w (rank_by w activities) (slots_by w activities) (cleared w) i k frames store copies r frames' left r' →
       FramesWithin w activities frames' × RegistersWithin (activity_at w activities i).sizes r'
-  -- nor does one as a pass begins
+  -- registers and frames hold no more than the greatest values as a pass begins
   pub begun : (i : ℕ) (unit : UnitDef) → let w = setting_of structs units entry in
       RegistersWithin (activity_at w activities i).sizes (begun_registers (rank_by w activities) i unit)
   pub resumed : (i : ℕ) (frames : Frames) → let w = setting_of structs units entry in
@@ -43,7 +43,7 @@ pub record PassesStayWithin (structs : List StructDef) (units : List UnitDef) (e
   pub cleared_within : (i : ℕ) (frames : Frames) → let w = setting_of structs units entry in
       FramesWithin w activities frames → FramesWithin w activities (cleared w i frames)
 
--- so it is in each program
+-- counters stay within their greatest values, in each program
 abbrev pub AllStayWithin : Type 0
 AllStayWithin =
     (structs : List StructDef) (units : List UnitDef) (entry : ℕ) (machine : List InMachine) (activities : Activities) →

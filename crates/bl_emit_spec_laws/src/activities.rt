@@ -1,6 +1,7 @@
-//! One call of the C function of an activity does what a pass of the instance by rules does (`specs/Activities.antt`, `CallsSimulate`): where
-//! the function begins as a pass does, its pointers lead to what the call gives, and its blocks do what the pass does. So do the functions
-//! of all activities of a program, each over those before it (`AllActivitiesSimulate`).
+//! One call of the C function of an activity simulates a pass of the instance by rules (`specs/Activities.antt`,
+//! `CallsSimulate`). Premises are that the function begins as a pass does, that its pointers lead to what the call
+//! gives, and that its blocks simulate the pass. The same holds for the functions of all activities of a program, each
+//! over those before it (`AllActivitiesSimulate`).
 
 ghost use Rattle.bl_emit_spec_laws.specs.Activities.{AllActivitiesSimulate, CallsSimulate};
 

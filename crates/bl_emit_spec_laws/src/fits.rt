@@ -1,5 +1,5 @@
-//! Typed stores in the C of passes. There is no code here. A law, as the contract of a function that does nothing: what is done at
-//! the nodes of a compiled program leaves stores in which all values are of their variables' types (`specs/Fits.antt`).
+//! Typed stores in the C of passes. One lemma: the deeds at the nodes of a compiled program keep stores typed
+//! (`specs/Fits.antt`).
 
 ghost use Rattle.bl_emit_spec_laws.specs.Fits.{AllTurnsFit};
 

@@ -1,9 +1,10 @@
-//! What the C function of an activity does beside one pass of an instance by rules, as definitions: where memory has what an instance and all
-//! that it calls rest at and remember (`specs/Calls/Memories.antt`), how a running function stands in the middle of its pass
-//! (`specs/Calls/Invariant.antt`), and what a call leaves (`specs/Calls/Calls.antt`). None of these functions does anything: the contract is the
-//! law. Registers in memory (`registers`, `own`), counters (`within`), blocks in the order of their nodes (`placed`, `passes`, `activities`),
-//! the functions that are known (`tables`), and what is kept (`remember`, `cleared`, `fits`). `bl_emit_spec_laws_nodes` has the blocks of
-//! single nodes, `bl_emit_spec_laws_simulation` those of `run`s and the whole.
+//! The relation between the C function of an activity and passes of its instances by rules, as definitions. They say
+//! where memory encodes the state of an instance and its callees (`specs/Calls/Memories.antt`), and what it represents
+//! in the middle of a pass (`specs/Calls/Invariant.antt`) and after a call (`specs/Calls/Calls.antt`). Lemmas only:
+//! registers in memory (`registers`, `own`), counters (`within`), blocks in the order of their nodes (`placed`,
+//! `passes`, `activities`), the known functions (`tables`), and what is preserved (`remember`, `cleared`, `fits`).
+//! `bl_emit_spec_laws_nodes` has the blocks of single nodes, and `bl_emit_spec_laws_simulation` those of `run`s and the
+//! whole.
 #![tactic(auto)]
 
 pub mod activities;

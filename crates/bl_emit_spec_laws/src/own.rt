@@ -1,8 +1,8 @@
-//! What the rules of an activity's body ask and change is told by registers that its C function has. There is no code here. Laws, as
-//! contracts of functions that do nothing (`specs/Own.antt`): the number of each resting place is a value of one of the counters
-//! (`PlacesCount`), and so are the counters that C copies (`CopiesAreCounters`, `CopiesAreRead`); all that a rule changes is a register
-//! (`ChangesAreOwn`), and so is all that it asks; the numbers at which the body of a `when` rests follow one another (`AskedAreOwn`).
-//! And the numbers of registers are small where there are few enough nodes and counters (`RegistersAreFew`).
+//! The rules of an activity's body ask for and change only registers that its C function has. Lemmas only
+//! (`specs/Own.antt`). The number of each resting place is a value of one of the counters (`PlacesCount`), and C copies
+//! only such counters (`CopiesAreCounters`, `CopiesAreRead`). All that a rule changes is a register (`ChangesAreOwn`),
+//! and so is all that it asks; the numbers at which the body of a `when` rests are consecutive (`AskedAreOwn`). The
+//! numbers of registers are small where there are few enough nodes and counters (`RegistersAreFew`).
 
 ghost use Rattle.bl_emit_spec_laws.specs.Own.{AskedAreOwn, ChangesAreOwn, CopiesAreCounters, CopiesAreRead, PlacesCount, RegistersAreFew};
 

@@ -1,5 +1,6 @@
-//! The blocks of an activity's C function stand in the order of the numbers of their nodes, one for each rule of the body, and a node
-//! behind another one in its block waits by a flag that only that one sets (`specs/Placed.antt`, `BlocksArePlaced`). There is no code here.
+//! The blocks of an activity's C function stand in the order of their nodes' numbers, one for each rule of the body. A
+//! node behind another one in its block waits by a flag that only that one sets (`specs/Placed.antt`,
+//! `BlocksArePlaced`). Lemmas only.
 
 ghost use Rattle.bl_emit_spec_laws.specs.Placed.{BlocksArePlaced};
 

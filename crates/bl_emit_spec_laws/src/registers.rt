@@ -1,10 +1,10 @@
-//! Laws of the C of a pass. None of these functions does anything: the contract is the law. In the frame of a call of an
-//! activity's C function memory holds the registers of the pass: counters, what they held when the tick began, flags, marks, and
-//! whether the body has ended (`specs/Registers/Registers.antt`, `RegistersEncoded`). Their places keep apart from one another, from variables
-//! and from copies, where the pointers of the function lead to what keeps apart (`RegistersKeepApart`). There the C of changes
-//! goes on, leaves memory that holds the changed registers, and leaves all numbers as they were that belong to no register
-//! (`specs/Registers/Laws.antt`, `ChangesSimulate`); and, where no counter held more than its
-//! greatest value as the tick began, the C of a guard doesn't trap and has the value of what is asked (`GuardsEvaluate`).
+//! The registers of a pass in C. In the frame of a call of an activity's C function, memory holds the registers:
+//! counters, what they held when the tick began, flags, marks, and whether the body has ended
+//! (`specs/Registers/Registers.antt`, `RegistersEncoded`). Their places are apart from one another, from variables and
+//! from copies, where the function's pointers are valid (`RegistersKeepApart`). There the C of changes goes on, leaves
+//! memory with the changed registers, and keeps all other memory (`specs/Registers/Laws.antt`, `ChangesSimulate`).
+//! Where no counter exceeded its greatest value as the tick began, the C of a guard doesn't trap and has the value of
+//! the question (`GuardsEvaluate`).
 
 ghost use Rattle.bl_emit_spec_laws.specs.Registers.Laws.{ChangesSimulate, GuardsEvaluate, RegistersKeepApart};
 

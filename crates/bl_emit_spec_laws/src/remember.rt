@@ -1,4 +1,5 @@
-//! An activity that runs one which remembers something remembers that (`specs/Remember.antt`, `CallersRemember`). There is no code here.
+//! An activity that runs one which remembers something remembers that (`specs/Remember.antt`, `CallersRemember`).
+//! Lemmas only.
 
 ghost use Rattle.bl_emit_spec_laws.specs.Remember.{CallersRemember};
 

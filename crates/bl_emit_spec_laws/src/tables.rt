@@ -1,7 +1,7 @@
-//! Laws of the C functions of all units of a program, one behind the other. None of these functions does anything: the contract is the
-//! law. `activities_of` (`specs/Tables/Tables.antt`) tells what the C of each activity is made of, as the machine has it (`ActivitiesBuilt`). The
-//! table of the C functions of all units knows them all, each over those before it (`TablesKnowAll`). The file that is written has those
-//! functions of the units that are needed, in the same order, and then those of its interface (`WrittenIsKept`).
+//! The C functions of all units of a program, in order. `activities_of` (`specs/Tables/Tables.antt`) gives each
+//! activity as its C is made, from the machine (`ActivitiesBuilt`). The table of the C functions of all units knows
+//! them all, each over those before it (`TablesKnowAll`). The file has those functions of the needed units, in the same
+//! order, and then those of its interface (`WrittenIsKept`).
 
 ghost use Rattle.bl_emit_spec_laws.specs.Tables.Laws.{ActivitiesBuilt, TablesKnowAll, WrittenIsKept};
 

@@ -1,7 +1,6 @@
-//! Counters stay within the values that they may have. There is no code here. A law, as the contract of a function that does nothing:
-//! where no counter of an instance holds more than its greatest value, none does in the registers with which a pass begins, and in a compiled
-//! program none comes to hold more by what changes once a node has had its turn, by what is done at a node, by a whole pass, or
-//! by what the start of a `run` clears (`specs/Within.antt`).
+//! Counters stay within their greatest values. One lemma: where no counter of an instance exceeds its greatest value,
+//! none does in the registers with which a pass begins. In a compiled program the changes after a turn, the deed of a
+//! node, a whole pass, and the clearing at the start of a `run` keep that (`specs/Within.antt`).
 
 ghost use Rattle.bl_emit_spec_laws.specs.Within.{AllStayWithin};
 

@@ -41,7 +41,7 @@ FunctionsBeginInContext structs units entry =
 
 -- ---- variables
 
--- in the memory in which it begins each variable has its value at its place
+-- each variable has its value at its place in the memory in which a called function begins
 abbrev pub VariablesBegin : List StructDef → List UnitDef → ℕ → Type 0
 VariablesBegin structs units entry =
     let w = setting_of structs units entry in

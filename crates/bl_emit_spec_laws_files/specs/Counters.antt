@@ -10,8 +10,7 @@ use Rattle.bl_machine.specs.Machines.{AreActivitiesOf}
 use Rattle.bl_emit_spec_laws.specs.Calls.Built.{Activities, AreBuilt}
 use Rattle.bl_emit_spec_laws_files.specs.Begins.{CountersSuffice}
 
--- where none of the rules Pause and Instant fails each activity of a program, needed or not, has a counter, and all counters of which a rule asks
--- what they held are its own
+-- each activity, needed or not, has a counter and owns the counters that its rules ask for, where rules Pause and Instant hold
 abbrev pub AllSuffice : Type 0
 AllSuffice =
     (structs : List StructDef) (units : List UnitDef) (entry : ℕ) (machine : List InMachine) (activities : Activities) → IsWellTyped structs units entry →

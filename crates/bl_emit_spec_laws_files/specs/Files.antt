@@ -36,7 +36,7 @@ use Rattle.bl_emit_spec_laws_files.specs.States.States.{StateKept}
 pub record FileStands (structs : List StructDef) (unit : UnitDef) (remembers : Bool) (known : Table Meaning) (file : Parts) : Type 0 where
   pub inputs : ports_of (codes "bl_in") file ≡ map (port_member structs (codes "i_")) (inputs_of unit)
   pub outputs : ports_of (codes "bl_out") file ≡ map (port_member structs (codes "o_")) (outputs_of unit)
-  -- what the start sees is no matter: it calls nothing
+  -- any table over which the start runs, as it calls nothing
   pub before : Table Meaning
   pub starts : found (codes "bl_init") (meanings file.funcs) ≡ Some (function_c before (init_function unit.name))
   pub ticks : found (codes "bl_tick") (meanings file.funcs) ≡ Some (function_c known (tick_function unit remembers))
@@ -50,7 +50,7 @@ pub record FileShows (w : Setting) (activities : Activities) (unit : UnitDef) (f
   pub inputs : cells.inputs_of file ≡ input_columns unit
   pub outputs : cells.outputs_of file ≡ output_columns unit
 
--- so does each file that stands, where the function of the entry does in C what passes by rules do, and the file keeps what it needs
+-- a file shows the traces of passes by rules, if the entry's function simulates them and the file keeps what it needs
 abbrev pub FilesShow : Type 0
 FilesShow =
     (structs : List StructDef) (units : List UnitDef) (entry : ℕ) (machine : List InMachine) (activities : Activities) (unit : UnitDef)
@@ -66,7 +66,7 @@ RowsSuffice =
 
 -- ---- files of structs and functions with those of the interface behind them
 
--- a file of these structs and functions, and those of the interface behind them
+-- a file of these structs and functions, followed by those of the interface
 abbrev pub file_with : List StructDef → UnitDef → Bool → List CStruct → List CFunc → Parts
 file_with structs unit remembers before functions =
     parts_from (before ++ interface_structs structs unit remembers) (functions ++ (init_function unit.name ∷ tick_function unit remembers ∷ []))
@@ -76,13 +76,13 @@ abbrev pub known_at_tick : UnitDef → List CFunc → Table Meaning
 known_at_tick unit functions =
     with_entry (known_after no_entries functions) (codes "bl_init") (function_c (known_after no_entries functions) (init_function unit.name))
 
--- none of the structs has the name of one of the interface, and each of the functions has the name of a unit
+-- no struct has a name of the interface, and each function has the name of a unit
 pub record NoneOfInterface (before : List CStruct) (functions : List CFunc) : Type 0 where
   pub inputs : (s : CStruct) → Contains before s → bytes_eq s.name (codes "bl_in") ≡ false
   pub outputs : (s : CStruct) → Contains before s → bytes_eq s.name (codes "bl_out") ≡ false
   pub named : (f : CFunc) → Contains functions f → (name : Text) × (f.name ≡ unit_name name)
 
--- it stands, and the function of the entry does there what it does among those before
+-- the file that is made of structs and functions stands, and the entry's function simulates the same passes in it
 pub record FilesStand : Type 0 where
   pub stands : (structs : List StructDef) (unit : UnitDef) (remembers : Bool) (before : List CStruct) (functions : List CFunc) →
       NoneOfInterface before functions →

@@ -1,7 +1,8 @@
-//! How the C function of an activity begins. None of these functions does anything: the contract is the law. The pointers of the called function
-//! lead to the places that the call gives, and these keep apart as a pass needs (`specs/Begins.antt`, `PointersAreGiven`, `FunctionsBeginInContext`); in the
-//! memory in which it begins each variable has its value (`VariablesBegin`). What stands before the blocks, copies of counters, the flag of the
-//! entry and copies of variables, goes on, and leaves memory that stands for the start of a pass by rules (`FunctionsBeginWhere`).
+//! How the C function of an activity begins. The pointers of the called function lead to the places that the call
+//! gives, which are apart as a pass needs (`specs/Begins.antt`, `PointersAreGiven`, `FunctionsBeginInContext`). Each
+//! variable has its value in the memory in which the function begins (`VariablesBegin`). The C before the blocks makes
+//! copies of counters, the flag of the entry and copies of variables; after it memory represents the start of a pass by
+//! rules (`FunctionsBeginWhere`).
 
 ghost use Rattle.bl_emit_spec_laws_files.specs.Begins.{FunctionsBeginInContext, FunctionsBeginWhere, PointersFollow, VariablesBegin};
 

@@ -1,5 +1,5 @@
-//! The counters of the activities of an accepted program suffice. A law, as the contract of a function that does nothing: where no rule fails, each
-//! activity has a counter, and all of which a rule of its body asks what they held are counters of it (`specs/Counters.antt`, `AllSuffice`).
+//! The counters of the activities of an accepted program suffice. One lemma: where no rule fails, each activity has a
+//! counter, and owns all counters of which a rule asks what they held (`specs/Counters.antt`, `AllSuffice`).
 
 ghost use Rattle.bl_emit_spec_laws_files.specs.Counters.{AllSuffice};
 

@@ -1,7 +1,7 @@
-//! Runs of the entry by the numbers that are in C. There is no code here. A law, as the contract of a function that does nothing
-//! (`specs/Entry.antt`): over all rows that fit there is a run each tick of which is one pass by rules over the entry, where nodes and
-//! resting places have the numbers that their C has, the value 0 where a last place goes home; it shows the only trace that the meaning of
-//! the program allows (`EntryRuns`).
+//! Runs of the entry by the numbers that are in C. One lemma (`specs/Entry.antt`): over all rows that fit there is a
+//! run each tick of which is one pass by rules over the entry, where nodes and resting places have the numbers that
+//! their C has, the value 0 where a last place goes home; it shows the only trace that the semantics of the program
+//! allows (`EntryRuns`).
 
 ghost use Rattle.bl_emit_spec_laws_files.specs.Entry.{EntryRuns};
 

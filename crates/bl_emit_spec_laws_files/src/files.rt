@@ -1,7 +1,8 @@
-//! What the C file of a program does over rows of inputs. None of these functions does anything: the contract is the law. Where the C function of the
-//! entry does what passes by rules do, the file shows over rows that fit the trace of each run of such passes, and its columns are the inputs and
-//! outputs of the entry (`specs/Files.antt`, `FilesShow`). A file that ends with the structs of the interface and with the functions of the start and
-//! of a tick stands so (`FilesStand`). Rows that fit the columns are rows of a run of passes (`RowsSuffice`).
+//! What the C file of a program does over rows of inputs. Where the C function of the entry simulates passes by rules,
+//! the file has the trace of each run of such passes over rows that fit. Its columns are the inputs and outputs of the
+//! entry (`specs/Files.antt`, `FilesShow`). A file that ends with the interface's structs and the functions of the
+//! start and of a tick has that form (`FilesStand`). Rows that fit the columns are rows of a run of passes
+//! (`RowsSuffice`).
 
 ghost use Rattle.bl_emit_spec_laws_files.specs.Files.{FilesShow, FilesStand, RowsSuffice};
 

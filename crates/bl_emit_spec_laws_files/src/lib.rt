@@ -1,5 +1,5 @@
-//! How the C functions of activities begin, what stays between ticks, and what the C file does over rows. None of these functions does
-//! anything: the contract is the law.
+//! How the C functions of activities begin, what persists between ticks, and what the C file does over rows. Lemmas
+//! only.
 #![tactic(auto)]
 
 pub mod begins;

@@ -1,7 +1,7 @@
-//! What a program keeps from tick to tick in its C file. Between two ticks a C file keeps the numbers of the cells of its three objects
-//! alone. None of these functions does anything: the contract is the law. Where a place of an object leads to a scalar the number there is
-//! kept (`specs/States/Cells.antt`, `AllCellsKept`). So a file that declares the structs of its program keeps what the call of the entry
-//! needs: where all rests, what is remembered, and the outputs (`specs/States/States.antt`, `StatesAreKept`).
+//! What a C file keeps from tick to tick: only the numbers of the cells of its three objects. The number of each scalar
+//! place in an object is kept (`specs/States/Cells.antt`, `AllCellsKept`). So a file that declares the structs of its
+//! program keeps what the call of the entry needs: all frames, all that is remembered, and the outputs
+//! (`specs/States/States.antt`, `StatesAreKept`).
 
 ghost use Rattle.bl_emit_spec_laws_files.specs.States.Cells.{AllCellsKept};
 ghost use Rattle.bl_emit_spec_laws_files.specs.States.States.{StatesAreKept};

@@ -55,7 +55,7 @@ pub record RunOf (w : Setting) (activities : Activities) (i : ℕ) (unit : UnitD
   -- the called unit stands before the caller's
   pub earlier : unit_number w j < unit_number w i
 
--- the number of the node at which it begins
+-- the number of the node at which a `run` begins
 abbrev pub run_number : Setting → Activities → ℕ → Label → Place → Arguments → ℕ
 run_number w activities i l at arguments = rank_by w activities i (EnterAt l at arguments)
 
@@ -99,8 +99,8 @@ call_written w activities i n u arguments scope here =
     let view = view_of (activity_at w activities i) in
     call_c (c_call (name_of_callee (slice_get view.site.earlier u)) (run_args view n u arguments)) scope here
 
--- As the function is called memory has what a pass of the callee begins with, once the inputs went to its frame. The call that is written hands over
--- these places, which keep apart; those of outputs are where their paths lead
+-- memory at the call of a `run` represents what a pass of the callee begins with. The places that it hands over are apart, and outputs are where their paths
+-- lead
 pub record RunEstablishes (w : Setting) (activities : Activities) (i : ℕ) (scope : Scope) (n : ℕ) (arguments : Arguments) (j : ℕ) (other : UnitDef)
     (frames : Frames) (given : Store) (here : Memory) : Type 0 where
   pub inputs : List ArgumentValue
@@ -117,7 +117,7 @@ pub record RunEstablishes (w : Setting) (activities : Activities) (i : ℕ) (sco
 abbrev pub NotEnded : Scope → ℕ → Memory → Type 0
 NotEnded scope n here = number_in (value_at here (start_of scope false (ended_name n))) ≡ pos 0
 
--- so it is in the middle of each pass where a `run` has its turn; where its inputs trap so does the call that is written
+-- the call of each `run` establishes what a pass of the callee begins with, and traps where its inputs do
 pub record RunsEstablish (structs : List StructDef) (units : List UnitDef) (entry : ℕ) (machine : List InMachine) (activities : Activities) : Type 0 where
   pub gives : (i : ℕ) (unit : UnitDef) (scope : Scope) (frames : Frames) (store : Store) (copies : List Value) (r : Registers) (here : Memory)
       (l : Label) (at : Place) (arguments : Arguments) (j : ℕ) (other : UnitDef) (given : Store) → let w = setting_of structs units entry in
@@ -133,7 +133,7 @@ pub record RunsEstablish (structs : List StructDef) (units : List UnitDef) (entr
 
 -- ---- what it leaves
 
--- once the function has ended memory stands for what the pass leaves, and tells whether the callee's body has ended, and with which result
+-- memory after the call of a `run` represents what the callee's pass leaves, whether its body has ended, and its result
 pub record RunLeaves (w : Setting) (activities : Activities) (i : ℕ) (unit : UnitDef) (scope : Scope) (n : ℕ) (j : ℕ) (other : UnitDef)
     (frames : Frames) (left : Store) (copies : List Value) (r : Registers) (ended : Bool) (here after : Memory) : Type 0 where
   pub stands : PassRepresents w activities i unit scope frames left copies r after
@@ -142,7 +142,7 @@ pub record RunLeaves (w : Setting) (activities : Activities) (i : ℕ) (unit : U
   pub result : (value : Value) → ended ≡ true → is_some other.result ≡ true → result_at left j ≡ Some value →
       number_in (value_at after (start_of scope false (given_name n))) ≡ number_or_zero value
 
--- so it does in each pass
+-- the call of each `run` leaves memory that represents what the callee's pass leaves
 abbrev pub RunsLeave : List StructDef → List UnitDef → ℕ → List InMachine → Activities → Type 0
 RunsLeave structs units entry machine activities =
     (i : ℕ) (unit : UnitDef) (scope : Scope) (frames : Frames) (store : Store) (copies : List Value) (r : Registers) (here : Memory) (l : Label)
@@ -160,7 +160,7 @@ RunsLeave structs units entry machine activities =
 
 -- ---- targets
 
--- A target of a `run` of the instance i gets the result of the instance j, which is this value
+-- a target of a `run` of the instance i gets the result of the instance j, which is this value
 pub record TargetGiven (w : Setting) (i j : ℕ) (path : Path) (value : Value) (store left : Store) : Type 0 where
   pub unit : UnitDef
   pub is_there : unit_at w i ≡ Some unit
@@ -174,8 +174,7 @@ pub record TargetGiven (w : Setting) (i j : ℕ) (path : Path) (value : Value) (
   pub result : result_at store j ≡ Some value
   pub done : DeedYields w (deed i at (Gives j (Some path))) store true left
 
--- The instance sees then the value at the target, and else what it saw. What is inside the instances that it calls has the variables that it had, and
--- the instance's own result is what it was
+-- an instance sees the value at the target of its `run`, and all else as before. Variables inside its callees and its own result are unchanged
 pub record TargetsSeen (w : Setting) (activities : Activities) : Type 0 where
   pub own : (i j : ℕ) (path : Path) (value : Value) (store left : Store) → TargetGiven w i j path value store left →
       put_at (static_of path).root (static_of path).fields value (view_at w store i).now ≡ Some (view_at w left i).now
@@ -188,7 +187,7 @@ pub record TargetsSeen (w : Setting) (activities : Activities) : Type 0 where
 
 -- ---- the blocks
 
--- the blocks of `run`s do what a pass by rules does there
+-- the blocks of `run`s simulate them
 abbrev pub RunsSimulate : List StructDef → List UnitDef → ℕ → Type 0
 RunsSimulate structs units entry =
     (machine : List InMachine) (activities : Activities) → RunsEstablish structs units entry machine activities →

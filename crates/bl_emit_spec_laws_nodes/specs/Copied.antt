@@ -17,6 +17,6 @@ NodesCopied =
     slice_get units k ≡ Some unit → slice_get (nodes_in (plain_body unit.body)) position ≡ Some n →
     copied_there (is_copied (copies_of unit)) n ≡ true
 
--- and so has all that the inputs and the outputs of a `run` name
+-- all that the inputs and outputs of a `run` name under a `prev` has a copy
 abbrev pub RunsCopied : Type 0
 RunsCopied = (structs : List StructDef) (units : List UnitDef) (entry : ℕ) → IsWellTyped structs units entry → RunsStand units

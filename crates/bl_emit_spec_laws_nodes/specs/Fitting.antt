@@ -10,7 +10,7 @@ use Rattle.bl_graph_nodes.specs.Plain.{plain_body}
 use Rattle.bl_emit_spec_laws_nodes.specs.Points.Acts.{NodesApart}
 use Rattle.bl_emit_spec_laws_nodes.specs.Points.Nodes.{fits_there}
 
--- at each node stands an act or a `return` that fits, or a condition that does
+-- the act, `return` or condition at each node fits
 abbrev pub NodesFit : List StructDef → List UnitDef → ℕ → Type 0
 NodesFit structs units entry =
     (k position : ℕ) (unit : UnitDef) (n : Node) → IsWellTyped structs units entry → Passes units → slice_get units k ≡ Some unit →

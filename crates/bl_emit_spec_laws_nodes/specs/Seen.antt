@@ -9,13 +9,13 @@ use Rattle.bl_emit_spec_laws.specs.Calls.Built.{Activities}
 use Rattle.bl_emit_spec_laws.specs.Calls.Laws.{CompilationContext}
 use Rattle.bl_emit_spec_laws_nodes.specs.Views.{OwnSeen}
 
--- after an act its instance sees the values that the act leaves
+-- an instance sees the values that its act leaves, in each compiled program
 abbrev pub OwnIsSeen : Type 0
 OwnIsSeen =
     (structs : List StructDef) (units : List UnitDef) (entry : ℕ) (machine : List InMachine) (activities : Activities) →
     CompilationContext structs units entry machine activities → OwnSeen (setting_of structs units entry)
 
--- once a target of a `run` has its result the instance sees that there, and all else as before; and so does all inside what it calls
+-- an instance sees the result of a `run` in its target, and all else as before, and so do its callees
 abbrev pub TargetsAreSeen : Type 0
 TargetsAreSeen =
     (structs : List StructDef) (units : List UnitDef) (entry : ℕ) (machine : List InMachine) (activities : Activities) →

@@ -16,13 +16,13 @@ use Rattle.bl_emit_spec_laws.specs.Calls.Laws.{CompilationContext}
 use Rattle.bl_emit_spec_laws_nodes.specs.Points.Acts.{Acted, ActsSeen}
 use Rattle.bl_emit_spec_laws_nodes.specs.Points.Laws.{Remembering}
 
--- after an act its instance sees the values that the act leaves
+-- an instance sees the values that its act leaves
 abbrev pub OwnSeen : Setting → Type 0
 OwnSeen w =
     (i : ℕ) (unit : UnitDef) (l : Label) (s : Stmt) (store left : Store) (values : List Value) → Acted w i unit l s store left values →
     (view_at w left i).now ≡ values
 
--- where it does, an act leaves the variables inside of what its instance calls, and the result
+-- an act leaves the variables of what its instance calls and the result unchanged, where its instance sees what it leaves
 abbrev pub ActsLeave : Type 0
 ActsLeave =
     (structs : List StructDef) (units : List UnitDef) (entry : ℕ) (machine : List InMachine) (activities : Activities) →
@@ -36,6 +36,6 @@ CalleesRemember w activities =
     Contains (nodes_in (plain_body unit.body)) (EnterAt l at arguments) → callee_of w i at ≡ Some j →
     remembers_any (activity_at w activities j) ≡ true → remembers_any (activity_at w activities i) ≡ true
 
--- then one that remembers a variable, itself or in what it calls at any depth, is told to remember
+-- an activity is marked as remembering if it, or what it calls at any depth, remembers a variable
 abbrev pub RememberingStands : Type 0
 RememberingStands = (w : Setting) (activities : Activities) → CalleesRemember w activities → Remembering w activities

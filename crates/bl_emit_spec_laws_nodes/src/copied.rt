@@ -1,6 +1,6 @@
-//! What a program names under a `prev` is copied. Laws, as contracts of functions that do nothing: in each unit of a typed program all that
-//! is named under a `prev` where something is done at a node has a copy of what it was when the tick began (`specs/Copied.antt`,
-//! `NodesCopied`), and so has all that the arguments of a `run` name (`RunsCopied`).
+//! What a program names under a `prev` is copied. Lemmas only: in each unit of a typed program, all that is named under
+//! a `prev` at a node has a copy of its value at the start of the tick (`specs/Copied.antt`, `NodesCopied`). So has all
+//! that the arguments of a `run` name (`RunsCopied`).
 
 ghost use Rattle.bl_emit_spec_laws_nodes.specs.Copied.{NodesCopied, RunsCopied};
 

@@ -1,6 +1,6 @@
-//! What is done at the nodes of a program that is accepted. Laws, as contracts of functions that do nothing: at each node stands an act or a
-//! `return` that fits, or a condition that does (`specs/Fitting.antt`, `NodesFit`), and no output of a call overlaps another output or an
-//! aggregate input (`CallsApart`).
+//! What is done at the nodes of an accepted program. Lemmas only: the act, `return` or condition at each node fits
+//! (`specs/Fitting.antt`, `NodesFit`), and no output of a call overlaps another output or an aggregate input
+//! (`CallsApart`).
 
 ghost use Rattle.bl_emit_spec_laws_nodes.specs.Fitting.{CallsApart, NodesFit};
 

@@ -1,10 +1,9 @@
-//! Laws of the C of an activity's pass where nothing is done but changes of registers. None of these functions does anything: the contract
-//! is the law (`specs/Points/Laws.antt`). The C of changes leaves in the middle of a pass memory that stands for the changed registers and for all
-//! else as before (`ChangesSimulateInPass`); an `if` by the guard of a rule does what stands in it where the rule is due, and else nothing
-//! (`GuardsSimulate`), so a block whose rule is due does what the C of its node does (`BlocksChoose`); the blocks of nodes at which nothing is done
-//! but changes do what a pass by rules does (`SilentNodesSimulate`). Premises are that all that rules ask and change are registers of their activity
-//! (`RulesOwn`), that nothing but a `return` ends a body with a result (`ReturnsEnd`), and that an activity remembers what those that it calls
-//! remember (`Remembering`).
+//! The C of nodes at which only registers change. Lemmas only (`specs/Points/Laws.antt`). In the middle of a pass,
+//! memory represents the changed registers after the C of changes, and all else as before (`ChangesSimulateInPass`). An
+//! `if` by the guard of a rule is taken iff the rule is due (`GuardsSimulate`). So a block whose rule is due does what
+//! the C of its node does (`BlocksChoose`). The blocks of nodes with changes alone simulate them
+//! (`SilentNodesSimulate`). Rules must use only registers of their activity (`RulesOwn`). Only a `return` may end a
+//! body with a result (`ReturnsEnd`), and an activity must remember what its callees remember (`Remembering`).
 
 ghost use Rattle.bl_emit_spec_laws_nodes.specs.Points.Acts.{ActNodesSimulate, ReturnNodesSimulate};
 ghost use Rattle.bl_emit_spec_laws_nodes.specs.Points.Laws.{BlocksChoose, ChangesSimulateInPass, GuardsSimulate, SilentNodesSimulate};

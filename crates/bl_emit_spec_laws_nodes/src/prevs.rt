@@ -1,5 +1,5 @@
-//! What expressions and acts ask of the values before: a law, as the contract of a function that does nothing. What an expression means, and
-//! what an act leaves, depends on no value before but those that it names under a `prev` (`specs/Prevs.antt`, `PrevsTell`).
+//! What expressions and acts ask of earlier values. One lemma: the meaning of an expression, and the effect of an act,
+//! depend only on the earlier values that they name under a `prev` (`specs/Prevs.antt`, `PrevsTell`).
 
 ghost use Rattle.bl_emit_spec_laws_nodes.specs.Prevs.{PrevsTell};
 

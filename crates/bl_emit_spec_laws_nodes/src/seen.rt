@@ -1,7 +1,7 @@
-//! What an instance sees of what it does itself. There is no code here. Laws, as contracts of functions that do nothing, of every program that
-//! is compiled (`specs/Seen.antt`): after an act its instance sees the values that the act leaves (`OwnIsSeen`), and once a target of a `run`
-//! has its result the instance sees that at the target and all else as before, what is inside the instances that it calls has the
-//! variables that it had, and the instance's own result is what it was (`TargetsAreSeen`).
+//! What an instance sees of its own deeds, in every compiled program. Lemmas only (`specs/Seen.antt`). After an act its
+//! instance sees the values that the act leaves (`OwnIsSeen`). Once a target of a `run` has its result, the instance
+//! sees that at the target and all else as before. The variables inside its callees and its own result are unchanged
+//! (`TargetsAreSeen`).
 
 ghost use Rattle.bl_emit_spec_laws_nodes.specs.Seen.{OwnIsSeen, TargetsAreSeen};
 

@@ -1,6 +1,6 @@
-//! What an act of an instance leaves. Laws, as contracts of functions that do nothing. It leaves the variables of what is inside of the
-//! instances that it calls, and the result (`specs/Views.antt`, `ActsLeave`). And where each activity remembers what those that it runs remember,
-//! one that remembers a variable at any depth is told to remember (`RememberingStands`).
+//! What an act of an instance leaves. Lemmas only. It leaves the variables inside of its callees, and the result
+//! (`specs/Views.antt`, `ActsLeave`). Where each activity remembers what those that it runs remember, one that
+//! remembers a variable at any depth is marked so (`RememberingStands`).
 
 ghost use Rattle.bl_emit_spec_laws_nodes.specs.Views.{ActsLeave, RememberingStands};
 

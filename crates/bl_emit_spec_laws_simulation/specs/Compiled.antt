@@ -20,7 +20,7 @@ pub record IsCountable (unit : UnitDef) : Type 0 where
   pub variables : length unit.vars ≤ 2 ^ 64
   pub statements : cell_statements_of unit ≤ 2 ^ 62
 
--- so they do of each unit
+-- 64 bits count the variables and statements of each unit
 abbrev pub AreCountable : List UnitDef → Type 0
 AreCountable units = (k : ℕ) (unit : UnitDef) → slice_get units k ≡ Some unit → IsCountable unit
 

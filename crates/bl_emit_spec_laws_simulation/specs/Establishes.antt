@@ -6,8 +6,7 @@ use Rattle.bl_machine.specs.declared.machine.Activity.{Activity as InMachine}
 use Rattle.bl_emit_spec_laws.specs.Calls.Built.{Activities}
 use Rattle.bl_emit_spec_laws_nodes.specs.Calling.{RunsEstablish, RunsStand}
 
--- where what the arguments of `run`s name under a `prev` is copied, the call that is written for a `run` is one of the callee's function, and as that
--- begins memory has what a pass of the callee begins with
+-- the call of each `run` establishes what a pass of the callee begins with, if all that arguments name under a `prev` is copied
 abbrev pub AllRunsEstablish : List StructDef → List UnitDef → ℕ → Type 0
 AllRunsEstablish structs units entry =
     (machine : List InMachine) (activities : Activities) → RunsStand units → RunsEstablish structs units entry machine activities

@@ -6,7 +6,7 @@ use Rattle.bl_machine.specs.declared.machine.Activity.{Activity as InMachine}
 use Rattle.bl_emit_spec_laws.specs.Calls.Built.{Activities}
 use Rattle.bl_emit_spec_laws_nodes.specs.Calling.{RunsLeave}
 
--- in each program the call of a `run` leaves what a pass by rules of the called instance leaves
+-- the call of each `run` leaves what a pass by rules of the called instance leaves, in each program
 abbrev pub AllRunsLeave : Type 0
 AllRunsLeave =
     (structs : List StructDef) (units : List UnitDef) (entry : ℕ) (machine : List InMachine) (activities : Activities) →

@@ -7,7 +7,7 @@ use Rattle.bl_machine.specs.declared.machine.Activity.{Activity as InMachine}
 use Rattle.bl_emit_spec_laws.specs.Calls.Built.{Activities}
 use Rattle.bl_emit_spec_laws.specs.Calls.Laws.{ActivitiesSimulate, CompilationContext}
 
--- in a compiled program in which neither rule Frames nor Cells fails they do what passes of their instances do, wherever the functions are known
+-- the C functions of all activities simulate the passes of their instances, in each compiled program in which rules Frames and Cells hold
 abbrev pub CompiledSimulate : List StructDef → List UnitDef → ℕ → Type 0
 CompiledSimulate structs units entry =
     (machine : List InMachine) (activities : Activities) → KeepsLimits structs units entry →

@@ -1,7 +1,7 @@
-//! What the laws of passes ask of a compiled program. There is no code here. Laws, as contracts of functions that do nothing
-//! (`specs/Compiled.antt`): a typed program of a source text that passes the rules, with a machine of it that shares counters, has all that
-//! they ask, where 64 bits count the variables and the statements of each of its units (`ProgramsCompile`); and all that the rules of an
-//! instance's nodes ask and change are registers that its function has, where rule Cells doesn't fail (`RulesAreOwn`).
+//! The premises of the laws of passes hold for a compiled program. Lemmas only (`specs/Compiled.antt`). They hold for a
+//! typed program of a source text that passes the rules, with a machine that shares counters (`ProgramsCompile`). 64
+//! bits must count the variables and statements of its units. All that the rules of an instance ask for and change are
+//! registers of its function, where rule Cells holds (`RulesAreOwn`).
 
 ghost use Rattle.bl_emit_spec_laws_simulation.specs.Compiled.{ProgramsCompile, RulesAreOwn};
 

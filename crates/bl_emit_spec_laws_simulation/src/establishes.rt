@@ -1,8 +1,7 @@
-//! What the call that a `run` makes is given: a law, as the contract of a function that does nothing (`specs/Establishes.antt`, `AllRunsEstablish`).
-//! In the middle of a pass the C call that is written for a `run` hands over the places of what the callee rests at and remembers, the
-//! values of the inputs and the places of the outputs, of the result and of whether the body has ended. They keep apart, and memory has at
-//! them what a pass of the callee begins with, over the store in which the inputs went to the callee. Where an input traps so does the
-//! call. It asks that what the arguments name under a `prev` is copied.
+//! The precondition of the C call of a `run`. One lemma (`specs/Establishes.antt`, `AllRunsEstablish`). In the middle
+//! of a pass, the call hands over the callee's frame and memory, its inputs, and the places of the outputs, the result
+//! and the end flag. They are apart, and memory represents at them what a pass of the callee begins with. Where an
+//! input traps, so does the call. A premise is that what the arguments name under a `prev` is copied.
 
 ghost use Rattle.bl_emit_spec_laws_simulation.specs.Establishes.{AllRunsEstablish};
 

@@ -1,7 +1,7 @@
-//! What the call that a `run` makes leaves. There is no code here. A law, as the contract of a function that does nothing: in the middle of a
-//! pass, once the C function of the called activity has done what a pass of its instance does, memory stands for the caller again, with the
-//! variables, counters and results that the pass left; nothing was written that the caller's function may not write; and the locals of the
-//! `run` tell whether the called body has ended, and with which result (`specs/Leaves.antt`, `AllRunsLeave`).
+//! The postcondition of the C call of a `run`. One lemma (`specs/Leaves.antt`, `AllRunsLeave`). Once the callee's C
+//! function has simulated a pass, memory represents the caller again, with the variables, counters and results that the
+//! pass left. Nothing was written that the caller may not write. The locals of the `run` tell whether the callee's body
+//! has ended, and with which result.
 
 ghost use Rattle.bl_emit_spec_laws_simulation.specs.Leaves.{AllRunsLeave};
 

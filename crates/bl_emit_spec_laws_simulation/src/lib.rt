@@ -1,6 +1,6 @@
-//! The C functions of all activities of a program do what passes of their instances do (`come`), as the calls that `run`s make are
-//! given what a pass begins with (`gives`) and leave what it leaves (`leaves`), so that their blocks do what a pass does (`runs`), in a program
-//! that is compiled (`compiled`). None of these functions does anything: the contract is the law.
+//! The C functions of all activities of a compiled program simulate passes of their instances (`come`, `compiled`). The
+//! C call of a `run` establishes the pass's precondition (`gives`) and its postcondition (`leaves`). So the blocks of
+//! the `run` simulate it (`runs`). Lemmas only.
 #![tactic(auto)]
 
 pub mod compiled;

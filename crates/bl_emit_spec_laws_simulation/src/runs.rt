@@ -1,6 +1,6 @@
-//! The blocks of `run`s. There is no code here. A law, as the contract of a function that does nothing: where the call that a `run` makes is given
-//! what a pass of the called instance begins with, and leaves what that pass leaves, the blocks of the nodes at which a `run` begins or goes on do
-//! what a pass by rules does there (`RunsSimulate` of the crate `bl_emit_spec_laws_nodes`).
+//! The blocks of `run`s. One lemma: the blocks of a `run`'s nodes simulate them (`RunsSimulate` of the crate
+//! `bl_emit_spec_laws_nodes`). The call must establish what a pass of the callee begins with, and leave what that pass
+//! leaves.
 
 ghost use Rattle.bl_emit_spec_laws_nodes.specs.Calling.{RunsSimulate};
 

@@ -1,7 +1,7 @@
-//! The C functions of all activities of a program do what passes of their instances do. There is no code here. A law, as the contract of a function
-//! that does nothing (`specs/Simulation.antt`): it puts the laws of the parts together, of points and of `run`s, of how a function begins and of how its
-//! blocks stand, so that no premise is left but that the program is compiled, that rules Frames and Cells don't fail, and that the table knows the C
-//! functions (`CompiledSimulate`).
+//! The C functions of all activities of a program simulate passes of their instances. One lemma
+//! (`specs/Simulation.antt`) combines those of points, of `run`s, of the beginnings of functions and of the order of
+//! blocks. Its premises are that the program is compiled, that rules Frames and Cells hold, and that the table knows
+//! the C functions (`CompiledSimulate`).
 
 ghost use Rattle.bl_emit_spec_laws_simulation.specs.Simulation.{CompiledSimulate};
 

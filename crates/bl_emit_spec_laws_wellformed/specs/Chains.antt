@@ -36,20 +36,20 @@ pub record IsOfUnit (units : List UnitDef) (k : ℕ) (unit : UnitDef) (a : Activ
   pub is : a.unit ≡ unit
   pub before : a.earlier ≡ take k units
 
--- the C function heads no longer chain of calls than the unit does
+-- the C function of an activity heads no longer chain of calls than its unit does
 abbrev pub ActivityChainsFollow : Type 0
 ActivityChainsFollow =
     (units : List UnitDef) (k : ℕ) (unit : UnitDef) (a : Activity) (depths : Table ℕ) → IsOfUnit units k unit a → ChainsKnown units depths →
     depth_of_function depths (activity_function a) ≤ chain_at units k
 
--- a table still knows the chains once it joins
+-- a table of chains stays right once an activity's C function joins it
 abbrev pub ActivityChainsGrow : Type 0
 ActivityChainsGrow =
     (structs : List StructDef) (units : List UnitDef) (entry : ℕ) (k : ℕ) (unit : UnitDef) (a : Activity) (depths : Table ℕ) →
     IsWellTyped structs units entry → IsOfUnit units k unit a → ChainsKnown units depths →
     ChainsKnown units (with_entry depths (unit_name unit.name) (depth_of_function depths (activity_function a)))
 
--- where rule Frames doesn't fail, it heads no chain of more than 100 functions
+-- the C function of an activity heads no chain of more than 100 functions, where rule Frames holds
 abbrev pub ActivityChainsShort : Type 0
 ActivityChainsShort =
     (structs : List StructDef) (units : List UnitDef) (entry : ℕ) (k : ℕ) (unit : UnitDef) (a : Activity) (depths : Table ℕ) →

@@ -8,16 +8,16 @@ use Rattle.bl_ctree.specs.declared.instance.Instance.{Instance}
 use Rattle.bl_ctree.specs.Instances.{instances_of}
 use Rattle.bl_emit_spec.specs.Programs.{needed_units, needs_of}
 
--- in a typed program
+-- the needed units of a typed program are closed under calls and `run`s
 pub record NeededClosed (structs : List StructDef) (units : List UnitDef) (entry : ℕ) : Type 0 where
   -- the entry is needed
   pub entry_is : IsWellTyped structs units entry → slice_get (needed_units units entry) entry ≡ Some true
-  -- and so is each unit that a needed one calls or runs
+  -- each unit that a needed one calls or runs is needed
   pub closed : (k j : ℕ) (unit : UnitDef) → IsWellTyped structs units entry → slice_get units k ≡ Some unit →
       slice_get (needed_units units entry) k ≡ Some true → list_any (nat_eq j) (needs_of unit) ≡ true →
       slice_get (needed_units units entry) j ≡ Some true
 
--- so is the unit of each instance
+-- the unit of each instance is needed
 abbrev pub InstancesNeeded : List StructDef → List UnitDef → ℕ → Type 0
 InstancesNeeded structs units entry =
     (i : ℕ) (instance : Instance) → IsWellTyped structs units entry → slice_get (instances_of units entry) i ≡ Some instance →

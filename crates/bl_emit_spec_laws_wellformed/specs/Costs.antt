@@ -21,12 +21,12 @@ marks_in (change ∷ rest) = marks_in rest
 abbrev pub rule_extras : Transition → ℕ
 rule_extras rule = (if is_flagged rule.asked then 1 else 0) + marks_in rule.so
 
--- those of rules
+-- the flags that rules ask for, and the marks that they set, counted
 abbrev pub extras : List Transition → ℕ
 extras [] = 0
 extras (rule ∷ rest) = rule_extras rule + extras rest
 
--- a body takes no more counters, each with a copy of what it held, flags, marks and locals for `run`s than four for each of its statements
+-- the counters of a body with their copies, its flags, marks and locals for `run`s are at most four for each of its statements
 abbrev pub BodiesCost : List StructDef → List UnitDef → ℕ → Type 0
 BodiesCost structs units entry =
     (k : ℕ) (unit : UnitDef) (slots : Slots) → IsWellTyped structs units entry → slice_get units k ≡ Some unit →

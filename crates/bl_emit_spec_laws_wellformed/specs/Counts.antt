@@ -13,6 +13,6 @@ pub record IsFew (unit : UnitDef) : Type 0 where
   pub nodes : length (nodes_in (plain_body unit.body)) ≤ 4 * cell_statements_of unit
   pub places : places_in (plain_body unit.body) ≤ cell_statements_of unit
 
--- so it is of each unit of a typed program
+-- each unit of a typed program has at most four nodes for each statement, and no more resting places than statements
 abbrev pub NodesCounted : List StructDef → List UnitDef → ℕ → Type 0
 NodesCounted structs units entry = (k : ℕ) (unit : UnitDef) → IsWellTyped structs units entry → slice_get units k ≡ Some unit → IsFew unit

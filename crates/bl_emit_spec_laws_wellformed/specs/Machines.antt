@@ -18,13 +18,13 @@ pub record IsModest (structs : List StructDef) (units : List UnitDef) (k : ℕ) 
   pub shared : IsSharedActivityOf unit one
   pub cells : cells_at structs units k ≤ 1_000_000
 
--- what its C is made of has a spelling
+-- the C of an activity has a spelling, in a machine that shares counters, where its unit has at most a million cells
 abbrev pub MachinesSpell : List StructDef → List UnitDef → ℕ → Type 0
 MachinesSpell structs units entry =
     (k : ℕ) (unit : UnitDef) (one : InMachine) (remember : List Bool) → IsWellTyped structs units entry → IsModest structs units k unit one →
     CanSpell structs units k (activity_of structs (take k units) remember unit one)
 
--- and the numbers in the names of its C differ
+-- the numbers in the names of an activity's C differ, in a machine that shares counters, where its unit has at most a million cells
 abbrev pub MachinesDiffer : List StructDef → List UnitDef → ℕ → Type 0
 MachinesDiffer structs units entry =
     (k : ℕ) (unit : UnitDef) (one : InMachine) (remember : List Bool) → IsWellTyped structs units entry → IsModest structs units k unit one →

@@ -22,11 +22,11 @@ abbrev pub mark_number : (Node → ℕ) → Change → List ℕ
 mark_number number (SetsMark n) = number n ∷ []
 mark_number number change = []
 
--- those of the marks that a rule sets
+-- the numbers of the nodes whose marks a rule sets
 abbrev pub mark_numbers : (Node → ℕ) → Transition → List ℕ
 mark_numbers number rule = joined (map (mark_number number) rule.so)
 
--- the numbers in the names of an activity's C are ones that 64 bits hold, and of flags, of marks and of `run`s no two are the same
+-- 64 bits hold the numbers in the names of an activity's C, and those of flags, of marks and of `run`s differ
 pub record NumbersDiffer (a : Activity) : Type 0 where
   pub variables : length a.unit.vars ≤ 2 ^ 64
   pub counters : length a.sizes ≤ 2 ^ 64
@@ -44,6 +44,6 @@ LocalsDiffer =
 abbrev pub FrameDiffers : Type 0
 FrameDiffers = (a : Activity) → NumbersDiffer a → are_distinct (map (λ m. m.name) (frame_struct a).members) ≡ true
 
--- nor have two members of that of what it remembers
+-- no two members of the struct of what an activity remembers have one name
 abbrev pub MemoryDiffers : Type 0
 MemoryDiffers = (a : Activity) → NumbersDiffer a → are_distinct (map (λ m. m.name) (remembered a)) ≡ true

@@ -14,13 +14,13 @@ NeededCells structs units entry =
     (k : ℕ) → IsWellTyped structs units entry → slice_get (needed_units units entry) k ≡ Some true →
     cells_at structs units k ≤ cells_at structs units entry
 
--- where rule Cells doesn't fail, it has at most a million
+-- a unit that the entry needs has at most a million cells, where rule Cells holds
 abbrev pub NeededSmall : List StructDef → List UnitDef → ℕ → Type 0
 NeededSmall structs units entry =
     (k : ℕ) → IsWellTyped structs units entry → Passes structs units entry → slice_get (needed_units units entry) k ≡ Some true →
     cells_at structs units k ≤ 1_000_000
 
--- and 64 bits hold the numbers in the names of its C function
+-- 64 bits hold the numbers in the names of the C function of a needed unit, where the rules hold
 abbrev pub NeededNumbered : List StructDef → List UnitDef → ℕ → Type 0
 NeededNumbered structs units entry =
     (k : ℕ) (unit : UnitDef) → IsWellTyped structs units entry → Passes structs units entry → slice_get units k ≡ Some unit →

@@ -16,13 +16,13 @@ nodes_fit site [] nodes = true
 nodes_fit site callees [] = true
 nodes_fit site (a ∷ callees) (n ∷ nodes) = node_fits site a n && nodes_fit site callees nodes
 
--- it does at the nodes of each unit of a typed program
+-- what is done at each node of a unit fits where it stands, in every typed program
 abbrev pub NodesStand : List StructDef → List UnitDef → ℕ → Type 0
 NodesStand structs units entry =
     (k : ℕ) (unit : UnitDef) → IsWellTyped structs units entry → slice_get units k ≡ Some unit →
     nodes_fit (site_of structs (take k units) unit) (callees_in (plain_body unit.body)) (nodes_in (plain_body unit.body)) ≡ true
 
--- so rules and nodes of an activity fit where the numbers of its resting places do
+-- the rules and nodes of an activity fit where the numbers of its resting places do
 abbrev pub RulesFit : List StructDef → List UnitDef → ℕ → Type 0
 RulesFit structs units entry =
     (k : ℕ) (a : Activity) → IsWellTyped structs units entry → a.structs ≡ structs → a.earlier ≡ take k units →

@@ -18,7 +18,7 @@ pub record AreNumbered (body : List Stmt) (order : List ℕ) : Type 0 where
   pub differ : are_numbers (map (number_in order (plain_body body)) (nodes_in (plain_body body))) ≡ true
   pub few : (n : Node) → number_in order (plain_body body) n < 2 ^ 64
 
--- so it is where the order has each position of a node once
+-- the nodes of a body are numbered by any order that has each position of a node once, where 64 bits count them
 abbrev pub NodesNumbered : Type 0
 NodesNumbered =
     (body : List Stmt) (order : List ℕ) → IsPermutation (up_to (length (nodes_in (plain_body body)))) order →

@@ -21,27 +21,27 @@ use Rattle.bl_emit_spec.specs.Blocks.{Sizes, counter_type}
 abbrev pub slot_fits : Sizes → Slot → Bool
 slot_fits sizes slot = nat_lt slot.counter (2 ^ 64) && in_range (counter_type sizes slot.counter) (pos slot.value)
 
--- whether the counters in a change are such
+-- whether 64 bits hold the counters in a change, and its values are ones of their counters
 abbrev pub change_fits : Sizes → Change → Bool
 change_fits sizes (SetsCounter slot) = slot_fits sizes slot
 change_fits sizes (ClearsCounter k) = nat_lt k (2 ^ 64)
 change_fits sizes (ClearsBoth k) = nat_lt k (2 ^ 64)
 change_fits sizes change = true
 
--- whether resting places are such, and all of one counter
+-- whether 64 bits hold the counter of these resting places, which is one, and their values are ones of it
 abbrev pub slots_fit : Sizes → List Slot → Bool
 slots_fit sizes [] = true
 slots_fit sizes (slot ∷ rest) =
     list_all (slot_fits sizes) (slot ∷ rest) && list_all (λ other. nat_eq other.counter slot.counter) rest
 
--- whether those in what a rule asks are, and no more of them than 64 bits count
+-- whether 64 bits hold and count the counters in a rule's question, and the values are ones of them
 abbrev pub asked_fits : Sizes → Asked → Bool
 asked_fits sizes Flagged = true
 asked_fits sizes (Rested slot) = slot_fits sizes slot
 asked_fits sizes (RestedIn slots) = slots_fit sizes slots
 asked_fits sizes (Ended age needed) = list_all (slot_fits sizes) needed.slots && nat_le (length needed.slots) (2 ^ 64)
 
--- whether those in a rule are
+-- whether 64 bits hold the counters in a rule, and the values are ones of them
 abbrev pub rule_fits : Sizes → Transition → Bool
 rule_fits sizes rule =
     asked_fits sizes rule.asked && (list_all (change_fits sizes) rule.so && list_all (change_fits sizes) rule.otherwise)
@@ -61,15 +61,14 @@ node_fits site a (EnterAt l at arguments) = run_stands site a arguments
 node_fits site a (ResumeAt l at arguments) = run_stands site a arguments
 node_fits site a n = true
 
--- whether so it is of all nodes that have these rules, each with the activity that it calls
+-- whether all rules and what is done at their nodes fit, each node with the activity that it calls
 abbrev pub all_fit : Sizes → TypingContext → List ℕ → List Transition → Bool
 all_fit sizes site [] rules = true
 all_fit sizes site callees [] = true
 all_fit sizes site (a ∷ callees) (rule ∷ rules) =
     (rule_fits sizes rule && node_fits site a rule.node) && all_fit sizes site callees rules
 
--- an activity of a typed program, by the position of its unit, where all that is numbered is so by numbers that 64 bits hold, and all that its
--- nodes do fits where it stands
+-- the premises for spelling an activity's C: 64 bits hold all its numbers, and what its nodes do fits where it stands
 pub record CanSpell (structs : List StructDef) (units : List UnitDef) (k : ℕ) (a : Activity) : Type 0 where
   pub structures : a.structs ≡ structs
   pub earlier : a.earlier ≡ take k units
@@ -84,13 +83,13 @@ abbrev pub ActivitiesFit : List StructDef → List UnitDef → ℕ → Type 0
 ActivitiesFit structs units entry =
     (k : ℕ) (a : Activity) → IsWellTyped structs units entry → CanSpell structs units k a → func_fits 2000 (activity_function a) ≡ true
 
--- so has the struct of where it rests, where it has a member
+-- the struct of where an activity rests has a spelling, if it has a member
 abbrev pub FramesSpelled : List StructDef → List UnitDef → ℕ → Type 0
 FramesSpelled structs units entry =
     (k : ℕ) (a : Activity) → IsWellTyped structs units entry → CanSpell structs units k a → has_any (frame_struct a).members ≡ true →
     spells_struct (frame_struct a) ≡ true
 
--- and that of what it remembers
+-- the struct of what an activity remembers has a spelling
 abbrev pub RememberedSpelled : List StructDef → List UnitDef → ℕ → Type 0
 RememberedSpelled structs units entry =
     (k : ℕ) (a : Activity) → IsWellTyped structs units entry → CanSpell structs units k a → list_all spells_struct (remembered_struct a) ≡ true

@@ -12,18 +12,18 @@ use Rattle.bl_emit_spec.specs.Activities.{Activity, frame_struct}
 use Rattle.bl_emit_spec.specs.Programs.{activity_of, needed_units, parts_of_function, parts_of_next, written}
 use Rattle.bl_emit_spec_laws_wellformed.specs.Spelled.{CanSpell}
 
--- what the C of an activity is made of can be spelled, and the activity has a counter or runs another
+-- the C of an activity can be spelled, and the activity has a counter or runs another
 pub record ActivityIsSpellable (structs : List StructDef) (units : List UnitDef) (k : ℕ) (a : Activity) : Type 0 where
   pub can : CanSpell structs units k a
   pub rests : has_any (frame_struct a).members ≡ true
 
--- so it is of the activity for which a machine has its next part
+-- the next activity of the machine, if there is one, is spellable
 abbrev pub NextWrites : List StructDef → List UnitDef → List UnitDef → List Bool → UnitDef → List InMachine → Type 0
 NextWrites structs units earlier remember unit [] = Unit {0}
 NextWrites structs units earlier remember unit (one ∷ machine) =
     ActivityIsSpellable structs units (length earlier) (activity_of structs earlier remember unit one)
 
--- so it is of an activity; 64 bits hold the numbers in the names of a function
+-- a unit is spellable: an activity is with its part of the machine, and 64 bits hold the numbers in the names of a function
 abbrev pub UnitWrites : Bool → List StructDef → List UnitDef → List UnitDef → List Bool → UnitDef → List InMachine → Type 0
 UnitWrites true structs units earlier remember unit machine = NextWrites structs units earlier remember unit machine
 UnitWrites false structs units earlier remember unit machine = IsNumbered structs earlier unit
@@ -33,7 +33,7 @@ abbrev pub Where : Bool → Type 0 → Type 0
 Where true A = A
 Where false A = Unit {0}
 
--- so it is of each of these units that is needed; those before them stand in front, with what they remember
+-- each needed unit of the list is spellable, where earlier units stand in front, with what they remember
 abbrev pub AllWrite : List StructDef → List UnitDef → List UnitDef → List Bool → List UnitDef → List Bool → List InMachine → Type 0
 AllWrite structs units earlier remember [] needed machine = Unit {0}
 AllWrite structs units earlier remember (unit ∷ rest) [] machine = Unit {0}

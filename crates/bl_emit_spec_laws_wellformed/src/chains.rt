@@ -1,8 +1,8 @@
-//! Which functions the C function of an activity calls. There is no code here. Laws, as contracts of functions that do nothing
-//! (`specs/Chains.antt`): it calls functions of the prelude, and those of the units that the activity calls or runs, alone
-//! (`ActivitiesCallFew`); so it heads no longer chain of calls than the activity does (`ActivityChainsFollow`), a table that tells the
-//! chains of earlier units still does so once it joins (`ActivityChainsGrow`), and where rule Frames doesn't fail it heads no chain of more
-//! than 100 functions (`ActivityChainsShort`).
+//! Which functions the C function of an activity calls. Lemmas only (`specs/Chains.antt`). It calls only functions of
+//! the prelude and those of the units that the activity calls or runs (`ActivitiesCallFew`). So it heads no longer
+//! chain of calls than the activity does (`ActivityChainsFollow`), and none of more than 100 functions where rule
+//! Frames holds (`ActivityChainsShort`). A table of the chains of earlier units stays right once it joins
+//! (`ActivityChainsGrow`).
 
 ghost use Rattle.bl_emit_spec_laws_wellformed.specs.Chains.{ActivitiesCallFew, ActivityChainsFollow, ActivityChainsGrow, ActivityChainsShort};
 

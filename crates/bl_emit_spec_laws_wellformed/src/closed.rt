@@ -1,6 +1,5 @@
-//! The units that the entry of a program needs. There is no code here. Laws, as contracts of functions that do nothing
-//! (`specs/Closed.antt`): the entry is needed, and so is what a needed unit calls or runs (`NeededClosed`), so that the unit of each
-//! instance is (`InstancesNeeded`).
+//! The units that the entry of a program needs. Lemmas only (`specs/Closed.antt`): the entry is needed, and so is what
+//! a needed unit calls or runs (`NeededClosed`). So the unit of each instance is needed (`InstancesNeeded`).
 
 ghost use Rattle.bl_emit_spec_laws_wellformed.specs.Closed.{InstancesNeeded, NeededClosed};
 

@@ -1,6 +1,5 @@
-//! How many counters, flags and marks the C of an activity has. There is no code here. A law, as the contract of a function that does
-//! nothing (`specs/Costs.antt`): twice the counters that a body takes, the flags that its rules ask for, the marks that they set and its
-//! `run`s together are no more than four for each of its statements (`BodiesCost`).
+//! How many counters, flags and marks the C of an activity has. One lemma (`specs/Costs.antt`): its counters with their
+//! copies, flags, marks and `run`s together are at most four for each of its statements (`BodiesCost`).
 
 ghost use Rattle.bl_emit_spec_laws_wellformed.specs.Costs.{BodiesCost};
 

@@ -1,6 +1,5 @@
-//! Laws of how many nodes an activity has. None of these functions does anything: the contract is the law. The body of each unit of a
-//! typed program has at most four nodes for each statement that is counted, and no more places to rest than statements
-//! (`specs/Counts.antt`, `NodesCounted`).
+//! How many nodes an activity has. The body of each unit of a typed program has at most four nodes for each statement
+//! that is counted, and no more resting places than statements (`specs/Counts.antt`, `NodesCounted`).
 
 ghost use Rattle.bl_emit_spec_laws_wellformed.specs.Counts.{NodesCounted};
 

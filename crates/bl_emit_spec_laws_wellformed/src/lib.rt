@@ -1,5 +1,5 @@
-//! Laws of the C of activities as a text: names, numbers, spelling, and how much there is of it. None of these functions does anything:
-//! the contract is the law. `bl_emit_spec_laws_wellformed_bodies` has that bodies are well formed.
+//! Laws of the C text of activities: names, numbers, spelling, and size. Lemmas only.
+//! `bl_emit_spec_laws_wellformed_bodies` has that bodies are well formed.
 #![tactic(auto)]
 
 pub mod chains;

@@ -1,6 +1,6 @@
-//! Laws of the C of a machine's activities. None of these functions does anything: the contract is the law. Where a typed program's unit
-//! has at most a million cells, what the C of its activity in a machine that shares counters is made of has a spelling
-//! (`specs/Machines.antt`, `MachinesSpell`), and the numbers in its names differ (`MachinesDiffer`).
+//! The C of a machine's activities. The C of an activity has a spelling (`specs/Machines.antt`, `MachinesSpell`), and
+//! the numbers in its names differ (`MachinesDiffer`). The machine shares counters, and the activity's unit has at most
+//! a million cells.
 
 ghost use Rattle.bl_emit_spec_laws_wellformed.specs.Machines.{MachinesDiffer, MachinesSpell};
 

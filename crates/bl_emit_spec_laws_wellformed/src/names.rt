@@ -1,6 +1,6 @@
-//! Laws of the C of activities as a text: how names in it differ. None of these functions does anything: the contract is the law. Where
-//! 64 bits hold the numbers of nodes, counters and variables, and no two flags, marks or `run`s have one number (`specs/Names.antt`,
-//! `NumbersDiffer`), no two parameters and locals of the C function of an activity have one name (`LocalsDiffer`), and no two members of
+//! The names in the C of activities differ. Premises are that 64 bits hold the numbers of nodes, counters and
+//! variables, and that those of flags, marks and `run`s differ (`specs/Names.antt`, `NumbersDiffer`). Then the
+//! parameters and locals of an activity's C function have different names (`LocalsDiffer`), and so have the members of
 //! its structs (`FrameDiffers`, `MemoryDiffers`).
 
 ghost use Rattle.bl_emit_spec_laws_wellformed.specs.Names.{FrameDiffers, LocalsDiffer, MemoryDiffers};

@@ -1,6 +1,6 @@
-//! Laws of the units that the entry of a program needs. None of these functions does anything: the contract is the law. Such a unit has
-//! no more cells than the entry (`specs/Needed.antt`, `NeededCells`), so at most a million where rule Cells doesn't fail (`NeededSmall`),
-//! and 64 bits hold the numbers in the names of its C function (`NeededNumbered`).
+//! The sizes of the units that the entry of a program needs. Such a unit has no more cells than the entry
+//! (`specs/Needed.antt`, `NeededCells`), so at most a million where rule Cells holds (`NeededSmall`). Then 64 bits hold
+//! the numbers in the names of its C function (`NeededNumbered`).
 
 ghost use Rattle.bl_emit_spec_laws_wellformed.specs.Needed.{NeededCells, NeededNumbered, NeededSmall};
 

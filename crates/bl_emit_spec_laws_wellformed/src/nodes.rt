@@ -1,6 +1,6 @@
-//! Laws of the nodes of a typed program's activities. None of these functions does anything: the contract is the law. What is done at a
-//! node fits where it stands, and is nested no deeper than a typed program allows (`specs/Nodes.antt`, `NodesStand`). So of what
-//! `spelled` asks of the rules of an activity there is left that the numbers of its resting places fit (`RulesFit`).
+//! The nodes of a typed program's activities. What is done at a node fits where it stands, and is nested no deeper than
+//! a typed program allows (`specs/Nodes.antt`, `NodesStand`). So `spelled` requires only that the numbers of resting
+//! places fit (`RulesFit`).
 
 ghost use Rattle.bl_emit_spec_laws_wellformed.specs.Nodes.{NodesStand, RulesFit};
 

@@ -1,6 +1,6 @@
-//! Laws of the numbers in the names of an activity's C. None of these functions does anything: the contract is the law. A flag, a
-//! mark and a `run` have the number of a node each, so no two of a kind have one number where no two nodes have (`specs/Numbers.antt`,
-//! `NumbersFollow`). And no two nodes have one where the order of the blocks has each position of a node once (`NodesNumbered`).
+//! The numbers in the names of an activity's C. A flag, a mark and a `run` have the number of a node each, so those of
+//! a kind differ if the nodes' numbers do (`specs/Numbers.antt`, `NumbersFollow`). The nodes' numbers differ where the
+//! order of the blocks has each position of a node once (`NodesNumbered`).
 
 ghost use Rattle.bl_emit_spec_laws_wellformed.specs.Numbers.{NodesNumbered, NumbersFollow};
 

@@ -1,6 +1,6 @@
-//! Laws of the resting places in the rules of an activity. None of these functions does anything: the contract is the law. In the rules
-//! of a typed program's activity each number of a resting place, as C has it, has a value of its counter's type, and those that the body
-//! of a `when` may rest at are of one counter (`specs/Rests.antt`, `RulesStand`).
+//! Laws of the resting places in the rules of an activity. In the rules of a typed program's activity each number of a
+//! resting place, as C has it, has a value of its counter's type, and those that the body of a `when` may rest at are
+//! of one counter (`specs/Rests.antt`, `RulesStand`).
 
 ghost use Rattle.bl_emit_spec_laws_wellformed.specs.Rests.{RulesStand};
 

@@ -1,8 +1,8 @@
-//! Laws of the C of activities as a text: it has a spelling. None of these functions does anything: the contract is the law. The C
-//! function of an activity has a spelling (`specs/Spelled.antt`, `ActivitiesFit`), and so have the structs of where it rests
-//! (`FramesSpelled`) and of what it remembers (`RememberedSpelled`), where 64 bits hold the numbers in its names, the values of its
-//! counters are ones of their types, and what its nodes do fits where it stands (`CanSpell`). A test of many ends is a tree whose depth
-//! grows slowly, so no more brackets are open at once than in a C text may be.
+//! The C of activities has a spelling: that of the function (`specs/Spelled.antt`, `ActivitiesFit`), and the structs of
+//! where an activity rests (`FramesSpelled`) and of what it remembers (`RememberedSpelled`). Premises are that 64 bits
+//! hold the numbers in its names, that the values of its counters fit their types, and that what its nodes do fits
+//! (`CanSpell`). A test of many ends is a tree of logarithmic depth, so no more brackets are open than a C text may
+//! have.
 
 ghost use Rattle.bl_emit_spec_laws_wellformed.specs.Spelled.{ActivitiesFit, FramesSpelled, RememberedSpelled};
 

@@ -1,6 +1,6 @@
-//! The law of whole C files of activities as texts: they have a spelling. Its function does nothing: the contract is the law. The C
-//! file that is written of a typed program has one (`specs/Texts.antt`, `FilesSpelled`), where 64 bits hold the numbers in the names
-//! of the functions that its entry needs, and the C of each activity that it needs can be spelled (`AllWrite`).
+//! Whole C files of activities have a spelling. The C file of a typed program has one (`specs/Texts.antt`,
+//! `FilesSpelled`). Premises are that 64 bits hold the numbers in the names of needed functions, and that the C of each
+//! needed activity can be spelled (`AllWrite`).
 
 ghost use Rattle.bl_emit_spec_laws_wellformed.specs.Texts.{FilesSpelled};
 

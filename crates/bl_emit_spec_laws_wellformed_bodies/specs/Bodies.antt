@@ -53,7 +53,7 @@ abbrev pub memory_given : UnitDef → Bool → List Variable
 memory_given unit true = variable_of true (OfStruct (memory_name unit.name)) ∷ []
 memory_given unit false = []
 
--- the pointer to its result, where it has one
+-- the variable of the pointer to the activity's result, where it has one
 abbrev pub result_given : Option Scalar → List Variable
 result_given (Some s) = variable_of true (OfScalar (c_scalar s)) ∷ []
 result_given None = []
@@ -84,7 +84,7 @@ pub record ActivityStands (units : List UnitDef) (a : Activity) (table : Table (
 
 -- ---- what is asked of an activity
 
--- all that its rules ask and change are registers that its function has, and it has a counter at least
+-- the rules of an activity ask for and change only registers that its function has, and there is a counter
 pub record OwnsRules (a : Activity) : Type 0 where
   pub asks : (rule : Transition) → Contains (rules_at a) rule → asks_its_own (view_of a) (registered a) rule.node rule.asked ≡ true
   pub so : (rule : Transition) → Contains (rules_at a) rule → list_all (changes_its_own (view_of a).number (registered a)) rule.so ≡ true
@@ -106,7 +106,7 @@ named_there copied (EnterAt l at arguments) = all_of (map (copied_in copied) arg
 named_there copied (ResumeAt l at arguments) = all_of (map (copied_in copied) arguments.inputs)
 named_there copied n = true
 
--- what its nodes name under a `prev` is copied, and what is copied is a number or a bool
+-- all that the nodes of an activity name under a `prev` is copied, and copies are numbers or bools
 pub record CopiesSuffice (a : Activity) : Type 0 where
   pub named : (rule : Transition) → Contains (rules_at a) rule → named_there (is_copied (copies_of a.unit)) rule.node ≡ true
   pub scalars : (x : ℕ) (var : Var) → is_copied (copies_of a.unit) x ≡ true → slice_get a.unit.vars x ≡ Some var →

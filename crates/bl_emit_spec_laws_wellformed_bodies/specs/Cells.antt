@@ -45,8 +45,8 @@ abbrev pub cells_of_activity : Sizes → (ℕ → ℕ) → Activity → ℕ
 cells_of_activity known reach a =
     total (map (size_of_member known) (frame_struct a).members) + total (map (size_of_member known) (remembered a)) + reach_of known reach a
 
--- what is asked of what stands before an activity: a table tells no more scalars of types and of functions than those have, and the units that it
--- calls and runs reach no more than rule Cells counts for them; it has no more counters than its body takes
+-- the premises for counting the cells of an activity. The table and the reach of callees are within their counts, and there are no more counters than the body
+-- takes
 pub record Sized (structs : List StructDef) (units : List UnitDef) (k : ℕ) (unit : UnitDef) (a : Activity) (known : Sizes) (reach : ℕ → ℕ) :
     Type 0 where
   pub of_unit : IsOfUnit units k unit a
@@ -57,7 +57,7 @@ pub record Sized (structs : List StructDef) (units : List UnitDef) (k : ℕ) (un
   pub calls : (f : ℕ) → Contains (calls_of unit) f → reach f ≤ cells_at structs units f
   pub runs : (u : ℕ) (callee : UnitDef) → Contains (runs_of unit) u → slice_get units u ≡ Some callee → IsSized structs units known reach u callee
 
--- then it has at least four cells less than rule Cells counts for it, and where it has no result room for its parameters once more and six
+-- an activity has at least four fewer cells than rule Cells counts. Without a result, its parameters and six more fit too
 pub record ActivityCells (structs : List StructDef) (units : List UnitDef) (entry : ℕ) : Type 0 where
   pub less : (k : ℕ) (unit : UnitDef) (a : Activity) (known : Sizes) (reach : ℕ → ℕ) → IsWellTyped structs units entry →
       Sized structs units k unit a known reach → cells_of_activity known reach a + 4 ≤ cells_at structs units k

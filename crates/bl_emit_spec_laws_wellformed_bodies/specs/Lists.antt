@@ -33,14 +33,14 @@ pub record ActivityConditions (structs : List StructDef) (units : List UnitDef) 
   pub owns : OwnsRules a
   pub copies : CopiesSuffice a
 
--- a machine has a part for the next activity. Where the unit is needed all is so that is asked of it
+-- a machine has a part for the next activity, which meets its conditions where the unit is needed
 abbrev pub NextConditions : Bool → List StructDef → List UnitDef → List UnitDef → List Bool → UnitDef → List InMachine → Type 0
 NextConditions test structs units earlier remember unit [] = ⊥
 NextConditions true structs units earlier remember unit (one ∷ machine) =
     ActivityConditions structs units (length earlier) (activity_of structs earlier remember unit one)
 NextConditions false structs units earlier remember unit (one ∷ machine) = ⊤
 
--- so it is of an activity; 64 bits hold the numbers in the names of a function that is needed
+-- the conditions on a unit: those on an activity, and for a needed function that 64 bits hold the numbers in its names
 abbrev pub UnitConditions : Bool → Bool → List StructDef → List UnitDef → List UnitDef → List Bool → UnitDef → List InMachine → Type 0
 UnitConditions true test structs units earlier remember unit machine = NextConditions test structs units earlier remember unit machine
 UnitConditions false true structs units earlier remember unit machine = IsNumbered structs earlier unit
@@ -55,7 +55,7 @@ parts_here structs earlier remember unit machine =
 abbrev pub machine_behind : UnitDef → List InMachine → List InMachine
 machine_behind unit machine = if is_activity unit.kind then drop 1 machine else machine
 
--- so it is of each of these units; those before them stand in front, with what they remember
+-- the conditions hold for each unit of the list, where earlier units stand in front, with what they remember
 abbrev pub AllConditions : List StructDef → List UnitDef → List UnitDef → List Bool → List UnitDef → List Bool → List InMachine → Type 0
 AllConditions structs units earlier remember [] needed machine = ⊤
 AllConditions structs units earlier remember (unit ∷ rest) [] machine = ⊤
@@ -71,8 +71,8 @@ abbrev pub signature_by : Bool → List StructDef → UnitDef → Bool → Signa
 signature_by true structs unit remembers = signature_of_activity structs unit remembers
 signature_by false structs unit remembers = signature_for structs unit
 
--- Of the units before a position those that are needed have their C functions in a table; these lists say which are needed and which remember. No
--- function stands there whose name begins as those of the prelude and of the interface do, and none of a later unit
+-- the table has the C functions of the needed units before a position. It has none of a later unit, and none whose name begins as those of the prelude and the
+-- interface do
 pub record NeededKnown (structs : List StructDef) (units : List UnitDef) (needed remember : List Bool) (k : ℕ) (functions : Table Signature) : Type 0 where
   pub known : (f : ℕ) (unit : UnitDef) → slice_get units f ≡ Some unit → f < k → slice_get needed f ≡ Some true →
       functions (unit_name unit.name)

@@ -18,11 +18,11 @@ use Rattle.bl_emit_spec_laws_wellformed_bodies.specs.Bodies.{ActivityStands, Cop
 abbrev pub ActivitiesSigned : Type 0
 ActivitiesSigned = (a : Activity) → signature_in (activity_function a) ≡ signature_of_activity a.structs a.unit (remembers_any a)
 
--- nothing counts turns in it: it has no loops
+-- the C function of an activity has no loops, and no counters of turns
 abbrev pub NoneLoops : Type 0
 NoneLoops = (a : Activity) → turns_in_block (activity_code a) ≡ []
 
--- no clause fails in the C function of an activity, where no function before it has its name, and it heads no chain of calls that is too long
+-- no clause fails in the C function of an activity, if no earlier function has its name and its chain of calls isn't too long
 abbrev pub ActivitiesWellFormed : List StructDef → List UnitDef → ℕ → Type 0
 ActivitiesWellFormed structs units entry =
     (k : ℕ) (a : Activity) (table : Table (Table CMember)) (functions : Table Signature) (depths : Table ℕ) → IsWellTyped structs units entry →

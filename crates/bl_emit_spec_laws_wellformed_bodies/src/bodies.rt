@@ -1,7 +1,6 @@
-//! Laws of the C functions of activities as a text: they are well formed. None of these functions does anything: the contract is the
-//! law. Where the structs that the function of an activity needs stand before it, and so do the functions of earlier units
-//! (`specs/Bodies.antt`, `ActivityStands`), and its rules ask and change what the function has (`OwnsRules`), no clause of a
-//! well-formed file fails in its statements (`ActivityBodiesWellFormed`).
+//! The statements of the C functions of activities are well formed. No clause fails in them
+//! (`ActivityBodiesWellFormed`). Premises are that the needed structs and the functions of earlier units stand before
+//! the function (`specs/Bodies.antt`, `ActivityStands`), and that its rules use only its registers (`OwnsRules`).
 
 ghost use Rattle.bl_emit_spec_laws_wellformed_bodies.specs.Bodies.{ActivityBodiesWellFormed};
 

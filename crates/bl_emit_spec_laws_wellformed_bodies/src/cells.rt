@@ -1,7 +1,6 @@
-//! How many cells the C of an activity needs. There is no code here. Laws, as contracts of functions that do nothing (`specs/Cells.antt`):
-//! the `run`s in the C of an activity call what the activity runs (`BodiesRun`); and where its callees need no more cells than rule Cells
-//! counts for them, what it rests at and remembers, its C function and the most that a callee reaches need no more than that rule counts
-//! for it (`ActivityCells`).
+//! How many cells the C of an activity needs. Lemmas only (`specs/Cells.antt`). The `run`s in the C of an activity call
+//! what the activity runs (`BodiesRun`). The activity, with its C function and the most that a callee reaches, needs no
+//! more cells than rule Cells counts for it (`ActivityCells`). A premise is the same for its callees.
 
 ghost use Rattle.bl_emit_spec_laws_wellformed_bodies.specs.Cells.{ActivityCells, BodiesRun};
 

@@ -1,5 +1,5 @@
-//! Laws of the C functions of activities and of the structs of a file: they are well formed, and need no more cells than rule Cells
-//! counts. None of these functions does anything: the contract is the law.
+//! The C functions of activities and the structs of a file are well formed, and need no more cells than rule Cells
+//! counts. Lemmas only.
 #![tactic(auto)]
 
 pub mod bodies;

@@ -1,7 +1,7 @@
-//! Laws of the C functions of the units that the entry of a program needs, one behind the other. None of these functions does anything: the
-//! contract is the law. No clause of a well-formed file fails in them, where the structs of the file stand before them, all is so that is
-//! asked of each activity (`specs/Lists.antt`, `AllConditions`) and neither rule Frames nor Cells fails: what fails in a list that begins with
-//! them fails in what stands behind them, where the functions of needed units are known (`PartsWellFormed`).
+//! The C functions of the units that the entry of a program needs, in order. No clause fails in them, where the structs
+//! of the file stand before them, each activity meets its conditions (`specs/Lists.antt`, `AllConditions`), and rules
+//! Frames and Cells hold. What fails in a list that begins with them fails behind them, where the functions of needed
+//! units are known (`PartsWellFormed`).
 
 ghost use Rattle.bl_emit_spec_laws_wellformed_bodies.specs.Lists.{PartsWellFormed};
 

@@ -1,7 +1,7 @@
-//! Laws of the C functions of activities as a text: they are well formed. None of these functions does anything: the contract is the
-//! law. The C function of an activity has the parameters that are asked of it where it is called (`specs/Signed.antt`,
-//! `ActivitiesSigned`), and no loops (`NoneLoops`). No clause of a well-formed file fails in it (`ActivitiesWellFormed`), where what it
-//! needs stands before it, no function before it has its name and it heads no chain of more than 300 calls.
+//! The C functions of activities are well formed. Calls expect the parameters of the C function of an activity
+//! (`specs/Signed.antt`, `ActivitiesSigned`), and it has no loops (`NoneLoops`). No clause fails in it
+//! (`ActivitiesWellFormed`), if what it needs stands before it, no earlier function has its name, and it heads no chain
+//! of more than 300 calls.
 
 ghost use Rattle.bl_emit_spec_laws_wellformed_bodies.specs.Signed.{ActivitiesSigned, ActivitiesWellFormed, NoneLoops};
 

@@ -1,6 +1,6 @@
-//! The structs of the C file of an accepted program. Laws, as contracts of functions that do nothing. The structs of the units that the
-//! entry needs use those before them alone, and no two have one name (`specs/Structs/Laws.antt`, `PartsAreSound`). No clause of a
-//! well-formed file fails in the structs of the whole file, and each is declared (`FilesDeclare`).
+//! The structs of the C file of an accepted program. Lemmas only. The structs of needed units use only those before
+//! them, and have different names (`specs/Structs/Laws.antt`, `PartsAreSound`). No clause fails in the structs of the
+//! whole file, and each is declared (`FilesDeclare`).
 
 ghost use Rattle.bl_emit_spec_laws_wellformed_bodies.specs.Structs.Laws.{FilesDeclare, PartsAreSound};
 

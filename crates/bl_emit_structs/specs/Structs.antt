@@ -31,7 +31,7 @@ arrays_of structs ty = fold-Ty (Ty → List CStruct) (arrays_level structs) ty t
 abbrev pub structs_for_definition : List StructDef → StructDef → List CStruct
 structs_for_definition structs def = joined (map (λ field. arrays_of structs field.ty) def.fields) ++ (c_definition structs def ∷ [])
 
--- what the variables of a unit need besides
+-- the further structs that the variables of a unit need
 abbrev pub structs_for_unit : List StructDef → UnitDef → List CStruct
 structs_for_unit structs unit = joined (map (λ var. arrays_of structs var.ty) unit.vars)
 
@@ -41,7 +41,7 @@ structs_for structs units = joined (map (structs_for_definition structs) structs
 
 -- ---- each once
 
--- of structs of one name the first alone, and none of a name that is taken already
+-- the structs without those whose name is taken or stands before
 abbrev pub each_once : List Text → List CStruct → List CStruct
 each_once taken [] = []
 each_once taken (s ∷ rest) = if list_any (bytes_eq s.name) taken then each_once taken rest else s ∷ each_once (taken ++ s.name ∷ []) rest

@@ -16,7 +16,7 @@ use Rattle.bl_emit_structs.specs.Structs.{each_once, structs_for}
 use Rattle.bl_emit_structs_laws_wellformed.specs.Names.{member_names, names_of}
 use Rattle.bl_emit_acts_laws_wellformed.specs.Formed.Declared.{AreDeclared}
 
--- no struct of a program, and no type of a variable, is nested deeper than so
+-- no struct of a program, and no type of a variable, is nested deeper than `most`
 pub record NestsAtMost (most : ℕ) (structs : List StructDef) (units : List UnitDef) : Type 0 where
   pub definitions : (k : ℕ) → slice_index (struct_nestings structs) k ≤ most
   pub variables : (k j : ℕ) (unit : UnitDef) (var : Var) → slice_get units k ≡ Some unit → slice_get unit.vars j ≡ Some var →

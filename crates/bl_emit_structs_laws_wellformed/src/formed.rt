@@ -1,8 +1,7 @@
-//! Laws of the C structs of a program as a text: they are well formed. None of these functions does anything: the contract is the
-//! law. Where no struct and no variable of a program is nested deeper than 299 (rule Cells allows 100), no clause of a
-//! well-formed file fails in the program's C structs, nor in structs behind them that have its variables as their members
-//! (`specs/Formed.antt`, `StructsWellFormed`); and a file that begins with the program's C structs declares each struct that its types
-//! need, with its members (`StructsThere`).
+//! The C structs of a program are well formed. No clause fails in them, nor in structs behind them with its variables
+//! as members (`specs/Formed.antt`, `StructsWellFormed`). A premise is that no struct and no variable is nested deeper
+//! than 299 (rule Cells allows 100). A file that begins with the program's C structs declares each struct that its
+//! types need, with its members (`StructsThere`).
 
 ghost use Rattle.bl_emit_structs_laws_wellformed.specs.Formed.{StructsThere, StructsWellFormed};
 

@@ -1,5 +1,4 @@
-//! Laws of the C structs of a program. None of these functions does anything: the contract is the law. No two of them have one name
-//! (`names`), and as a text they are well formed (`formed`).
+//! The C structs of a program have different names (`names`) and are well formed (`formed`). Lemmas only.
 #![tactic(auto)]
 
 pub mod formed;

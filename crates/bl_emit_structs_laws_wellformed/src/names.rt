@@ -1,7 +1,7 @@
-//! Laws of the C structs of a program. None of these functions does anything: the contract is the law. No two of the structs
-//! have one name (`specs/Names.antt`, `NamesDiffer`), nor have two members of one (`MembersDiffer`). Each member is of a
-//! scalar type or of a struct that stands before (`UsesEarlier`), and where the type of a variable is a struct in C, this is
-//! among them (`TypesDeclared`). Types that differ have different names (`TypesApart`).
+//! The names and types in the C structs of a program. No two structs have one name (`specs/Names.antt`, `NamesDiffer`),
+//! and no two members of one do (`MembersDiffer`). Each member is of a scalar type or of an earlier struct
+//! (`UsesEarlier`). Where the type of a variable is a struct in C, that is among them (`TypesDeclared`). Different
+//! types have different names (`TypesApart`).
 
 ghost use Rattle.bl_emit_structs_laws_wellformed.specs.Names.{MembersDiffer, NamesDiffer, TypesApart, TypesDeclared, UsesEarlier};
 

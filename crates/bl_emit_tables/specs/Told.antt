@@ -52,7 +52,7 @@ asks_flag (Ended age needed) = false
 abbrev pub flag_told : NumberedTransition → List CLocal
 flag_told rule = if asks_flag rule.asked then scalar_local OfBool (flag_name rule.number) ∷ [] else []
 
--- those of all nodes
+-- the locals for the flags of all nodes that wait by one
 abbrev pub flags_told : List NumberedTransition → List CLocal
 flags_told rules = joined (map flag_told rules)
 
@@ -70,6 +70,6 @@ mark_told Finish = []
 abbrev pub rule_marks_told : NumberedTransition → List CLocal
 rule_marks_told rule = joined (map mark_told rule.so)
 
--- for those that all rules set
+-- the locals for the marks that all rules set
 abbrev pub marks_told : List NumberedTransition → List CLocal
 marks_told rules = joined (map rule_marks_told rules)

@@ -1,7 +1,7 @@
-//! Tables of what the C of a program keeps (docs/C_SUBSET.md, "What `blechc` writes"): which variables of an activity have a copy of what
-//! they were when the tick began, how many values its counters have, of which of them its rules ask what they held, and which units of a
-//! program its entry needs. Each is made by one pass over what it is made of, and fails only for want of memory. `specs/Told.antt` says what
-//! the rules of an activity tell of the registers of its passes.
+//! Tables of what the C of a program needs (docs/C_SUBSET.md, "What `blechc` writes"): which variables of an activity
+//! have a copy of their values at the start of the tick; how many values its counters have; which counters have a copy;
+//! and which units of a program its entry needs. Each table is made in one pass, and fails only for want of memory.
+//! `specs/Told.antt` says which registers the rules of an activity use.
 #![tactic(auto)]
 
 mod bools;

@@ -1,5 +1,4 @@
 //! Tests of `bl_eval`: values and acts of programs that are read from texts (docs/LANGUAGE.md, "How a program runs").
-//! There is nothing else here.
 #![tactic(auto)]
 
 #[cfg(test)]

@@ -15,7 +15,7 @@ input_rows = rows_to 100
 abbrev pub first_output : List ℤ → ℤ
 first_output row = slice_index_or row 0 (pos 0)
 
--- what the outputs of rows come to together
+-- the sum of the outputs of rows
 abbrev pub sum_of : List (List ℤ) → ℤ
 sum_of [] = pos 0
 sum_of (row ∷ rows) = first_output row +ℤ sum_of rows

@@ -19,7 +19,7 @@ entry_line = codes "@[EntryPoint] activity Main (x0: int32)(o: int32)\n"
 unfoldable pub declaration : ℕ → List ℕ
 declaration number = codes "var x" ++ (decimal number ++ codes ": int32\n")
 
--- those of the variables 1 to this one
+-- the declarations of the variables 1 to n
 abbrev pub declarations : ℕ → List ℕ
 declarations zero = []
 declarations (suc before) = declarations before ++ declaration (suc before)

@@ -1,7 +1,8 @@
-//! Large programs, made for measuring. `program` gives the source text of a program of so many stages, each of which reads
-//! in every tick what the one before it wrote in the same tick: exactly the text of `specs/Text.antt` (`program_text`), where
-//! there are 1 to 2,000 stages, and else it names their number; want of memory aside. `input_rows` gives the rows over which
-//! the program is run, the numbers 1 to 100, and `report` the four lines that tell a run's outputs (`specs/Outputs.antt`).
+//! Large programs for measurements. `program` gives the source text of a program with so many stages. Each stage reads
+//! in every tick what the one before it wrote in the same tick. It is exactly the text of `specs/Text.antt`
+//! (`program_text`) for 1 to 2,000 stages; otherwise it reports their number; want of memory aside. `input_rows` gives
+//! the rows over which the program is run, the numbers 1 to 100. `report` gives the four lines that report a run's
+//! outputs (`specs/Outputs.antt`).
 #![tactic(auto)]
 
 mod append;

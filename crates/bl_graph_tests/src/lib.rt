@@ -1,5 +1,5 @@
 //! Tests of `bl_graph`: the nodes and edges of each kind of statement, beside lists that were written by hand
-//! (docs/LANGUAGE.md, "Tick graphs"). There is nothing else here.
+//! (docs/LANGUAGE.md, "Tick graphs").
 #![tactic(auto)]
 
 #[cfg(test)]

@@ -1,4 +1,4 @@
-//! Tests of `bl_io`: files and sinks in memory and of the system (docs/FORMATS.md, "Notes"). There is nothing else here.
+//! Tests of `bl_io`: files and sinks in memory and of the system (docs/FORMATS.md, "Notes").
 #![tactic(auto)]
 
 #[cfg(test)]

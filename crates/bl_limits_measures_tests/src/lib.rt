@@ -1,4 +1,4 @@
-//! Tests of `bl_limits_measures` on small units (docs/LANGUAGE.md, "Measures"). There is nothing else here.
+//! Tests of `bl_limits_measures` on small units (docs/LANGUAGE.md, "Measures").
 #![tactic(auto)]
 
 #[cfg(test)]

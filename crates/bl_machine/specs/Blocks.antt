@@ -41,14 +41,14 @@ goes_straight (ActAt l s) = true
 goes_straight (HeadAt l at) = true
 goes_straight _ = false
 
--- whether it is a join of a `cobegin`
+-- whether the node is a join of a `cobegin`
 abbrev pub is_join : Node → Bool
 is_join (SurfaceJoinAt l at) = true
 is_join (DepthJoinAt l at) = true
 is_join _ = false
 
--- the second node acts where the first has, and nowhere else: so the two could stand in one block. Joins look at what their branches are,
--- and resume nodes and the body's entry at how the tick began
+-- the two nodes could stand in one block: the second acts iff the first has. Joins depend on their branches, and resume nodes and the body's entry on how the
+-- tick began
 pub record CouldFollow (body : Block) (n m : Node) : Type 0 where
   pub straight : goes_straight n ≡ true
   pub leads : EdgeAll body n m
@@ -60,7 +60,7 @@ pub record CouldFollow (body : Block) (n m : Node) : Type 0 where
 
 -- ---- an order of blocks
 
--- the numbers below this one, in order
+-- the numbers below `count`, in order
 abbrev pub up_to : ℕ → List ℕ
 up_to zero = []
 up_to (suc count) = up_to count ++ count ∷ []
@@ -69,15 +69,15 @@ up_to (suc count) = up_to count ++ count ∷ []
 abbrev pub EdgeLeads : Block → Node → Node → Type 0
 EdgeLeads body n m = EdgeAll body n m ⊎ DataEdge body n m
 
--- these blocks list the nodes of the body by their numbers, in an order in which each can be taken once
+-- blocks that list each node of the body once, by numbers: edges lead forward, and a block is a straight line of nodes
 pub record Ordered (body : Block) (blocks : List (List ℕ)) : Type 0 where
   -- each node stands once
   pub all : IsPermutation (up_to (length (nodes_in body))) (joined blocks)
-  -- before all to which an edge leads from it
+  -- each node stands before the nodes to which an edge leads from it
   pub rises : (p q i j : ℕ) → slice_get (joined blocks) p ≡ Some i → slice_get (joined blocks) q ≡ Some j →
       EdgeBetween (nodes_in body) (EdgeLeads body) i j → p < q
   -- no block is empty
   pub filled : (block : List ℕ) → Contains blocks block → 0 < length block
-  -- and what follows a node in its block could stand in one block with it
+  -- each node but the first of a block could stand in one block with the node before it
   pub straight : (block : List ℕ) (k i j : ℕ) → Contains blocks block → slice_get block k ≡ Some i → slice_get block (suc k) ≡ Some j →
       EdgeBetween (nodes_in body) (CouldFollow body) i j

@@ -31,8 +31,8 @@ BeginsAt counter low first Last = ⊤
 BeginsAt counter low first (Body weak body rest) = counter first ≡ low
 
 abbrev mutual
-  -- RestsAt counter low first s: the places of the statement are numbered from `first` on, and wherever it is paused it rests at the counter
-  -- `low`: an `await` and a `run` count there, and of a `cobegin` the first branch does
+  -- RestsAt counter low first s: the places of the statement are numbered from `first` on, and the statement rests at the counter `low` wherever it is paused.
+  -- An `await` and a `run` rest there themselves, and a `cobegin` by its first branch
   pub RestsAt : (ℕ → ℕ) → ℕ → ℕ → Plain → Type 0
   RestsAt counter low first (Act l s) = ⊤
   RestsAt counter low first (Await l at e) = counter first ≡ low
@@ -45,12 +45,12 @@ abbrev mutual
   RestsAt counter low first (While l at e body) = AllRestAt counter low first body
   RestsAt counter low first (Again l at body e) = AllRestAt counter low first body
 
-  -- so do all statements of a block
+  -- AllRestAt counter low first body: each statement of the block, whose places are numbered from `first` on, rests at the counter `low`
   pub AllRestAt : (ℕ → ℕ) → ℕ → ℕ → Block → Type 0
   AllRestAt counter low first Done = ⊤
   AllRestAt counter low first (Then s rest) = RestsAt counter low first s × AllRestAt counter low (first + places_of s) rest
 
-  -- each branch rests at the counter of its end, and no place of another branch has a counter of one of its places: they rest at once
+  -- each branch rests at the counter of its end, and no two branches have places with one counter, as they rest at once
   pub EachRests : (ℕ → ℕ) → ℕ → Bodies → Type 0
   EachRests counter first Last = ⊤
   EachRests counter first (Body weak body rest) = AllRestAt counter (counter first) (suc first) body

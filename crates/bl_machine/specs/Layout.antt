@@ -23,8 +23,8 @@ use Rattle.bl_graph_nodes.specs.Plain.{
 -- ---- places
 
 abbrev mutual
-  -- how many resting places stand in a statement: an `await` is one, so is a `run` and the end of a branch. They are numbered in source
-  -- order, the end of a branch before what stands in the branch
+  -- how many resting places stand in a statement, in source order. An `await`, a `run` and the end of a branch are one each; the end stands before its branch's
+  -- places
   pub places_of : Plain → ℕ
   places_of (Act l s) = 0
   places_of (Await l at e) = 1
@@ -37,12 +37,12 @@ abbrev mutual
   places_of (While l at e body) = places_in body
   places_of (Again l at body e) = places_in body
 
-  -- in a block
+  -- how many resting places stand in a block
   pub places_in : Block → ℕ
   places_in Done = 0
   places_in (Then s rest) = places_of s + places_in rest
 
-  -- in branches, with their ends
+  -- how many resting places stand in branches, their ends among them
   pub places_in_each : Bodies → ℕ
   places_in_each Last = 0
   places_in_each (Body weak body rest) = suc (places_in body) + places_in_each rest
@@ -50,8 +50,7 @@ abbrev mutual
 -- ---- counters
 
 abbrev mutual
-  -- how many counters a statement takes: one for all that rest one after another or instead of one another, and others for what rests
-  -- beside it
+  -- how many counters a statement takes: one for all places that never rest at once, and others for branches beside it
   pub width_of : Plain → ℕ
   width_of (Act l s) = 0
   width_of (Await l at e) = 1
@@ -64,19 +63,19 @@ abbrev mutual
   width_of (While l at e body) = width_in body
   width_of (Again l at body e) = width_in body
 
-  -- a block takes as many as the widest of its statements
+  -- how many counters a block takes: as many as the widest of its statements
   pub width_in : Block → ℕ
   width_in Done = 0
   width_in (Then s rest) = max (width_of s) (width_in rest)
 
-  -- branches take what each of them takes, which is one at least, since the end of a branch is a place too
+  -- how many counters branches take: the sum of theirs, at least one each, since the end of a branch is a place
   pub width_in_each : Bodies → ℕ
   width_in_each Last = 0
   width_in_each (Body weak body rest) = max 1 (width_in body) + width_in_each rest
 
 abbrev mutual
-  -- the counter of each place of a statement that is laid out from a counter on. What isn't in a branch behind the first of its `cobegin`
-  -- counts at that counter
+  -- the counter of each place of a statement that is laid out from a counter on. Branches behind the first of a `cobegin` have counters of their own; all else
+  -- has that counter
   pub counters_of : Plain → ℕ → List ℕ
   counters_of (Act l s) low = []
   counters_of (Await l at e) low = low ∷ []

@@ -24,14 +24,14 @@ use Rattle.bl_machine.specs.declared.slots.Slot.{Slot}
 
 -- the numbers of an activity's resting places, by the labels of their statements
 pub record Slots : Type 0 where
-  -- that of an `await` or a `run`
+  -- the number of the resting place of an `await` or a `run`, by its label
   pub rest : Label → Slot
-  -- that of the end of a branch of a `cobegin`, by the branch's number
+  -- the number of the end of a branch of a `cobegin`, by the label of the `cobegin` and the number of the branch
   pub ending : Label → ℕ → Slot
 
 -- ---- the counters of a part
 
--- whether it is this counter
+-- whether the number is one of the counter
 abbrev pub is_of : Slot → ℕ → Bool
 is_of slot counter = nat_eq counter slot.counter
 
@@ -49,17 +49,17 @@ abbrev mutual
   uses slots (While l at e body) counter = uses_in slots body counter
   uses slots (Again l at body e) counter = uses_in slots body counter
 
-  -- the same of a block
+  -- whether some place of the block is at the counter
   pub uses_in : Slots → Block → ℕ → Bool
   uses_in slots Done counter = false
   uses_in slots (Then s rest) counter = uses slots s counter || uses_in slots rest counter
 
-  -- and of the branches of a `cobegin`, from the one with this number on, with their ends
+  -- whether some place of the branches of a `cobegin`, from the one with this number on, is at the counter, their ends among them
   pub uses_in_each : Slots → Label → ℕ → Bodies → ℕ → Bool
   uses_in_each slots l k Last counter = false
   uses_in_each slots l k (BodyOf weak body rest) counter =
       (is_of (slots.ending l k) counter || uses_in slots body counter) || uses_in_each slots l (suc k) rest counter
 
--- of one branch
+-- whether some place of one branch, its end among them, is at the counter
 abbrev pub uses_in_branch : Slots → Label → ℕ → Block → ℕ → Bool
 uses_in_branch slots l k body counter = is_of (slots.ending l k) counter || uses_in slots body counter

@@ -1,13 +1,13 @@
-//! Machines: what of an accepted program its C text is made of. For each activity a machine has the nodes of its tick
-//! graph in the order in which one pass takes them, some of them joined into blocks, and a number for each place where it
-//! may rest between ticks: a counter, and the value that this has while the activity rests there
-//! (docs/LANGUAGE.md, "Machines"). `Machine::of` makes the machine of an accepted program, with blocks of one node, and fails
-//! for want of memory alone.
+//! Machines: the intermediate form of an accepted program, from which its C text is made. For each activity, a machine
+//! has the nodes of its tick graph in the order of one pass. Some of them are joined into blocks. Each place where the
+//! activity may rest between ticks has a number: a counter, and the counter's value while the activity rests there
+//! (docs/LANGUAGE.md, "Machines"). `Machine::of` makes the machine of an accepted program, with blocks of one node. It
+//! fails for want of memory alone.
 //!
-//! What each machine keeps is `IsMachine` (`specs/Machines.antt`). Every node of an activity stands once, before all to which
-//! edges lead from it, and what stands in one block could be one (`specs/Blocks.antt`, `Ordered`). Branches that rest at once
-//! are at different counters, what else rests is at one, and the values of each counter count up from one, so that no two
-//! places have one number (`specs/Counters.antt`, `specs/Slots.antt`).
+//! The invariant of machines is `IsMachine` (`specs/Machines.antt`). Every node of an activity stands once, before all
+//! nodes to which edges lead from it. The nodes of a block could be one (`specs/Blocks.antt`, `Ordered`). Branches that
+//! rest at once have different counters, and other parts share one. The values of each counter count up from one, so no
+//! two places have one number (`specs/Counters.antt`, `specs/Slots.antt`).
 #![tactic(auto)]
 
 mod activities;

@@ -17,7 +17,7 @@ ActivitiesRest =
     (structs : List StructDef) (units : List UnitDef) (entry : ℕ) (unit : UnitDef) → IsWellTyped structs units entry → Passes units →
     Contains units unit → is_activity unit.kind ≡ true → 0 < places_in (plain_body unit.body)
 
--- so the activity of a machine has a counter
+-- the activity of a machine has a counter, where none of the rules Pause and Instant fails
 abbrev pub ActivitiesCount : Type 0
 ActivitiesCount =
     (structs : List StructDef) (units : List UnitDef) (entry : ℕ) (unit : UnitDef) (one : InMachine) → IsWellTyped structs units entry → Passes units →

@@ -1,10 +1,10 @@
-//! One pass over an instance, on control trees alone: the numbers of a tree (`specs/Numbers/Numbers.antt`, `numbers_of`), what waits in
-//! it for its node and what of that rested when the tick began (`specs/Numbers/Waiting.antt`, `Waits`, `Sleeps`), and the turns of
-//! nodes, of which a pass is made (`specs/Numbers/Turns.antt`, `Turns`, `Passes`). There is no code here.
+//! One pass over an instance, on control trees alone. Definitions: the numbers of a tree (`specs/Numbers/Numbers.antt`,
+//! `numbers_of`), and what waits in it, or has rested, for its node (`specs/Numbers/Waiting.antt`, `Waits`, `Sleeps`).
+//! A pass consists of turns of nodes (`specs/Numbers/Turns.antt`, `Turns`, `Passes`). Lemmas only.
 //!
-//! Laws: an activity takes its width of counters (`specs/Numbers/Width.antt`). A turn is made of steps that could be taken, one after
-//! another, and so is a pass, with those of the instances that it calls; and what has a turn waits for it
-//! (`specs/Numbers/Steps.antt`). What rested when the tick began waits, and no turn makes more of it (`specs/Numbers/Sleeping.antt`).
+//! An activity takes its width of counters (`specs/Numbers/Width.antt`). Turns and passes consist of steps that could
+//! be taken one after another, and what has a turn waits for it (`specs/Numbers/Steps.antt`). What rested when the tick
+//! began waits, and no turn makes more of it (`specs/Numbers/Sleeping.antt`).
 
 ghost use Rattle.std.specs.Prelude.{List as Elements};
 ghost use Rattle.bl_tree.specs.declared.tree.Stmt.{Stmt as AStmt};

@@ -1,11 +1,12 @@
-//! One pass over a tick, on control trees and stores alone. There is no code here. Laws, as contracts of functions that do
-//! nothing: in each tree at its place, from each store, the nodes of an instance have their turns in the order of their numbers, a
-//! `run` that begins or goes on makes the whole pass of the instance that it calls, and when no turn is left nothing is left to
-//! do, or a deed trapped (`specs/Passes/Pass.antt`). In a program that passes the rules the pass of a tick is a maximal list of its
-//! steps, from each tree and store that runs reach and over each row of inputs (`specs/Passes/Ticks.antt`).
+//! One pass over a tick, on control trees and stores alone. Lemmas only. In each tree at its place, from each store,
+//! the nodes of an instance have their turns in the order of their numbers. A `run` makes the whole pass of the
+//! instance that it calls. When no turn is left, nothing is left to do, or a deed trapped (`specs/Passes/Pass.antt`).
+//! In a program that passes the rules, the pass of a tick is a maximal list of its steps, from each reachable state and
+//! over each row (`specs/Passes/Ticks.antt`).
 //!
-//! The numbers rise along all edges of the tick graphs and tell the nodes of each body apart; where the tick graphs have orders
-//! there are such numbers (`specs/Passes/Orders.antt`). Each step of a pass is the lowest that could be taken (`specs/Passes/Low.antt`).
+//! The numbers rise along all edges of the tick graphs and differ between the nodes of a body. Such numbers exist where
+//! the tick graphs have orders (`specs/Passes/Orders.antt`). Each step of a pass is the lowest that could be taken
+//! (`specs/Passes/Low.antt`).
 
 ghost use Rattle.bl_machine_laws.specs.Passes.Orders.{GraphsGiveOrders};
 ghost use Rattle.bl_machine_laws.specs.Passes.Pass.{InstancesHavePasses};

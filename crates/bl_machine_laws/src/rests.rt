@@ -1,6 +1,6 @@
-//! Where the activities of an accepted program may rest. Laws, as contracts of functions that do nothing. No activity's body may end in the
-//! tick in which it begins (rule Pause), and no body of a loop may (rule Instant); so each body has a resting place (`specs/Rests.antt`,
-//! `ActivitiesRest`), and the activity that a machine has for it a counter (`ActivitiesCount`).
+//! Where the activities of an accepted program may rest. Lemmas only. No activity's body may end in the tick in which
+//! it begins (rule Pause), and no body of a loop may (rule Instant). So each body has a resting place
+//! (`specs/Rests.antt`, `ActivitiesRest`), and its activity in a machine has a counter (`ActivitiesCount`).
 
 ghost use Rattle.bl_machine_laws.specs.Rests.{ActivitiesCount, ActivitiesRest};
 

@@ -1,9 +1,9 @@
-//! The trace of a machine that makes one pass a tick. There is no code here. Laws, as contracts of functions that do nothing: the
-//! positions of nodes in the blocks of a machine rise along all edges of the tick graphs and tell the nodes of each body apart, so
-//! that a pass can go by them, and there are such numbers for each machine of an accepted program (`specs/Traces/Positions.antt`). A run
-//! each tick of which is one pass shows what the parallel meaning allows, whichever passes it makes. In an accepted program there
-//! is such a run over all rows of inputs, in the machine's own order and with no further premise; the meaning allows its trace and
-//! nothing else (`specs/Traces/Runs.antt`, `MachinesHaveOneTrace`).
+//! The trace of a machine that makes one pass a tick. Lemmas only. The positions of nodes in the blocks of a machine
+//! rise along all edges of the tick graphs and differ between the nodes of a body. So a pass can go by them, and such
+//! numbers exist for each machine of an accepted program (`specs/Traces/Positions.antt`). A run of one pass a tick has
+//! a trace that the semantics allows, whichever passes it makes. In an accepted program such a run exists over all rows
+//! of inputs, in the machine's own order, and the semantics allows only its trace (`specs/Traces/Runs.antt`,
+//! `MachinesHaveOneTrace`).
 
 ghost use Rattle.bl_machine_laws.specs.Traces.Positions.{MachinesGiveOrders};
 ghost use Rattle.bl_machine_laws.specs.Traces.Runs.{MachinesHaveOneTrace, RunsAreMeant};

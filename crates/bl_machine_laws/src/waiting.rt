@@ -1,8 +1,8 @@
-//! What waits in a tree that stands in its body's tick graph. There is no code here. Laws, as contracts of functions that do
-//! nothing (`specs/Waiting/Laws.antt`): nothing waits in a tree between ticks; in one in which something is left to do, and each called
-//! instance has been passed, something waits; all that waits is a node of the part of the graph that acts in this tick; and what
-//! waits after a turn waited before it at another node, or control edges lead to it from the node that had the turn. In a woken
-//! tree what waits is what rested, and its numbers are those that it had (`specs/Waiting/Waking.antt`).
+//! What waits in a tree that stands in its body's tick graph. Lemmas only (`specs/Waiting/Laws.antt`). Nothing waits in
+//! a tree between ticks. Something waits in a tree in which something is left to do and each called instance has been
+//! passed. All that waits is a node of the part of the graph that acts in this tick. What waits after a turn waited
+//! before it at another node, or control edges lead to it from the turn's node. In a woken tree only what rested waits,
+//! with the same numbers (`specs/Waiting/Waking.antt`).
 
 ghost use Rattle.bl_machine_laws.specs.Waiting.Laws.{SettledIsQuiet, TurnsLeadOn, UnsettledWaits, WaitsInPart};
 ghost use Rattle.bl_machine_laws.specs.Waiting.Waking.{WakingKeepsNumbers, WokenRested};

@@ -32,7 +32,7 @@ same_label l m = bytes_eq l.position m.position && nat_eq l.passed m.passed
 
 -- ---- nodes
 
--- the sort of a node as a number: its constructor
+-- the number of a node's sort, its constructor
 abbrev pub sort : Node → ℕ
 sort (ActAt l s) = 0
 sort (TestAt l at e) = 1
@@ -70,7 +70,7 @@ position_where test (x ∷ rest) = if test x then 0 else suc (position_where tes
 abbrev pub no_slot : Slot
 no_slot = record { counter = 0; value = 0 }
 
--- the number that the list has for the place, where it stands among these
+-- the number of a place in a list, by its position among the places
 abbrev pub slot_for : List Slot → List Spot → Spot → Slot
 slot_for list spots spot = unwrap_or (slice_get list (position_where (same_spot spot) spots)) no_slot
 

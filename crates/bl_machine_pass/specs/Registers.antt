@@ -6,15 +6,15 @@ use Rattle.bl_machine.specs.declared.slots.Slot.{Slot}
 use Rattle.bl_machine_pass.specs.Transitions.{Age, Asked, Change, Needed, Transition}
 use Rattle.bl_machine_pass.specs.Transitions.{ClearsBoth, ClearsCounter, Ended, EndsWhen, Finishes, Flagged, IsAny, IsNew, IsOld, Rested, RestedIn, SetsCounter, SetsFlag, SetsMark}
 
--- the registers of a pass. Nodes are told by numbers, which differ for the nodes of a body
+-- the registers of a pass, by the numbers of nodes, which differ for the nodes of a body
 pub record Registers : Type 0 where
   -- what each counter of the instance holds: 0 where it doesn't rest there
   pub counters : ℕ → ℕ
-  -- what it held when the tick began, where that still matters
+  -- what each counter held when the tick began, where that still matters
   pub rested : ℕ → ℕ
-  -- which nodes wait by their flags, or have had their turn
+  -- the nodes that wait by their flags, or have had their turn
   pub flags : ℕ → Bool
-  -- which `cobegin` and `when` have begun in this tick, by the numbers of their first nodes
+  -- the `cobegin`s and `when`s that have begun in this tick, by the numbers of their first nodes
   pub marks : ℕ → Bool
   -- whether the body has ended
   pub over : Bool
@@ -29,23 +29,23 @@ with_at k x f j = if nat_eq j k then x else f j
 abbrev pub with_flag : ℕ → Registers → Registers
 with_flag k r = record { counters = r.counters; rested = r.rested; flags = with_at k true r.flags; marks = r.marks; over = r.over }
 
--- with a counter that holds the value
+-- the registers with a counter that holds the value
 abbrev pub with_counter : ℕ → ℕ → Registers → Registers
 with_counter k v r = record { counters = with_at k v r.counters; rested = r.rested; flags = r.flags; marks = r.marks; over = r.over }
 
--- with a counter that neither holds anything nor held it
+-- the registers with a counter that neither holds nor held a place
 abbrev pub with_none : ℕ → Registers → Registers
 with_none k r = record { counters = with_at k 0 r.counters; rested = with_at k 0 r.rested; flags = r.flags; marks = r.marks; over = r.over }
 
--- with a mark
+-- the registers with a mark
 abbrev pub with_mark : ℕ → Registers → Registers
 with_mark k r = record { counters = r.counters; rested = r.rested; flags = r.flags; marks = with_at k true r.marks; over = r.over }
 
--- with the body at its end
+-- the registers with the body at its end
 abbrev pub finished : Registers → Registers
 finished r = record { counters = r.counters; rested = r.rested; flags = r.flags; marks = r.marks; over = true }
 
--- what a change leaves, where nodes have these numbers
+-- the registers after a change, where nodes have these numbers
 abbrev pub changed : (Node → ℕ) → Change → Registers → Registers
 changed number (SetsFlag n) r = with_flag (number n) r
 changed number (SetsCounter slot) r = with_counter slot.counter slot.value r
@@ -60,7 +60,7 @@ abbrev pub all_changed : (Node → ℕ) → List Change → Registers → Regist
 all_changed number [] r = r
 all_changed number (change ∷ rest) r = all_changed number rest (changed number change r)
 
--- what a rule leaves where its node has acted with this answer
+-- the registers after a rule whose node has acted with this answer
 abbrev pub after_rule : (Node → ℕ) → Transition → Bool → Registers → Registers
 after_rule number rule answer r = all_changed number (if answer then rule.so else rule.otherwise) r
 
@@ -70,7 +70,7 @@ after_rule number rule answer r = all_changed number (if answer then rule.so els
 abbrev pub is_at : (ℕ → ℕ) → Slot → Bool
 is_at counters slot = nat_eq (counters slot.counter) slot.value
 
--- whether so many branches are at their ends as are needed
+-- whether as many branches rest at their ends as are needed
 abbrev pub are_ended : (ℕ → ℕ) → Needed → Bool
 are_ended counters needed = if needed.all then list_all (is_at counters) needed.slots else list_any (is_at counters) needed.slots
 
@@ -80,7 +80,7 @@ is_aged number marks (IsNew n) = marks (number n)
 is_aged number marks (IsOld n) = not (marks (number n))
 is_aged number marks IsAny = true
 
--- whether what is asked before a node acts is so
+-- whether the answer to what is asked before a node acts is true
 abbrev pub due_by : (Node → ℕ) → Registers → Node → Asked → Bool
 due_by number r n Flagged = r.flags (number n)
 due_by number r n (Rested slot) = is_at r.rested slot
@@ -93,6 +93,6 @@ is_due number rule r = due_by number r rule.node rule.asked
 
 -- ---- the start of a pass
 
--- as a pass begins over an instance whose counters hold this: only the node at which the body begins is flagged, where the instance is begun
+-- the registers at the start of a pass: counters hold these values, only the given flags are set, no mark is, and the body has not ended
 abbrev pub started : (ℕ → ℕ) → (ℕ → Bool) → Registers
 started counters flags = record { counters = counters; rested = counters; flags = flags; marks = λ k. false; over = false }

@@ -32,7 +32,7 @@ pub data Spot : Type 0 where
   -- the end of a branch of a `cobegin`
   EndOf : Label → ℕ → Spot
 
--- its number
+-- the number of a resting place
 abbrev pub slot_at : Slots → Spot → Slot
 slot_at slots (RestOf l) = slots.rest l
 slot_at slots (EndOf l k) = slots.ending l k
@@ -51,25 +51,25 @@ abbrev mutual
   spots_of (While l at e body) = spots_in body
   spots_of (Again l at body e) = spots_in body
 
-  -- of a block
+  -- the resting places of a block, in source order
   pub spots_in : Block → List Spot
   spots_in Done = []
   spots_in (Then s rest) = spots_of s ++ spots_in rest
 
-  -- of branches, from the one with this number on
+  -- the resting places of branches, from the one with this number on, each branch after its end
   pub spots_in_each : Label → ℕ → Bodies → List Spot
   spots_in_each l k Last = []
   spots_in_each l k (BodyOf weak body rest) = EndOf l k ∷ (spots_in body ++ spots_in_each l (suc k) rest)
 
 -- ---- counters
 
--- there is a first branch, and it ends at the counter
+-- the first branch exists and its end has the counter
 abbrev pub BeginsAt : Slots → Label → ℕ → Bodies → Type 0
 BeginsAt slots l low Last = ⊥
 BeginsAt slots l low (BodyOf weak body rest) = (slots.ending l 0).counter ≡ low
 
 abbrev mutual
-  -- wherever the statement is paused it rests at the counter: an `await` and a `run` count there, and of a `cobegin` the first branch does
+  -- the statement rests at the counter wherever it is paused: an `await` and a `run` themselves, and a `cobegin` by its first branch
   pub StatementRestsAt : Slots → ℕ → Plain → Type 0
   StatementRestsAt slots low (Act l s) = ⊤
   StatementRestsAt slots low (Await l at e) = (slots.rest l).counter ≡ low
@@ -82,23 +82,23 @@ abbrev mutual
   StatementRestsAt slots low (While l at e body) = BlockRestsAt slots low body
   StatementRestsAt slots low (Again l at body e) = BlockRestsAt slots low body
 
-  -- so do all statements of a block
+  -- every statement of the block rests at the counter wherever it is paused
   pub BlockRestsAt : Slots → ℕ → Block → Type 0
   BlockRestsAt slots low Done = ⊤
   BlockRestsAt slots low (Then s rest) = StatementRestsAt slots low s × BlockRestsAt slots low rest
 
-  -- each branch rests at the counter of its end, and no later branch uses a counter that it uses: they rest at once
+  -- each branch rests at the counter of its end, and no two branches use one counter, as they rest at once
   pub BranchesRestAt : Slots → Label → ℕ → Bodies → Type 0
   BranchesRestAt slots l k Last = ⊤
   BranchesRestAt slots l k (BodyOf weak body rest) = BlockRestsAt slots (slots.ending l k).counter body
       × ((counter : ℕ) → uses_in_branch slots l k body counter ≡ true → uses_in_each slots l (suc k) rest counter ≡ false)
       × BranchesRestAt slots l (suc k) rest
 
--- the resting places of a body are told apart by their numbers
+-- the resting places of a body have different numbers
 pub record SlotsAreDistinct (slots : Slots) (body : Block) : Type 0 where
   -- the activity rests at its first counter
   pub rests : BlockRestsAt slots 0 body
-  -- each number is that of one place
+  -- no two places have one number
   pub alone : (p q : Spot) → Contains (spots_in body) p → Contains (spots_in body) q → slot_at slots p ≡ slot_at slots q → p ≡ q
-  -- and 0 is the value of none
+  -- no place has the value 0, which stands for no place
   pub counted : (p : Spot) → Contains (spots_in body) p → (slot_at slots p).value ≡ 0 → ⊥

@@ -51,40 +51,40 @@ use Rattle.bl_machine.specs.Uses.{Slots}
 
 -- ---- changes
 
--- one change of what a pass keeps of where its instance stands
+-- one change of the registers of a pass
 pub data Change : Type 0 where
   -- the node waits for its turn
   SetsFlag : Node → Change
   -- the instance rests at the number
   SetsCounter : Slot → Change
-  -- it no longer rests at the counter
+  -- the instance no longer rests at the counter
   ClearsCounter : ℕ → Change
-  -- nor did it, as far as what follows in the tick is concerned
+  -- the instance no longer rests at the counter, and the copy of the counter from the start of the tick is cleared too
   ClearsBoth : ℕ → Change
   -- the `cobegin` or `when` that begins at the node has begun in this tick
   SetsMark : Node → Change
-  -- a `when` that begins at the first node ends: at the second one where it has begun in this tick, else at the third one
+  -- a `when` that begins at the first node ends: at the second node if it has begun in this tick, else at the third
   EndsWhen : Node → Node → Node → Change
   -- the body of the activity has ended
   Finishes : Change
 
--- what a block does where it is entered: its entry waits or, where nothing stands in it, what follows it happens
+-- the change where a block is entered: its entry waits, or what follows an empty block happens
 abbrev pub enter : Block → Change → Change
 enter Done next = next
 enter (Then s rest) next = SetsFlag (entry s)
 
 -- ---- what a pass asks at a node
 
--- which tick a `cobegin` has to have begun in, so that it ends at a node
+-- when a `cobegin` must have begun so that it ends at a node
 pub data Age : Type 0 where
-  -- this one, which the mark of its first node tells
+  -- in this tick: the mark of its first node is set
   IsNew : Node → Age
-  -- an earlier one
+  -- in an earlier tick
   IsOld : Node → Age
-  -- any: it never ends in the tick in which it begins
+  -- at any time, for a `cobegin` that never ends in the tick in which it begins
   IsAny : Age
 
--- the ends that a `cobegin` waits for: all of these numbers, or some one
+-- the ends that a `cobegin` waits for: all of these numbers, or one of them
 pub record Needed : Type 0 where
   pub all : Bool
   pub slots : List Slot
@@ -95,28 +95,27 @@ pub data Asked : Type 0 where
   Flagged : Asked
   -- whether the instance rested at the number when the tick began
   Rested : Slot → Asked
-  -- whether it rested at one of these, which are the numbers at which the body of a `when` may rest
+  -- whether the instance rested at one of these numbers, at which the body of a `when` may rest
   RestedIn : List Slot → Asked
-  -- whether so many branches of a `cobegin` rest at their ends as are needed
+  -- whether as many branches of a `cobegin` rest at their ends as are needed
   Ended : Age → Needed → Asked
 
--- a node, what is asked there, and what changes where its answer is true, and where it is false. A node without a test answers true; that
--- of a `run` which goes on tells whether the body of the activity that it calls has ended
+-- the rule of a node: what it asks, and what changes where the answer is true, and where it is false. A node without a test answers true; a `run` that goes on
+-- answers whether the callee's body has ended
 pub record Transition : Type 0 where
   pub node : Node
   pub asked : Asked
   pub so : List Change
   pub otherwise : List Change
 
--- a node that waits by its flag, and has one way on
+-- the rule of a node that waits by its flag and has one way on
 abbrev pub flagged : Node → List Change → Transition
 flagged n so = record { node = n; asked = Flagged; so = so; otherwise = [] }
 
 -- ---- the places of a part
 
 abbrev mutual
-  -- the numbers at which a statement rests as long as it is paused: one of them is the number of its counter then. Of a `cobegin` the first
-  -- branch tells it
+  -- the numbers at which a statement rests as long as it is paused: its counter has one of them then. For a `cobegin` they are those of the first branch
   pub rests_of : Slots → Plain → List Slot
   rests_of slots (Act l s) = []
   rests_of slots (Await l at e) = slots.rest l ∷ []
@@ -129,12 +128,12 @@ abbrev mutual
   rests_of slots (While l at e body) = rests_in slots body
   rests_of slots (Again l at body e) = rests_in slots body
 
-  -- the same of a block
+  -- the numbers at which a block rests as long as it is paused
   pub rests_in : Slots → Block → List Slot
   rests_in slots Done = []
   rests_in slots (Then s rest) = rests_of slots s ++ rests_in slots rest
 
-  -- and of the first branch
+  -- the numbers at which a block rests as long as it is paused
   pub rests_in_first : Slots → Label → Bodies → List Slot
   rests_in_first slots l Last = []
   rests_in_first slots l (BodyOf weak body rest) = slots.ending l 0 ∷ rests_in slots body
@@ -153,12 +152,12 @@ abbrev mutual
   counters_of slots (While l at e body) = counters_in slots body
   counters_of slots (Again l at body e) = counters_in slots body
 
-  -- the same of a block
+  -- the counters of all places of a block, in source order
   pub counters_in : Slots → Block → List ℕ
   counters_in slots Done = []
   counters_in slots (Then s rest) = counters_of slots s ++ counters_in slots rest
 
-  -- and of branches, from the one with this number on, with their ends
+  -- the counters of all places of branches, from the one with this number on, their ends among them
   pub counters_in_each : Slots → Label → ℕ → Bodies → List ℕ
   counters_in_each slots l k Last = []
   counters_in_each slots l k (BodyOf weak body rest) = (slots.ending l k).counter ∷ (counters_in slots body ++ counters_in_each slots l (suc k) rest)
@@ -180,43 +179,43 @@ abbrev mutual
   endings slots l k Last = []
   endings slots l k (BodyOf weak body rest) = slots.ending l k ∷ endings slots l (suc k) rest
 
-  -- of the strong ones
+  -- the numbers of the ends of strong branches, from the branch with this number on
   pub strong_endings : Slots → Label → ℕ → Bodies → List Slot
   strong_endings slots l k Last = []
   strong_endings slots l k (BodyOf weak body rest) =
       if weak then strong_endings slots l (suc k) rest else slots.ending l k ∷ strong_endings slots l (suc k) rest
 
--- all strong branches have to end, or some one where none is strong
+-- the ends that a `cobegin` waits for: those of all strong branches, or any one where none is strong
 abbrev pub needed : Slots → Label → Bodies → Needed
 needed slots l bodies =
     if some_strong bodies
     then record { all = true; slots = strong_endings slots l 0 bodies }
     else record { all = false; slots = endings slots l 0 bodies }
 
--- where the body of a `when` ends
+-- the change where the body of a `when` ends
 abbrev pub body_ends : Label → Place → Block → Change
 body_ends l at body =
     if are_instant body then EndsWhen (StartAt l at) (SurfaceEndAt l at) (DepthEndAt l at) else SetsFlag (DepthEndAt l at)
 
--- a construct that may end in the tick in which it begins marks that it has begun in it
+-- the changes with the mark that a construct has begun in this tick, for one that may end in the tick in which it begins
 abbrev pub marked : Bool → Node → List Change → List Change
 marked instant n rest = if instant then SetsMark n ∷ rest else rest
 
--- the branches begin, from the one with this number on
+-- the changes by which branches begin, from the one with this number on
 abbrev pub enter_each : Slots → Label → ℕ → Bodies → List Change
 enter_each slots l k Last = []
 enter_each slots l k (BodyOf weak body rest) = enter body (SetsCounter (slots.ending l k)) ∷ enter_each slots l (suc k) rest
 
--- a condition that was true: `abort` goes on behind the body, and `reset` begins it anew
+-- the change of a condition that was true: `abort` goes on behind the body, and `reset` begins it anew
 abbrev pub fires : Guard → Label → Place → Block → Change → Change
 fires Abort l at body next = next
 fires Reset l at body next = enter body (body_ends l at body)
 
--- the rule, where the test is true
+-- the rule alone where the test is true, else none
 abbrev pub rule_where : Bool → Transition → List Transition
 rule_where test rule = if test then rule ∷ [] else []
 
--- the end of a `cobegin` at the node: it no longer rests anywhere
+-- the rule of the node at which a `cobegin` ends: it no longer rests anywhere
 abbrev pub joins : Slots → Label → Bodies → Age → Node → Change → Transition
 joins slots l bodies age n next = record {
   node = n;
@@ -225,7 +224,7 @@ joins slots l bodies age n next = record {
   otherwise = [];
 }
 
--- a `cobegin` in a later tick
+-- the age that a `cobegin` needs at its later join: any, if it can't end in the tick in which it begins
 abbrev pub age_of : Bool → Node → Age
 age_of instant n = if instant then IsOld n else IsAny
 
@@ -281,17 +280,17 @@ abbrev mutual
       ∷ record { node = TestAt l at e; asked = Flagged; so = next ∷ []; otherwise = SetsFlag (HeadAt l at) ∷ [] }
       ∷ rules_in slots body (SetsFlag (TestAt l at e))
 
-  -- of the statements of a block
+  -- the rules of the nodes of a block, in their order, where that change follows the block
   pub rules_in : Slots → Block → Change → List Transition
   rules_in slots Done next = []
   rules_in slots (Then s rest) next = rules_of slots s (enter rest next) ++ rules_in slots rest next
 
-  -- of branches, from the one with this number on: a branch that has ended rests at its end
+  -- the rules of the nodes of branches, from the one with this number on: a branch that has ended rests at its end
   pub rules_in_each : Slots → Label → ℕ → Bodies → List Transition
   rules_in_each slots l k Last = []
   rules_in_each slots l k (BodyOf weak body rest) =
       rules_in slots body (SetsCounter (slots.ending l k)) ++ rules_in_each slots l (suc k) rest
 
--- of the whole body of an activity
+-- the rules of the nodes of an activity's body, in their order
 abbrev pub rules : Slots → Block → List Transition
 rules slots body = rules_in slots body Finishes

@@ -17,13 +17,13 @@ MayFlag (SetsMark n) m = ⊥
 MayFlag (EndsWhen start surface depth) m = (m ≡ surface) ⊎ (m ≡ depth)
 MayFlag Finishes m = ⊥
 
--- where the second node could stand in one block with the first, no rule of the body but that of the first sets its flag
+-- the flag of a node that could stand in one block with the node before it is set only by the rule of that node
 abbrev pub FlagsComeFromBefore : Type 0
 FlagsComeFromBefore =
     (slots : Slots) (body : Block) (n m : Node) (rule : Transition) (change : Change) → CouldFollow body n m → Contains (rules slots body) rule →
     Contains rule.so change ⊎ Contains rule.otherwise change → MayFlag change m → rule.node ≡ n
 
--- and its own rule asks for it
+-- the rule of a node that could stand in one block with the node before it asks for its flag
 abbrev pub FlagsAreAsked : Type 0
 FlagsAreAsked =
     (slots : Slots) (body : Block) (n m : Node) (rule : Transition) → CouldFollow body n m → Contains (rules slots body) rule → rule.node ≡ m →

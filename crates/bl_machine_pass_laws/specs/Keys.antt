@@ -5,7 +5,7 @@ use Rattle.bl_graph_nodes.specs.Nodes.{Node, label_of, nodes_in}
 use Rattle.bl_graph_nodes.specs.Plain.{Position, plain_block}
 use Rattle.bl_machine_pass.specs.Numbered.{sort}
 
--- two nodes of a body that have one label and one sort are one, and none stands at two places
+-- label and sort distinguish the nodes of a body, and no node stands twice
 pub record NodesHaveKeys : Type 0 where
   pub keys : (body : List Stmt) (at : Position) (n m : Node) → Contains (nodes_in (plain_block body at)) n →
       Contains (nodes_in (plain_block body at)) m → label_of n ≡ label_of m → sort n ≡ sort m → n ≡ m

@@ -17,8 +17,7 @@ use Rattle.bl_machine_pass_laws.specs.Turns.Invariant.{Exactly, IsResume}
 use Rattle.bl_machine_pass_laws.specs.Turns.Laws.{Placed}
 use Rattle.bl_machine_pass_laws.specs.Turns.Rooted.{Rooted, in_none}
 
--- where the counters hold the numbers of a tree that rested, a node at which a later tick goes on is due exactly where something waits for it
--- once the tree is woken
+-- a resume node is due iff something waits for it in the woken tree, where the counters hold the numbers of the tree that rested
 abbrev pub ResumesBegin : Type 0
 ResumesBegin =
     (w : Setting) (number : Node → ℕ) (i : ℕ) (slots : Slots) (unit : UnitDef) (stood : Bool) (c : Tree) (counters : ℕ → ℕ)
@@ -29,7 +28,7 @@ ResumesBegin =
     IsResume rule.asked →
     Exactly (is_due number rule (started counters flags)) (Waits (woken c) None rule.node)
 
--- and nothing waits at other nodes
+-- nothing waits at nodes other than resume nodes as a pass goes on over a tree that rested
 abbrev pub OnlyResumesBegin : Type 0
 OnlyResumesBegin =
     (w : Setting) (number : Node → ℕ) (i : ℕ) (slots : Slots) (unit : UnitDef) (stood : Bool) (c : Tree) (counters : ℕ → ℕ)

@@ -9,7 +9,7 @@ abbrev pub Has : List Spot → Spot → Type 0
 Has [] p = ⊥
 Has (x ∷ xs) p = (p ≡ x) ⊎ Has xs p
 
--- none stands twice
+-- no place stands twice in the list
 abbrev pub SpotsAreDistinct : List Spot → Type 0
 SpotsAreDistinct [] = ⊤
 SpotsAreDistinct (x ∷ xs) = (Has xs x → ⊥) × SpotsAreDistinct xs

@@ -1,7 +1,6 @@
-//! Which rules of a pass set the flag of a node. There is no code here. Laws, each the contract of a function that does nothing
-//! (`specs/Flags.antt`): where a node could stand in one block with the node before it, no other rule of the body sets its flag
-//! (`FlagsComeFromBefore`), and its own rule asks for that flag (`FlagsAreAsked`); and wherever a rule may set a flag a control edge leads
-//! (`FlagsAreReached`).
+//! Which rules of a pass set the flag of a node. Lemmas only (`specs/Flags.antt`). Where a node could stand in one
+//! block with the node before it, only that node's rule sets its flag (`FlagsComeFromBefore`), and its own rule asks
+//! for the flag (`FlagsAreAsked`). A control edge leads wherever a rule may set a flag (`FlagsAreReached`).
 
 ghost use Rattle.bl_machine_pass_laws.specs.Flags.{FlagsAreAsked, FlagsAreReached, FlagsComeFromBefore};
 

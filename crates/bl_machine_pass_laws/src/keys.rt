@@ -1,4 +1,4 @@
-//! Label and sort tell the nodes of a body apart (`specs/Keys.antt`, `NodesHaveKeys`). There is no code here.
+//! Label and sort distinguish the nodes of a body (`specs/Keys.antt`, `NodesHaveKeys`). Lemmas only.
 
 ghost use Rattle.bl_machine_pass_laws.specs.Keys.{NodesHaveKeys};
 

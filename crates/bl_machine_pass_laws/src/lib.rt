@@ -1,6 +1,7 @@
-//! One pass over an activity by registers: what holds between its turns (`specs/Turns/Invariant.antt`, `PassInvariant`), how a tree stands in a body
-//! with its rules and counters (`specs/Turns/Sits.antt`), and what a turn has to keep (`specs/Turns/Laws.antt`). None of these functions does
-//! anything: the contract is the law, of a body's nodes, their keys, flags, spots and numbers. `bl_machine_pass_laws_turns` has whole passes.
+//! One pass over an activity by registers: the invariant between its turns (`specs/Turns/Invariant.antt`,
+//! `PassInvariant`), how a tree stands in a body with its rules and counters (`specs/Turns/Sits.antt`), and what each
+//! turn preserves (`specs/Turns/Laws.antt`). Lemmas only, on the nodes of a body, their keys, flags, spots and numbers.
+//! `bl_machine_pass_laws_turns` has whole passes.
 #![tactic(auto)]
 
 pub mod flags;

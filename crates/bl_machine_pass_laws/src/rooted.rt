@@ -1,6 +1,7 @@
-//! What rests in an activity stands under the `when`s in which it is written (`specs/Turns/Rooted.antt`, `StaysRooted`): so
-//! a body begins, and waking and turns leave it so. Where counters hold the numbers of a tree that rested, what is due in the next tick
-//! is what waits once the tree is woken (`specs/Rooted.antt`, `ResumesBegin`). There is no code here.
+//! What rests in an activity stands under the `when`s in which it is written (`specs/Turns/Rooted.antt`,
+//! `StaysRooted`): so a body begins, and waking and turns keep that. Where counters hold the numbers of a tree that
+//! rested, what is due in the next tick is what waits in the woken tree (`specs/Rooted.antt`, `ResumesBegin`). Lemmas
+//! only.
 
 ghost use Rattle.bl_machine_pass_laws.specs.Turns.Rooted.{StaysRooted};
 ghost use Rattle.bl_machine_pass_laws.specs.Rooted.{OnlyResumesBegin, ResumesBegin};

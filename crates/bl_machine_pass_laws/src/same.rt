@@ -1,7 +1,8 @@
-//! Where a program stands between ticks is told by its counters (`specs/Same/Laws.antt`): two trees of an instance with the same numbers go
-//! on as one, where what they have called does (`NumbersTell`), and so do two trees of a program whose instances have the same numbers
-//! (`CountersTell`). For this a tree is left of its body as it is written (`specs/Same/Residual.antt`): so a body begins, and waking, turns and
-//! whole passes leave it so (`StaysResidual`). There is no code here.
+//! The counters determine the control state of a program between ticks (`specs/Same/Laws.antt`). Two trees of an
+//! instance with the same numbers continue alike, if their callees do (`NumbersTell`). So do two trees of a program
+//! whose instances have the same numbers (`CountersTell`). The proof uses that a tree is a residual of its body
+//! (`specs/Same/Residual.antt`), which holds at the start and is kept by waking, turns and whole passes
+//! (`StaysResidual`). Lemmas only.
 
 ghost use Rattle.bl_machine_pass_laws.specs.Same.Laws.{CountersTell, NumbersTell, StaysResidual};
 

@@ -1,7 +1,6 @@
-//! Numbers of resting places by the labels of their statements. There is no code here. Laws, as contracts of functions that do
-//! nothing (`specs/Slots/Laws.antt`): the numbers that a machine lists for the places of an activity, in source order, tell these places
-//! apart by labels too, where each `cobegin` has a branch (`NumbersAreDistinct`); and each has one in the bodies of a typed program
-//! (`TypedHaveBranches`).
+//! Numbers of resting places by the labels of their statements. Lemmas only (`specs/Slots/Laws.antt`). The numbers that
+//! a machine lists for the places of an activity, in source order, distinguish these places by labels too, where each
+//! `cobegin` has a branch (`NumbersAreDistinct`). Each `cobegin` of a typed program has one (`TypedHaveBranches`).
 
 ghost use Rattle.bl_machine_pass_laws.specs.Slots.Laws.{NumbersAreDistinct, TypedHaveBranches};
 

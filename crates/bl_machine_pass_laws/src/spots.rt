@@ -1,5 +1,5 @@
-//! The resting places of a body differ (`specs/Spots.antt`, `SpotsDiffer`): those of different statements have labels at
-//! different positions. There is no code here.
+//! The resting places of a body differ (`specs/Spots.antt`, `SpotsDiffer`): those of different statements have labels
+//! at different positions. Lemmas only.
 
 ghost use Rattle.bl_machine_pass_laws.specs.Spots.{SpotsDiffer};
 

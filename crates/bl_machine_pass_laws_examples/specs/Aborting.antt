@@ -29,19 +29,19 @@ ends_o = set 6 1 (number 100)
 abbrev pub guard_label : Label
 guard_label = label_at (0 ∷ [])
 
--- that of the loop in it
+-- the label of the loop in the `when`
 abbrev pub loop_label : Label
 loop_label = label_at (0 ∷ 0 ∷ 1 ∷ [])
 
--- of its pause
+-- the label of the pause in the loop
 abbrev pub pause_label : Label
 pause_label = label_at (0 ∷ 0 ∷ 1 ∷ 0 ∷ 0 ∷ [])
 
--- of what is done after it
+-- the label of the act after the pause
 abbrev pub raise_label : Label
 raise_label = label_at (0 ∷ 0 ∷ 1 ∷ 0 ∷ 1 ∷ [])
 
--- and of the last pause
+-- the label of the last pause
 abbrev pub last_label : Label
 last_label = label_at (2 ∷ [])
 
@@ -53,7 +53,7 @@ loop = Repeat loop_label (at 3) (Then (Await pause_label (at 4) always) (Then (A
 abbrev pub guarded : Block
 guarded = Then (Act (label_at (0 ∷ 0 ∷ 0 ∷ [])) begins_o) (Then loop Done)
 
--- what follows it
+-- what follows the `when`
 abbrev pub rest : Block
 rest = Then (Act (label_at (1 ∷ [])) ends_o) (Then (Await last_label (at 7) never) Done)
 
@@ -61,12 +61,12 @@ rest = Then (Act (label_at (1 ∷ [])) ends_o) (Then (Await last_label (at 7) ne
 abbrev pub body : Block
 body = Then (When guard_label (at 1) Abort (flag 0) guarded) rest
 
--- after the first tick
+-- the tree after the first tick
 abbrev pub begun : Tree
 begun = Seq (Guard (watch guard_label (at 1) Abort (flag 0) guarded) Body false
     (Seq (Wait (pause pause_label (at 4) always)) (Then (Act raise_label raises_o) (Then loop Done)))) rest
 
--- after a tick in which c is true
+-- the tree after a tick in which c is true
 abbrev pub over : Tree
 over = Wait (pause last_label (at 7) never)
 
@@ -81,6 +81,6 @@ order =
 abbrev pub begins : List AnsweredDeed
 begins = still 0 1 ++ (act 0 begins_o ++ (still 0 3 ++ still 0 4))
 
--- one in which c is true
+-- a tick in which c is true
 abbrev pub aborts : List AnsweredDeed
 aborts = asked 0 1 (flag 0) true ++ (act 0 ends_o ++ still 0 7)

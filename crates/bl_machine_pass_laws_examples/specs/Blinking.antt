@@ -39,7 +39,7 @@ rest = Then (Act (inside 2) (sets_on 4 never)) (Then (Await (inside 3) (at 5) al
 abbrev pub lit : Tree
 lit = Seq (Wait (pause (inside 1) (at 3) always)) rest
 
--- and where it is false
+-- between ticks, where on is false
 abbrev pub dark : Tree
 dark = Seq (Wait (pause (inside 3) (at 5) always)) (Then loop Done)
 
@@ -53,10 +53,10 @@ order =
 abbrev pub begins : List AnsweredDeed
 begins = still 0 1 ++ (act 0 (sets_on 2 always) ++ still 0 3)
 
--- it goes on to its second pause
+-- a turn goes on to its second pause
 abbrev pub goes_on : List AnsweredDeed
 goes_on = asked 0 3 always true ++ (act 0 (sets_on 4 never) ++ still 0 5)
 
--- it ends, and the next one begins
+-- a turn ends, and the next one begins
 abbrev pub again : List AnsweredDeed
 again = asked 0 5 always true ++ begins

@@ -47,7 +47,7 @@ last s = Then (Act (label_at (2 ∷ [])) s) Done
 abbrev pub first_body : Block
 first_body = Then (Act (label_at (0 ∷ [])) sets_x) (Then (Await (label_at (1 ∷ [])) (at 2) always) (last raises_x))
 
--- that of B
+-- the body of B
 abbrev pub second_body : Block
 second_body = Then (Act (label_at (0 ∷ [])) adds_x) (Then (Await (label_at (1 ∷ [])) (at 5) always) (last raises_o))
 
@@ -55,7 +55,7 @@ second_body = Then (Act (label_at (0 ∷ [])) adds_x) (Then (Await (label_at (1 
 abbrev pub first_paused : Tree
 first_paused = Seq (Wait (pause (label_at (1 ∷ [])) (at 2) always)) (last raises_x)
 
--- and of B
+-- what is left of B between ticks
 abbrev pub second_paused : Tree
 second_paused = Seq (Wait (pause (label_at (1 ∷ [])) (at 5) always)) (last raises_o)
 
@@ -69,15 +69,15 @@ declares_x = stmt 10 (StmtKind-F.Declare 2 None)
 abbrev pub loop_label : Label
 loop_label = label_at (1 ∷ [])
 
--- that of the `cobegin` in it
+-- the label of the `cobegin` in the loop
 abbrev pub fork_label : Label
 fork_label = label_at (1 ∷ 0 ∷ 0 ∷ [])
 
--- of the call of A
+-- the label of the call of A
 abbrev pub first_label : Label
 first_label = label_at (1 ∷ 0 ∷ 0 ∷ 0 ∷ 0 ∷ [])
 
--- and of that of B
+-- the label of the call of B
 abbrev pub second_label : Label
 second_label = label_at (1 ∷ 0 ∷ 0 ∷ 1 ∷ 0 ∷ [])
 
@@ -108,7 +108,7 @@ paused =
 abbrev pub first_arguments : Arguments
 first_arguments = arguments_of None (value 0 ∷ []) (variable 2 ∷ [])
 
--- those of B
+-- the arguments of the call of B
 abbrev pub second_arguments : Arguments
 second_arguments = arguments_of None (value 2 ∷ []) (variable 1 ∷ [])
 
@@ -119,19 +119,19 @@ caller_order =
     ∷ DepthJoinAt fork_label (at 7) ∷ HeadAt loop_label (at 11) ∷ ForkAt fork_label (at 7)
     ∷ EnterAt first_label (at 8) first_arguments ∷ EnterAt second_label (at 9) second_arguments ∷ []
 
--- those of A
+-- the nodes of A in an order
 abbrev pub first_order : List Node
 first_order =
     ActAt (label_at (0 ∷ [])) sets_x ∷ PauseAt (label_at (1 ∷ [])) (at 2)
     ∷ TestAt (label_at (1 ∷ [])) (at 2) always ∷ ActAt (label_at (2 ∷ [])) raises_x ∷ []
 
--- those of B
+-- the nodes of B in an order
 abbrev pub second_order : List Node
 second_order =
     ActAt (label_at (0 ∷ [])) adds_x ∷ PauseAt (label_at (1 ∷ [])) (at 5)
     ∷ TestAt (label_at (1 ∷ [])) (at 5) always ∷ ActAt (label_at (2 ∷ [])) raises_o ∷ []
 
--- by instances
+-- the nodes in an order, by instances
 abbrev pub orders : List (List Node)
 orders = caller_order ∷ first_order ∷ second_order ∷ []
 
@@ -147,7 +147,7 @@ copies_second = did (deed 0 (at 9) (Copies 2 (value 2 ∷ []))) true
 abbrev pub first_begins : List AnsweredDeed
 first_begins = copies_first ++ (act 1 sets_x ++ still 1 2)
 
--- so does B
+-- B begins
 abbrev pub second_begins : List AnsweredDeed
 second_begins = copies_second ++ (act 2 adds_x ++ still 2 5)
 
@@ -155,7 +155,7 @@ second_begins = copies_second ++ (act 2 adds_x ++ still 2 5)
 abbrev pub first_ends : List AnsweredDeed
 first_ends = copies_first ++ ((asked 1 2 always true ++ act 1 raises_x) ++ did (deed 0 (at 8) (Gives 1 None)) true)
 
--- so does B
+-- B goes on to its end
 abbrev pub second_ends : List AnsweredDeed
 second_ends = copies_second ++ ((asked 2 5 always true ++ act 2 raises_o) ++ did (deed 0 (at 9) (Gives 2 None)) true)
 
@@ -167,6 +167,6 @@ turn = still 0 11 ++ (still 0 7 ++ (first_begins ++ second_begins))
 abbrev pub begins : List AnsweredDeed
 begins = act 0 declares_x ++ turn
 
--- a later one
+-- a later tick
 abbrev pub goes_on : List AnsweredDeed
 goes_on = first_ends ++ (second_ends ++ (still 0 7 ++ turn))

@@ -20,7 +20,7 @@ use Rattle.bl_machine_pass_laws_examples.specs.Worked.{act, asked, still}
 abbrev pub field : ℕ → Path
 field k = roll-Path (record { place = at 0; root = 2; parts = roll-Part (Part-F.Field k) ∷ []; ty = int32 })
 
--- its value
+-- the value of a field of s
 abbrev pub field_value : ℕ → Expr
 field_value k = expr (ExprKind-F.Read (field k))
 
@@ -44,7 +44,7 @@ sets_b = stmt 4 (StmtKind-F.Assign (field 1) (two Mul (field_value 0) (number 2)
 abbrev pub left : Position
 left = 1 ∷ 0 ∷ 0 ∷ []
 
--- that of the second
+-- the position of the second loop
 abbrev pub right : Position
 right = 1 ∷ 1 ∷ 0 ∷ []
 
@@ -69,7 +69,7 @@ branches = BodyOf false (Then left_loop Done) (BodyOf false (Then right_loop Don
 abbrev pub body : Block
 body = Then (Act (label_at (0 ∷ [])) declares_s) (Then (Cobegin (label_at (1 ∷ [])) (at 9) branches) Done)
 
--- both branches between ticks, where they stood when the last tick began or not
+-- the two branches between ticks; the argument says whether they stood when the last tick began
 abbrev pub paused : Bool → Tree
 paused stood =
     Par (fork (label_at (1 ∷ [])) (at 9) branches) stood
@@ -93,6 +93,6 @@ turns = act 0 sets_a ++ (act 0 sets_b ++ (act 0 sets_o ++ (still 0 3 ++ still 0 
 abbrev pub begins : List AnsweredDeed
 begins = act 0 declares_s ++ (still 0 9 ++ (still 0 6 ++ (still 0 7 ++ turns)))
 
--- a later one
+-- a later tick
 abbrev pub goes_on : List AnsweredDeed
 goes_on = asked 0 3 always true ++ (still 0 6 ++ (asked 0 5 always true ++ (still 0 7 ++ turns)))

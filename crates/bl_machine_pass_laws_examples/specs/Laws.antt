@@ -11,7 +11,7 @@ use Rattle.bl_machine_pass_laws_examples.specs.TwoBranches as two_branches
 use Rattle.bl_machine_pass_laws_examples.specs.Weakly as weakly
 use Rattle.bl_machine_pass_laws_examples.specs.Worked.{Lists, Ticks, WorkedExample, alone, slot}
 
--- where each body stands after each tick: the numbers of its resting places in source order, the trees, and what its counters hold in them
+-- the state of each example after each tick: the numbers of its resting places in source order, the trees, and the counters
 pub record NumbersOfRows : Type 0 where
   -- one counter that tells two pauses
   pub blinking : WorkedExample blinking.body (slot 0 1 ∷ slot 0 2 ∷ [])
@@ -21,7 +21,7 @@ pub record NumbersOfRows : Type 0 where
   pub two_branches : WorkedExample two_way.plain_statements (slot 0 1 ∷ slot 0 2 ∷ slot 1 1 ∷ slot 1 2 ∷ [])
       (two_branches.begun ∷ two_branches.later ∷ [])
       ((2 ∷ 2 ∷ []) ∷ (2 ∷ 2 ∷ []) ∷ [])
-  -- so do two that write fields of one struct
+  -- two branches that write fields of one struct count beside each other
   pub fields : WorkedExample fields.body (slot 0 1 ∷ slot 0 2 ∷ slot 1 1 ∷ slot 1 2 ∷ [])
       (fields.paused false ∷ fields.paused true ∷ [])
       ((2 ∷ 2 ∷ []) ∷ (2 ∷ 2 ∷ []) ∷ [])
@@ -40,12 +40,12 @@ pub record NumbersOfRows : Type 0 where
   pub resetting : WorkedExample resetting.body (slot 0 1 ∷ slot 0 2 ∷ slot 1 1 ∷ slot 1 2 ∷ [])
       (resetting.paused false ∷ resetting.paused true ∷ resetting.paused true ∷ resetting.paused true ∷ [])
       ((2 ∷ 2 ∷ []) ∷ (2 ∷ 2 ∷ []) ∷ (2 ∷ 2 ∷ []) ∷ (2 ∷ 2 ∷ []) ∷ [])
-  -- where a `cobegin` has ended no branch keeps a number, the weak one neither
+  -- no branch keeps a number where a `cobegin` has ended, a weak one neither
   pub weakly : WorkedExample weakly.body (slot 0 1 ∷ slot 0 2 ∷ slot 1 1 ∷ slot 1 2 ∷ slot 0 3 ∷ [])
       (weakly.paused false ∷ weakly.paused true ∷ weakly.over ∷ [])
       ((2 ∷ 2 ∷ []) ∷ (2 ∷ 2 ∷ []) ∷ (3 ∷ 0 ∷ []) ∷ [])
 
--- the trees are those to which the passes of the ticks lead, one after another, with these deeds and answers
+-- the passes of the ticks lead to these trees, one after another, with these deeds and answers
 pub record PassesOfRows : Type 0 where
   pub blinking : Ticks alone (blinking.order ∷ []) (Idle blinking.body)
       (blinking.begins ∷ blinking.goes_on ∷ blinking.again ∷ blinking.goes_on ∷ [])

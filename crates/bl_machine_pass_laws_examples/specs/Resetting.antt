@@ -25,11 +25,11 @@ begins_b = set 4 b (number 1)
 abbrev pub pause_a : Label
 pause_a = label_at (0 ∷ 0 ∷ 0 ∷ 0 ∷ 1 ∷ 0 ∷ 0 ∷ [])
 
--- and that of the second
+-- the pause of the second branch
 abbrev pub pause_b : Label
 pause_b = label_at (0 ∷ 1 ∷ 1 ∷ 0 ∷ 0 ∷ [])
 
--- both branches between ticks, where they stood when the last tick began or not
+-- the two branches between ticks; the argument says whether they stood when the last tick began
 abbrev pub paused : Bool → Tree
 paused stood =
     Par (fork (label_at (0 ∷ [])) (at 10) branches) stood
@@ -64,6 +64,6 @@ begins = still 0 10 ++ (still 0 9 ++ (begins_first ++ (act 0 begins_b ++ (still 
 abbrev pub goes_on : List AnsweredDeed
 goes_on = asked 0 9 (flag c) false ++ (asked 0 2 always true ++ (act 0 raises_a ++ (still 0 7 ++ (still 0 2 ++ second_goes_on))))
 
--- and one in which it is true
+-- a tick in which c is true
 abbrev pub resets : List AnsweredDeed
 resets = asked 0 9 (flag c) true ++ (begins_first ++ second_goes_on)

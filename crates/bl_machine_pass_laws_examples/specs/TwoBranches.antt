@@ -11,11 +11,11 @@ use Rattle.bl_ctree_laws_examples.specs.Trees.TwoWay.{branches, declares, inside
 use Rattle.bl_ctree_laws_examples.specs.Trees.TwoWayTrees.{both, left_paused, right_paused}
 use Rattle.bl_machine_pass_laws_examples.specs.Worked.{act, asked, still}
 
--- after the first tick
+-- the tree after the first tick
 abbrev pub begun : Tree
 begun = both left_paused right_paused
 
--- after a later one
+-- the tree after a later tick
 abbrev pub later : Tree
 later = Par (fork (label_at (2 ∷ [])) (at 9) branches) true (beside false left_paused (beside false right_paused no_tree))
 
@@ -36,6 +36,6 @@ turns = act 0 sets_x ++ (act 0 sets_y ++ (act 0 sets_o ++ (still 0 3 ++ still 0 
 abbrev pub begins : List AnsweredDeed
 begins = act 0 (declares 8 x) ++ (act 0 (declares 10 y) ++ (still 0 9 ++ (still 0 6 ++ (still 0 7 ++ turns))))
 
--- a later one
+-- a later tick
 abbrev pub goes_on : List AnsweredDeed
 goes_on = asked 0 3 always true ++ (still 0 6 ++ (asked 0 5 always true ++ (still 0 7 ++ turns)))

@@ -23,19 +23,19 @@ sets_b = set 6 2 (number 1)
 abbrev pub loop_label : Label
 loop_label = label_at (0 ∷ 0 ∷ 0 ∷ [])
 
--- that of what is done in it
+-- the label of the act in the loop
 abbrev pub raise_label : Label
 raise_label = label_at (0 ∷ 0 ∷ 0 ∷ 0 ∷ 0 ∷ [])
 
--- of its pause
+-- the label of the pause in the loop
 abbrev pub turn_label : Label
 turn_label = label_at (0 ∷ 0 ∷ 0 ∷ 0 ∷ 1 ∷ [])
 
--- of the `await` of the strong branch
+-- the label of the `await` of the strong branch
 abbrev pub strong_label : Label
 strong_label = label_at (0 ∷ 1 ∷ 0 ∷ [])
 
--- and of the last pause
+-- the label of the last pause
 abbrev pub last_label : Label
 last_label = label_at (2 ∷ [])
 
@@ -47,7 +47,7 @@ loop = Repeat loop_label (at 2) (Then (Act raise_label raises_a) (Then (Await tu
 abbrev pub branches : Bodies
 branches = BodyOf true (Then loop Done) (BodyOf false (Then (Await strong_label (at 5) (flag 0)) Done) Last)
 
--- what follows them
+-- what follows the branches
 abbrev pub rest : Block
 rest = Then (Act (label_at (1 ∷ [])) sets_b) (Then (Await last_label (at 7) always) Done)
 
@@ -55,13 +55,13 @@ rest = Then (Act (label_at (1 ∷ [])) sets_b) (Then (Await last_label (at 7) al
 abbrev pub body : Block
 body = Then (Cobegin (label_at (0 ∷ [])) (at 1) branches) rest
 
--- both branches between ticks, where they stood when the last tick began or not
+-- the two branches between ticks; the argument says whether they stood when the last tick began
 abbrev pub paused : Bool → Tree
 paused stood =
     Seq (Par (fork (label_at (0 ∷ [])) (at 1) branches) stood
     (beside true (Seq (Wait (pause turn_label (at 4) always)) (Then loop Done)) (beside false (Wait (pause strong_label (at 5) (flag 0))) no_tree))) rest
 
--- after a tick in which c is true
+-- the tree after a tick in which c is true
 abbrev pub over : Tree
 over = Wait (pause last_label (at 7) always)
 
@@ -84,6 +84,6 @@ begins = still 0 1 ++ (turn ++ still 0 5)
 abbrev pub goes_on : List AnsweredDeed
 goes_on = asked 0 4 always true ++ (turn ++ asked 0 5 (flag 0) false)
 
--- and one in which it is true: the weak branch has its turn before it is dropped
+-- a tick in which c is true: the weak branch has its turn before it is dropped
 abbrev pub ends : List AnsweredDeed
 ends = asked 0 4 always true ++ (turn ++ (asked 0 5 (flag 0) true ++ (still 0 1 ++ (act 0 sets_b ++ still 0 7))))

@@ -24,7 +24,7 @@ use Rattle.bl_ctree_laws_examples.specs.Trees.Made.{at, expr}
 abbrev pub never : Expr
 never = expr (ExprKind-F.Literal (pos 0) OfBool)
 
--- a program of which nothing is asked but that it has one instance
+-- a program with one instance and no other requirement
 abbrev pub alone : Setting
 alone = record { structs = []; units = []; instances = record { unit = 0; depth = 0; origin = None } ∷ [] }
 
@@ -34,11 +34,11 @@ alone = record { structs = []; units = []; instances = record { unit = 0; depth 
 abbrev pub places : Block → List Slot
 places body = numbered (counters_in body 0)
 
--- a number: its counter and its value
+-- the number of a resting place, by its counter and its value
 abbrev pub slot : ℕ → ℕ → Slot
 slot counter value = record { counter = counter; value = value }
 
--- what the counters of the body hold where the tree stands in it, from the first on
+-- what the counters of the body hold where the tree stands in it, in the order of counters
 abbrev pub held : Block → Tree → List ℕ
 held body c = map (numbers_of (slots_of body (places body)) c Over) (up_to (width_in body))
 
@@ -59,7 +59,7 @@ pub record Lists (order : List Node) (body : Block) : Type 0 where
   pub all : list_all (λ n. nat_lt (position_where (same_node n) order) (length order)) (nodes_in body) ≡ true
   pub as_many : length order ≡ length (nodes_in body)
 
--- one pass a tick leads from the tree to each of these in turn, and these deeds are done in it
+-- one pass a tick leads from the tree to each of these trees in turn, with these deeds
 abbrev pub Ticks : Setting → List (List Node) → Tree → List (List AnsweredDeed) → List Tree → Type 0
 Ticks w orders c [] [] = ⊤
 Ticks w orders c (done ∷ later) (after ∷ others) = Passes w (ranked orders) 0 0 (woken c) done after × Ticks w orders after later others

@@ -1,8 +1,9 @@
-//! Worked programs, tick by tick. There is no code here. For each program its body is given as plain statements, with the numbers of its
-//! resting places, the trees between its ticks, and the deeds of each tick (`specs/Worked.antt`, and a file for each program). The laws,
-//! as contracts of functions that do nothing (`specs/Laws.antt`): the counters hold these numbers in these trees (`NumbersOfRows`); and
-//! one pass a tick leads from each tree to the next, with these deeds and answers (`PassesOfRows`), where the nodes of each body stand in
-//! an order that is listed here (`NodesOfRows`). The answers of conditions are listed too: no store is asked.
+//! Worked programs, tick by tick. Lemmas only. Each program is given by its body as plain statements, the numbers of
+//! its resting places, the trees between its ticks, and the deeds of each tick (`specs/Worked.antt`, and a file for
+//! each program). The lemmas (`specs/Laws.antt`) say that the counters have these numbers in these trees
+//! (`NumbersOfRows`). One pass a tick leads from each tree to the next, with these deeds and answers (`PassesOfRows`).
+//! The nodes of each body stand in the listed order (`NodesOfRows`). The answers of conditions are listed too, so no
+//! store is needed.
 #![tactic(auto)]
 
 ghost use Rattle.bl_machine_pass_laws_examples.specs.Laws.{NodesOfRows, NumbersOfRows, PassesOfRows};

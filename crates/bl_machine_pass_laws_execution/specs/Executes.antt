@@ -48,7 +48,7 @@ IsPoint (EnterAt l at arguments) = ⊥
 IsPoint (ResumeAt l at arguments) = ⊥
 IsPoint _ = ⊤
 
--- the deed of such a node of the instance
+-- the deed of a node of the instance; for the nodes of a `run` it is silent
 abbrev pub deed_at : ℕ → Node → Deed
 deed_at i (ActAt l s) = deed i (out-Stmt s).place (Acts s)
 deed_at i (TestAt l at e) = deed i at (Asks e)
@@ -66,23 +66,22 @@ deed_at i (DepthJoinAt l at) = deed i at Silent
 
 -- ---- registers as a pass begins
 
--- those of an instance that begins: its counters hold 0, and its entry is flagged
+-- the registers of an instance that begins: its counters hold 0, and its entry is flagged
 abbrev pub begun_registers : (ℕ → Node → ℕ) → ℕ → UnitDef → Registers
 begun_registers rank i unit = started (λ k. 0) (entry_flag (rank i) (plain_body unit.body))
 
--- those of one that goes on: its counters hold what its frame has
+-- the registers of an instance that goes on: its counters hold what its frame has
 abbrev pub resumed_registers : Frames → ℕ → Registers
 resumed_registers frames i = started (frames i) (λ k. false)
 
--- with which of them a pass of an instance that isn't told to begin starts: where all its counters hold 0 its body begins, and where its first one
--- doesn't it goes on
+-- the registers with which a pass starts: the body begins where all counters of the instance hold 0, and goes on where the first one doesn't
 pub data PassStart (rank : ℕ → Node → ℕ) (i : ℕ) (unit : UnitDef) (frames : Frames) : Registers → Type 0 where
   begins : ((c : ℕ) → frames i c ≡ 0) → PassStart rank i unit frames (begun_registers rank i unit)
   goes_on : (frames i 0 ≡ 0 → ⊥) → PassStart rank i unit frames (resumed_registers frames i)
 
 -- ---- copies
 
--- the copies hold what the variables were of which the node asks that
+-- the copies hold the earlier values of the variables for which the node asks
 abbrev pub CopiesMatch : Setting → ℕ → Node → Store → List Value → Type 0
 CopiesMatch w i n store copies =
     (x : ℕ) → list_any (nat_eq x) (prevs_at n) ≡ true → slice_get copies x ≡ slice_get (view_at w store i).before x
@@ -92,7 +91,7 @@ abbrev pub recopied_kind : {A B C D : Type 0} → StmtKind-F A B C D → List Va
 recopied_kind (StmtKind-F.Declare k initial) now copies = unwrap_or (option_map (slice_set copies k) (slice_get now k)) copies
 recopied_kind _ now copies = copies
 
--- the copies after the node has had its turn, which left this store
+-- the copies after the turn of the node, which left this store
 abbrev pub recopied : Setting → ℕ → Node → Store → List Value → List Value
 recopied w i (ActAt l s) between copies = recopied_kind (out-StmtKind (out-Stmt s).what) (view_at w between i).now copies
 recopied w i _ between copies = copies
@@ -108,9 +107,9 @@ abbrev pub HasRule : (ℕ → Slots) → ℕ → UnitDef → Transition → Type
 HasRule slots i unit rule = Contains (rules (slots i) (plain_body unit.body)) rule
 
 mutual
-  -- Executes w rank slots clear i k frames store copies r frames' left r': the nodes of the instance with numbers from k on have their turns, one
-  -- after another, each where its rule is due and the copies hold what the node asks for. What is done leaves the store so; the registers r become
-  -- r', and the frames of what is called frames'. Where a `run` begins it clears the frames first
+  -- Executes w rank slots clear i k frames store copies r frames' left r': the nodes of the instance from the number k on have their turns in order. Each has
+  -- its turn where its rule is due, and the copies hold what the node asks for. The store becomes `left`, the registers r', and the frames of called instances
+  -- frames'. A `run` that begins clears the frames first
   pub data Executes (w : Setting) (rank : ℕ → Node → ℕ) (slots : ℕ → Slots) (clear : ℕ → Frames → Frames) :
       ℕ → ℕ → Frames → Store → List Value → Registers → Frames → Store → Registers → Type 0 where
     -- no node is left
@@ -123,7 +122,7 @@ mutual
         ((rule : Transition) → HasRule slots i unit rule → rank i rule.node ≡ k → is_due (rank i) rule r ≡ false) →
         Executes w rank slots clear i (suc k) frames store copies r frames' left r' →
         Executes w rank slots clear i k frames store copies r frames' left r'
-    -- it is due: what is to be done there is done, and the registers change as the rule tells
+    -- the rule of the node is due: its deed is done, and the registers change as the rule says
     acts : {i k : ℕ} {frames : Frames} {store : Store} {copies : List Value} {r : Registers} {answer : Bool} {inner : Frames} {between : Store}
         {frames' : Frames} {left : Store} {r' : Registers} {unit : UnitDef} → unit_at w i ≡ Some unit → (rule : Transition) → HasRule slots i unit rule →
         rank i rule.node ≡ k →
@@ -143,13 +142,13 @@ mutual
         Executes w rank slots clear callee 0 (clear callee frames) given (view_at w given callee).now (begun_registers rank callee unit) frames' left
         r' → r'.over ≡ false →
         Performs w rank slots clear i (EnterAt l at arguments) frames store true (with_at callee r'.counters frames') left
-    -- it goes on: what it calls goes on or begins anew, as its counters tell, and the answer tells whether the body of that has ended
+    -- a `run` goes on: the callee goes on or begins anew, as its counters tell. The answer says whether the callee's body has ended
     resumes : {i : ℕ} {l : Label} {at : Place} {arguments : Arguments} {frames : Frames} {store given : Store} {frames' : Frames} {left : Store}
         {r r' : Registers} {callee : ℕ} {unit : UnitDef} → callee_of w i at ≡ Some callee → unit_at w callee ≡ Some unit →
         PassStart rank callee unit frames r → DeedYields w (deed i at (Copies callee arguments.inputs)) store true given →
         Executes w rank slots clear callee 0 frames given (view_at w given callee).now r frames' left r' →
         r'.over ≡ false → Performs w rank slots clear i (ResumeAt l at arguments) frames store false (with_at callee r'.counters frames') left
-    -- where it has, the target gets the result
+    -- a `run` goes on, the callee's body ends, and the target gets the result
     returns : {i : ℕ} {l : Label} {at : Place} {arguments : Arguments} {frames : Frames} {store given : Store} {frames' : Frames}
         {ended left : Store} {r r' : Registers} {callee : ℕ} {unit : UnitDef} → callee_of w i at ≡ Some callee → unit_at w callee ≡ Some unit →
         PassStart rank callee unit frames r → DeedYields w (deed i at (Copies callee arguments.inputs)) store true given →
@@ -158,7 +157,7 @@ mutual
         Performs w rank slots clear i (ResumeAt l at arguments) frames store true (with_at callee r'.counters frames') left
 
 mutual
-  -- PassTraps w rank slots clear i k frames store copies r: nodes of the instance have their turns as above, until a deed traps
+  -- PassTraps w rank slots clear i k frames store copies r: the nodes of the instance from the number k on have their turns in order, until a deed traps
   pub data PassTraps (w : Setting) (rank : ℕ → Node → ℕ) (slots : ℕ → Slots) (clear : ℕ → Frames → Frames) :
       ℕ → ℕ → Frames → Store → List Value → Registers → Type 0 where
     skips_on : {i k : ℕ} {frames : Frames} {store : Store} {copies : List Value} {r : Registers} {unit : UnitDef} → unit_at w i ≡ Some unit →
@@ -185,7 +184,7 @@ mutual
     copies_stop : {i : ℕ} {l : Label} {at : Place} {arguments : Arguments} {frames : Frames} {store : Store} {callee : ℕ} →
         callee_of w i at ≡ Some callee → done_by w (deed i at (Copies callee arguments.inputs)) store ≡ None →
         NodeTraps w rank slots clear i (ResumeAt l at arguments) frames store
-    -- or a deed of the pass of what it calls
+    -- a deed in the callee's pass traps
     begun_stops : {i : ℕ} {l : Label} {at : Place} {arguments : Arguments} {frames : Frames} {store given : Store} {callee : ℕ} {unit : UnitDef} →
         callee_of w i at ≡ Some callee → unit_at w callee ≡ Some unit → DeedYields w (deed i at (Copies callee arguments.inputs)) store true given →
         PassTraps w rank slots clear callee 0 (clear callee frames) given (view_at w given callee).now (begun_registers rank callee unit) →

@@ -41,8 +41,8 @@ abbrev pub CountersMatchTree : Slots → (ℕ → ℕ) → Tree → Type 0
 CountersMatchTree slots counters c = (j : ℕ) → counters j ≡ numbers_of slots c Over j
 
 abbrev mutual
-  -- CallsMatchTree slots frames c: for each `run` in the tree the frame of the called instance holds the numbers of what is left there, and so it is in
-  -- what that has called. Frames of instances that aren't called hold anything
+  -- CallsMatchTree slots frames c: for each `run` in the tree, nested calls included, the callee's frame holds the numbers of what is left of its body. Frames
+  -- of instances that aren't called are arbitrary
   pub CallsMatchTree : (ℕ → Slots) → Frames → Tree → Type 0
   CallsMatchTree slots frames Nil = ⊤
   CallsMatchTree slots frames (Wait s) = ⊤
@@ -54,12 +54,13 @@ abbrev mutual
   CallsMatchTree slots frames (Guard s phase stood c) = CallsMatchTree slots frames c
   CallsMatchTree slots frames (Run s callee phase stood c) = CountersMatchTree (slots callee) (frames callee) c × CallsMatchTree slots frames c
 
-  -- in each branch
+  -- AllCallsMatchTree slots frames branches: for each `run` in the branches, nested calls included, the callee's frame holds the numbers of what is left of its
+  -- body
   pub AllCallsMatchTree : (ℕ → Slots) → Frames → Trees → Type 0
   AllCallsMatchTree slots frames no_tree = ⊤
   AllCallsMatchTree slots frames (beside weak c branches) = CallsMatchTree slots frames c × AllCallsMatchTree slots frames branches
 
--- the frame of the instance in which the tree stands holds the tree's numbers, and so do those of all that is called in it
+-- the frames match a tree: that of its instance, and those of all that is called in it, have the trees' numbers
 abbrev pub FramesMatchTree : (ℕ → Slots) → Frames → ℕ → Tree → Type 0
 FramesMatchTree slots frames i c = CountersMatchTree (slots i) (frames i) c × CallsMatchTree slots frames c
 
@@ -78,7 +79,7 @@ abbrev mutual
   CalledIn (Guard s phase stood c) k = CalledIn c k
   CalledIn (Run s callee phase stood c) k = (k ≡ callee) ⊎ CalledIn c k
 
-  -- in one of the branches
+  -- the instance k is called in one of the branches, or in what is called there
   pub OneCalledIn : Trees → ℕ → Type 0
   OneCalledIn no_tree k = ⊥
   OneCalledIn (beside weak c branches) k = CalledIn c k ⊎ OneCalledIn branches k
@@ -94,29 +95,29 @@ pub record FramesNest (structs : List StructDef) (units : List UnitDef) (entry :
   -- what is called in a tree is inside a call of its instance, and has a greater number
   pub called : (i k : ℕ) (c : Tree) (stood : Bool) (body : Block) → let w = setting_of structs units entry in
       FitsGraph w i c (whole stood body) → CalledIn c k → InCall w i k × (i < k)
-  -- what isn't called doesn't matter
+  -- frames of instances that aren't called don't matter
   pub others : (slots : ℕ → Slots) (frames frames' : Frames) (c : Tree) → ((k : ℕ) → CalledIn c k → (j : ℕ) → frames' k j ≡ frames k j) →
       CallsMatchTree slots frames c → CallsMatchTree slots frames' c
-  -- so another frame of the instance itself leaves what is called
+  -- a new frame for the instance itself keeps the match of the frames of its callees
   pub own : (slots : ℕ → Slots) (frames : Frames) (i : ℕ) (c : Tree) (stood : Bool) (body : Block) (counters : ℕ → ℕ) →
       let w = setting_of structs units entry in
       FitsGraph w i c (whole stood body) → CallsMatchTree slots frames c → CallsMatchTree slots (with_at i counters frames) c
-  -- and it holds where it has the numbers of the tree
+  -- a new frame with the numbers of the tree makes the frames match the tree
   pub holds : (slots : ℕ → Slots) (frames : Frames) (i : ℕ) (c : Tree) (stood : Bool) (body : Block) (counters : ℕ → ℕ) →
       let w = setting_of structs units entry in
       FitsGraph w i c (whole stood body) → CallsMatchTree slots frames c → CountersMatchTree (slots i) counters c →
       FramesMatchTree slots (with_at i counters frames) i c
-  -- other frames inside one call of an instance leave what is inside another one
+  -- other frames inside one call of an instance keep what is inside another call
   pub apart : (slots : ℕ → Slots) (frames frames' : Frames) (i one two : ℕ) (place other : Source) (c : Tree) (stood : Bool) (body : Block) →
       let w = setting_of structs units entry in
       callee_of w i place ≡ Some one → callee_of w i other ≡ Some two → (one ≡ two → ⊥) → FitsGraph w two c (whole stood body) →
       ChangeOnly (Inside w one) frames frames' → FramesMatchTree slots frames two c → FramesMatchTree slots frames' two c
   -- a body that begins has called nothing
   pub begins : (slots : ℕ → Slots) (frames : Frames) (body : Block) → CallsMatchTree slots frames (do_block body)
-  -- and frames hold in a new tick what they held
+  -- frames that match a tree match it once it is woken in a new tick
   pub wakes : (slots : ℕ → Slots) (frames : Frames) (i : ℕ) (c : Tree) (stood : Bool) (body : Block) → let w = setting_of structs units entry in
       FitsGraph w i c (whole stood body) → FramesMatchTree slots frames i c → FramesMatchTree slots frames i (woken c)
 
--- so it is in every program
+-- frames nest in every program
 abbrev pub AllFramesNest : Type 0
 AllFramesNest = (structs : List StructDef) (units : List UnitDef) (entry : ℕ) → FramesNest structs units entry

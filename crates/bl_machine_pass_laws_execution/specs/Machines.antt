@@ -16,7 +16,7 @@ use Rattle.bl_machine_laws.specs.Traces.Positions.{GoBy}
 use Rattle.bl_machine_pass.specs.Numbered.{slots_of}
 use Rattle.bl_machine_pass_laws_turns.specs.Turns.{TurnContext}
 
--- what the machine has for an instance
+-- the activity of the machine for an instance
 abbrev pub activity_of : List UnitDef → List Activity → Option Instance → Option Activity
 activity_of units machine None = None
 activity_of units machine (Some instance) = slice_get machine (graph_position units instance.unit)
@@ -31,7 +31,7 @@ slots_in (Some unit) (Some activity) = slots_of (plain_body unit.body) activity.
 abbrev pub slots_at : Setting → List Activity → ℕ → Slots
 slots_at w machine i = slots_in (unit_at w i) (activity_of w.units machine (slice_get w.instances i))
 
--- an instance of the unit, and what the machine has for it
+-- an instance of the unit, and the machine's activity for it
 pub record HasActivity (w : Setting) (machine : List Activity) (i : ℕ) (unit : UnitDef) : Type 0 where
   pub instance : Instance
   pub activity : Activity
@@ -39,7 +39,7 @@ pub record HasActivity (w : Setting) (machine : List Activity) (i : ℕ) (unit :
   pub is_unit : slice_get w.units instance.unit ≡ Some unit
   pub is_activity : slice_get machine (graph_position w.units instance.unit) ≡ Some activity
 
--- the machine has something for each instance, and with that the instance has what the laws of a pass ask
+-- the machine has an activity for each instance, and with it the instance has what the laws of a pass require
 pub record MachinesGiveContexts : Type 0 where
   pub has : (structs : List StructDef) (units : List UnitDef) (entry : ℕ) (machine : List Activity) (i : ℕ) (unit : UnitDef) →
       let w = setting_of structs units entry in
@@ -50,7 +50,7 @@ pub record MachinesGiveContexts : Type 0 where
       IsWellTyped structs units entry → Passes units → AreActivitiesOf units machine → GoBy w machine rank → slice_get w.instances i ≡ Some instance →
       slice_get units instance.unit ≡ Some unit → slice_get machine (graph_position units instance.unit) ≡ Some activity →
       TurnContext w rank i (slots_of (plain_body unit.body) activity.slots) unit
-  -- the same, where the numbers are told by instance
+  -- each instance of the machine has what the laws of a pass require, with numbers by instance
   pub each : (structs : List StructDef) (units : List UnitDef) (entry : ℕ) (machine : List Activity) (rank : ℕ → Node → ℕ) (i : ℕ)
       (unit : UnitDef) →
       let w = setting_of structs units entry in

@@ -13,11 +13,11 @@ use Rattle.bl_machine_pass_laws_execution.specs.Frames.{Frames}
 use Rattle.bl_machine_pass_laws_execution.specs.Executes.{ClearsInside}
 use Rattle.bl_machine_pass_laws_execution.specs.Passes.Laws.{TurnsPerform}
 
--- each instance has what the laws of a pass ask, with numbers of its own
+-- each instance has what the laws of a pass require, with numbers of its own
 abbrev pub AllInContext : Setting → (ℕ → Node → ℕ) → (ℕ → Slots) → Type 0
 AllInContext w rank slots = (i : ℕ) (unit : UnitDef) → unit_at w i ≡ Some unit → TurnContext w rank i (slots i) unit
 
--- then all turns are performed by rules, those of what is called among them, in a program that is made of a source text
+-- rules perform all turns of all instances, in a program that is made of a source text
 abbrev pub AllTurnsPerform : Type 0
 AllTurnsPerform =
     (structs : List StructDef) (units : List UnitDef) (entry : ℕ) (rank : ℕ → Node → ℕ) (slots : ℕ → Slots)

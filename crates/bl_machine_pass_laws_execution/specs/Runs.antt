@@ -30,9 +30,8 @@ abbrev pub RowsFit : UnitDef → List (List ℤ) → Type 0
 RowsFit unit [] = ⊤
 RowsFit unit (row ∷ rows) = InputsFit (length row) unit × RowsFit unit rows
 
--- RuleRun w rank slots clear unit rows frames store trace: from the frames and the store between ticks a run over the rows shows the trace, and
--- each of its ticks is one pass by rules over the entry, which leaves its counters in the frames. It stops at the end of the rows, of the program,
--- or at a trap
+-- RuleRun w rank slots clear unit rows frames store trace: from frames and a store between ticks, a run over the rows has the trace. Each tick is one pass by
+-- rules over the entry, which leaves its counters in the frames. It stops at the end of the rows, of the program, or at a trap
 pub data RuleRun (w : Setting) (rank : ℕ → Node → ℕ) (slots : ℕ → Slots) (clear : ℕ → Frames → Frames) (unit : UnitDef) :
     List (List ℤ) → Frames → Store → Trace → Type 0 where
   stays_open : {frames : Frames} {store : Store} → RuleRun w rank slots clear unit [] frames store (no_row Open)
@@ -51,22 +50,22 @@ pub data RuleRun (w : Setting) (rank : ℕ → Node → ℕ) (slots : ℕ → Sl
 
 -- ---- traces
 
--- the trace of a program over the rows, the only one that its meaning allows, and a run by rules that shows it
+-- a run by rules over the rows has the one trace that the semantics of the program allows
 pub record RunByRules (structs : List StructDef) (units : List UnitDef) (entry : ℕ) (rank : ℕ → Node → ℕ) (slots : ℕ → Slots)
     (clear : ℕ → Frames → Frames) (unit : UnitDef) (rows : List (List ℤ)) (frames : Frames) : Type 0 where
   pub one : OneRun structs units entry rank rows
   pub run : let w = setting_of structs units entry in RuleRun w rank slots clear unit rows frames (first_store w) one.trace
 
--- from frames in which all counters of the entry hold 0
+-- a run by rules with the one trace of a program exists, from frames in which all counters of the entry hold 0
 pub record RunsGoByRules : Type 0 where
-  -- in a program that is made of a source text and passes the rules, with numbers that tell nodes and resting places
+  -- the run exists in a program that is made of a source text and passes the rules, with numbers that tell nodes and resting places
   pub runs : (structs : List StructDef) (units : List UnitDef) (entry : ℕ) (rank : ℕ → Node → ℕ) (slots : ℕ → Slots)
       (clear : ℕ → Frames → Frames) (unit : UnitDef) (rows : List (List ℤ)) (frames : Frames) →
       let w = setting_of structs units entry in
       IsWellTyped structs units entry → Passes units → FromText units → AllInContext w rank slots → ClearsInside w clear →
       unit_at w 0 ≡ Some unit → RowsFit unit rows → ((c : ℕ) → frames 0 c ≡ 0) →
       RunByRules structs units entry rank slots clear unit rows frames
-  -- and so with those of the machine of an accepted program
+  -- the run exists and has that trace, with the numbers of the machine of an accepted program
   pub machines : (accepted : AcceptedProgram) (machine : List Activity) (rank : ℕ → Node → ℕ) (clear : ℕ → Frames →
       Frames) (unit : UnitDef)
       (rows : List (List ℤ)) (frames : Frames) →

@@ -26,7 +26,7 @@ pub record Resting (w : Setting) (slots : ℕ → Slots) (i : ℕ) (unit : UnitD
   pub holds : FramesMatchTree slots frames i c
   pub rests : CallsRest w slots c
   pub apart : RunsApart c
-  -- it asks for no other variables than those that its body declares
+  -- the tree asks only for variables that its body declares
   pub asks : Asks w i unit (locals unit) c
 
 -- a pass by rules that leaves this store, and frames for the next tick where the body hasn't ended
@@ -40,8 +40,8 @@ pub record TickExecuted (w : Setting) (rank : ℕ → Node → ℕ) (slots : ℕ
   pub rests : is_nil c' ≡ false → Resting w slots i unit (with_at i registers.counters inner) c'
   pub framed : Framed w left
 
--- in a program that is made of a source text and passes the rules: the first pass of an instance, from whatever frames, and each later one do
--- what turns lead to, where each frame of the store has a value for each variable, and in a later tick was before what it is now
+-- passes by rules execute what turns lead to, in first and later ticks, in a program that is made of a source text and passes the rules. Each frame of the
+-- store has a value for each variable. In a later tick, values before the tick equal the current ones
 pub record TicksExecute : Type 0 where
   pub begins : (structs : List StructDef) (units : List UnitDef) (entry : ℕ) (rank : ℕ → Node → ℕ) (slots : ℕ → Slots)
       (clear : ℕ → Frames → Frames) (i : ℕ) (unit : UnitDef) (frames : Frames) (store : Store) (c' : Tree) (left : Store) →
@@ -62,7 +62,7 @@ pub record TicksExecute : Type 0 where
       (unit : UnitDef)
       (frames : Frames) (c : Tree) → let w = setting_of structs units entry in
       AllInContext w rank slots → unit_at w i ≡ Some unit → Resting w slots i unit frames c → frames i 0 ≡ 0 → ⊥
-  -- and where turns lead to a trap they do
+  -- rules trap where turns lead to a trap
   pub begun_fails : (structs : List StructDef) (units : List UnitDef) (entry : ℕ) (rank : ℕ → Node → ℕ) (slots : ℕ → Slots)
       (clear : ℕ → Frames → Frames) (i : ℕ) (unit : UnitDef) (frames : Frames) (store : Store) →
       let w = setting_of structs units entry in

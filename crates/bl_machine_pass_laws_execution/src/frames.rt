@@ -1,7 +1,7 @@
-//! Frames of instances: what the counters of each hold while it isn't passed. There is no code here. The law, as the contract of a
-//! function that does nothing (`specs/Frames.antt`): frames of what is called in a tree are those of instances with greater numbers
-//! than the one in which the tree stands, and frames inside two calls don't meet. So to change the frame of one instance leaves
-//! what the frames below it hold, and to change frames inside one call leaves what those inside another one hold (`FramesNest`).
+//! Frames of instances: what the counters of each hold while it isn't passed. One lemma (`specs/Frames.antt`). The
+//! instances called in a tree have greater numbers than the tree's own, and frames inside two calls are disjoint. So
+//! changing the frame of one instance keeps the frames below it, and changing frames inside one call keeps those inside
+//! another (`FramesNest`).
 
 ghost use Rattle.bl_machine_pass_laws_execution.specs.Frames.{AllFramesNest};
 

@@ -1,8 +1,8 @@
-//! What variables were, in passes by rules. There is no code here. Laws, as contracts of functions that do nothing
-//! (`specs/Fresh/Laws.antt`): what a deed leaves of frames, and of what variables were there (`DeedsAreSeen`); what is seen of an
-//! instance's own variables (`OwnIsSeen`); turns leave trees that ask what variables were only where their copies hold that
-//! (`TreesAsk`), since a body made of a source text asks so behind declarations alone (`BodiesAsk`); and as a tick begins each
-//! variable was what it is (`StoresAreFresh`).
+//! The values of variables before the tick, in passes by rules. Lemmas only (`specs/Fresh/Laws.antt`): what a deed
+//! leaves of frames and of earlier values (`DeedsAreSeen`), and what is seen of an instance's own variables
+//! (`OwnIsSeen`). Turns leave trees that ask for earlier values only where their copies have them (`TreesAsk`), since a
+//! body made of a source text asks only behind declarations (`BodiesAsk`). As a tick begins, earlier and current values
+//! are equal (`StoresAreFresh`).
 
 ghost use Rattle.bl_machine_pass_laws_execution.specs.Fresh.Laws.{BodiesAsk, DeedsAreSeen, OwnIsSeen, StoresAreFresh, TreesAsk};
 

@@ -1,8 +1,8 @@
-//! What passes by rules leave alone. There is no code here. Laws, as contracts of functions that do nothing (`specs/Kept/Laws.antt`): a
-//! pass of an instance by rules leaves all that isn't inside the instance, but for the homes of its outputs (`specs/Kept/Kept.antt`),
-//! and the counters of all that isn't inside it (`PassesKeep`); and the inputs of a `run` go to the frame of what it calls
-//! (`InputsGoIn`). Each output of what a `run` begins has the home of the path that stands at its number among the outputs of the
-//! `run` (`OutputsLead`), and a rule whose node is that of a `run` is of one in the body (`RulesRun`): `specs/Kept/Outputs.antt`.
+//! What passes by rules leave unchanged. Lemmas only (`specs/Kept/Laws.antt`). A pass of an instance by rules changes
+//! only what is inside the instance and the homes of its outputs (`specs/Kept/Kept.antt`), and only the counters inside
+//! it (`PassesKeep`). The inputs of a `run` go to the frame of its callee (`InputsGoIn`). Each output of the callee has
+//! the home of the path at its number among the outputs of the `run` (`OutputsLead`). A rule with the node of a `run`
+//! belongs to one in the body (`RulesRun`): `specs/Kept/Outputs.antt`.
 
 ghost use Rattle.bl_machine_pass_laws_execution.specs.Kept.Laws.{InputsGoIn, PassesKeep};
 ghost use Rattle.bl_machine_pass_laws_execution.specs.Kept.Outputs.{OutputsLead, RulesRun};

@@ -1,7 +1,6 @@
-//! The instances of an accepted program with the numbers of its machine. There is no code here. The law, as the contract of a
-//! function that does nothing (`specs/Machines.antt`): what the laws of a pass take as given of an instance holds of each instance
-//! of a program that passes the rules, where resting places have the numbers that the machine lists for its activity and nodes go
-//! by their positions in its blocks (`MachinesGiveContexts`).
+//! The instances of an accepted program with the numbers of its machine. One lemma (`specs/Machines.antt`). The
+//! premises of the laws of a pass hold for each instance of a program that passes the rules (`MachinesGiveContexts`).
+//! Resting places have the machine's numbers, and nodes their positions in its blocks.
 
 ghost use Rattle.bl_machine_pass_laws_execution.specs.Machines.{MachinesGiveContexts};
 

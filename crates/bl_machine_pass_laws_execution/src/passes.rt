@@ -1,8 +1,8 @@
 //! A pass as the text of one call makes it: node by node in the order of their numbers, each where its rule is due
-//! (`specs/Executes.antt`). There is no code here. Laws, as contracts of functions that do nothing (`specs/Passes/Laws.antt`): the deed of a
-//! point is told by its node (`PointsAreOfNodes`); and where all turns of an instance can be performed, such a pass leaves the store
-//! that turns lead to, with counters and frames that hold the tree that is left, and copies that hold what its nodes ask for, and
-//! traps where they lead to a trap (`PassesExecute`). That turns can be performed, with all that is called, is a premise.
+//! (`specs/Executes.antt`). Lemmas only (`specs/Passes/Laws.antt`). A point's deed is that of its node
+//! (`PointsAreOfNodes`). Where all turns of an instance can be performed, such a pass leaves the store that turns lead
+//! to. Its counters and frames are those of the tree that is left, and its copies have what the tree asks for. It traps
+//! where turns lead to a trap (`PassesExecute`). A premise is that turns can be performed, with all that is called.
 
 ghost use Rattle.bl_machine_pass_laws_execution.specs.Passes.Laws.{PassesExecute, PointsAreOfNodes};
 

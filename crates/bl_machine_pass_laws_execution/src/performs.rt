@@ -1,8 +1,7 @@
-//! Turns of the instances of an accepted program that is made of a source text, made by rules with all that they call. There is no
-//! code here. The law, as the contract of a function that does nothing (`specs/Performs.antt`): what a turn does is what a pass by rules
-//! does at its node, where the copies hold what the node asks for, and a `run` copies inputs, clears the frames inside where it
-//! begins, makes the pass of what it calls over the frame of that, and gives the result (`AllTurnsPerform`). With it the premise of
-//! `PassesExecute` of `passes` holds of each instance.
+//! Turns of the instances of an accepted program that is made of a source text, made by rules with all that they call.
+//! One lemma (`specs/Performs.antt`): a pass by rules simulates a turn at its node, where the copies hold what the node
+//! asks for. A `run` copies inputs, clears the frames inside where it begins, makes the pass of its callee, and gives
+//! the result (`AllTurnsPerform`). So the premise of `PassesExecute` of `passes` holds for each instance.
 
 ghost use Rattle.bl_machine_pass_laws_execution.specs.Performs.{AllTurnsPerform};
 

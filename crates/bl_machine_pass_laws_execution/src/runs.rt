@@ -1,7 +1,7 @@
-//! The trace of an accepted program as passes by rules show it. There is no code here. The law, as the contract of a function that
-//! does nothing (`specs/Runs.antt`): over all rows that fit there is a run each tick of which is one pass by rules over the entry,
-//! from frames and a store alone, and it shows the only trace that the meaning of the program allows (`RunsGoByRules`). So it is of
-//! the machine of each accepted program, where nodes and resting places have the numbers that the machine lists.
+//! The trace of an accepted program as passes by rules show it. One lemma (`specs/Runs.antt`). Over all rows that fit,
+//! there is a run of one pass by rules a tick, from frames and a store alone. It has the only trace that the semantics
+//! of the program allows (`RunsGoByRules`). The same holds for the machine of each accepted program, with the numbers
+//! that the machine lists.
 
 ghost use Rattle.bl_machine_pass_laws_execution.specs.Runs.{RunsGoByRules};
 

@@ -25,15 +25,14 @@ use Rattle.bl_machine_pass_laws_turns.specs.Joins.Stems.{Stemmed}
 
 -- ---- trees that stand in a body
 
--- a tree of an instance of the activity stands in the body: with its rules and counters, with nothing but what rested under a `when` whose
--- condition is still to be tested, under the `when`s in which it is written, and left of statements that have no node in common
+-- a tree of an instance stands in the body: its places have its numbers, untested `when`s have only rested parts, and its statements have no node in common
 pub record FitsBody (slots : Slots) (body : Block) (c : Tree) : Type 0 where
   pub placed : Placed slots body c
   pub dozes : Dozes c
   pub rooted : Rooted slots (rules slots body) (in_none body) c
   pub stemmed : Stemmed body c
 
--- so does a body that begins, and a tree that rested once it is woken; and each turn leaves it so
+-- the tree with which a body begins fits it, so does a woken tree that rested, and each turn keeps this
 pub record TreesFitBodies : Type 0 where
   pub begins : (slots : Slots) (unit : UnitDef) → SlotsAreDistinct slots (plain_body unit.body) → FitsBody slots (plain_body unit.body) (do_block (plain_body unit.body))
   pub wakes : (w : Setting) (i : ℕ) (stood : Bool) (slots : Slots) (unit : UnitDef) (c : Tree) → FitsGraph w i c (whole stood (plain_body unit.body)) →
@@ -54,8 +53,7 @@ pub record TurnContext (w : Setting) (rank : ℕ → Node → ℕ) (i : ℕ) (sl
 
 -- ---- the pass
 
--- a pass over a body that begins, with counters that hold 0, begins with the flag of its entry; over a tree that rested, with counters that hold
--- its numbers, it begins with no flag
+-- a pass begins with the flag of the entry over a body that begins, and with no flag over a tree that rested
 pub record PassesBegin : Type 0 where
   pub begins : (w : Setting) (rank : ℕ → Node → ℕ) (i : ℕ) (slots : Slots) (unit : UnitDef) (counters : ℕ → ℕ) →
       TurnContext w rank i slots unit → is_nil (do_block (plain_body unit.body)) ≡ false → ((j : ℕ) → counters j ≡ 0) →
@@ -65,7 +63,7 @@ pub record PassesBegin : Type 0 where
       is_nil c ≡ false → ((j : ℕ) → counters j ≡ numbers_of slots c Over j) →
       PassInvariant slots (rank i) (plain_body unit.body) 0 (woken c) (started counters (λ k. false))
 
--- where the registers tell how the tree stands before the turn of a node they do after it, from the next number on
+-- the turn of a node keeps the invariant of a pass, from the next number on
 abbrev pub TurnsKeepInvariant : Type 0
 TurnsKeepInvariant =
     (w : Setting) (rank : ℕ → Node → ℕ) (i : ℕ) (slots : Slots) (unit : UnitDef) (stood : Bool) (c : Tree) (done : List AnsweredDeed) (n : Node)
@@ -75,14 +73,14 @@ TurnsKeepInvariant =
     PassInvariant slots (rank i) (plain_body unit.body) (rank i n) c r →
     PassInvariant slots (rank i) (plain_body unit.body) (suc (rank i n)) c' (after_rule (rank i) rule (answer_of turn) r)
 
--- and they do from the number of the first node that waits on
+-- the invariant of a pass holds from the number of the first waiting node on, where it holds from a lower number on
 abbrev pub NumbersPass : Type 0
 NumbersPass =
     (rank : ℕ → Node → ℕ) (i : ℕ) (slots : Slots) (body : Block) (k : ℕ) (c : Tree) (n : Node) (r : Registers) → k ≤ rank i n →
     First rank i c n →
     PassInvariant slots (rank i) body k c r → PassInvariant slots (rank i) body (rank i n) c r
 
--- whatever a rule asks, it is due exactly where something waits at its node, where that is still to have its turn
+-- each rule is due iff something waits at its node, if the node is still to have its turn
 abbrev pub DueWaits : Type 0
 DueWaits =
     (w : Setting) (rank : ℕ → Node → ℕ) (i : ℕ) (slots : Slots) (unit : UnitDef) (stood : Bool) (k : ℕ) (c : Tree) (rule : Transition) (r : Registers) →

@@ -15,7 +15,7 @@ use Rattle.bl_machine_pass.specs.Transitions.{Asked, Transition, rules}
 use Rattle.bl_machine_pass_laws.specs.Turns.Invariant.{Exactly, IsFlagged, IsResume, PassInvariant}
 use Rattle.bl_machine_pass_laws.specs.Turns.Laws.{StaysPlaced, Turning, answer_of, entry_flag}
 
--- after a turn each rule that asks so, of a node that is still to have its turn, is due exactly where something waits at its node
+-- a turn keeps each later rule with such a question due iff something waits at its node
 abbrev pub KeepsDue : (Asked → Type 0) → Type 0
 KeepsDue Asks =
     (w : Setting) (rank : ℕ → Node → ℕ) (i : ℕ) (slots : Slots) (unit : UnitDef) (stood : Bool) (c : Tree) (done : List AnsweredDeed) (n : Node)
@@ -25,7 +25,7 @@ KeepsDue Asks =
     Asks other.asked → suc (rank i n) ≤ rank i other.node →
     Exactly (is_due (rank i) other (after_rule (rank i) rule (answer_of turn) r)) (Waits c' None other.node)
 
--- after the turn of the node with the least number that waits all that waits has a greater one
+-- the turn of the first waiting node leaves only nodes with greater numbers waiting
 abbrev pub TurnsLeaveMore : Type 0
 TurnsLeaveMore =
     (w : Setting) (rank : ℕ → Node → ℕ) (i : ℕ) (slots : Slots) (unit : UnitDef) (stood : Bool) (c : Tree) (done : List AnsweredDeed) (n : Node)
@@ -33,7 +33,7 @@ TurnsLeaveMore =
     (rule : Transition) (r : Registers) → Turns w rank i c done n c' → Turning w rank i slots unit stood c n rule →
     PassInvariant slots (rank i) (plain_body unit.body) (rank i n) c r → (m : Node) → Waits c' None m → suc (rank i n) ≤ rank i m
 
--- the flags tell after a turn what waits, and what rested tells it where a later tick goes on
+-- a turn keeps the flags telling what waits, and the resting places telling it at resume nodes
 abbrev pub TurnsKeepFlags : Type 0
 TurnsKeepFlags = StaysPlaced → KeepsDue IsFlagged
 

@@ -1,8 +1,8 @@
-//! Marks and joins of a pass by registers. There is no code here. The laws, as contracts of functions that do nothing
-//! (`specs/Joins/Laws.antt`): a tree is left of the statements of its body, no two of which have a node in common, and stays so
-//! (`specs/Joins/Stems.antt`, `Stemmed`). Marks tell which `cobegin` and `when` of the tree have begun in this tick, as a pass begins
-//! and after each turn. A rule that asks for the ends of branches is due exactly where something waits at its node. Where the
-//! registers tell how the tree stands, the same is true of each rule that has not been passed.
+//! Marks and joins of a pass by registers. Lemmas only (`specs/Joins/Laws.antt`). A tree is the residual of the
+//! statements of its body, no two of which have a node in common, and stays so (`specs/Joins/Stems.antt`, `Stemmed`).
+//! Marks tell which `cobegin` and `when` of the tree have begun in this tick, as a pass begins and after each turn. A
+//! rule that asks for the ends of branches is due iff something waits at its node. Where the invariant holds, the same
+//! is true of each rule that has not been passed.
 
 ghost use Rattle.bl_machine_pass_laws_turns.specs.Joins.Laws.{JoinsWait, MarksBegin, RulesWait, StaysStemmed, TurnsKeepMarks};
 

@@ -1,7 +1,7 @@
-//! A pass over an activity by registers, from its start through each of its turns (`specs/Turns.antt`). There is no code here. The
-//! laws, as contracts of functions that do nothing: as a pass begins the registers tell how the tree stands and what waits in it
-//! (`PassesBegin`); each turn leaves them so, as the rule of its node changes them (`TurnsKeepInvariant`); and whatever a rule asks, it is
-//! due exactly where something waits at its node (`DueWaits`). So what the counters hold between ticks is a function of the tree.
+//! A pass over an activity by registers, from its start through each of its turns (`specs/Turns.antt`). Lemmas only.
+//! The invariant holds as a pass begins (`PassesBegin`), and each turn keeps it, with the changes of its node's rule
+//! (`TurnsKeepInvariant`). Each rule is due iff something waits at its node (`DueWaits`). So the counters between ticks
+//! are a function of the tree.
 
 ghost use Rattle.bl_machine_pass_laws_turns.specs.Turns.{DueWaits, NumbersPass, PassesBegin, TreesFitBodies, TurnsKeepInvariant};
 

@@ -1,9 +1,8 @@
-//! What waits after a turn of a pass by registers. There is no code here. Laws, as contracts of functions that do nothing
-//! (`specs/Waiting.antt`): all that waits after a turn has a greater number; each node that asks for its flag has it exactly where
-//! it waits, and each at which a later tick goes on is told so by what rested when the tick began; and a pass over a body that
-//! begins has the flag of its entry alone. Under a `when` whose condition is still to be tested nothing waits but what rested
-//! (`StaysDozing` of `bl_machine_pass_laws`). That trees stand in their body, with its rules and counters, is a premise
-//! (`StaysPlaced`).
+//! What waits after a turn of a pass by registers. Lemmas only (`specs/Waiting.antt`). All that waits after a turn has
+//! a greater number. A node that asks for its flag has it iff something waits there; for a resume node, what rested
+//! when the tick began tells that. A pass over a body that begins has only the flag of its entry. Under an untested
+//! `when` only what rested waits (`StaysDozing` of `bl_machine_pass_laws`). A premise is that trees stand in their
+//! body, with its rules and counters (`StaysPlaced`).
 
 ghost use Rattle.bl_machine_pass_laws.specs.Turns.Dozes.{StaysDozing};
 ghost use Rattle.bl_machine_pass_laws_turns.specs.Waiting.{BodiesBegin, TurnsKeepFlags, TurnsKeepResumes, TurnsLeaveMore};

@@ -15,7 +15,7 @@ use Rattle.bl_machine_pass.specs.Transitions.{Transition}
 use Rattle.bl_machine_pass_laws_execution.specs.Executes.{Executes, HasRule, Performs, recopied}
 use Rattle.bl_machine_pass_laws_execution.specs.Frames.{Frames}
 
--- the turn of a node leaves a typed store so, and typed copies; a pass by rules leaves a typed store so
+-- the turn of a node keeps a typed store and typed copies, and a pass by rules keeps a typed store
 pub record TurnsKeepTypes (structs : List StructDef) (units : List UnitDef) (entry : ℕ) : Type 0 where
   pub performs : (rank : ℕ → Node → ℕ) (slots : ℕ → Slots) (clear : ℕ → Frames → Frames) (i : ℕ) (unit : UnitDef) (rule : Transition)
       (frames : Frames)
@@ -30,6 +30,6 @@ pub record TurnsKeepTypes (structs : List StructDef) (units : List UnitDef) (ent
       unit_at w i ≡ Some unit → StoreFits w left → values_fit structs unit.vars copies ≡ true →
       values_fit structs unit.vars (recopied w i n left copies) ≡ true
 
--- so it is in each typed program
+-- passes keep stores and copies typed, in each typed program
 abbrev pub PassesKeepTypes : Type 0
 PassesKeepTypes = (structs : List StructDef) (units : List UnitDef) (entry : ℕ) → IsWellTyped structs units entry → TurnsKeepTypes structs units entry

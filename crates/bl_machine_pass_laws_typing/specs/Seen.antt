@@ -19,8 +19,7 @@ use Rattle.bl_ctree.specs.Positions.{stmt_kind}
 use Rattle.bl_ctree.specs.Store.{Store, home, put, view_at}
 use Rattle.bl_ctree_laws_typing.specs.Fits.{StoreFits}
 
--- In a typed program that passes the rules, over a store that fits: once a value is put at the home of a path of an instance, which leads
--- somewhere among its variables, the instance sees the value there, and all else as before
+-- an instance sees a value that was put at the home of one of its paths, and all else as before. The store is typed, and the program passes the rules
 abbrev pub PutsAreSeen : Type 0
 PutsAreSeen =
     (structs : List StructDef) (units : List UnitDef) (entry i : ℕ) (unit : UnitDef) (path : Static) (value : Value) (store : Store)
@@ -29,7 +28,7 @@ PutsAreSeen =
     put_at path.root path.fields value (view_at w store i).now ≡ Some seen →
     (view_at w (put (home w (record { instance = i; path = path })) value store) i).now ≡ seen
 
--- after an act of an instance, which fits where it stands, the instance sees the values that the act leaves
+-- an instance sees the values that its act leaves, where the act fits
 abbrev pub ActsAreSeen : Type 0
 ActsAreSeen =
     (structs : List StructDef) (units : List UnitDef) (entry i : ℕ) (instance : Instance) (unit : UnitDef) (s : Stmt) (store left : Store)
@@ -38,7 +37,7 @@ ActsAreSeen =
     fits (site_of structs (take instance.unit units) unit) s ≡ true → StoreFits w store → outcome_there w store i s ≡ Some values →
     acted_kind w i s (stmt_kind s) store ≡ Some left → (view_at w left i).now ≡ values
 
--- a target of a `run` that fits leads somewhere among the variables of the instance, which sees there what the target gets, and all else as before
+-- a target of a `run` leads among the instance's variables, which sees there what the target gets, and all else as before
 abbrev pub TargetsAreSeen : Type 0
 TargetsAreSeen =
     (structs : List StructDef) (units : List UnitDef) (entry i : ℕ) (unit : UnitDef) (earlier : List UnitDef) (result : Option ScalarType)

@@ -8,13 +8,13 @@ use Rattle.bl_ctree.specs.Instances.{setting_of}
 use Rattle.bl_ctree.specs.Store.{Store, first_store, woken_store}
 use Rattle.bl_ctree_laws_typing.specs.Fits.{StoreFits}
 
--- that of a run, with 0 or false everywhere, and that of a tick whose row fits the inputs of the entry
+-- the first store of a run is typed, and so is the store of a tick whose row fits the inputs of the entry
 pub record StartsFit (structs : List StructDef) (units : List UnitDef) (entry : ℕ) : Type 0 where
   pub first : StoreFits (setting_of structs units entry) (first_store (setting_of structs units entry))
   pub woken : (unit : UnitDef) (row : List ℤ) (store : Store) → slice_get units entry ≡ Some unit →
       row_fits (input_columns unit) row ≡ true → StoreFits (setting_of structs units entry) store →
       StoreFits (setting_of structs units entry) (woken_store row store)
 
--- so it is in each typed program
+-- the stores with which runs and ticks begin are typed, in each typed program
 abbrev pub AllStartsFit : Type 0
 AllStartsFit = (structs : List StructDef) (units : List UnitDef) (entry : ℕ) → IsWellTyped structs units entry → StartsFit structs units entry

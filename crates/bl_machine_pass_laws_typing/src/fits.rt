@@ -1,6 +1,5 @@
-//! Passes by rules over typed stores. There is no code here. A law, as the contract of a function that does nothing: in a typed
-//! program what is done at a node leaves a store in which all values are of their variables' types, where they were before, and
-//! so do passes (`specs/Fits.antt`).
+//! Passes by rules over typed stores. One lemma: in a typed program, the deed at a node keeps stores typed, and so do
+//! passes (`specs/Fits.antt`).
 
 ghost use Rattle.bl_machine_pass_laws_typing.specs.Fits.{PassesKeepTypes};
 

@@ -1,4 +1,4 @@
-//! Passes by rules over typed stores, and what instances see of them. None of these functions does anything: the contract is the law.
+//! Passes by rules keep stores typed, and what instances see of writes. Lemmas only.
 #![tactic(auto)]
 
 pub mod fits;

@@ -1,8 +1,8 @@
-//! What an instance sees once values are put at the homes of its paths. There is no code here. Laws, as contracts of functions that do
-//! nothing (`specs/Seen.antt`), over typed programs that pass the rules, in which paths of one instance that don't overlap have homes that
-//! don't either. So a value that is put at the home of a path is seen there, and nothing else changes (`PutsAreSeen`); after an act its
-//! instance sees the values that the act leaves, a declaration's among them (`ActsAreSeen`); and the target of a `run` has the result that
-//! it gets (`TargetsAreSeen`).
+//! What an instance sees of values that are put at the homes of its paths. Lemmas only (`specs/Seen.antt`), over typed
+//! programs that pass the rules, where paths of one instance that don't overlap have homes that don't either. A value
+//! that is put at the home of a path is seen there, and nothing else changes (`PutsAreSeen`). An instance sees the
+//! values that its act leaves, also of a declaration (`ActsAreSeen`). The target of a `run` has its result
+//! (`TargetsAreSeen`).
 
 ghost use Rattle.bl_machine_pass_laws_typing.specs.Seen.{ActsAreSeen, PutsAreSeen, TargetsAreSeen};
 

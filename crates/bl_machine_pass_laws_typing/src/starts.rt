@@ -1,6 +1,5 @@
-//! Typed stores as runs and ticks begin. There is no code here. A law, as the contract of a function that does nothing: the store
-//! with which a run of a typed program begins has values of their variables' types alone, and so has a typed store in which a
-//! tick begins with a row that fits (`specs/Starts.antt`).
+//! Typed stores as runs and ticks begin. One lemma: the first store of a run of a typed program is typed, and a typed
+//! store stays so as a tick begins with a row that fits (`specs/Starts.antt`).
 
 ghost use Rattle.bl_machine_pass_laws_typing.specs.Starts.{AllStartsFit};
 

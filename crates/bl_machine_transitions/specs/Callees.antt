@@ -30,7 +30,7 @@ zero_where true = 0 ∷ []
 zero_where false = []
 
 abbrev mutual
-  -- for each node of a statement, in their order, the activity that it calls; 0 for those that call none
+  -- for each node of a statement, in their order, the activity that it calls; 0 for nodes that call none
   pub callees_of : Plain → List ℕ
   callees_of (Act l s) = 0 ∷ []
   callees_of (Await l at e) = 0 ∷ 0 ∷ []
@@ -43,12 +43,12 @@ abbrev mutual
   callees_of (While l at e body) = 0 ∷ callees_in body
   callees_of (Again l at body e) = 0 ∷ 0 ∷ callees_in body
 
-  -- of a block
+  -- for each node of a block, in their order, the activity that it calls; 0 for nodes that call none
   pub callees_in : Block → List ℕ
   callees_in Done = []
   callees_in (Then s rest) = callees_of s ++ callees_in rest
 
-  -- of branches
+  -- for each node in branches, in their order, the activity that it calls; 0 for nodes that call none
   pub callees_in_each : Bodies → List ℕ
   callees_in_each Last = []
   callees_in_each (BodyOf weak body rest) = callees_in body ++ callees_in_each rest

@@ -37,12 +37,12 @@ use Rattle.bl_machine_transitions.specs.Told.{Acts, Enters, Nothing, NumberedTra
 
 -- ---- positions
 
--- what the nodes and the resting places at the positions have: a node its number, a place the number at which the instance rests there
+-- the numbers by positions: of nodes, and of the resting places of an instance
 pub record Layout : Type 0 where
   pub number : ℕ → ℕ
   pub slot : ℕ → Slot
 
--- where the order of blocks has the positions of nodes, and a list has the numbers of places in source order
+-- the layout where an order of blocks has the positions of nodes, and a list has the numbers of places in source order
 abbrev pub layout_of : List ℕ → List Slot → Layout
 layout_of order slots = record {
   number = λ k. position_where (nat_eq k) order;
@@ -56,7 +56,7 @@ node_count body = length (nodes_in body)
 abbrev pub place_count : Block → ℕ
 place_count body = length (spots_in body)
 
--- and in a statement
+-- how many nodes and resting places stand in a statement
 abbrev pub nodes_within : Plain → ℕ
 nodes_within s = length (nodes_of s)
 
@@ -66,7 +66,7 @@ places_within s = length (spots_of s)
 -- ---- the resting places of a part, of which the first one has the position
 
 abbrev mutual
-  -- the numbers at which a statement rests as long as it is paused; of a `cobegin` the first branch tells it
+  -- the numbers at which a statement rests as long as it is paused; for a `cobegin` those of the first branch
   pub rests_of : Layout → ℕ → Plain → List Slot
   rests_of layout p (Act l s) = []
   rests_of layout p (Await l at e) = layout.slot p ∷ []
@@ -79,17 +79,17 @@ abbrev mutual
   rests_of layout p (While l at e body) = rests_in layout p body
   rests_of layout p (Again l at body e) = rests_in layout p body
 
-  -- the same of a block
+  -- the numbers at which a block rests as long as it is paused
   pub rests_in : Layout → ℕ → Block → List Slot
   rests_in layout p Done = []
   rests_in layout p (Then s rest) = rests_of layout p s ++ rests_in layout (p + places_within s) rest
 
-  -- and of the first branch, whose end has the position
+  -- the numbers at which the first branch rests as long as it is paused: its end, which has the position, and those of its body
   pub rests_in_first : Layout → ℕ → Bodies → List Slot
   rests_in_first layout p Last = []
   rests_in_first layout p (BodyOf weak body rest) = layout.slot p ∷ rests_in layout (suc p) body
 
--- the counters of so many places
+-- the counters of n places from a position on
 abbrev pub counters_from : Layout → ℕ → ℕ → List ℕ
 counters_from layout p zero = []
 counters_from layout p (suc n) = (layout.slot p).counter ∷ counters_from layout (suc p) n
@@ -104,14 +104,14 @@ abbrev pub endings : Layout → ℕ → Bodies → List Slot
 endings layout p Last = []
 endings layout p (BodyOf weak body rest) = layout.slot p ∷ endings layout (suc (p + place_count body)) rest
 
--- of the strong ones
+-- the numbers of the ends of strong branches
 abbrev pub strong_endings : Layout → ℕ → Bodies → List Slot
 strong_endings layout p Last = []
 strong_endings layout p (BodyOf weak body rest) =
     if weak then strong_endings layout (suc (p + place_count body)) rest
     else layout.slot p ∷ strong_endings layout (suc (p + place_count body)) rest
 
--- all strong branches have to end, or some one where none is strong
+-- the ends that a `cobegin` waits for: those of all strong branches, or any one where none is strong
 abbrev pub needed : Layout → ℕ → Bodies → Needed
 needed layout p bodies =
     if some_strong bodies
@@ -120,23 +120,23 @@ needed layout p bodies =
 
 -- ---- changes
 
--- what a block does where it is entered, whose first node has the position
+-- the change where a block is entered, whose first node has the position
 abbrev pub enter : Layout → ℕ → Block → Change → Change
 enter layout k Done next = next
 enter layout k (Then s rest) next = SetFlag (layout.number k)
 
--- the branches begin; the first node and the first place in them have these positions
+-- the changes by which branches begin, where the first node and place in them have these positions
 abbrev pub enter_each : Layout → ℕ → ℕ → Bodies → List Change
 enter_each layout k p Last = []
 enter_each layout k p (BodyOf weak body rest) =
     enter layout k body (SetCounter (layout.slot p)) ∷ enter_each layout (k + node_count body) (suc (p + place_count body)) rest
 
--- where the body of a `when` ends, which begins at the node with the position
+-- the change where the body of a `when` ends, which begins at the node with the position
 abbrev pub body_ends : Layout → ℕ → Bool → Change
 body_ends layout k true = EndWhen (layout.number k) (layout.number (k + 1)) (layout.number (k + 3))
 body_ends layout k false = SetFlag (layout.number (k + 2))
 
--- a condition that was true: `abort` goes on behind the body, and `reset` begins it anew
+-- the change of a condition that was true: `abort` goes on behind the body, and `reset` begins it anew
 abbrev pub fires : Layout → ℕ → Guard → Block → Change → Change → Change
 fires layout k Abort body ends next = next
 fires layout k Reset body ends next = enter layout k body ends
@@ -146,7 +146,7 @@ abbrev pub marked : Bool → ℕ → List Change → List Change
 marked true number rest = SetMark number ∷ rest
 marked false number rest = rest
 
--- the counters that are freed or forgotten, each once
+-- the changes that free or forget counters, each once
 abbrev pub freed : Layout → ℕ → ℕ → List Change
 freed layout p n = map ClearCounter (once (counters_from layout p n))
 
@@ -159,17 +159,17 @@ forgotten layout p n = map ClearBoth (once (counters_from layout p n))
 abbrev pub flagged : Layout → ℕ → Task → List Change → NumberedTransition
 flagged layout k task so = record { number = layout.number k; asked = Flagged; task = task; so = so; otherwise = [] }
 
--- of one with a test
+-- the rule of a node with a test at the position, which waits by its flag
 abbrev pub tested : Layout → ℕ → Task → List Change → List Change → NumberedTransition
 tested layout k task so otherwise =
     record { number = layout.number k; asked = Flagged; task = task; so = so; otherwise = otherwise }
 
--- of one that asks whether the instance rested at the number: it rests there no longer where the answer is true
+-- the rule of a node that asks whether the instance rested at the number, and clears the counter where the answer is true
 abbrev pub woken : Layout → ℕ → Slot → Task → Change → NumberedTransition
 woken layout k slot task next =
     record { number = layout.number k; asked = Rested slot; task = task; so = ClearCounter slot.counter ∷ next ∷ []; otherwise = [] }
 
--- of the end of a `cobegin`
+-- the rule of the node at which a `cobegin` ends: it asks for the ends of branches, and clears the counters of all their places
 abbrev pub joins : Layout → ℕ → ℕ → Bodies → Age → Change → NumberedTransition
 joins layout k p bodies age next = record {
   number = layout.number k;
@@ -179,13 +179,13 @@ joins layout k p bodies age next = record {
   otherwise = [];
 }
 
--- the joins of a `cobegin` that begins at the node with the position: two where it may end in the tick in which it begins
+-- the rules of the joins of a `cobegin` that begins at the node with the position: two if it may end in the tick in which it begins
 abbrev pub joins_of : Layout → Bool → ℕ → ℕ → Bodies → Change → List NumberedTransition
 joins_of layout true k p bodies next =
     joins layout (k + 1) p bodies (New (layout.number k)) next ∷ joins layout (k + 2) p bodies (Old (layout.number k)) next ∷ []
 joins_of layout false k p bodies next = joins layout (k + 1) p bodies Any next ∷ []
 
--- the check of a `when` at the node with the position; the first node of its body has the second one
+-- the rule of the check of a `when` at the node with the position, where its body's first node has the second position
 abbrev pub checked : Layout → ℕ → ℕ → ℕ → Guard → Task → Block → Change → Change → NumberedTransition
 checked layout k inner p guard task body ends next = record {
   number = layout.number k;
@@ -195,7 +195,7 @@ checked layout k inner p guard task body ends next = record {
   otherwise = [];
 }
 
--- the nodes of a `when` itself, which begins at the node with the position
+-- the rules of the nodes of a `when` itself, which begins at the node with the position
 abbrev pub guarded : Layout → Bool → ℕ → ℕ → Guard → Task → Block → Change → List NumberedTransition
 guarded layout true k p guard task body next =
     flagged layout k Nothing (SetMark (layout.number k) ∷ enter layout (k + 4) body (body_ends layout k true) ∷ [])
@@ -209,7 +209,7 @@ guarded layout false k p guard task body next =
     ∷ flagged layout (k + 2) Nothing (next ∷ [])
     ∷ []
 
--- the nodes of a loop with its test at the end, which that change flags
+-- the rules of the nodes of a loop with its test at the end, which the change flags
 abbrev pub turns : Layout → ℕ → Task → Block → Change → Change → List NumberedTransition
 turns layout k task body test next =
     flagged layout k Nothing (enter layout (k + 2) body test ∷ [])
@@ -259,20 +259,20 @@ abbrev mutual
   rules_of layout k p (Again l at body e) next =
       turns layout k (Tests e) body (SetFlag (layout.number (k + 1))) next ++ rules_in layout (k + 2) p body (SetFlag (layout.number (k + 1)))
 
-  -- of the statements of a block
+  -- the rules of the nodes of a block, in their order, where that change follows it and its first node and place have these positions
   pub rules_in : Layout → ℕ → ℕ → Block → Change → List NumberedTransition
   rules_in layout k p Done next = []
   rules_in layout k p (Then s rest) next =
       rules_of layout k p s (enter layout (k + nodes_within s) rest next)
       ++ rules_in layout (k + nodes_within s) (p + places_within s) rest next
 
-  -- of branches
+  -- the rules of the nodes of branches, in their order, where the first node and place have these positions
   pub rules_in_each : Layout → ℕ → ℕ → Bodies → List NumberedTransition
   rules_in_each layout k p Last = []
   rules_in_each layout k p (BodyOf weak body rest) =
       rules_in layout k (suc p) body (SetCounter (layout.slot p))
       ++ rules_in_each layout (k + node_count body) (suc (p + place_count body)) rest
 
--- of the whole body of an activity
+-- the rules of the nodes of an activity's body, in their order
 abbrev pub listed : Layout → Block → List NumberedTransition
 listed layout body = rules_in layout 0 0 body Finish

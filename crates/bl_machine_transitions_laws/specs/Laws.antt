@@ -20,13 +20,13 @@ abbrev pub first_number : List NumberedTransition → List ℕ
 first_number [] = []
 first_number (rule ∷ rest) = rule.number ∷ []
 
--- whatever the order of blocks and the numbers of places are
+-- the numbered rules of a body are the rules of its nodes, whatever the order of blocks and the numbers of places are
 pub record RulesAreListed : Type 0 where
-  -- what the rules of the nodes tell is the list of rules by numbers
+  -- the rules of nodes, by numbers, are the list of numbered rules
   pub told : (body : List Stmt) (order : List ℕ) (list : List Slot) →
       all_told (number_in order (plain_body body)) (callees_in (plain_body body)) (rules (slots_of (plain_body body) list) (plain_body body))
       ≡ listed (layout_of order list) (plain_body body)
-  -- for each rule there is the activity that its node calls
+  -- the list of callees has the activity that each rule's node calls
   pub each : (body : List Stmt) (list : List Slot) →
       length (callees_in (plain_body body)) ≡ length (rules (slots_of (plain_body body) list) (plain_body body))
   -- the first rule is that of the entry

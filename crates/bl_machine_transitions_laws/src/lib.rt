@@ -1,5 +1,5 @@
-//! The rules of a pass by numbers are the rules of its nodes (`specs/Laws.antt`, `RulesAreListed`): for each body, whatever the order of
-//! its blocks and the numbers of its places are. There is no code here.
+//! The numbered rules of a pass are the rules of its nodes (`specs/Laws.antt`, `RulesAreListed`): for each body, any
+//! order of its blocks, and any numbers of its places. Lemmas only.
 #![tactic(auto)]
 
 ghost use Rattle.bl_machine_transitions_laws.specs.Laws.{RulesAreListed};

@@ -1,4 +1,4 @@
-//! Tests of `bl_names`: the positions that stand for the names of a source text. There is nothing else here.
+//! Tests of `bl_names`: the positions that stand for the names of a source text.
 #![tactic(auto)]
 
 #[cfg(test)]

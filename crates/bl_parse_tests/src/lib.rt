@@ -1,5 +1,5 @@
-//! Tests of `bl_lex` and `bl_parse` for what no command shows: tokens and trees of texts (docs/LANGUAGE.md, "Tokens" and
-//! "Raw trees"). There is nothing else here.
+//! Tests of `bl_lex` and `bl_parse` for what no command shows: tokens and trees of texts (docs/LANGUAGE.md, "Tokens"
+//! and "Raw trees").
 #![tactic(auto)]
 
 #[cfg(test)]

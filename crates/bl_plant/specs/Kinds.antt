@@ -22,11 +22,11 @@ first_output outs = slice_index_or outs 0 (pos 0)
 abbrev pub level_then : ℤ → ℤ → List ℤ → ℤ
 level_then drain level outs = int_max (pos 0) (int_min (pos 1000) ((level +ℤ first_output outs) -ℤ drain))
 
--- the level after these rows of outputs
+-- the level of a tank after rows of outputs
 abbrev pub level_after : ℤ → ℤ → List (List ℤ) → ℤ
 level_after first drain told = fold (level_then drain) first told
 
--- a tank gives its level, so many times, and then it is finished
+-- the rule of a tank: it gives its level so many times, and then it is finished
 abbrev pub tank_rule : ℤ → ℤ → ℕ → Log → Option (List ℤ)
 tank_rule first drain rows log = if nat_lt (length log.given) rows then Some (level_after first drain log.told ∷ []) else None
 

@@ -9,15 +9,15 @@ use Rattle.bl_tree.specs.declared.memory.NoMemory.{NoMemory}
 -- what a plant shows
 pub record PlantView : Type 0 where
   pub name : ℕ
-  -- how many numbers a row has that it gives
+  -- how many numbers a row that it gives has
   pub width : ℕ
   pub log : Log
-  -- its count of faults
+  -- the count of the plant's faults
   pub faults : ℕ
-  -- where it tells its rule: what it answers to whom asks it for a row, by its log; that row, or that it is finished
+  -- the plant's rule, where it tells one: by its log, the row that it gives when asked, or that it is finished
   pub rule : Option (Log → Option (List ℤ))
 
--- a plant keeps its name, its width and its rule, and its count of faults never falls
+-- the plant is the same: it keeps its name, its width and its rule, and its count of faults never falls
 pub record IsSame (before after : PlantView) : Type 0 where
   pub name : after.name ≡ before.name
   pub width : after.width ≡ before.width
@@ -32,7 +32,7 @@ with_given log row = record { given = log.given ++ row ∷ []; told = log.told }
 abbrev pub with_told : Log → List ℤ → Log
 with_told log row = record { given = log.given; told = log.told ++ row ∷ [] }
 
--- where a plant tells its rule, the rule says this of its log
+-- the plant's rule, if it tells one, answers this for its log
 abbrev pub AsRuled : PlantView → Option (List ℤ) → Type 0
 AsRuled p answer = IfSome p.rule (λ rule. rule p.log ≡ answer)
 
@@ -43,7 +43,7 @@ AnsweredBy before give.Finished row after = (after.log ≡ before.log) × AsRule
 AnsweredBy before give.Failed row after = (after.log ≡ before.log) × Rose before.faults after.faults
 AnsweredBy before give.NoMemory row after = after.log ≡ before.log
 
--- a plant that was asked for a row has answered so
+-- a plant has given this answer when asked for a row
 pub record Gives (before : PlantView) (answer : Give) (row : List ℤ) (after : PlantView) : Type 0 where
   pub same : IsSame before after
   pub answered : AnsweredBy before answer row after

@@ -1,6 +1,6 @@
-//! Plants, which stand for what a controller works on. A plant gives rows of numbers and is told rows of outputs. `Plant` says what
-//! its answers mean (`specs/Plants.antt`, `Gives` and `IsTold`). `Tank`, `Ramp` and `Script` tell their rules, and answer by them
-//! (`specs/Kinds.antt`).
+//! Plants, which stand for what a controller controls. A plant gives rows of numbers and receives rows of outputs.
+//! `Plant` says what its answers mean (`specs/Plants.antt`, `Gives` and `IsTold`). `Tank`, `Ramp` and `Script` state
+//! their rules, and answer by them (`specs/Kinds.antt`).
 #![tactic(auto)]
 
 mod log;

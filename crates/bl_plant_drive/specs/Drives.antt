@@ -58,8 +58,7 @@ rowless last.Trap = 1
 abbrev pub ticks_begun : Trace → ℕ
 ticks_begun trace = length trace.rows + rowless trace.last
 
--- what was recorded: the rows of inputs are those that the named plants gave, they fit the inputs, and the trace is that of the runner over
--- them
+-- the record of a drive: the rows of inputs are those that the named plants gave, they fit, and the trace is the runner's over them
 pub record HasDriven (s : DriveSetting) (cast : List Role) (d : Driven) : Type 0 where
   pub is_cast : IsCast s.plants s.names cast
   pub ins : d.ins ≡ inputs_before cast (length d.ins)
@@ -128,7 +127,7 @@ pub record DriveIsOver (s : DriveSetting) (o : Outcome) : Type 0 where
   pub parts : AllByRecursion (Plays o.driven.trace.rows o.driven.trace.rows (length o.driven.ins)) cast
   pub gone : o.driven.gone ≡ gone_before cast (length o.driven.ins)
 
--- the drive has stopped in the tick behind those that are recorded: some plants were asked in it, the others weren't
+-- the drive has stopped in the tick after the recorded ones: some plants were asked in it, the others weren't
 pub record HasStopped (s : DriveSetting) (o : Outcome) (asked others : List Role) : Type 0 where
   pub driven : HasDriven s (asked ++ others) o.driven
   pub wide : widths_of s.plants s.names ≡ length (columns_in s)
@@ -140,7 +139,7 @@ pub record HasStopped (s : DriveSetting) (o : Outcome) (asked others : List Role
   pub later : AllByRecursion (Plays o.driven.trace.rows o.driven.trace.rows (length o.driven.ins)) others
   pub gone : o.driven.gone ≡ gone_before (asked ++ others) (length o.driven.ins) ++ gone_at (length o.driven.ins) asked
 
--- the numbers of these plants, the first of the cast, are in the ranges of their inputs in the tick before which so many were complete
+-- the numbers of the plants, the first of the cast, are in the ranges of their inputs in the tick after so many complete ones
 abbrev pub FirstFit : DriveSetting → ℕ → List Role → Type 0
 FirstFit s k first = in_ranges (types_of (take (length (inputs_at k first)) (columns_in s))) (inputs_at k first) ≡ true
 
@@ -155,7 +154,7 @@ pub record HasFailed (s : DriveSetting) (o : Outcome) (name : ℕ) : Type 0 wher
   pub rose : Rose role.plant.faults role.part.faults
   pub fit : FirstFit s (length o.driven.ins) asked
 
--- a number is the first of these that isn't in the range of its input, where they are for the inputs from one on
+-- a number is the first that isn't in the range of its input, from this input on
 pub record IsFirstOutside (inputs : List Column) (first : ℕ) (numbers : List ℤ) (column : ℕ) (number : ℤ) : Type 0 where
   pub at : ℕ
   pub is : slice_get numbers at ≡ Some number
@@ -165,7 +164,7 @@ pub record IsFirstOutside (inputs : List Column) (first : ℕ) (numbers : List �
   pub outside : in_range input.ty number ≡ false
   pub front : in_ranges (types_of (take at (drop first inputs))) (take at numbers) ≡ true
 
--- the last plant that was asked gave a number that isn't in the range of its input; all numbers before it are
+-- the last plant that was asked gave the first number that isn't in the range of its input
 pub record HasGivenOutside (s : DriveSetting) (o : Outcome) (column : ℕ) (number : ℤ) : Type 0 where
   pub asked : List Role
   pub role : Role
@@ -175,7 +174,7 @@ pub record HasGivenOutside (s : DriveSetting) (o : Outcome) (column : ℕ) (numb
   pub fit : FirstFit s (length o.driven.ins) asked
   pub outside : IsFirstOutside (columns_in s) (length (inputs_at (length o.driven.ins) asked)) (numbers_at (length o.driven.ins) role) column number
 
--- a plant may have gone on with the tick behind these rows: it was asked in it or not, and told this row or not
+-- a plant may have gone on with the tick after these rows: it was asked in it or not, and told this row or not
 pub record MayGoOn (outs : List (List ℤ)) (row : List ℤ) (r : Role) : Type 0 where
   pub asked : ℕ
   pub told : List (List ℤ)
@@ -183,7 +182,7 @@ pub record MayGoOn (outs : List (List ℤ)) (row : List ℤ) (r : Role) : Type 0
   pub told_is : (told ≡ outs) ⊎ (told ≡ outs ++ row ∷ [])
   pub plays : Plays outs told asked r
 
--- memory was refused: the plants and the runner may have gone on with the tick behind those that are recorded
+-- memory was refused: the plants and the runner may have gone on with the tick after the recorded ones
 pub record IsShort (s : DriveSetting) (o : Outcome) : Type 0 where
   pub cast : List Role
   pub driven : HasDriven s cast o.driven

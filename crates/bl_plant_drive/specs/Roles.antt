@@ -13,12 +13,12 @@ first_named name plants = find (λ p. nat_eq p.name name) plants
 
 -- what a named plant did in a drive so far
 pub record PlantRecord : Type 0 where
-  -- the rows that it gave, and those that it was told
+  -- the rows that the plant gave, and those that it was told
   pub given : List (List ℤ)
   pub told : List (List ℤ)
-  -- its count of faults now
+  -- the current count of the plant's faults
   pub faults : ℕ
-  -- whether it answered that it is finished, and was dropped
+  -- whether the plant answered that it is finished, and was dropped
   pub gone : Bool
 
 -- a named plant as it was handed in, and what it did
@@ -34,7 +34,7 @@ pub record IsCast (plants : List PlantView) (names : List ℕ) (cast : List Role
 
 -- ---- what is left of a list
 
--- a plant after its part
+-- a plant after its part in a drive
 abbrev pub after_part : Role → PlantView
 after_part r = record {
   name = r.plant.name;
@@ -44,7 +44,7 @@ after_part r = record {
   rule = r.plant.rule;
 }
 
--- what is left of it: nothing where it was dropped
+-- what is left of a plant after its part: nothing where it was dropped
 abbrev pub left_of : Role → List PlantView
 left_of r = if r.part.gone then [] else after_part r ∷ []
 
@@ -58,7 +58,7 @@ abbrev pub left_by : Option Role → PlantView → List PlantView
 left_by None p = p ∷ []
 left_by (Some r) p = left_of r
 
--- what is left of a list of plants, in its order: a plant has a role where no earlier one has its name, and these are earlier names
+-- what is left of a list of plants, in order. A plant has a role where no earlier one has its name
 abbrev pub left_in : List Role → List ℕ → List PlantView → List PlantView
 left_in cast earlier [] = []
 left_in cast earlier (p ∷ plants) =
@@ -66,15 +66,15 @@ left_in cast earlier (p ∷ plants) =
 
 -- ---- by its rule
 
--- the log of a plant in the tick before which so many were complete, with these outputs
+-- the log of a plant in the tick after so many complete ones, with these outputs
 abbrev pub log_at : Role → List (List ℤ) → ℕ → Log
 log_at r outs k = record { given = r.plant.log.given ++ take k r.part.given; told = r.plant.log.told ++ take k outs }
 
--- each row that a plant gave is the one that its rule says of its log in that tick, where it tells its rule
+-- each row that a plant gave is the one that its rule, if it states one, says of its log in that tick
 abbrev pub GivesByRule : List (List ℤ) → Role → Type 0
 GivesByRule outs r = IfSome r.plant.rule (λ rule. (k : ℕ) (row : List ℤ) → slice_get r.part.given k ≡ Some row → rule (log_at r outs k) ≡ Some row)
 
--- in the tick in which it was dropped its rule says that it is finished
+-- the rule of a dropped plant says that it is finished in the tick in which it was dropped
 abbrev pub EndsByRule : List (List ℤ) → Role → Type 0
 EndsByRule outs r = IfSome r.plant.rule (λ rule. rule (log_at r outs (length r.part.given)) ≡ None)
 
@@ -83,7 +83,7 @@ pub record IsThere (rows : List (List ℤ)) (asked : ℕ) (r : Role) : Type 0 wh
   pub given : length r.part.given ≡ asked
   pub told : r.part.told ≡ rows
 
--- one that was dropped: in the last tick in which it was asked, or before that
+-- a plant that was dropped in the last tick in which it was asked, or before
 pub record IsGone (outs : List (List ℤ)) (asked : ℕ) (r : Role) : Type 0 where
   pub earlier : length r.part.given < asked
   pub rule : EndsByRule outs r
@@ -103,7 +103,7 @@ abbrev pub last_of : List ℤ → List (List ℤ) → List ℤ
 last_of first [] = first
 last_of first (row ∷ rows) = last_of row rows
 
--- the numbers of a plant's columns in the tick before which so many were complete: the last row that it gave by then, or zeros
+-- the numbers of a plant's columns in the tick after so many complete ones: the last row that it gave, or zeros
 abbrev pub numbers_at : ℕ → Role → List ℤ
 numbers_at k r = last_of (replicate r.plant.width (pos 0)) (take (suc k) r.part.given)
 
@@ -118,7 +118,7 @@ inputs_before cast (suc k) = inputs_before cast k ++ inputs_at k cast ∷ []
 
 -- ---- the plants that were dropped
 
--- what is recorded of a plant, where it was dropped in the tick before which so many were complete
+-- the record of a plant that was dropped in the tick after so many complete ones
 abbrev pub gone_in : ℕ → Role → List Gone
 gone_in k r = if r.part.gone && nat_eq (length r.part.given) k then record { name = record { number = r.plant.name }; rows = k } ∷ [] else []
 
@@ -126,7 +126,7 @@ gone_in k r = if r.part.gone && nat_eq (length r.part.given) k then record { nam
 abbrev pub gone_at : ℕ → List Role → List Gone
 gone_at k cast = flat_map (gone_in k) cast
 
--- those that were dropped in so many ticks, in the order of dropping
+-- the plants that were dropped in the first k ticks, in the order of dropping
 abbrev pub gone_before : List Role → ℕ → List Gone
 gone_before cast zero = []
 gone_before cast (suc k) = gone_before cast k ++ gone_at k cast

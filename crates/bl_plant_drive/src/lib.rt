@@ -1,8 +1,9 @@
-//! A closed loop: a live runner of a C file against the plants that names mean. `drive` asks the plants for the row of inputs of each tick,
-//! does the tick, tells them its outputs and records it, for so many ticks or until the run ends or traps (`specs/Drives.antt`,
-//! `DriveEnds`). The trace is the runner's over the rows that were given. What each named plant gave and was told, and when it was
-//! dropped, goes by its rule where it tells one; the others stay as they were (`specs/Roles.antt`, `Plays` and `left_in`). A fault has
-//! its cause: a plant whose count rose, a number outside its range, or names and widths that don't fit. No kind of plant is known here.
+//! A closed loop: a live runner of a C file against named plants. In each tick, `drive` asks the plants for the row of
+//! inputs, does the tick, hands them its outputs and records it. It goes on for so many ticks, or until the run ends or
+//! traps (`specs/Drives.antt`, `DriveEnds`). The trace is the runner's over the rows that were given. What each named
+//! plant gave and received, and when it was dropped, follows its rule where it states one. The other plants are
+//! unchanged (`specs/Roles.antt`, `Plays` and `left_in`). A fault has its cause: a plant whose count of faults rose, a
+//! number outside its range, or names and widths that don't fit. The crate knows no kind of plant.
 #![tactic(auto)]
 
 mod ask;

@@ -35,7 +35,7 @@ fault_line (fault.Width given wanted) = width_line given wanted
 fault_line (fault.Range column number) = range_line column number
 fault_line fault.NoMemory = []
 
--- why it has stopped, where it has
+-- the line that says why a drive has stopped, if it has
 abbrev pub line_after : Result (Unit {0}) DriveFault → List ℕ
 line_after (Ok done) = []
 line_after (Err fault) = fault_line fault

@@ -26,7 +26,7 @@ end_after last.Open = end.Done
 end_after last.Ended = end.Done
 end_after last.Trap = end.Trapped
 
--- one that a fault has stopped
+-- the end of a drive that a fault has stopped
 abbrev pub fault_end : DriveFault → End
 fault_end (fault.Failed name) = end.PlantFault
 fault_end (fault.Absent name) = end.PlantShape
@@ -35,14 +35,14 @@ fault_end (fault.Width given wanted) = end.PlantShape
 fault_end (fault.Range column number) = end.PlantShape
 fault_end fault.NoMemory = end.NoMemory
 
--- any drive
+-- how a drive has ended, by its last tick or its fault
 abbrev pub end_at : Last → Result (Unit {0}) DriveFault → End
 end_at l (Ok done) = end_after l
 end_at l (Err fault) = fault_end fault
 
 -- ---- what is shown
 
--- whether a drive that ended so has begun, as far as is shown: its names and their widths fit, and memory wasn't refused
+-- whether a drive with this end has begun: its names and their widths fit, and memory wasn't refused
 abbrev pub has_begun : Result (Unit {0}) DriveFault → Bool
 has_begun (Ok done) = true
 has_begun (Err (fault.Failed name)) = true
@@ -52,11 +52,11 @@ has_begun (Err (fault.Width given wanted)) = false
 has_begun (Err (fault.Range column number)) = true
 has_begun (Err fault.NoMemory) = false
 
--- the text of its trace, where it has begun
+-- the text of a drive's trace, if the drive has begun
 abbrev pub text_shown : List Column → Trace → Result (Unit {0}) DriveFault → List ℕ
 text_shown outs trace how = if has_begun how then text_of trace outs else []
 
--- what is told of a drive that recorded this and ended so, with these outputs
+-- the report of a drive with this record and end, for these outputs
 pub record IsReportOf (outs : List Column) (driven : Driven) (how : Result (Unit {0}) DriveFault) (report : Report) : Type 0 where
   pub text : report.text.items ≡ text_shown outs driven.trace how
   pub told : report.told.items ≡ gone_lines driven.gone
@@ -65,21 +65,20 @@ pub record IsReportOf (outs : List Column) (driven : Driven) (how : Result (Unit
 
 -- ---- the drive
 
--- what is driven was driven: it recorded this, left these plants and ended so. The rows of inputs that it recorded fit, and the trace is
--- that of the runner over them
+-- a drive recorded this, left these plants and ended so. The recorded rows of inputs fit, and the trace is that of the runner over them
 pub record IsDriven (s : DriveSetting) (plants : List PlantView) (driven : Driven) (how : Result (Unit {0}) DriveFault) : Type 0 where
   pub runner : Running
   pub ends : DriveEnds s (record { runner = runner; plants = plants; driven = driven }) how
   pub fit : RowsFit (columns_in s) driven.ins
   pub trace : driven.trace ≡ trace_over s.runner driven.ins
 
--- what is told of its drive
+-- the report of a drive of this setting, which left these plants
 pub record IsReport (s : DriveSetting) (plants : List PlantView) (report : Report) : Type 0 where
   pub driven : Driven
   pub how : Result (Unit {0}) DriveFault
   pub is_driven : IsDriven s plants driven how
   pub tells : IsReportOf (outputs_of s.runner.parts) driven how report
 
--- it was driven and left these plants, or nothing was done
+-- a drive left these plants, or nothing was done
 abbrev pub LeavesPlants : DriveSetting → List PlantView → Type 0
 LeavesPlants s plants = (plants ≡ s.plants) ⊎ ((driven : Driven) × ((how : Result (Unit {0}) DriveFault) × IsDriven s plants driven how))

@@ -1,4 +1,4 @@
-//! Tests of `bl_plant`: a tank, a ramp and a script are asked and told. There is nothing else here.
+//! Tests of `bl_plant`: a tank, a ramp and a script are asked and told.
 #![tactic(auto)]
 
 #[cfg(test)]

@@ -1,7 +1,7 @@
 -- Bytes cut at line feeds.
 use Rattle.std.specs.Prelude.{ℕ, List, [], ◌∷◌, ◌++◌, ◌==◌, Bool, false, ◌||◌, if◌then◌else◌}
 
--- bytes as lines: those that a line feed ends, each without it, and the bytes after the last line feed
+-- lines of bytes: those that a line feed ends, without it, and the bytes after the last line feed
 pub record Cut : Type 0 where
   pub whole : List (List ℕ)
   pub rest : List ℕ
@@ -11,7 +11,7 @@ abbrev pub led_by : ℕ → List (List ℕ) → List ℕ → Cut
 led_by b [] rest = record { whole = []; rest = b ∷ rest }
 led_by b (line ∷ lines) rest = record { whole = (b ∷ line) ∷ lines; rest = rest }
 
--- where bytes are cut: after each line feed, 10
+-- the lines of bytes, cut after each line feed, 10
 abbrev pub cut : List ℕ → Cut
 cut [] = record { whole = []; rest = [] }
 cut (b ∷ bytes) =

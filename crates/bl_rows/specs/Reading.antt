@@ -38,7 +38,7 @@ most_lines = 1000000
 abbrev pub longest_line : ℕ
 longest_line = 65536
 
--- before the first line
+-- the position before the first line
 abbrev pub at_start : RowPlace
 at_start = record { lines = 0; ticks = None }
 
@@ -56,7 +56,7 @@ abbrev pub numbers_or_bad : ℕ → Option (List ℤ) → Verdict
 numbers_or_bad line None = Bad (BadRow line)
 numbers_or_bad line (Some row) = Numbers row
 
--- what the one record of a line is: the header, or the row of the next tick
+-- the verdict on the one record of a line: the header, or the row of the next tick
 abbrev pub judged_record : List Column → Option ℕ → ℕ → List (List ℕ) → Verdict
 judged_record columns None line fields = if is_header columns fields then Header else Bad (BadHeader line)
 judged_record columns (Some t) line fields = numbers_or_bad line (row_of columns (t + 1) fields)
@@ -74,7 +74,7 @@ over_limit at size =
     else if nat_lt longest_line size then Some (LongLine (line_number at))
     else None
 
--- the same of an unfinished line: it shows at a byte, and not before the line begins
+-- the fault of an unfinished line that is one too many, or has too many bytes: an empty one has none
 abbrev pub overrun : RowPlace → List ℕ → Option RowFault
 overrun at [] = None
 overrun at (b ∷ bytes) = over_limit at (length (b ∷ bytes))
@@ -84,7 +84,7 @@ abbrev pub bad_or : Option RowFault → Verdict → Verdict
 bad_or (Some fault) found = Bad fault
 bad_or None found = found
 
--- what the next line is
+-- the verdict on the next line
 unfoldable pub verdict : List Column → RowPlace → List ℕ → Verdict
 verdict columns at line = bad_or (over_limit at (length line)) (judged columns at (records_in line))
 
@@ -93,7 +93,7 @@ abbrev pub next_tick : Option ℕ → Option ℕ
 next_tick None = None
 next_tick (Some t) = Some (t + 1)
 
--- where a reader stands after a line
+-- the position after a line
 abbrev pub after : RowPlace → Verdict → RowPlace
 after at Passed = record at { lines = at.lines + 1 }
 after at Header = record { lines = at.lines + 1; ticks = Some 0 }
@@ -142,8 +142,7 @@ told s = record { rows = s.rows; fault = fault_at_end s.at s.fault }
 unfoldable pub rows_of : List ℕ → List Column → RowsRead
 rows_of bytes columns = told (scan columns at_start (lines_of bytes))
 
--- a reader between two pieces: its columns, where it stands, the bytes of the unfinished line,
--- the fault that stopped it, and whether it was told that the bytes end
+-- a reader between two pieces: its columns, its position, the unfinished line, the fault that stopped it, and whether the bytes have ended
 pub record Reading : Type 0 where
   pub columns : List Column
   pub at : RowPlace
@@ -164,7 +163,7 @@ unless_stopped (Some fault) told = record { rows = []; fault = Some fault }
 unfoldable pub rows_after : Reading → List ℕ → RowsRead
 rows_after s bytes = unless_stopped s.stop (told (scan s.columns s.at (lines_of (s.line ++ bytes))))
 
--- what the lines give that a piece makes whole
+-- the rows and the fault of the lines that a piece completes
 abbrev pub scanned : Reading → List ℕ → Scan
 scanned s piece = scan s.columns s.at (whole_lines (s.line ++ piece))
 
@@ -206,7 +205,7 @@ Unrefused (Err (BadHeader line)) P = P
 Unrefused (Err (BadRow line)) P = P
 Unrefused (Err (LongLine line)) P = P
 
--- what was handed over is a front of these rows
+-- the rows that were handed over are a prefix of these rows
 pub record Front (old new rows : List (List ℤ)) : Type 0 where
   pub handed : List (List ℤ)
   pub left : List (List ℤ)

@@ -1,8 +1,8 @@
-//! Rows of input read from bytes in any cut, and traces printed (docs/FORMATS.md, "Rows" and "Traces"). `Rows::feed`
-//! and `finish` give the rows of the joined bytes however they are cut, up to the first bad line, with its kind and its
-//! number (`specs/Reading.antt`, `rows_of`). `header` and `line` are the lines of a trace, and `text` is the whole of it
-//! (`specs/Text.antt`, `text_of`). `input_columns` and `output_columns` are those of a unit. `text` asks
-//! for fewer than 2^32 - 1 rows. Want of memory aside.
+//! Rows of input parsed from bytes in pieces, and traces printed (docs/FORMATS.md, "Rows" and "Traces"). `Rows::feed`
+//! and `finish` give the rows of the joined bytes, however they are cut, up to the first bad line, with its kind and
+//! number (`specs/Reading.antt`, `rows_of`). `header` and `line` are the lines of a trace, and `text` is the whole of
+//! it (`specs/Text.antt`, `text_of`). `input_columns` and `output_columns` are those of a unit. `text` requires fewer
+//! than 2^32 - 1 rows. Want of memory aside.
 #![tactic(auto)]
 
 mod columns;

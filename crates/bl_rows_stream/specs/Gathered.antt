@@ -11,7 +11,7 @@ use Rattle.bl_rows_stream.specs.declared.finish.Finish.TheVariants as finish
 use Rattle.bl_rows_stream.specs.declared.gathered.RowsEnd.{RowsEnd}
 use Rattle.bl_rows_stream.specs.declared.gathered.RowsEnd.TheVariants.{Read, Unread}
 
--- rows begin with these
+-- the first rows are a prefix of all
 pub record LeadsTo (first all : List (List ℤ)) : Type 0 where
   pub later : List (List ℤ)
   pub are : all ≡ first ++ later
@@ -21,12 +21,11 @@ pub data Gathers (ins : List Column) (left rest : Option (List ℕ)) (rows : Lis
   -- the rows of the whole file up to its first bad line, with the fault of that line
   whole : {fault : Option RowFault} (bytes : List ℕ) → AreLeft left bytes → rows ≡ (rows_of bytes ins).rows → fault ≡ (rows_of bytes ins).fault →
       Gathers ins left rest rows (Read fault)
-  -- the file failed behind the bytes that it handed over, of which the whole lines are good: their rows, with which the rows of the file
-  -- begin, whatever it has left
+  -- the file failed after the bytes that it handed over, whose complete lines are good: their rows are gathered, a prefix of the file's rows
   broken : (read : List ℕ) → HasRead left read rest → fault_in (empty_reading ins) read ≡ None → rows ≡ rows_in (empty_reading ins) read →
       ((more : List ℕ) → LeadsTo rows (rows_of (read ++ more) ins).rows) → Gathers ins left rest rows Unread
 
--- how a run ends that came to this over gathered rows: a trap or an end among them decides
+-- how a run ends, from its end over the gathered rows: a trap or an end among them decides
 abbrev pub finish_over : Last → RowsEnd → Finish
 finish_over how (Read fault) = finish_of how fault
 finish_over last.Open Unread = finish.ReadFault

@@ -23,7 +23,7 @@ abbrev pub after_rows : Running → List (List ℤ) → Running
 after_rows r [] = r
 after_rows r (ins ∷ rows) = after_rows (after_tick r ins) rows
 
--- a runner that has run rows: all of them where they leave the run open, and else it isn't live any more
+-- a runner that has run rows: all of them if they leave the run open, and else it isn't live any more
 pub record HasRun (r : Running) (rows : List (List ℤ)) (now : Running) : Type 0 where
   pub going : (trace_from r rows).last ≡ Open → now ≡ after_rows r rows
   pub closed : ((trace_from r rows).last ≡ Open → ⊥) → now.live ≡ false
@@ -47,7 +47,7 @@ unless_trap tick.Row line = line
 unless_trap tick.Ended line = line
 unless_trap tick.Trap line = []
 
--- what is written of a tick of this number that was answered so, with these outputs and this count
+-- what is written of a tick with this number, answer, outputs and count
 abbrev pub tick_text : Report → ℕ → List Column → TickAnswer → List ℤ → ℕ → List ℕ
 tick_text Trace n outs answer outputs count = unless_trap answer (line_text n outs outputs) ++ end_text answer
 tick_text Counts n outs answer outputs count = count_text n count ++ end_text answer
@@ -66,7 +66,7 @@ report_from report n r (ins ∷ rows) =
     tick_text report n (outputs_of r.parts) (answer_of (reply_at r ins)) (tick_at r ins).outputs (count_after r ins)
     ++ if_row (answer_of (reply_at r ins)) (report_from report (n + 1) (after_tick r ins) rows)
 
--- and before them
+-- what is written before the ticks
 abbrev pub report_header : Report → List Column → List ℕ
 report_header Trace outs = header_text outs
 report_header Counts outs = codes "tick,statements\n"

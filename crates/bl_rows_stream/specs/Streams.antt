@@ -19,13 +19,13 @@ use Rattle.bl_rows_stream.specs.declared.finish.Finish.{Finish}
 use Rattle.bl_rows_stream.specs.declared.finish.Finish.TheVariants as finish
 use Rattle.bl_rows_stream.specs.declared.ticks.Report.{Report}
 
--- what runs: the columns of its rows, how it stands after rows, and the text that is shown of them
+-- a course: the columns of its rows, how it stands after rows, and the text that is shown of them
 pub record Course : Type 0 where
   pub ins : List Column
   pub last : List (List ℤ) → Last
   pub text : List (List ℤ) → List ℕ
 
--- that of a C file, of which the trace is shown
+-- the course of a C file, which shows its trace
 abbrev pub course_of : Parts → Course
 course_of file = record {
   ins = inputs_of file;
@@ -33,7 +33,7 @@ course_of file = record {
   text = λ rows. text_of (c_trace file rows) (outputs_of file);
 }
 
--- that of a runner from where it stands
+-- the course of a runner from its current state, which shows its trace
 abbrev pub course_from : Running → Course
 course_from r = record {
   ins = inputs_of r.parts;
@@ -41,7 +41,7 @@ course_from r = record {
   text = λ rows. text_of (trace_from r rows) (outputs_of r.parts);
 }
 
--- how it stands after the rows of a whole file, up to its first bad line, and the text of these rows
+-- how the course stands after the rows of a whole file, up to its first bad line
 abbrev pub last_over : Course → List ℕ → Last
 last_over c bytes = c.last (rows_of bytes c.ins).rows
 
@@ -49,7 +49,7 @@ last_over c bytes = c.last (rows_of bytes c.ins).rows
 abbrev pub text_over : Course → List ℕ → List ℕ
 text_over c bytes = c.text (rows_of bytes c.ins).rows
 
--- the same of the rows of lines that are whole
+-- how a course stands after the rows of complete lines
 abbrev pub last_so_far : Course → List ℕ → Last
 last_so_far c bytes = c.last (rows_in (empty_reading c.ins) bytes)
 
@@ -75,20 +75,20 @@ finish_of Open fault = while_open fault
 finish_of Ended fault = finish.Done
 finish_of Trap fault = finish.Trapped
 
--- where the bytes held are told, they grew by a front of the text
+-- the bytes held grew by a prefix of the text, where they are known
 abbrev pub AppendsFront : Option (List ℕ) → List ℕ → Option (List ℕ) → Type 0
 AppendsFront before text after = IfSome before (λ bytes. (n : ℕ) × (n ≤ length text) × (after ≡ Some (bytes ++ take n text)))
 
--- the bytes are those that were left of a file, where they are told
+-- the bytes are what was left of a file, where its content is known
 abbrev pub AreLeft : Option (List ℕ) → List ℕ → Type 0
 AreLeft left bytes = IfSome left (λ all. all ≡ bytes)
 
--- these bytes of a file were handed over and the others are left, where they are told
+-- these bytes of a file were handed over, and the others are left, where the file's content is known
 abbrev pub HasRead : Option (List ℕ) → List ℕ → Option (List ℕ) → Type 0
 HasRead all read now = IfSome all (λ bytes. (rest : List ℕ) × ((bytes ≡ read ++ rest) × (now ≡ Some rest)))
 
--- the file failed behind the bytes that it handed over: the lines in them that a line feed ends are good, their rows leave the run
--- open, and the text of these rows grew on `out`. So a trap, an end or a bad line that was handed over decides
+-- the file failed after the bytes that it handed over. Their complete lines are good, their rows leave the run open, and the text of these rows grew on `out`.
+-- A trap, an end or a bad line among them decides instead
 pub record Unread (c : Course) (left rest before after : Option (List ℕ)) : Type 0 where
   pub read : List ℕ
   pub handed_over : HasRead left read rest
@@ -102,7 +102,7 @@ pub data Streamed (c : Course) (left rest before after : Option (List ℕ)) : Fi
   all : {ended : Finish} (bytes : List ℕ) → AreLeft left bytes → ended ≡ finish_of (last_over c bytes) (rows_of bytes c.ins).fault →
       Appends before (text_over c bytes) after → Streamed c left rest before after ended
   unread : Unread c left rest before after → Streamed c left rest before after finish.ReadFault
-  -- a write of the text failed, or memory was refused, and a front of it grew
+  -- a write of the text failed, or memory was refused, and a prefix of it grew
   front : {ended : Finish} (bytes : List ℕ) → AreLeft left bytes → (ended ≡ finish.WriteFault) ⊎ (ended ≡ finish.NoMemory) →
       AppendsFront before (text_over c bytes) after → Streamed c left rest before after ended
 
@@ -116,8 +116,8 @@ report_over report r bytes = report_of report r (rows_of bytes (inputs_of r.part
 abbrev pub rows_so_far : Running → List ℕ → List (List ℤ)
 rows_so_far r bytes = rows_in (empty_reading (inputs_of r.parts)) bytes
 
--- the file failed behind the bytes that it handed over: their whole lines are good, their rows have run and leave the run
--- open, and what is written of them grew on `out`
+-- the file failed after the bytes that it handed over. Their complete lines are good, their rows have run and leave the run open, and the report of them grew
+-- on `out`
 pub record BreaksOff (report : Report) (r : Running) (left rest before after : Option (List ℕ)) (now : Running) : Type 0 where
   pub read : List ℕ
   pub handed : HasRead left read rest
@@ -134,7 +134,7 @@ pub data Reported (report : Report) (r : Running) (left rest before after : Opti
       Appends before (report_over report r bytes) after → HasRun r (rows_of bytes (inputs_of r.parts)).rows now →
       Reported report r left rest before after now ended
   broken : BreaksOff report r left rest before after now → Reported report r left rest before after now finish.ReadFault
-  -- a write failed, or memory was refused, and a front grew of what is written of the rows
+  -- a write failed, or memory was refused, and a prefix of the report grew
   cut : {ended : Finish} (bytes : List ℕ) → AreLeft left bytes → (ended ≡ finish.WriteFault) ⊎ (ended ≡ finish.NoMemory) →
       AppendsFront before (report_over report r bytes) after → Reported report r left rest before after now ended
 
@@ -150,6 +150,6 @@ pub record StandsBehind (most : ℕ) (bytes : List ℕ) (now : Option (List ℕ)
   pub short : length piece ≤ PIECE
   pub left : now ≡ Some rest
 
--- the same where the bytes left are told
+-- a file was read in pieces up to at most so many lines, where its content is known
 abbrev pub ReadsLines : ℕ → Option (List ℕ) → Option (List ℕ) → Type 0
 ReadsLines most before after = IfSome before (λ bytes. StandsBehind most bytes after)

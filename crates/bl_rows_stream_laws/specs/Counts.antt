@@ -6,7 +6,7 @@ use Rattle.bl_rows.specs.Text.{last_text}
 use Rattle.bl_rows_stream.specs.Reports.{count_text}
 use Rattle.bl_rows_stream.specs.Streams.{Course}
 
--- a number of statements that 128 bits can't hold is told as the greatest that they can
+-- a count of statements, at most the greatest number that 128 bits hold
 abbrev pub told_count : ℕ → ℕ
 told_count n = min n (2 ^ 128 - 1)
 
@@ -20,7 +20,7 @@ abbrev pub counts_text : Behaviour → List (List ℤ) → List ℕ
 counts_text behaviour rows =
     codes "tick,statements\n" ++ (count_lines 1 (counts_after behaviour.tick behaviour.start rows) ++ last_text (behaviour.trace rows).last)
 
--- the course that runs a C file which behaves so, and shows how many statements each tick executes
+-- the course that runs a C file with this behaviour, and shows how many statements each tick executes
 abbrev pub counts_by : Behaviour → Course
 counts_by behaviour = record {
   ins = behaviour.inputs;

@@ -11,12 +11,12 @@ use Rattle.bl_rows_stream.specs.declared.ticks.Report.TheVariants.{Counts, Nothi
 use Rattle.bl_rows_stream_laws.specs.Counts.{counts_by}
 use Rattle.bl_rows_stream_laws.specs.Resumed.{RunsSilently, runner_from}
 
--- what is written of a counted run of a file that was just loaded is the text of its counts
+-- a counted run of a file that was just loaded writes the text of its counts
 abbrev pub CountsAreTold : Parts → Type 0
 CountsAreTold file = (left rest before after : Option (List ℕ)) (now : Running) (how : Finish) →
     Reported Counts (loaded file) left rest before after now how → Streamed (counts_by (behaviour_of file)) left rest before after how
 
--- a silent run from numbers of the cells comes to what the trace that goes on from them comes to
+-- a silent run from numbers of the cells ends as the trace from them does
 abbrev pub RunsAreSilent : Parts → Type 0
 RunsAreSilent file = (numbers : List ℤ) (left rest : Option (List ℕ)) (now : Running) (how : Finish) → IsReady (runner_from file numbers) →
     how ≢ finish.WriteFault → Reported Nothing (runner_from file numbers) left rest None None now how → RunsSilently file numbers left rest now how

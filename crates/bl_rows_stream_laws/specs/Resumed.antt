@@ -24,7 +24,7 @@ resumed_by file numbers = record {
   text = λ rows. text_of (c_trace_from file rows numbers) (outputs_of file);
 }
 
--- the same course, where nothing is shown
+-- the course that runs a file from these numbers of its cells, and shows nothing
 abbrev pub silent_by : Parts → List ℤ → Course
 silent_by file numbers = record {
   ins = inputs_of file;
@@ -32,7 +32,7 @@ silent_by file numbers = record {
   text = λ rows. [];
 }
 
--- the rows of a whole file leave the run open, and this runner can be saved and has the cells that they leave
+-- the rows of a whole file leave the run open, and this runner has the cells that they leave and can be saved
 pub record LeavesOpen (file : Parts) (numbers : List ℤ) (left : Option (List ℕ)) (now : Running) : Type 0 where
   pub bytes : List ℕ
   pub are_left : AreLeft left bytes
@@ -43,7 +43,7 @@ pub record LeavesOpen (file : Parts) (numbers : List ℤ) (left : Option (List �
   pub parts : now.parts ≡ file
   pub cells : now.cells ≡ cells_after file (rows_of bytes (inputs_of file)).rows numbers
 
--- what a silent run from these numbers comes to over what is left of a file, what is then left, and the runner after it
+-- the end of a silent run from these numbers over what is left of a file, what is left then, and the runner after it
 pub data RunsSilently (file : Parts) (numbers : List ℤ) (left rest : Option (List ℕ)) (now : Running) : Finish → Type 0 where
   goes_on : LeavesOpen file numbers left now → RunsSilently file numbers left rest now finish.Done
   ended : (bytes : List ℕ) → AreLeft left bytes → last_over (silent_by file numbers) bytes ≡ Ended → now.live ≡ false →

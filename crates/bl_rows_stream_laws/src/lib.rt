@@ -1,7 +1,7 @@
-//! Laws of runs over files of rows. None of these functions does anything: the contract is the law. What `count` writes
-//! are the counts of the ticks by what the file means (`specs/Counts.antt`, `counts_text`). A runner that goes on from
-//! numbers of the cells and writes nothing comes to what the trace from them comes to; where that is open it has the
-//! cells that the rows leave, and can be saved (`specs/Resumed.antt`, `RunsSilently`).
+//! Laws of runs over files of rows. Lemmas only. `count` writes the statement counts of the ticks of the file's
+//! semantics (`specs/Counts.antt`, `counts_text`). A runner that goes on from numbers of the cells and writes nothing
+//! ends as the trace from them does. Where that is open, it has the cells that the rows leave, and can be saved
+//! (`specs/Resumed.antt`, `RunsSilently`).
 #![tactic(auto)]
 
 ghost use Rattle.bl_ctext_semantics.specs.Parts.{Parts};

@@ -1,5 +1,5 @@
-//! Tests of `bl_rows_stream` for what no command shows: the numbers of statements of ticks, a run that writes nothing, and
-//! a runner that goes on over a second file. There is nothing else here.
+//! Tests of `bl_rows_stream` for what no command shows: the numbers of statements of ticks, a run that writes nothing,
+//! and a runner that goes on over a second file.
 #![tactic(auto)]
 
 #[cfg(test)]

@@ -13,7 +13,7 @@ size_of (Int w) = bits_of w / 8
 size_of (Nat w) = bits_of w / 8
 size_of (Bits w) = bits_of w / 8
 
--- these bytes of a number: in two's complement, the most significant byte first. A bool is 0 or 1
+-- the bytes of a number in two's complement, the most significant first; a bool is 0 or 1
 abbrev pub cell_bytes : Scalar → ℤ → List ℕ
 cell_bytes kind n = big_bytes (size_of kind) (low_bytes w128 (size_of kind) n)
 

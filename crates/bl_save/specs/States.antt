@@ -11,24 +11,23 @@ use Rattle.bl_save.specs.Bytes.{state_bytes}
 use Rattle.bl_save.specs.declared.fault.StateFault.{StateFault}
 use Rattle.bl_save.specs.declared.fault.StateFault.TheVariants.{BadState}
 
--- these bytes are the saved state of a file whose cells have these numbers, each in the range of its type. A file whose start traps has none
+-- the bytes are the saved state of a file with these numbers in its cells, in the ranges of their types. The file's start doesn't trap
 pub record SavedState (file : Parts) (numbers : List ℤ) (bytes : List ℕ) : Type 0 where
   pub starts : starts file ≡ true
   pub fit : in_ranges (kinds_of file) numbers ≡ true
   pub written : bytes ≡ state_bytes (kinds_of file) numbers
 
--- these bytes are the saved state of a memory of a file
+-- the bytes are the saved state of the file's cells in the memory
 abbrev pub Saves : Parts → Memory → List ℕ → Type 0
 Saves file memory bytes = SavedState file (numbers_of (cells_of file) memory) bytes
 
--- with further bytes these are a saved state of a file
+-- the bytes begin a saved state of a file
 pub record BeginsState (file : Parts) (front : List ℕ) : Type 0 where
   pub rest : List ℕ
   pub numbers : List ℤ
   pub saved : SavedState file numbers (front ++ rest)
 
--- bytes that are no saved state of a file show it here: the least n such that the first n + 1 bytes begin none, or the number of bytes
--- where all of them begin one
+-- bytes first fail to be a saved state here: the least n such that the first n + 1 bytes begin none, or the number of bytes if all of them begin one
 pub record ShowsBadState (file : Parts) (bytes : List ℕ) (at : ℕ) : Type 0 where
   pub none : (numbers : List ℤ) → SavedState file numbers bytes → ⊥
   pub within : at ≤ length bytes
@@ -41,7 +40,7 @@ OneMemory file = (numbers others : List ℤ) (bytes : List ℕ) → SavedState f
 
 -- ---- runners
 
--- a runner that a state can be saved from and restored to: its start hasn't trapped, and each of its cells has a number
+-- a runner is ready to be saved and restored: its start hasn't trapped, and each of its cells has a number
 pub record IsReady (r : Running) : Type 0 where
   pub starts : starts r.parts ≡ true
   pub whole : length r.cells ≡ length (cells_of r.parts)
@@ -50,7 +49,7 @@ pub record IsReady (r : Running) : Type 0 where
 abbrev pub with_numbers : Running → List ℤ → Running
 with_numbers r numbers = record { parts = r.parts; cells = numbers; ready = r.ready; live = r.live }
 
--- a runner is as before but for its cells, which have the numbers of a saved state
+-- the runner has the cells of a saved state, and is as before otherwise
 pub record HasRestored (before : Running) (bytes : List ℕ) (after : Running) : Type 0 where
   pub numbers : List ℤ
   pub saved : SavedState before.parts numbers bytes

@@ -1,4 +1,4 @@
-//! A law of saved states. The function does nothing: the contract is the law.
+//! A law of saved states.
 
 ghost use Rattle.bl_ctext_semantics.specs.Parts.{Parts};
 ghost use Rattle.bl_save.specs.States.{OneMemory};

@@ -12,7 +12,7 @@ use Rattle.bl_save.specs.States.{IsReady, SavedState, ShowsBadState, with_number
 abbrev pub OneState : Parts → Type 0
 OneState file = (numbers : List ℤ) (bytes others : List ℕ) → SavedState file numbers bytes → SavedState file numbers others → bytes ≡ others
 
--- bytes show at no two places that they are no saved state
+-- bytes first fail to be a saved state at one place only
 abbrev pub OnePlace : Parts → Type 0
 OnePlace file = (bytes : List ℕ) (here there : ℕ) → ShowsBadState file bytes here → ShowsBadState file bytes there → here ≡ there
 
@@ -20,26 +20,25 @@ OnePlace file = (bytes : List ℕ) (here there : ℕ) → ShowsBadState file byt
 abbrev pub ShortStates : Parts → Type 0
 ShortStates file = WellFormed file → (numbers : List ℤ) (bytes : List ℕ) → SavedState file numbers bytes → length bytes ≤ 8 * cells_needed file + 10
 
--- a run of a file whose start doesn't trap may be stopped while it is open, and gone on with later: the trace over all rows is that of the
--- first, and then the one over the others that goes on from the cells that they leave
+-- a run of a file whose start doesn't trap can be stopped while open and continued: the trace over all rows is the first, followed by that from the cells that
+-- they leave
 abbrev pub TraceGoesOn : Parts → Type 0
 TraceGoesOn file = (first rest : List (List ℤ)) → starts file ≡ true → (c_trace file first).last ≡ Open →
     c_trace file (first ++ rest) ≡ trace_then (c_trace file first) (c_trace_from file rest (cells_after file first (start_cells file)))
 
--- so it may where the cells that they leave were saved, and the run goes on from what the saved state stands for
+-- a run that was stopped while open has the same trace when it goes on from the saved state of its cells
 abbrev pub StateGoesOn : Parts → Type 0
 StateGoesOn file = (first rest : List (List ℤ)) (bytes : List ℕ) (numbers : List ℤ) → (c_trace file first).last ≡ Open →
     SavedState file (cells_after file first (start_cells file)) bytes → SavedState file numbers bytes →
     c_trace file (first ++ rest) ≡ trace_then (c_trace file first) (c_trace_from file rest numbers)
 
--- and a state that is saved then is that after all rows
+-- the state saved after a run that went on from a saved state is the state after all rows
 abbrev pub StatesJoin : Parts → Type 0
 StatesJoin file = (first rest : List (List ℤ)) (bytes further : List ℕ) (numbers : List ℤ) →
     SavedState file (cells_after file first (start_cells file)) bytes → SavedState file numbers bytes →
     SavedState file (cells_after file rest numbers) further → SavedState file (cells_after file (first ++ rest) (start_cells file)) further
 
--- a runner that was just loaded is ready where the start of its file doesn't trap, and is so after ticks and where its cells have the
--- numbers of a saved state
+-- a loaded runner is ready where the start doesn't trap. It stays ready after ticks and after its cells are set to a saved state
 pub record StaysReady (file : Parts) : Type 0 where
   pub loaded : starts file ≡ true → IsReady (loaded file)
   pub ticked : (r : Running) (ins : List ℤ) → IsReady r → IsReady (after_tick r ins)

@@ -1,7 +1,7 @@
-//! Laws of saved states (docs/FORMATS.md, "Saved states"). None of these functions does anything: the contract is the
-//! law. A memory has at most one saved state, which is short, and bytes show at no two places that they are none. A run
-//! may be stopped and gone on with later: the trace over all rows is that of the first, and then the one from the state
-//! that was saved after them, and a state that is saved then is that after all rows (`specs/Laws.antt`).
+//! Laws of saved states (docs/FORMATS.md, "Saved states"). Lemmas only. A memory has at most one saved state, which is
+//! short, and malformed bytes have one first wrong offset. A run may be stopped and continued from its saved state: the
+//! trace over all rows is the first trace followed by the one from the state. A state saved after that is the state
+//! after all rows (`specs/Laws.antt`).
 #![tactic(auto)]
 
 ghost use Rattle.bl_ctext_semantics.specs.Parts.{Parts};

@@ -17,8 +17,7 @@ use Rattle.bl_top.specs.Drive.{DriveEnds, Plants}
 use Rattle.bl_top.specs.Run.{RunEnds}
 use Rattle.bl_top_args.specs.Jobs.{JobSpec, Word, bound, build, check, count, drive, exec, gen, job_of, resume, run, save, save_from, walk}
 
--- the status with which a job ends, with its whole cause and with what grew on `out`, and all lines that it has for `notes`, that of
--- the status last
+-- the status with which a job ends, with its cause, what grew on `out`, and its lines for `notes`, the status line last
 pub data Answers (c : Call) (plants : Plants) : Option JobSpec → Status → List ℕ → Type 0 where
   checks : {source : Word} {ended : Status} {lines : List ℕ} → CheckEnds c source ended lines → Answers c plants (Some (check source)) ended lines
   builds : {source : Word} {ended : Status} {lines : List ℕ} → BuildEnds c source ended lines → Answers c plants (Some (build source)) ended lines
@@ -49,7 +48,7 @@ abbrev pub KeepsPlants : Option JobSpec → Plants → Type 0
 KeepsPlants (Some (drive source ticks names)) plants = Unit {0}
 KeepsPlants job plants = plants.after ≡ plants.before
 
--- a call of these words ends with the status of their job, whose lines grew on `notes`, or with that of the write of these lines
+-- a call of these words ends with the status of their job, whose lines grew on `notes`, or with that of writing the lines
 pub record Answered (words : List Word) (c : Call) (plants : Plants) (ended : Status) : Type 0 where
   pub meant : Status
   pub lines : List ℕ

@@ -36,7 +36,7 @@ pub record Plants : Type 0 where
 abbrev pub setting_of : Parts → List PlantView → ℕ → List ℕ → DriveSetting
 setting_of parts plants ticks names = record { runner = loaded parts; plants = plants; names = names; ticks = ticks }
 
--- a C file that has the one trace of a source's program was driven against the plants: it recorded this and ended so
+-- a C file with the one trace of a source's program was driven against the plants, with this record and end
 pub record HasDriven (left : Option (List ℕ)) (plants : Plants) (ticks : ℕ) (names : List ℕ) (driven : Driven)
     (how : Result (Unit {0}) DriveFault) (text : List ℕ) : Type 0 where
   pub raw : Raw
@@ -44,13 +44,13 @@ pub record HasDriven (left : Option (List ℕ)) (plants : Plants) (ticks : ℕ) 
   pub parts : Parts
   pub one_trace : OneTrace (typed_of raw).structs (typed_of raw).units (typed_of raw).entry (behaviour_of parts)
   pub is_driven : IsDriven (setting_of parts plants.before ticks names) plants.after driven how
-  -- over the rows that the plants gave the parallel meaning allows its trace, and no other
+  -- the semantics allows the trace over the rows that the plants gave, and no other
   pub means : (shows : Shows) → Means (typed_of raw).structs (typed_of raw).units (typed_of raw).entry driven.ins shows
       ↔ (shows ≡ shown_trace driven.trace)
-  -- this is what it shows: the text of the trace, or nothing where the names and widths don't fit
+  -- the drive shows the text of the trace, or nothing where the names and widths don't fit
   pub shows : text ≡ text_shown (output_columns one_trace.unit) driven.trace how
 
--- the status of a drive that ended so
+-- the status of a drive with this end
 abbrev pub status_at : End → Status
 status_at end.Done = status.Ok
 status_at end.Trapped = status.Trapped

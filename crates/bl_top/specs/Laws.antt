@@ -22,7 +22,7 @@ abbrev pub BuiltTextsHaveCourses : Type 0
 BuiltTextsHaveCourses = (structs : List StructDef) (units : List UnitDef) (entry : ℕ) (text : List ℕ) (behaviour : Behaviour) →
     IsTextOfProgram structs units entry text → Behaves text behaviour → HasCourse structs units entry (course_by behaviour)
 
--- and so of its source
+-- a run of a text that was built of a source has the one trace of the source's program
 abbrev pub BuiltTextsRunAsTheirSource : Type 0
 BuiltTextsRunAsTheirSource = (left : Option (List ℕ)) (text : List ℕ) (behaviour : Behaviour) →
     IsTextOf left text → Behaves text behaviour → RunsAs left (course_by behaviour)
@@ -33,7 +33,7 @@ BuiltTextsAreRejectedForLength = (structs : List StructDef) (units : List UnitDe
     IsTextOfProgram structs units entry text → Rejects text ended line →
     (longest_text < length text) ⊎ ((ended ≡ status.NoMemory) × (line ≡ line_of status.NoMemory))
 
--- so `exec` of one that isn't too long runs it
+-- `exec` runs each text that was built and isn't too long
 abbrev pub BuiltTextsAreRun : Type 0
 BuiltTextsAreRun = (left : Option (List ℕ)) (built : List ℕ) (c : Call) (text rows : Word) (ended : Status) (line : List ℕ) →
     IsTextOf left built → c.left text ≡ Some built → length built ≤ longest_text →

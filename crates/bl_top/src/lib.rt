@@ -1,15 +1,15 @@
 //! The one call that the program makes. `blechc` ends with the status of the job that its words ask for, and the lines
 //! of the job grew on `notes`, that of the status last (`specs/Answers.antt`, `Answered`). Each way in which a job ends
-//! comes with its whole cause and with what grew on `out`: for `build`, `run` and `drive`, which make the C file of a
-//! source, in `specs/Build.antt`, `specs/Run.antt` and `specs/Drive.antt`, and for the others in `bl_top_commands`. The bytes
-//! that `build` writes have the one trace of the source's program, and what `run` shows is the text of it (`OneTrace` and
-//! `HasCourse` of `bl_top_commands`). In the file that those bytes spell each activity that has an instance has one function,
-//! which alone names its counters, as many counters as its width, and as many `if`s as a merged machine has blocks for it (`IsBuiltOf`).
-//! docs/THEOREM.md leads through it.
+//! comes with its whole cause and with what grew on `out`. For `build`, `run` and `drive`, which make the C file of a
+//! source, these are in `specs/Build.antt`, `specs/Run.antt` and `specs/Drive.antt`, and for the others in
+//! `bl_top_commands`. The bytes that `build` writes have the one trace of the source's program, and `run` shows its
+//! text (`OneTrace` and `HasCourse` of `bl_top_commands`). In the file of those bytes, each activity with an instance
+//! has one function, which alone names its counters. It has as many counters as its width, and as many `if`s as a
+//! merged machine has blocks for it (`IsBuiltOf`). docs/THEOREM.md explains the contract.
 //!
 //! Laws: `exec` of a text that was built of a source, and isn't too long, ends by the one trace of the source's program
-//! (`specs/Built.antt`, `BuiltEnds`). Whatever runs a source ends alike over the same rows, and shows the same. Their
-//! statements are in `specs/Laws.antt`.
+//! (`specs/Built.antt`, `BuiltEnds`). All commands that run a source end alike over the same rows, and show the same.
+//! Their statements are in `specs/Laws.antt`.
 #![tactic(auto)]
 
 mod build;

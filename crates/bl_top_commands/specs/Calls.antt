@@ -12,13 +12,13 @@ pub record Count : Type 0 where
 abbrev pub HasRisen : Count → Type 0
 HasRisen count = Rose count.before count.after
 
--- a sink: its count of faults, and what it holds before the call and after it, where that is told
+-- a sink: its counts of faults, and its content before the call and after it, where that is known
 pub record Output : Type 0 where
   pub faults : Count
   pub before : Option (List ℕ)
   pub after : Option (List ℕ)
 
--- a sink with these counts of its faults before and after the call, which holds this before it and this after it
+-- a sink with these counts of faults and this content before the call and after it
 abbrev pub output_of : ℕ → ℕ → Option (List ℕ) → Option (List ℕ) → Output
 output_of before after held left = record { faults = record { before = before; after = after }; before = held; after = left }
 
@@ -32,8 +32,7 @@ pub record Call : Type 0 where
   pub out : Output
   pub notes : Output
 
--- a call before which this is left of each file, and after it the rest, with these counts of the faults of each file before
--- and after it, and these sinks
+-- a call with these contents of each file before and after it, these counts of each file's faults before and after it, and these sinks
 abbrev pub call_of : (Word → Option (List ℕ)) → (Word → Option (List ℕ)) → (Word → ℕ) → (Word → ℕ) → Output → Output → Call
 call_of left rest before after out notes = record {
   left = left;

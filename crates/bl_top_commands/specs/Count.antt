@@ -6,6 +6,6 @@ use Rattle.bl_top_commands.specs.declared.status.Status.{Status}
 use Rattle.bl_rows_stream_laws.specs.Counts.{counts_by}
 use Rattle.bl_top_args.specs.Jobs.{Word}
 
--- as `exec`, but what is shown is how many statements each tick executed
+-- how `count` ends: as `exec`, but it shows how many statements each tick executed
 abbrev pub CountEnds : Call → Word → Word → Status → List ℕ → Type 0
 CountEnds c text rows = TextEnds c text rows counts_by

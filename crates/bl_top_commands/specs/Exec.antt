@@ -25,12 +25,12 @@ use Rattle.bl_rows_stream.specs.Streams.{Course}
 use Rattle.bl_tree.specs.declared.place.Place.{Place}
 use Rattle.bl_top_args.specs.Jobs.{Word}
 
--- where a text shows that it spells no file
+-- the offset at which a text leaves the grammar of C files
 pub record ShowsAt (text : List ℕ) (at : ℕ) : Type 0 where
   pub none : SpellsNone text
   -- inside the prelude, where it doesn't begin with that
   pub inside : ((rest : List ℕ) → text ≢ prelude ++ rest) → LeavesPreludeAt text at
-  -- else where what stands behind it stops beginning a text
+  -- behind the prelude, where the text begins with it: at the first byte with which the rest begins no text
   pub behind : (rest : List ℕ) → text ≡ prelude ++ rest → FailsFirst text (length prelude) at
 
 -- a text that isn't too long spells a file with these parts, each at its place in the text
@@ -64,7 +64,7 @@ pub data TextStops (left : Option (List ℕ)) (file : Count) : Status → List �
   unread : HasRisen file → TextStops left file status.ReadFault (line_of status.ReadFault)
   want : TextStops left file status.NoMemory (line_of status.NoMemory)
 
--- the status with which a C text is run over a file of rows, where a course says what is shown of it, and the lines for `notes`
+-- the status and the lines for `notes` of running a C text over a file of rows, where `course` says what is shown
 pub data TextEnds (c : Call) (text rows : Word) (course : Behaviour → Course) : Status → List ℕ → Type 0 where
   -- over the rows that are left once the text was read
   ran : {ended : Status} {line : List ℕ} (bytes : List ℕ) (behaviour : Behaviour) → IsSource (c.left text) bytes → Loads bytes behaviour →

@@ -11,7 +11,7 @@ use Rattle.bl_io.specs.Left.{IsKept}
 use Rattle.bl_tree.specs.declared.row.Last.{Last}
 use Rattle.bl_tree.specs.declared.row.Last.TheVariants.{Open, Ended, Trap}
 
--- the status of a run that stands so
+-- the status of a generated run with this last state
 abbrev pub status_at : Last → Status
 status_at Open = status.Ok
 status_at Ended = status.Ok
@@ -26,7 +26,7 @@ pub data IsNotRun (stages : ℕ) : Status → List ℕ → Type 0 where
 
 -- the status with which the program of so many stages is made and run, and the line for `notes`
 pub data GenEnds (c : Call) (stages : ℕ) : Status → List ℕ → Type 0 where
-  -- by the one trace of its program, and what is told of this was to be written on `out`
+  -- the program ran with its one trace, and what is told of the trace was to be written on `out`
   ran : {ended : Status} (text : List ℕ) (last : Last) → IsGeneratedRun stages text last → Written c.out text (status_at last) ended →
       GenEnds c stages ended (line_of ended)
   stopped : {ended : Status} {line : List ℕ} → IsNotRun stages ended line → IsKept c.out.before c.out.after → GenEnds c stages ended line

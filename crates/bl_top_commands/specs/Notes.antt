@@ -50,7 +50,7 @@ numbered_line words number = words ++ (decimal number ++ (10 ∷ []))
 abbrev pub bad_rows_line : ℕ → List ℕ
 bad_rows_line line = numbered_line (codes "rows: line ") line
 
--- where a text shows that it isn't one of the C subset
+-- the line with the offset at which a text leaves the C subset
 abbrev pub not_subset_line : ℕ → List ℕ
 not_subset_line at = numbered_line (codes "not subset: at ") at
 
@@ -58,14 +58,13 @@ not_subset_line at = numbered_line (codes "not subset: at ") at
 abbrev pub too_large_line : ℕ → List ℕ
 too_large_line size = numbered_line (codes "too large: ") size
 
--- where bytes show that they are no saved state
+-- the line with the offset at which bytes are no saved state
 abbrev pub bad_state_line : ℕ → List ℕ
 bad_state_line at = numbered_line (codes "bad state: at ") at
 
 -- ---- on `notes`
 
--- the lines of a job that ends with this status were to be written: they were, or a write failed behind a front of them, and the call
--- ends with that
+-- the lines of a job with this status were written, or a write failed or wanted memory after a prefix, with the status for that
 pub data Written (notes : Output) (lines : List ℕ) (meant : Status) : Status → Type 0 where
   whole : Appends notes.before lines notes.after → Written notes lines meant meant
   fault : lines ≢ [] → AppendsPart notes.before lines notes.after → HasRisen notes.faults → Written notes lines meant status.WriteFault

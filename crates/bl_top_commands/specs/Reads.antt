@@ -8,7 +8,7 @@ use Rattle.bl_top_args.specs.Jobs.{JobSpec, Word, bound, build, check, count, dr
 abbrev pub source_limit : ℕ
 source_limit = 1048577
 
--- the same of a C text
+-- the most bytes that a C text may have
 abbrev pub longest_text : ℕ
 longest_text = 67108864
 
@@ -16,7 +16,7 @@ longest_text = 67108864
 abbrev pub text_limit : ℕ
 text_limit = 67108865
 
--- the same of a saved state, which has at most 1,000,000 cells of eight bytes behind ten others
+-- how many bytes of a saved state are asked for: one more than 1,000,000 cells of eight bytes and ten others
 abbrev pub state_limit : ℕ
 state_limit = 8000011
 
@@ -26,12 +26,12 @@ most_rows = 1000000
 
 -- how far a file is read
 pub data Limit : Type 0 where
-  -- no further than so many bytes
+  -- the first n bytes
   in_bytes : ℕ → Limit
-  -- in pieces, none of which is asked for once more lines than these have begun
+  -- pieces of which none is asked for after more than n lines have begun
   in_lines : ℕ → Limit
 
--- where a file stands that was read within a limit
+-- the state of a file after it was read within a limit
 abbrev pub StandsWithin : Limit → Option (List ℕ) → Option (List ℕ) → Type 0
 StandsWithin (in_bytes most) before after = StandsFurther most before after
 StandsWithin (in_lines most) before after = ReadsLines most before after
@@ -73,7 +73,7 @@ files_read (Some (save text rows)) = text_file text ∷ rows_file rows ∷ []
 files_read (Some (save_from text state rows)) = text_file text ∷ state_file state ∷ rows_file rows ∷ []
 files_read (Some (resume text state rows)) = text_file text ∷ state_file state ∷ rows_file rows ∷ []
 
--- these files are read, one after the other and each within its limit, and no other is
+-- the files are read one after the other, each within its limit, and no other file is
 abbrev pub Reads : List FileRead → (Word → Option (List ℕ)) → (Word → Option (List ℕ)) → Type 0
 Reads [] before after = (name : Word) → IsKept (before name) (after name)
 Reads (file ∷ files) before after =

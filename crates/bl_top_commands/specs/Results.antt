@@ -6,8 +6,7 @@ use Rattle.bl_top_commands.specs.declared.status.Status.TheVariants as status
 use Rattle.bl_io.specs.Held.{Appends, AppendsPart}
 use Rattle.bl_io.specs.Left.{IsKept}
 
--- a result was to be written: the whole of it grew, or a write of it failed or wanted memory behind a front of it, or memory was
--- refused before
+-- a result was written: all of it grew, or a prefix where a write failed or wanted memory, or memory was refused before
 pub data WritesResult (IsResult : List ℕ → Type 0) (out : Output) : Status → Type 0 where
   whole : (text : List ℕ) → IsResult text → Appends out.before text out.after → WritesResult IsResult out status.Ok
   fault : (text : List ℕ) → IsResult text → AppendsPart out.before text out.after → HasRisen out.faults → WritesResult IsResult out status.WriteFault

@@ -33,19 +33,19 @@ use Rattle.bl_top_args.specs.Jobs.{Word}
 
 -- ---- what is saved
 
--- these rows fit the inputs of a file and leave its run open, and these bytes are the saved state after them
+-- the rows fit the inputs of a file and leave its run open, and the bytes are the saved state after them
 pub record LeavesState (file : Parts) (first : List (List ℤ)) (state : List ℕ) : Type 0 where
   pub fit : RowsFit (inputs_of file) first
   pub running : (c_trace file first).last ≡ Open
   pub saved : SavedState file (cells_after file first (start_cells file)) state
 
--- these bytes are the saved state of the file that a C text has, after these rows
+-- the bytes are the saved state of a C text's file after these rows
 pub record IsStateOf (text : List ℕ) (first : List (List ℤ)) (state : List ℕ) : Type 0 where
   pub file : Parts
   pub has : HasFile text file
   pub leaves : LeavesState file first state
 
--- the saved state of the file that a C text has, after these rows and then those that are left of a file of rows, grew on a sink
+-- the saved state of a C text's file grew on a sink: that after these rows and then the rows left of a file
 pub record HasSaved (text : List ℕ) (first : List (List ℤ)) (left : Option (List ℕ)) (out : Output) : Type 0 where
   pub file : Parts
   pub has : HasFile text file
@@ -58,37 +58,36 @@ pub record HasSaved (text : List ℕ) (first : List (List ℤ)) (left : Option (
 
 -- ---- what goes on
 
--- after these rows the one trace of a program is open, and a course runs on from there and shows the rest of it. What is shown has a header
--- of its own and counts ticks from 1 (`text_of`)
+-- the course goes on after the rows with the rest of the one trace of a program, which is open after them. The text has a header of its own and counts ticks
+-- from 1
 pub record ResumesCourse (structs : List StructDef) (units : List UnitDef) (entry : ℕ) (first : List (List ℤ)) (course : Course) : Type 0 where
   pub unit : UnitDef
   pub is_entry : slice_get units entry ≡ Some unit
-  -- the columns of its rows are the entry's inputs, which the first rows fit
+  -- the columns of the course's rows are the entry's inputs, which the first rows fit
   pub inputs : course.ins ≡ input_columns unit
   pub first_fit : RowsFit (input_columns unit) first
-  -- over the first rows the parallel meaning allows this trace, and no other
+  -- the semantics allows this trace over the first rows, and no other
   pub before : Trace
   pub running : before.last ≡ Open
   pub one_before : (shows : ShownTrace) → Means structs units entry first shows ↔ (shows ≡ shown_trace before)
-  -- over these and all further rows that fit it allows that trace and then this one, and no other
+  -- the semantics allows one trace over the first and all further rows that fit: the one before, and then the rest
   pub rest : List (List ℤ) → Trace
   pub one : (rows : List (List ℤ)) (shows : ShownTrace) → RowsFit (input_columns unit) rows →
       Means structs units entry (first ++ rows) shows ↔ (shows ≡ shown_trace (trace_then before (rest rows)))
-  -- after further rows the course stands as the rest does, and what it shows of them is the text of the rest, with its own header
+  -- the course stands as the rest does after further rows, and shows the text of the rest, with its own header
   pub stands : (rows : List (List ℤ)) → course.last rows ≡ (rest rows).last
   pub shows : (rows : List (List ℤ)) → course.text rows ≡ text_of (rest rows) (output_columns unit)
-  -- the rows of any bytes fit, and so do those of the lines that are whole in some first bytes
+  -- the rows of any bytes fit, and so do the rows of the complete lines in a prefix
   pub fit : (bytes : List ℕ) → RowsFit (input_columns unit) (rows_of bytes course.ins).rows
   pub fit_so_far : (bytes : List ℕ) → RowsFit (input_columns unit) (rows_in (empty_reading course.ins) bytes)
 
--- so it does of the program of a source
+-- the course goes on, after these rows, as the program of the source does
 pub record GoesOnAs (source : Option (List ℕ)) (first : List (List ℤ)) (course : Course) : Type 0 where
   pub raw : Raw
   pub tree : IsTreeOf source raw
   pub goes_on : ResumesCourse (typed_of raw).structs (typed_of raw).units (typed_of raw).entry first course
 
--- the status with which `resume` ends of the C text of a source and of a state that was saved of it after these rows, and the lines for
--- `notes`: neither of them is rejected
+-- the status and the lines for `notes` of `resume` with the C text of a source and a state saved after these rows: neither is rejected
 pub data ResumedEnds (source : Option (List ℕ)) (first : List (List ℤ)) (c : Call) (text state rows : Word) : Status → List ℕ → Type 0 where
   -- over the rows that are left once both were read, by the rest of the one trace of the source's program
   went : {ended : Status} {line : List ℕ} (course : Course) → GoesOnAs source first course →
@@ -101,8 +100,7 @@ pub data ResumedEnds (source : Option (List ℕ)) (first : List (List ℤ)) (c :
 
 -- ---- the laws
 
--- over rows after which the state of a text of a program was saved, and further ones, the parallel meaning allows the trace over the first
--- and then the one that goes on from the numbers that the state stands for, and no other
+-- the semantics allows one trace over rows with a saved state between them: that over the first rows, continued from the numbers of the state
 abbrev pub StatesGoOnAsMeant : Type 0
 StatesGoOnAsMeant = (structs : List StructDef) (units : List UnitDef) (entry : ℕ) (text : List ℕ) (file : CFile) →
     IsTextOfProgram structs units entry text → SpellsC file text →
@@ -111,7 +109,7 @@ StatesGoOnAsMeant = (structs : List StructDef) (units : List UnitDef) (entry : �
     Means structs units entry (first ++ rest) shows
     ↔ (shows ≡ shown_trace (trace_then (c_trace (parts_of file) first) (c_trace_from (parts_of file) rest numbers)))
 
--- so what goes on from there shows the rest of the one trace of the text's source
+-- the course that goes on from a saved state shows the rest of the one trace of the text's source
 abbrev pub StatesGoOnAsTheirSource : Type 0
 StatesGoOnAsTheirSource = (source : Option (List ℕ)) (text : List ℕ) (file : CFile) → IsTextOf source text → SpellsC file text →
     (first : List (List ℤ)) (state : List ℕ) (numbers : List ℤ) → LeavesState (parts_of file) first state →
@@ -122,14 +120,14 @@ abbrev pub SavesLeaveStates : Type 0
 SavesLeaveStates = (c : Call) (text rows : Word) (line whole : List ℕ) → c.left text ≡ Some whole → SaveEnds c text rows status.Ok line →
     (between : Word → Option (List ℕ)) × LeftBehind text_limit text c.left between × HasSaved whole [] (between rows) c.out
 
--- and from a state that was saved after some rows, the state after these and those of its file
+-- `save` that ends Ok, from a state saved after some rows, has written the state after these and the rows of its file
 abbrev pub FurtherSavesLeaveStates : Type 0
 FurtherSavesLeaveStates = (c : Call) (text state rows : Word) (line whole saved : List ℕ) (first : List (List ℤ)) →
     c.left text ≡ Some whole → c.left state ≡ Some saved → IsStateOf whole first saved → SaveFromEnds c text state rows status.Ok line →
     (between : Word → Option (List ℕ)) × LeftBehind text_limit text c.left between
     × ((behind : Word → Option (List ℕ)) × LeftBehind state_limit state between behind × HasSaved whole first (behind rows) c.out)
 
--- and it isn't rejected as a state, by `save` or by `resume`
+-- a saved state of a text isn't rejected as a state by `save` or by `resume`
 abbrev pub SavedStatesAreTaken : Type 0
 SavedStatesAreTaken = (c : Call) (text state rows : Word) (ended : Status) (line whole saved : List ℕ) (first : List (List ℤ)) →
     c.left text ≡ Some whole → c.left state ≡ Some saved → IsStateOf whole first saved →

@@ -10,21 +10,20 @@ use Rattle.bl_rows_stream.specs.Streams.{AppendsFront, AreLeft, Course, Unread, 
 use Rattle.bl_rows_stream.specs.declared.finish.Finish.{Finish}
 use Rattle.bl_rows_stream.specs.declared.finish.Finish.TheVariants as finish
 
--- the course ends so over these bytes of rows, and the whole text that it shows of them grew on `out`
+-- the course ends so over these bytes of rows, and its whole text grew on `out`
 pub record Ran (course : Course) (left : Option (List ℕ)) (out : Output) (how : Finish) : Type 0 where
   pub bytes : List ℕ
   pub are_left : AreLeft left bytes
   pub ends : finish_of (last_over course bytes) (rows_of bytes course.ins).fault ≡ how
   pub grew : Appends out.before (text_over course bytes) out.after
 
--- a front of that text grew
+-- a prefix of the course's text grew
 pub record RanInPart (course : Course) (left : Option (List ℕ)) (out : Output) : Type 0 where
   pub bytes : List ℕ
   pub are_left : AreLeft left bytes
   pub grew : AppendsFront out.before (text_over course bytes) out.after
 
--- the status and the line with which a course ends over the rows that are left of a file, what is then left of the file, and what of
--- the course's text grew on `out`
+-- the status and line with which a course ends over the rows left of a file. The rest of the file is left then, and a text grew on `out`
 pub data Streams (course : Course) (left rest : Option (List ℕ)) (rows : Count) (out : Output) : Status → List ℕ → Type 0 where
   -- the rows are used up, or the run has ended before that
   done : Ran course left out finish.Done → Streams course left rest rows out status.Ok (line_of status.Ok)

@@ -28,7 +28,7 @@ use Rattle.bl_top_args.specs.Jobs.{Word}
 abbrev pub AreRead : Option (List ℕ) → List ℕ → Type 0
 AreRead left bytes = IfSome left (λ whole. bytes ≡ take state_limit whole)
 
--- they are a saved state of a file, whose cells have these numbers
+-- the bytes that are read of a file are a saved state, whose cells have these numbers
 pub record HoldsState (file : Parts) (left : Option (List ℕ)) (numbers : List ℤ) : Type 0 where
   pub bytes : List ℕ
   pub are_read : AreRead left bytes
@@ -42,8 +42,7 @@ pub data StateStops (file : Parts) (left : Option (List ℕ)) (state : Count) : 
   state_unread : HasRisen state → StateStops file left state status.ReadFault (line_of status.ReadFault)
   state_want : StateStops file left state status.NoMemory (line_of status.NoMemory)
 
--- the status with which a job goes on from a saved state, where `Goes` says how it does from the numbers of the cells over the files as they
--- are left once the text and the state were read
+-- the status of a job that goes on from a saved state. `Goes` says how it goes on, from the numbers of the cells and the files as they are left
 pub data FromStateEnds (c : Call) (text state : Word) (Goes : Parts → List ℤ → (Word → Option (List ℕ)) → Status → List ℕ → Type 0) :
     Status → List ℕ → Type 0 where
   went : {ended : Status} {line : List ℕ} (bytes : List ℕ) (behaviour : Behaviour) → IsSource (c.left text) bytes → (loads : Loads bytes behaviour) →
@@ -68,8 +67,8 @@ ResumeEnds c text state rows = FromStateEnds c text state
 abbrev pub IsStateAfter : Parts → List ℤ → List (List ℤ) → List ℕ → Type 0
 IsStateAfter file numbers rows written = SavedState file (cells_after file rows numbers) written
 
--- the status and the line with which the rows that are left of a file are run from these numbers of the cells, and the state after them is
--- written. Nothing grows on `out` but that state, or a front of it where the write ends early
+-- the status and the line with which the rows left of a file are run from these numbers of the cells. Only the state after them grows on `out`, or a front of
+-- it where the write ends early
 pub data SavesOver (file : Parts) (numbers : List ℤ) (left rest : Option (List ℕ)) (rows : Count) (out : Output) : Status → List ℕ → Type 0 where
   -- all rows are good and leave the run open
   saved : {ended : Status} (bytes : List ℕ) → AreLeft left bytes → (rows_of bytes (inputs_of file)).fault ≡ None →
@@ -90,7 +89,7 @@ pub data SavesOver (file : Parts) (numbers : List ℤ) (left rest : Option (List
 
 -- the status with which the state of a C text is saved after a file of rows, and the lines for `notes`
 pub data SaveEnds (c : Call) (text rows : Word) : Status → List ℕ → Type 0 where
-  -- from what the start leaves, over the rows that are left once the text was read
+  -- the run begins from what the start leaves, over the rows that are left once the text was read
   ran : {ended : Status} {line : List ℕ} (bytes : List ℕ) (behaviour : Behaviour) → IsSource (c.left text) bytes → (loads : Loads bytes behaviour) →
       starts loads.file ≡ true → (between : Word → Option (List ℕ)) → LeftBehind text_limit text c.left between →
       SavesOver loads.file (start_cells loads.file) (between rows) (c.rest rows) (c.file rows) c.out ended line → SaveEnds c text rows ended line

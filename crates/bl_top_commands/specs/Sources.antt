@@ -27,8 +27,7 @@ pub record IsProgram (left : Option (List ℕ)) (program : Program) : Type 0 whe
   pub of_source : IsSource left source
   pub has : HasProgram source program
 
--- the bytes spell a well-formed C file and behave as it does, and have the one trace of the program with these structs, these units and
--- this entry
+-- the bytes spell a well-formed C file, behave as it does, and have the one trace of the program with this entry
 pub record IsTextOfProgram (structs : List StructDef) (units : List UnitDef) (entry : ℕ) (text : List ℕ) : Type 0 where
   pub behaviour : Behaviour
   pub behaves : Behaves text behaviour

@@ -12,7 +12,7 @@ use Rattle.bl_tree.specs.declared.tree.StructDef.{StructDef}
 use Rattle.bl_tree.specs.declared.tree.Unit.{Unit as UnitDef}
 use Rattle.bl_tree.specs.Ports.{RowsFit, input_columns, output_columns}
 
--- a program has one trace, and a C file that behaves so has it
+-- the C file has the one trace that the semantics of the program allows
 pub record OneTrace (structs : List StructDef) (units : List UnitDef) (entry : ℕ) (behaviour : Behaviour) : Type 0 where
   pub unit : UnitDef
   pub is_entry : slice_get units entry ≡ Some unit
@@ -20,15 +20,15 @@ pub record OneTrace (structs : List StructDef) (units : List UnitDef) (entry : �
   pub small : behaviour.needed ≤ 1000000
   pub inputs : behaviour.inputs ≡ input_columns unit
   pub outputs : behaviour.outputs ≡ output_columns unit
-  -- over all rows that fit its inputs the parallel meaning allows the trace of the C file, and no other
+  -- the semantics allows the trace of the C file, and no other, over all rows that fit its inputs
   pub trace : (rows : List (List ℤ)) (shows : ShownTrace) → RowsFit (input_columns unit) rows →
       Means structs units entry rows shows ↔ (shows ≡ shown_trace (behaviour.trace rows))
   -- no list of steps within a tick is longer than the number of the program's steps
   pub bounded : Bounded (steps structs units entry) structs units entry
-  -- and where no point may act nothing is left to do
+  -- no tick is stuck: where no point is enabled, nothing is left to do
   pub never_stuck : NeverStuck structs units entry
 
--- the course that runs a C file which behaves so, and shows its trace
+-- the course that runs a C file with this behaviour, and shows its trace
 abbrev pub course_by : Behaviour → Course
 course_by behaviour = record {
   ins = behaviour.inputs;
@@ -40,16 +40,16 @@ course_by behaviour = record {
 pub record HasCourse (structs : List StructDef) (units : List UnitDef) (entry : ℕ) (course : Course) : Type 0 where
   pub unit : UnitDef
   pub is_entry : slice_get units entry ≡ Some unit
-  -- the columns of its rows are the entry's inputs
+  -- the columns of the course's rows are the entry's inputs
   pub inputs : course.ins ≡ input_columns unit
-  -- over all rows that fit them the parallel meaning allows this trace, and no other
+  -- the semantics allows this one trace over all rows that fit the inputs
   pub trace : List (List ℤ) → Trace
   pub one : (rows : List (List ℤ)) (shows : ShownTrace) → RowsFit (input_columns unit) rows →
       Means structs units entry rows shows ↔ (shows ≡ shown_trace (trace rows))
-  -- after rows the course stands as this trace does, and what it shows of them is the text of this trace
+  -- the course stands as this trace does after rows, and shows its text
   pub stands : (rows : List (List ℤ)) → course.last rows ≡ (trace rows).last
   pub shows : (rows : List (List ℤ)) → course.text rows ≡ text_of (trace rows) (output_columns unit)
-  -- the rows of any bytes fit, and so do those of the lines that are whole in some first bytes
+  -- the rows of any bytes fit, and so do the rows of the complete lines in a prefix
   pub fit : (bytes : List ℕ) → RowsFit (input_columns unit) (rows_of bytes course.ins).rows
   pub fit_so_far : (bytes : List ℕ) → RowsFit (input_columns unit) (rows_in (empty_reading course.ins) bytes)
   -- no list of steps within a tick is longer than the number of the program's steps, and where no point may act nothing is left

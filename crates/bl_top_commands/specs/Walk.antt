@@ -23,8 +23,8 @@ use Rattle.bl_walk.specs.Lines.{tick_lines_from}
 use Rattle.bl_walk.specs.Walks.{HasWalked}
 use Rattle.bl_top_args.specs.Jobs.{Word}
 
--- the program of a source was walked by the seed over the rows that were gathered of what is left of a file, the whole text of its trace
--- grew on `out`, and these lines tell the steps of the ticks begun
+-- the program of a source was walked by the seed over the rows left of a file. The text of its trace grew on `out`, and the lines tell the steps of the ticks
+-- begun
 pub record TellsSteps (source left rest : Option (List ℕ)) (seed : ℕ) (out : Output) (lines : List ℕ) : Type 0 where
   pub text : List ℕ
   pub of_source : IsSource source text

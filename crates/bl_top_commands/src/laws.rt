@@ -1,4 +1,4 @@
-//! Laws of the files that jobs read, and of what they run. None of these functions does anything: the contract is the law.
+//! Laws of the files that jobs read, and of what they run.
 
 ghost use Rattle.bl_top_commands.specs.Laws.{FaultsCountFromBefore, KeptFilesAreWithinLimits, ProgramsRunAsTheirSource};
 

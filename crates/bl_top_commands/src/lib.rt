@@ -1,16 +1,17 @@
-//! The commands that make no C file of a source, and what all commands have in common. Each way in which one of them ends
-//! comes with its whole cause and with what grew on `out`: `specs/Check.antt`, `specs/Walk.antt`, `specs/Exec.antt`,
-//! `specs/Gen.antt`, `specs/Bound.antt`, `specs/Count.antt` and `specs/Save.antt` (`save` and `resume`). At a source that
-//! isn't accepted nothing grew on `out`, and a refusal names the first rule that fails for its bytes (`specs/Refusals.antt`,
-//! `IsNotAccepted`). No file is read but those that the words name, each within its limit (`specs/Reads.antt`, `Reads`). A
-//! result grew on `out` whole, or a front of it did and the status tells why (`specs/Results.antt`, `WritesResult`), and so did
-//! the lines of a job on `notes` (`specs/Notes.antt`, `Written`). What it is to have the one trace of a program, and to show
-//! the text of it as `walk` does, is in `specs/Traces.antt` (`OneTrace` and `HasCourse`).
+//! The commands that make no C file of a source, and what all commands have in common. Each way in which one of them
+//! ends comes with its whole cause and with what grew on `out`: `specs/Check.antt`, `specs/Walk.antt`,
+//! `specs/Exec.antt`, `specs/Gen.antt`, `specs/Bound.antt`, `specs/Count.antt` and `specs/Save.antt` (`save` and
+//! `resume`). Where a source isn't accepted, nothing grew on `out`, and a refusal names the first rule that fails for
+//! its bytes (`specs/Refusals.antt`, `IsNotAccepted`). Only the files that the words name are read, each within its
+//! limit (`specs/Reads.antt`, `Reads`). Either a result grew on `out` whole, or a prefix did and the status says why
+//! (`specs/Results.antt`, `WritesResult`). The same holds for the lines of a job on `notes` (`specs/Notes.antt`,
+//! `Written`). `OneTrace` and `HasCourse` (`specs/Traces.antt`) define "has the program's trace" and "prints it as
+//! `walk` does".
 //!
-//! Laws (`specs/Laws.antt`): files that are left as they are keep the limits within which a job reads them, what runs the
-//! program of a source runs the source, and how a run over rows ends holds too where faults are counted from before it.
-//! A state that `save` wrote of a text after some rows is never rejected for it. Of a text that was built of a source
-//! `resume` shows over further rows the rest of the one trace of the source's program (`specs/Resumed.antt`,
+//! Laws (`specs/Laws.antt`): unchanged files keep the limits within which a job reads them. What runs the program of a
+//! source runs the source. How a run over rows ends also holds where faults are counted from before it. A state that
+//! `save` wrote of a text after some rows is never rejected for it. Of a text that was built of a source, `resume`
+//! shows over further rows the rest of the one trace of the source's program (`specs/Resumed.antt`,
 //! `SavedStatesAreTaken` and `ResumedEnds`).
 #![tactic(auto)]
 

@@ -1,4 +1,4 @@
-//! The law of saved states and of what goes on from them. The function does nothing: the contract is the law.
+//! The law of saved states and of what goes on from them.
 
 ghost use Rattle.bl_top_commands.specs.Resumed.{
   FurtherSavesLeaveStates,

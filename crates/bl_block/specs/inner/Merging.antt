@@ -7,11 +7,11 @@ use Rattle.bl_machine.specs.declared.machine.Activity.{Activity}
 use Rattle.bl_machine.specs.Machines.{IsActivityOf}
 use Rattle.bl_block.specs.Merged.{EachThree, IsMergedFrom}
 
--- of whichever unit the one is an activity and the graph a tick graph, the other is an activity of that too, merged from the one
+-- `to` is merged from `from`: for every unit of which these are an activity and a tick graph, it is an activity of the unit too
 abbrev pub Merges : Activity → Graph → Activity → Type 0
 Merges from graph to =
     (unit : UnitDef) → IsGraphOf unit graph → IsActivityOf unit from → IsActivityOf unit to × IsMergedFrom unit from to
 
--- so it is of each
+-- each activity of the second list is merged from the one at its position in the first, with the tick graph there
 abbrev pub EachMerges : List Activity → List Graph → List Activity → Type 0
 EachMerges from graphs to = EachThree Merges from graphs to

@@ -42,7 +42,7 @@ join_kind kind.SurfaceJoin = true
 join_kind kind.DepthJoin = true
 join_kind _ = false
 
--- whether the node that was found is of such a kind
+-- whether an optional node is of such a kind
 abbrev pub some_kind : (NodeKind → Bool) → Option Node → Bool
 some_kind test None = false
 some_kind test (Some node) = test node.kind
@@ -51,7 +51,7 @@ some_kind test (Some node) = test node.kind
 abbrev pub goes_straight : List Node → ℕ → Bool
 goes_straight nodes at = some_kind straight_kind (slice_get nodes at)
 
--- whether it is a join
+-- whether the node at the position is a join
 abbrev pub is_join : List Node → ℕ → Bool
 is_join nodes at = some_kind join_kind (slice_get nodes at)
 
@@ -67,7 +67,7 @@ met way.Several node = way.Several
 abbrev pub noted : List Way → ℕ → ℕ → List Way
 noted ways at node = slice_set ways at (met (slice_index_or ways at way.Nowhere) node)
 
--- for edges that pass the test the node at the one end is noted at that at the other
+-- the ways after each edge that passes the test is noted: the node at its one end gets the node at the other
 abbrev pub noted_all : (Edge → Bool) → (Edge → ℕ) → (Edge → ℕ) → List Edge → List Way → List Way
 noted_all test at other [] ways = ways
 noted_all test at other (edge ∷ rest) ways =
@@ -77,11 +77,11 @@ noted_all test at other (edge ∷ rest) ways =
 abbrev pub leads_on : List Node → Edge → Bool
 leads_on nodes edge = not edge.by_data && goes_straight nodes edge.from && not (is_join nodes edge.to)
 
--- where such edges lead
+-- the ways on from nodes: where control edges lead from acts and heads of loops, joins aside
 abbrev pub noted_on : List Node → List Edge → List Way → List Way
 noted_on nodes edges ways = noted_all (leads_on nodes) (λ edge. edge.from) (λ edge. edge.to) edges ways
 
--- from where control edges lead
+-- the ways back from nodes: from where control edges lead to them
 abbrev pub noted_back : List Edge → List Way → List Way
 noted_back edges ways = noted_all (λ edge. not edge.by_data) (λ edge. edge.to) (λ edge. edge.from) edges ways
 
@@ -97,7 +97,7 @@ abbrev pub is_one : Way → ℕ → Bool
 is_one (way.One other) node = nat_eq other node
 is_one _ node = false
 
--- so it is of the node at the position
+-- the way of the node at the position leads to the other node alone
 abbrev pub one_at : List Way → ℕ → ℕ → Bool
 one_at ways at node = is_one (slice_index_or ways at way.Nowhere) node
 

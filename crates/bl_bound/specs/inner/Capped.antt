@@ -8,7 +8,7 @@ use Rattle.bl_ctext_semantics.specs.inner.Maps.{text_at}
 use Rattle.bl_bound.specs.declared.cost.Cost.{Cost}
 use Rattle.bl_bound.specs.declared.cost.Cost.TheVariants.{Number, Over}
 
--- a number; one that 128 bits can't hold counts as the least such
+-- a number, or 2 ^ 128 for all that 128 bits can't hold
 abbrev pub capped : ℕ → ℕ
 capped n = min n (2 ^ 128)
 
@@ -17,7 +17,7 @@ abbrev pub amount : Cost → ℕ
 amount (Number n) = capped n
 amount Over = 2 ^ 128
 
--- that of a number which isn't there because 128 bits can't hold it
+-- the number that an optional cost stands for; none means that 128 bits can't hold it
 abbrev pub amount_if : Option ℕ → ℕ
 amount_if (Some n) = capped n
 amount_if None = 2 ^ 128
@@ -26,6 +26,6 @@ amount_if None = 2 ^ 128
 abbrev pub amounts : Table Cost → Costs
 amounts known name = option_map amount (known name)
 
--- and in a map
+-- the costs of functions in a map, by name
 abbrev pub costs_in : {S : Type 0} → HashMap (Bor (List ℕ)) Cost S → Costs
 costs_in known = amounts (text_at known)

@@ -58,17 +58,17 @@ abbrev pub is_whole_next : Next → Bool
 is_whole_next (next.Whole e) = true
 is_whole_next _ = false
 
--- Where these symbols are expected, with anything after them, one part more is read, and what its rest awaits is expected behind it.
+-- where these symbols are expected, one more part is read, and what its rest awaits is expected behind it
 abbrev pub GoesOn : Result Partial CRefusal → List Wanted → List Token → List Token → Type 0
 GoesOn result symbols old new = (rest : List Wanted) → Expects (symbols ++ rest) old →
     MatchResult result (λ p. Expects (partial_wanted p ++ rest) new) WantsMemory
 
--- the same where no token is read
+-- where these symbols are expected, nothing is read, and what the result awaits is expected instead
 abbrev pub Stays : Result Partial CRefusal → List Wanted → Type 0
 Stays result symbols = (rest : List Wanted) (pieces : List Token) → Expects (symbols ++ rest) pieces →
     MatchResult result (λ p. Expects (partial_wanted p ++ rest) pieces) WantsMemory
 
--- where these symbols are expected, so is what the expression that is read in part awaits
+-- where these symbols are expected, what the expression that is read in part awaits is expected too
 abbrev pub Awaits : Partial → List Wanted → Type 0
 Awaits p symbols = (rest : List Wanted) (pieces : List Token) → Expects (symbols ++ rest) pieces → Expects (partial_wanted p ++ rest) pieces
 
@@ -90,12 +90,12 @@ outside items = unwound frame_wanted items
 abbrev pub nest_wanted : Nest → List Wanted
 nest_wanted n = part Stmts n.room ∷ sign (codes "}") ∷ outside n.outer.items
 
--- where these symbols are expected, with anything after them, a statement or a front or an end of one is read
+-- where these symbols are expected, a statement or a front or an end of one is read
 abbrev pub Nests : Result Nest CRefusal → List Wanted → List Token → List Token → Type 0
 Nests result symbols old new = (rest : List Wanted) → Expects (symbols ++ rest) old →
     MatchResult result (λ n. Expects (nest_wanted n ++ rest) new) WantsMemory
 
--- the same where no token is read
+-- where these symbols are expected, no token is read, and what the rest of the statement awaits is expected instead
 abbrev pub NestStays : Result Nest CRefusal → List Wanted → Type 0
 NestStays result symbols = (rest : List Wanted) (pieces : List Token) → Expects (symbols ++ rest) pieces →
     MatchResult result (λ n. Expects (nest_wanted n ++ rest) pieces) WantsMemory

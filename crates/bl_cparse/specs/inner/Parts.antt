@@ -9,7 +9,7 @@ use Rattle.bl_ctext.specs.Spellable.{spells_kind}
 abbrev pub IsKind : List Token → List Token → CExprKind → Type 0
 IsKind before after kind = (before ≡ kind_tokens kind ++ after) × IsTrue (spells_kind kind)
 
--- the same, or nothing is read
+-- the tokens begin with an expression of this kind, if there is one, and others follow
 abbrev pub MaybeKind : List Token → List Token → Option CExprKind → Type 0
 MaybeKind before after None = after ≡ before
 MaybeKind before after (Some kind) = IsKind before after kind

@@ -16,7 +16,7 @@ use Rattle.bl_cparse_syntax.specs.Follow.{constant_starts}
 use Rattle.bl_cparse.specs.declared.refusal.CRefusal.{CRefusal}
 use Rattle.bl_cparse.specs.Places.{WantsMemory}
 
--- this word or sign
+-- the symbol of a word or sign
 abbrev pub sign : Token → Wanted
 sign bytes = Terminal (exactly bytes)
 
@@ -24,17 +24,17 @@ sign bytes = Terminal (exactly bytes)
 abbrev pub part : Part → ℕ → Wanted
 part what room = Nonterminal (record { part = what; room = room })
 
--- Where these symbols are expected of the pieces that are left, with anything after them, nothing but memory can be wanting, and
--- these are expected of the pieces behind what was read.
+-- a reader fails for want of memory only, where the first symbols are expected of the pieces. Otherwise the second symbols are expected of the pieces that it
+-- leaves
 abbrev pub Follows : {A : Type 0} → Result A CRefusal → List Wanted → List Wanted → List Token → List Token → Type 0
 Follows result symbols more old new = (rest : List Wanted) → Expects (symbols ++ rest) old →
     MatchResult result (λ _. Expects (more ++ rest) new) WantsMemory
 
--- the same where no value is read that could be wanting
+-- a step that expects the first symbols of the old pieces leaves the second symbols expected of the new ones
 abbrev pub Turns : List Wanted → List Wanted → List Token → List Token → Type 0
 Turns symbols more old new = (rest : List Wanted) → Expects (symbols ++ rest) old → Expects (more ++ rest) new
 
--- any name
+-- the symbol of any name
 abbrev pub name_of : Wanted
 name_of = Terminal a_name
 
@@ -42,7 +42,7 @@ name_of = Terminal a_name
 abbrev pub scalar_type : Wanted
 scalar_type = Terminal (one_of ScalarTypes)
 
--- any operator
+-- the symbol of any operator
 abbrev pub operator : Wanted
 operator = Terminal (one_of Operators)
 
@@ -64,7 +64,7 @@ pub data GoesOnAPlace : Part → Type 0 where
   steps : GoesOnAPlace Steps
   assigned : GoesOnAPlace AssignTail
 
--- any function of the prelude
+-- the symbol of any function of the prelude
 abbrev pub prelude_function : Wanted
 prelude_function = Terminal (one_of PreludeFunctions)
 
@@ -87,7 +87,7 @@ other_starts = exactly (codes "if") ∷ exactly (codes "{") ∷ exactly (codes "
 abbrev pub local_starts : List Class
 local_starts = one_of ScalarTypes ∷ exactly (codes "struct") ∷ []
 
--- of four things, that of the width
+-- one of four tokens, by a width
 abbrev pub by_width : Token → Token → Token → Token → Width → Token
 by_width a b c d W8 = a
 by_width a b c d W16 = b

@@ -14,7 +14,7 @@ use Rattle.bl_grammar.specs.Predictive
 use Rattle.bl_grammar.specs.Runs
 use Rattle.bl_cparse_syntax.specs.declared.grammar.Class.TheVariants as row
 
--- before this piece both stacks stand for the same
+-- both stacks derive the same where the piece comes next
 abbrev pub StackExpands : Token → List Wanted → List Wanted → Type 0
 StackExpands next stack opened = Runs.StackExpands Produces matches tables next stack opened
 

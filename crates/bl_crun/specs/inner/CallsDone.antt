@@ -16,19 +16,19 @@ use Rattle.bl_crun_ports.specs.Ports.{outputs_start}
 use Rattle.bl_crun.specs.declared.call.Called.{Called}
 use Rattle.bl_crun.specs.Done.{CellsKeep, first_cells}
 
--- in so many steps the function at an entry of some code does this, and the room that a machine has is enough
+-- the function at an entry of the code gives this answer in so many steps, within the machine's room
 pub record Halting (steps : ℕ) (code : Code) (entry : CodeEntry) (base : ℕ) (args : List ℤ) (m : VmView) (l : FlatAnswer ℤ) : Type 0 where
   pub room : Room
   pub runs : StepsInRoom code room steps (entry_state (entry_for entry) base args m.state.cells [] 0) (ended_as (entry_state (entry_for entry) base args m.state.cells [] 0) l)
   pub numbers_fit : room.numbers ≤ m.numbers
   pub calls_fit : room.calls ≤ m.calls
 
--- the same of a function that may be there; else nothing is done, and it traps
+-- a call of an optional entry gives this answer in so many steps, within the machine's room; without an entry it traps
 abbrev pub Comes : ℕ → Code → Option CodeEntry → ℕ → List ℤ → VmView → FlatAnswer ℤ → Type 0
 Comes steps code None base args m l = l ≡ flat_answer m.state.cells None
 Comes steps code (Some entry) base args m l = Halting steps code entry base args m l
 
--- a machine has done so
+-- a call by the machine has this answer
 pub record CallDone (l : FlatAnswer ℤ) (before : VmView) (called : Called) (after : VmView) : Type 0 where
   pub answer : called.answer ≡ l.answer
   pub count : called.count ≡ min l.count (2 ^ 128 - 1)
@@ -36,13 +36,13 @@ pub record CallDone (l : FlatAnswer ℤ) (before : VmView) (called : Called) (af
   pub numbers : after.numbers ≡ before.numbers
   pub calls : after.calls ≡ before.calls
 
--- a routine does what the start does
+-- the routine simulates the start of a file
 pub record IsStart (file : Parts) (flat_answer : FlatAnswer ℤ) : Type 0 where
   pub ready : is_some flat_answer.answer ≡ starts file
   pub cells : first_cells file flat_answer.cells ≡ start_cells file
   pub keeps : CellsKeep file flat_answer.cells
 
--- a routine does what a tick does
+-- the routine simulates a tick of a file
 pub record IsTick (file : Parts) (cells ins : List ℤ) (flat_answer : FlatAnswer ℤ) : Type 0 where
   pub reply : reply_of flat_answer.answer ≡ (tick_c file cells ins).reply
   pub outputs : take (length (outputs_of file)) (drop (outputs_start file.structs + 1) flat_answer.cells) ≡ (tick_c file cells ins).outputs

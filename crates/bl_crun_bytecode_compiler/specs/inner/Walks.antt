@@ -56,7 +56,7 @@ terms_along here (s ∷ steps) (f ∷ found) = term_if here f (out-CStep s).inde
 abbrev pub founds_of : List (Option CodeLaid) → List (Option MemberOffset)
 founds_of found = map (option_map laid_of) found
 
--- where a place begins
+-- the walk at the start of a place
 abbrev pub root_of : Root → Reach Code
 root_of r = record { start = if r.pointer then through r.at else near r.at; passed = 0; terms = []; ty = option_map (λ t. t.now) r.ty }
 

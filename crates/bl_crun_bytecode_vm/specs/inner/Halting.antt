@@ -7,13 +7,13 @@ use Rattle.bl_crun_bytecode.specs.Vm.{Room, StepResult, VmState, done, goes, hei
 abbrev pub has : Room → VmState → Bool
 has room s = nat_le (height s) room.numbers && (nat_le (length s.waiting) room.calls && nat_eq (length s.cells) room.cells)
 
--- a step comes to an end where it should, and else goes on so
+-- whether a step's result is an end at the right step, or goes on so
 abbrev pub halts_after : Bool → (VmState → Bool) → StepResult → Bool
 halts_after last then (goes s) = then s
 halts_after last then (done cells count result) = last
 halts_after last then (trapped cells count) = last
 
--- in just so many steps a run comes to its end, and never takes more than there is room for
+-- whether a run comes to its end in exactly so many steps, within the room
 abbrev pub halts_in : ℕ → Code → Room → VmState → Bool
 halts_in zero code room s = false
 halts_in (suc n) code room s = has room s && halts_after (nat_eq n 0) (λ t. halts_in n code room t) (step code s)

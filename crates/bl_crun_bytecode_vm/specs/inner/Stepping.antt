@@ -27,7 +27,7 @@ with_stack m stack = in_state m (record m.state { stack = stack })
 abbrev pub going_on_at : VmView → ℕ → VmView
 going_on_at m at = in_state m (record m.state { at = at })
 
--- there is room for one more number
+-- the machine has room for one more number
 abbrev pub IsRoomy : VmView → Type 0
 IsRoomy m = height m.state + 1 ≤ m.numbers
 
@@ -56,11 +56,11 @@ Came numbers calls (done cells count result) (flow.Done answer) m = Over cells c
 Came numbers calls (trapped cells count) flow.Trapped m = Over cells count numbers calls m
 Came numbers calls _ _ m = ⊥
 
--- the same, with the room of an earlier machine
+-- the step comes to this machine, within the room of the earlier one
 abbrev pub After : VmView → StepResult → Flow → VmView → Type 0
 After from end answer m = Came from.numbers from.calls end answer m
 
--- there is room for what a step comes to
+-- the room suffices for the state that a step comes to
 abbrev pub Suffices : ℕ → ℕ → StepResult → Type 0
 Suffices numbers calls (goes to) = (height to ≤ numbers) × (length to.waiting ≤ calls)
 Suffices numbers calls _ = Unit {0}

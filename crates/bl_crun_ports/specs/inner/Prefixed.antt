@@ -7,6 +7,6 @@ use Rattle.bl_tree.specs.declared.c.CMember.{CMember}
 abbrev pub Prefixed : Text → Type 0
 Prefixed name = (2 ≤ length name) × (get_or name 1 0 < 128)
 
--- the names of these members all begin so
+-- the names of the members all have the prefix
 abbrev pub AllPrefixed : List CMember → Type 0
 AllPrefixed ms = All (λ m. Prefixed m.name) ms

@@ -13,7 +13,7 @@ use Rattle.bl_crun_ports.specs.declared.repeat.Span.{Span}
 
 -- ---- structs
 
--- the types of these scalars
+-- the types of the scalars in a list
 abbrev pub kinds_in : List Inner → List Scalar
 kinds_in cells = map (λ cell. cell.kind) cells
 
@@ -39,23 +39,23 @@ kinds_of_members structs ms = kinds_in (flat_map (inner_of_member (scalars_of st
 
 -- ---- places
 
--- where the first struct of a name stands
+-- the position of the first struct of a name
 abbrev pub placed : Text → List CStruct → Option ℕ
 placed name [] = None
 placed name (s ∷ rest) = if bytes_eq s.name name then Some 0 else option_map suc (placed name rest)
 
--- a number, where it is below the end
+-- a number, if it is below the end
 abbrev pub if_below : ℕ → Option ℕ → Option ℕ
 if_below end None = None
 if_below end (Some at) = if nat_lt at end then Some at else None
 
--- where it stands, if among the first so many structs
+-- the position of the first struct of a name, if it is among the first `end` structs
 abbrev pub placed_before : ℕ → Text → List CStruct → Option ℕ
 placed_before end name structs = if_below end (placed name structs)
 
 -- ---- lists
 
--- a list so many times
+-- a list, repeated n times
 abbrev pub repeated : ℕ → List Scalar → List Scalar
 repeated zero xs = []
 repeated (suc n) xs = xs ++ repeated n xs
@@ -64,7 +64,7 @@ repeated (suc n) xs = xs ++ repeated n xs
 abbrev pub at_span : Span → List Scalar → List Scalar
 at_span span kinds = take span.len (drop span.start kinds)
 
--- this part stands at a span
+-- the span lies in the list of types, and the part is what stands there
 pub record StandsAtSpan (kinds : List Scalar) (span : Span) (part : List Scalar) : Type 0 where
   pub within : span.start + span.len ≤ length kinds
   pub here : at_span span kinds ≡ part

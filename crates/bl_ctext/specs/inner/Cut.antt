@@ -9,7 +9,7 @@ use Rattle.bl_ctext.specs.Token.{put_before}
 abbrev pub joins : ℕ → ℕ → Bool
 joins a b = is_word_byte a && is_word_byte b || is_double_sign a b
 
--- the same of a byte and the first of some bytes
+-- whether a byte and the first of some bytes may stand in one token
 abbrev pub goes_on : ℕ → List ℕ → Bool
 goes_on a [] = false
 goes_on a (b ∷ bs) = joins a b
@@ -25,7 +25,7 @@ abbrev pub tokens_in : List ℕ → List Token
 tokens_in [] = []
 tokens_in (b ∷ bs) = cut_before (is_blank b) (goes_on b bs) b (tokens_in bs)
 
--- whether each of them is a token
+-- whether each of the pieces is a token
 abbrev pub are_tokens : List Token → Bool
 are_tokens tokens = all_of (map is_token tokens)
 
@@ -35,15 +35,15 @@ meets [] next = false
 meets (b ∷ []) next = goes_on b next
 meets (b ∷ c ∷ bs) next = meets (c ∷ bs) next
 
--- the bytes, and a space where the next ones would go on their last token
+-- the bytes, and a space where the next bytes would continue their last token
 unfoldable pub parted : List ℕ → List ℕ → List ℕ
 parted bytes next = cond (meets bytes next) (bytes ++ 32 ∷ []) bytes
 
--- what stands behind the prelude
+-- the bytes behind the prelude
 unfoldable pub behind_prelude : List ℕ → List ℕ
 behind_prelude bytes = drop (length prelude) bytes
 
--- The bytes are the prelude and then tokens.
+-- the bytes are the prelude and then tokens
 pub record IsText (bytes : List ℕ) : Type 0 where
   pub begins : bytes ≡ prelude ++ behind_prelude bytes
   pub tokens : IsTrue (are_tokens (tokens_in (behind_prelude bytes)))

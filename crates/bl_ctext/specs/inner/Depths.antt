@@ -23,7 +23,7 @@ abbrev pub arg_nesting : EachIs ℕ CArg-F → ℕ
 arg_nesting (CArg-F.Value value) = value
 arg_nesting (CArg-F.Address at) = at
 
--- a literal has at most the parentheses of a negative number
+-- the depth of an expression's form, where a literal has at most the parentheses of a negative number
 abbrev pub kind_nesting : EachIs ℕ CExprKind-F → ℕ
 kind_nesting (CExprKind-F.Literal s n) = 2
 kind_nesting (CExprKind-F.Read at) = at
@@ -31,23 +31,23 @@ kind_nesting (CExprKind-F.Call call) = call
 kind_nesting (CExprKind-F.Not operand) = operand + 1
 kind_nesting (CExprKind-F.Two o left right) = max left right + 1
 
--- a call adds its parentheses to the depth of its deepest argument
+-- the depth of a call: its parentheses, and its deepest argument
 abbrev pub call_nesting : EachIs ℕ CCall-F → ℕ
 call_nesting c = greatest c.args + 1
 
--- an expression is as deep as its form
+-- the depth of an expression is that of its form
 abbrev pub expr_nesting : EachIs ℕ CExpr-F → ℕ
 expr_nesting e = e.what
 
--- an index adds its bracket and the parenthesis of its function
+-- the depth of an index: its bracket, the parenthesis of its function, and its expression
 abbrev pub index_nesting : EachIs ℕ CIndex-F → ℕ
 index_nesting i = i.at + 2
 
--- a place has at most the parentheses of (*p), or the depth of its deepest step
+-- the depth of a place: the parentheses of (*p), or its deepest step
 abbrev pub place_nesting : EachIs ℕ CPlace-F → ℕ
 place_nesting p = max 1 (greatest p.steps)
 
--- a step is as deep as its index, where it has one
+-- the depth of a step is that of its index, if any
 abbrev pub step_nesting : EachIs ℕ CStep-F → ℕ
 step_nesting s = none_or_depth s.index
 
@@ -100,7 +100,7 @@ stmt_kind_nesting (CStmtKind-F.Loop turn test body) = max (expr_depth test + 2) 
 stmt_kind_nesting CStmtKind-F.Break = 0
 stmt_kind_nesting (CStmtKind-F.Return value) = result_depth value
 
--- a statement is as deep as its form
+-- the depth of a statement is that of its form
 abbrev pub stmt_nesting : CStmt-F ℕ ℕ → ℕ
 stmt_nesting s = s.what
 

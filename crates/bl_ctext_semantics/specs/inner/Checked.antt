@@ -90,7 +90,7 @@ judged_args args context place = map (λ judge. judge context place) (map judged
 abbrev pub is_handed : JudgedArg → Bool
 is_handed a = a.address && a.through
 
--- whether these arguments are those that a function wants from its k-th parameter on
+-- whether the arguments suit a function from its k-th parameter on
 abbrev pub fit_from : Option Signature → ℕ → List JudgedArg → Bool
 fit_from None k args = true
 fit_from (Some s) k args = fit_each s.widens (drop k s.params) args

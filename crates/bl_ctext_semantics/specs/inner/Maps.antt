@@ -13,6 +13,6 @@ text_at map asked = get_by (λ key. bytes_eq asked key.now) map
 abbrev pub named : {V : Type 0} → List (Bor (List ℕ) × V) → List (Text × V)
 named entries = map (λ entry. (entry.0.now, entry.1)) entries
 
--- names as their bytes
+-- the bytes of names
 abbrev pub bytes_of : List (Bor (List ℕ)) → List Text
 bytes_of names = map (λ name. name.now) names

@@ -6,7 +6,7 @@ use Rattle.bl_tree.specs.declared.c.CType.TheVariants.{Scalar as OfScalar}
 use Rattle.bl_tree.specs.declared.scalar.Scalar.TheVariants.{Nat}
 use Rattle.bl_tree.specs.declared.scalar.Width.TheVariants.{W8}
 
--- of the last one
+-- the members of the last struct of a list
 abbrev pub members_within : List CStruct → List CMember
 members_within [] = []
 members_within (s ∷ []) = s.members

@@ -26,7 +26,7 @@ use Rattle.bl_emit_structs.specs.Structs.{arrays_of, structs_for_definition}
 abbrev pub IsDeclared : Table (Table CMember) → CStruct → Type 0
 IsDeclared table s = table s.name ≡ Some (member_table s)
 
--- and so does each of these
+-- each of these C structs stands in the table under its name, with its members
 abbrev pub AreDeclared : Table (Table CMember) → List CStruct → Type 0
 AreDeclared table structs = (s : CStruct) → Contains structs s → IsDeclared table s
 
@@ -63,11 +63,11 @@ home_leads activity Held = activity
 home_leads activity Given = false
 home_leads activity Lent = true
 
--- the same of the variable at a position
+-- whether the place of the variable at a position begins with what a pointer leads to
 abbrev pub leads_through : TypingContext → ℕ → Bool
 leads_through site k = home_leads (is_activity site.kind) (home_of site (var_at site k))
 
--- where nothing may be changed through a pointer, no variable of the unit begins with one
+-- no variable of the unit begins with a pointer in a context in which nothing may be changed through pointers
 abbrev pub ChangesNone : TypingContext → Context → Type 0
 ChangesNone site context = context.keeps ≡ true → (k : ℕ) (var : Var) → var_at site k ≡ Some var → leads_through site k ≡ false
 
@@ -88,8 +88,7 @@ signature_for structs unit =
 abbrev pub InActivity : TypingContext → Bool → Type 0
 InActivity site holds = is_activity site.kind ≡ true → holds ≡ true
 
--- What a unit's expressions and acts name is declared in C, with its C type: structs and arrays, the variables, the copies of those that are
--- copied, and the functions of earlier functions
+-- all that a unit's expressions and acts name is declared in C with its type: structs and arrays, variables, copies, and earlier functions
 pub record Declared (site : TypingContext) (copied : ℕ → Bool) (context : Context) : Type 0 where
   pub types : TypesDeclared site context.structs
   pub variables : (k : ℕ) (var : Var) → var_at site k ≡ Some var →

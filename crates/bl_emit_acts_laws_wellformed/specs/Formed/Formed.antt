@@ -11,7 +11,7 @@ use Rattle.bl_ctext_semantics.specs.Faults.{Context, Judged, JudgedPlace, block_
 abbrev pub sound : CType → Judged
 sound ty = record { ty = Some ty; faults = [] }
 
--- the same of a place, which begins with what a pointer leads to or with a variable
+-- the judgement of a place of this type in which nothing fails; it begins with what a pointer leads to, or with a variable
 abbrev pub sound_place : Bool → CType → JudgedPlace
 sound_place through ty = record { ty = Some ty; through = through; faults = [] }
 
@@ -27,6 +27,6 @@ PlaceIs context through ty place = (at : Place) → judged_place place context a
 abbrev pub StmtIs : Context → CStmt → Type 0
 StmtIs context s = (looped : Bool) → faults_in_stmt s context looped ≡ []
 
--- nor in statements in order
+-- nothing fails in the statements of a block, in a loop or outside of one
 abbrev pub BlockIs : Context → List CStmt → Type 0
 BlockIs context block = (looped : Bool) → block_faults (map faults_in_stmt block) context looped ≡ []

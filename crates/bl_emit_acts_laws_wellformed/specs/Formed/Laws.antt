@@ -27,7 +27,7 @@ ExpressionsTyped structs units entry =
     InActivity (site_of structs (take k units) unit) (copied_in copied e) → ExprIs context (c_type structs ty)
     (code_made (site_of structs (take k units) unit) e)
 
--- so has the place of a path
+-- the place of a path has the C type of the path's type, and nothing fails in it
 abbrev pub PlacesTyped : List StructDef → List UnitDef → ℕ → Type 0
 PlacesTyped structs units entry =
     (k : ℕ) (unit : UnitDef) (path : Path) (ty : Ty) (copied : ℕ → Bool) (context : Context) → IsWellTyped structs units entry →

@@ -13,8 +13,7 @@ use Rattle.bl_emit_acts.specs.Expressions.{function_name}
 use Rattle.bl_emit_acts.specs.Types.{unit_name}
 use Rattle.bl_emit_functions.specs.Functions.{function_code}
 
--- a table of how many functions the longest chain has that each C function heads: it has none for a function of the prelude, and for the
--- function of a unit no more units than the longest chain has that the unit heads
+-- the table bounds the chains of calls that C functions head. It has no prelude function, and a unit's function heads no longer chain than its unit
 pub record ChainsKnown (units : List UnitDef) (depths : Table ℕ) : Type 0 where
   pub prelude : (word : Text) (s : ScalarType) → depths (function_name word s) ≡ None
   pub unnamed : depths (unit_name []) ≡ None
@@ -32,7 +31,7 @@ ChainsGrow structs units entry =
     (k : ℕ) (unit : UnitDef) (depths : Table ℕ) → IsWellTyped structs units entry → slice_get units k ≡ Some unit → ChainsKnown units depths →
     ChainsKnown units (with_entry depths (unit_name unit.name) (depth_of_function depths (function_code structs (take k units) unit)))
 
--- where rule Frames doesn't fail, the C function of a unit heads no chain of more than 100 functions
+-- the C function of a unit heads no chain of more than 100 functions, where rule Frames holds
 abbrev pub ChainsShort : List StructDef → List UnitDef → ℕ → Type 0
 ChainsShort structs units entry =
     (k : ℕ) (unit : UnitDef) (depths : Table ℕ) → Passes structs units entry → slice_get units k ≡ Some unit → ChainsKnown units depths →

@@ -38,8 +38,7 @@ abbrev pub depths_after : Table ℕ → List CFunc → Table ℕ
 depths_after known [] = known
 depths_after known (f ∷ rest) = depths_after (with_entry known f.name (depth_of_function known f)) rest
 
--- No clause fails in the C functions of a program's functions, where their structs stand before them, rule Frames doesn't fail, and at least two
--- more functions stand behind them: what fails in such a list fails in those
+-- no clause fails in the C functions of a program's functions. Their structs stand in the table, rule Frames holds, and at least two more functions follow
 abbrev pub FunctionListsWellFormed : List StructDef → List UnitDef → ℕ → Type 0
 FunctionListsWellFormed structs units entry =
     (table : Table (Table CMember)) (rest : List CFunc) → IsWellTyped structs units entry → Passes structs units entry → StructsStand structs units table →
@@ -77,7 +76,7 @@ StructsPrecede structs units entry =
     (struct_faults_after no_entries no_entries (structs_before structs units) ≡ [])
     × StructsStand structs units (struct_table (structs_before structs units ++ more))
 
--- The same of a file that begins with these structs and these functions: nothing fails in the functions, where neither rule Frames nor Cells fails
+-- no clause fails in the functions of a file that begins with the program's structs and functions, where rules Frames and Cells hold
 abbrev pub FunctionFilesWellFormed : List StructDef → List UnitDef → ℕ → Type 0
 FunctionFilesWellFormed structs units entry =
     (more : List CStruct) (rest : List CFunc) → IsWellTyped structs units entry → Passes structs units entry

@@ -16,12 +16,12 @@ use Rattle.bl_emit_laws.specs.Counters.Own.{functions_named}
 
 -- ---- forms of statements
 
--- whether a form is that of an assignment
+-- whether a statement's form is an assignment
 abbrev pub kind_sets : CStmtKind-F Bool Bool → Bool
 kind_sets (CStmtKind-F.Set place expr) = true
 kind_sets _ = false
 
--- whether it is that of an `if` without an `else`
+-- whether a statement's form is an `if` without an `else`
 abbrev pub kind_asks : CStmtKind-F Bool Bool → Bool
 kind_asks (CStmtKind-F.If condition block None) = true
 kind_asks _ = false
@@ -34,7 +34,7 @@ stmt_answer stmt = stmt.what
 abbrev pub is_setting : CStmt → Bool
 is_setting = fold-CStmt Bool Bool kind_sets stmt_answer
 
--- whether it is an `if` without an `else`
+-- whether a statement is an `if` without an `else`
 abbrev pub is_if : CStmt → Bool
 is_if = fold-CStmt Bool Bool kind_asks stmt_answer
 
@@ -51,7 +51,7 @@ pub record HasIfForEach (blocks : List (List ℕ)) (body : List CStmt) : Type 0 
   pub is : body ≡ before ++ ifs_in body
   pub many : length (ifs_in body) ≡ length blocks
 
--- the machine has this part for an activity A, and the one function `a_A` of the file has in its body as many `if`s as that has blocks
+-- the file has one function `a_A` of the activity A, with one `if` in its body for each block of the machine's part
 pub record FunctionHasIfs (activity : UnitDef) (part : Option InMachine) (file : Parts) : Type 0 where
   pub one : InMachine
   pub is : part ≡ Some one
@@ -59,7 +59,7 @@ pub record FunctionHasIfs (activity : UnitDef) (part : Option InMachine) (file :
   pub functions : functions_named (unit_name activity.name) file ≡ function ∷ []
   pub body : HasIfForEach one.blocks function.body
 
--- so it is of the activity of each instance
+-- the activity of each instance has one function in the file, with one `if` in its body for each of the machine's blocks
 abbrev pub EachFunctionHasIfs : List StructDef → List UnitDef → ℕ → List InMachine → Parts → Type 0
 EachFunctionHasIfs structs units entry machine file =
     (i : ℕ) (instance : Instance) (activity : UnitDef) → slice_get (setting_of structs units entry).instances i ≡ Some instance →

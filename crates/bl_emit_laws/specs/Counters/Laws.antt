@@ -11,15 +11,15 @@ use Rattle.bl_emit_laws.specs.Kept.{written_file}
 use Rattle.bl_emit_laws.specs.Counters.Ifs.{EachFunctionHasIfs}
 use Rattle.bl_emit_laws.specs.Counters.Own.{FunctionsOwn}
 
--- in the file that is written of a typed program that passes the rules each activity with an instance has one function and one struct, and no other
--- function names its counters, where the file is well formed
+-- the well-formed file written of a program that passes the rules has one function and one struct for each activity with an instance. No other function names
+-- its counters
 abbrev pub FilesOwn : Program → Type 0
 FilesOwn program =
     (machine : List InMachine) (unit : UnitDef) → IsWellTyped program.structs program.units program.entry → Passes program.units →
     AreActivitiesOf program.units machine → slice_get program.units program.entry ≡ Some unit → WellFormed (written_file program machine) →
     FunctionsOwn program.structs program.units program.entry (written_file program machine)
 
--- and in the body of the function of each such activity stand as many `if`s as the machine has blocks for it
+-- the functions of activities with instances have one `if` for each block of the machine, in the well-formed file of a program that passes the rules
 abbrev pub FilesHaveIfs : Program → Type 0
 FilesHaveIfs program =
     (machine : List InMachine) (unit : UnitDef) → IsWellTyped program.structs program.units program.entry → Passes program.units →

@@ -37,7 +37,7 @@ pub record HasOneFunctionAndFrame (activity : UnitDef) (file : Parts) : Type 0 w
   pub frame : CStruct
   pub frames : structs_named (frame_name activity.name) file ≡ frame ∷ []
 
--- so it is of each activity that has an instance
+-- each activity that has an instance has exactly one function and one struct of where it rests
 abbrev pub EachHasOneFunctionAndFrame : List StructDef → List UnitDef → ℕ → Parts → Type 0
 EachHasOneFunctionAndFrame structs units entry file =
     (i : ℕ) (activity : UnitDef) → unit_at (setting_of structs units entry) i ≡ Some activity → HasOneFunctionAndFrame activity file
@@ -54,14 +54,13 @@ abbrev pub is_counter_name : Text → Bool
 is_counter_name [] = false
 is_counter_name (first ∷ rest) = first == 99 && is_digit_run rest
 
--- whether a place names a counter: some member that it goes through has such a name
+-- whether a place names a counter: some member that it goes through has the name of one
 abbrev pub names_counter : CPath → Bool
 names_counter place = list_any is_counter_name place.members
 
 -- ---- what a function names
 
--- the function is `a_A` of an activity A of the program, its `f` points to `struct f_A`, and the place is a member of that, `(*f).cN`: a counter of
--- A's own frame
+-- the function is `a_A` of an activity A, its `f` points to `struct f_A`, and the place is a member `(*f).cN`: a counter of A's own frame
 pub record NamesItsOwn (units : List UnitDef) (function : CFunc) (place : CPath) : Type 0 where
   pub activity : UnitDef
   pub is_there : Contains units activity
@@ -71,7 +70,7 @@ pub record NamesItsOwn (units : List UnitDef) (function : CFunc) (place : CPath)
   pub counter : Text
   pub is : place ≡ record { through = true; name = codes "f"; members = counter ∷ [] }
 
--- so it is of each place of each function that names a counter
+-- each place that names a counter names one of the function's own activity
 abbrev pub CountersAreOwn : List UnitDef → Parts → Type 0
 CountersAreOwn units file =
     (function : CFunc) (place : CPath) → Contains file.funcs function → Contains (places_named function) place → names_counter place ≡ true →
@@ -97,12 +96,12 @@ members_through structs (Some (OfScalar s)) (member ∷ rest) = []
 members_through structs (Some (OfStruct struct)) (member ∷ rest) =
     record { struct = struct; member = member } ∷ members_through structs (type_of_member structs struct member) rest
 
--- those that a place in a function of a file goes through, from its variable, or from what that points to
+-- the members that a place in a function of a file goes through, from its variable or from what that points to
 abbrev pub members_at : Parts → CFunc → CPath → List MemberOf
 members_at file function place =
     members_through (struct_table file.structs) (option_map (λ variable. variable.ty) (table_of (variables_of function) place.name)) place.members
 
--- where a place of a function goes through a counter of a struct `f_A`, the function is `a_A`
+-- a place that goes through a counter of a struct `f_A` stands in the function `a_A`
 abbrev pub CountersStandInOne : Parts → Type 0
 CountersStandInOne file =
     (function : CFunc) (place : CPath) (name counter : Text) → Contains file.funcs function → Contains (places_named function) place →

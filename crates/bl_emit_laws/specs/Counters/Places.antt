@@ -17,10 +17,10 @@ use Rattle.bl_ctext.specs.Folds.{OpenPart}
 
 -- the path of a place: where it begins and the members that it goes through, without its indices
 pub record CPath : Type 0 where
-  -- whether it begins with `(*` and its name is a pointer's
+  -- whether the place begins with `(*` and its name is a pointer's
   pub through : Bool
   pub name : Text
-  -- the members that it goes through, in order
+  -- the members that the place goes through, in order
   pub members : List Text
 
 -- the paths of places, in the order in which these stand
@@ -51,15 +51,15 @@ kind_places (CExprKind-F.Call call) = call
 kind_places (CExprKind-F.Not operand) = operand
 kind_places (CExprKind-F.Two op left right) = left ++ right
 
--- those in the arguments of a call
+-- the places named in the arguments of a call
 abbrev pub call_places : WithPaths CCall-F → CPaths
 call_places call = joined call.args
 
--- those of an expression are those of its form
+-- the places named in an expression, from those of its form
 abbrev pub expr_places : WithPaths CExpr-F → CPaths
 expr_places expr = expr.what
 
--- those in an index
+-- the places named in an index
 abbrev pub index_places : WithPaths CIndex-F → CPaths
 index_places index = index.at
 
@@ -69,7 +69,7 @@ place_places place =
     record { through = place.through; name = place.name; members = map (λ (step : StepParts). step.member) place.steps }
     ∷ joined (map (λ (step : StepParts). step.inside) place.steps)
 
--- those of a part that may be absent
+-- the places of a part that may be absent
 abbrev pub places_or_none : Option CPaths → CPaths
 places_or_none None = []
 places_or_none (Some places) = places
@@ -88,11 +88,11 @@ places_in = fold-CExpr _ _ _ _ _ _ _ arg_places kind_places call_places expr_pla
 abbrev pub places_in_place : CPlace → CPaths
 places_in_place = fold-CPlace _ _ _ _ _ _ _ arg_places kind_places call_places expr_places index_places place_places step_parts
 
--- those in a call
+-- the places named in a call
 abbrev pub places_in_call : CCall → CPaths
 places_in_call = fold-CCall _ _ _ _ _ _ _ arg_places kind_places call_places expr_places index_places place_places step_parts
 
--- those in an argument
+-- the places named in an argument
 abbrev pub places_in_arg : CArg → CPaths
 places_in_arg = fold-CArg _ _ _ _ _ _ _ arg_places kind_places call_places expr_places index_places place_places step_parts
 
@@ -100,19 +100,19 @@ places_in_arg = fold-CArg _ _ _ _ _ _ _ arg_places kind_places call_places expr_
 abbrev pub parts_of_step : CStep → StepParts
 parts_of_step = fold-CStep _ _ _ _ _ _ _ arg_places kind_places call_places expr_places index_places place_places step_parts
 
--- those in an expression that may be absent
+-- the places named in an expression that may be absent
 abbrev pub places_of_option : Option CExpr → CPaths
 places_of_option None = []
 places_of_option (Some expr) = places_in expr
 
 -- ---- in statements
 
--- those of a block that may be absent
+-- the places of a block that may be absent
 abbrev pub block_or_none : Option (List CPaths) → CPaths
 block_or_none None = []
 block_or_none (Some block) = joined block
 
--- those in a statement's form: what it sets, what it asks and what stands in its blocks
+-- the places named in a statement's form: in what it sets, in what it asks, and in its blocks
 abbrev pub stmt_kind_places : CStmtKind-F CPaths CPaths → CPaths
 stmt_kind_places (CStmtKind-F.Set place expr) = places_in_place place ++ places_in expr
 stmt_kind_places (CStmtKind-F.Clear place struct) = places_in_place place
@@ -122,7 +122,7 @@ stmt_kind_places (CStmtKind-F.Loop turn condition body) = places_in condition ++
 stmt_kind_places CStmtKind-F.Break = []
 stmt_kind_places (CStmtKind-F.Return expr) = places_of_option expr
 
--- those of a statement are those of its form
+-- the places named in a statement, from those of its form
 abbrev pub stmt_places : CStmt-F CPaths CPaths → CPaths
 stmt_places stmt = stmt.what
 
@@ -130,7 +130,7 @@ stmt_places stmt = stmt.what
 abbrev pub places_in_stmt : CStmt → CPaths
 places_in_stmt = fold-CStmt CPaths CPaths stmt_kind_places stmt_places
 
--- those in a block
+-- the places named in a block
 abbrev pub places_in_block : List CStmt → CPaths
 places_in_block stmts = joined (map places_in_stmt stmts)
 

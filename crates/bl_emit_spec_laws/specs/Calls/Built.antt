@@ -31,11 +31,11 @@ Activities = ℕ → Activity
 abbrev pub unit_number : Setting → ℕ → ℕ
 unit_number w i = unwrap_or (option_map (λ instance. instance.unit) (slice_get w.instances i)) 0
 
--- what the C of the instance's activity is made of
+-- the activity of an instance, as its C is made
 abbrev pub activity_at : Setting → Activities → ℕ → Activity
 activity_at w activities i = activities (unit_number w i)
 
--- what the statements of the instance see
+-- the site of an instance's statements: what they see
 abbrev pub site_at : Setting → Activities → ℕ → TypingContext
 site_at w activities i = (view_of (activity_at w activities i)).site
 
@@ -60,7 +60,7 @@ pub record AreBuilt (structs : List StructDef) (units : List UnitDef) (machine :
   pub structures : (k : ℕ) (unit : UnitDef) → slice_get units k ≡ Some unit → (activities k).structs ≡ structs
   pub earlier : (k : ℕ) (unit : UnitDef) → slice_get units k ≡ Some unit → (activities k).earlier ≡ take k units
   pub unit : (k : ℕ) (unit : UnitDef) → slice_get units k ≡ Some unit → (activities k).unit ≡ unit
-  -- it is told which of the units before it remember variables: no function does
+  -- the activity is told which of the earlier units remember variables: no function does
   pub remember : (k j : ℕ) (unit other : UnitDef) → slice_get units k ≡ Some unit → slice_get units j ≡ Some other → j < k →
       slice_get (activities k).remember j ≡ Some (is_activity other.kind && remembers_any (activities j))
   pub made : (k : ℕ) (unit : UnitDef) → slice_get units k ≡ Some unit → is_activity unit.kind ≡ true →
@@ -89,7 +89,7 @@ registered a = record {
 
 -- ---- what the start of a `run` clears
 
--- where an instance was begun
+-- where and how an instance was begun
 abbrev pub origin_at : Setting → ℕ → Option Origin
 origin_at w k = option_and_then (λ instance. instance.origin) (slice_get w.instances k)
 

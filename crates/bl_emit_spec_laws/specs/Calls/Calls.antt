@@ -55,7 +55,7 @@ pub record CallAddresses : Type 0 where
   pub result : Location
   pub over : Location
 
--- one thing, where the test is true
+-- a list of the one thing, where the test is true, else an empty one
 abbrev pub where_true : {X : Type 0} → Bool → X → List X
 where_true test x = if test then x ∷ [] else []
 
@@ -74,7 +74,7 @@ written_by unit remembers given =
     ∷ (where_true remembers given.memory
     ++ (given.outputs ++ (where_true (is_some unit.result) given.result ++ given.over ∷ [])))
 
--- a function that runs at this depth may give them: what may be written has nothing in common, nor with the inputs', and is there
+-- a function at this depth may give these places: those that may be written are live, and apart from each other and from the inputs
 pub record MayGive (unit : UnitDef) (remembers : Bool) (depth : ℕ) (given : CallAddresses) : Type 0 where
   pub apart : all_apart (written_by unit remembers given) ≡ true
   pub inputs_apart : list_all (λ place. list_all (are_apart place) (places_in_args given.inputs)) (written_by unit remembers given) ≡ true
@@ -91,7 +91,7 @@ output_values w store i unit = take unit.outputs (drop unit.inputs (view_at w st
 abbrev pub FramesWithin : Setting → Activities → Frames → Type 0
 FramesWithin w activities frames = (i c : ℕ) → frames i c ≤ greatest_value (activity_at w activities i).sizes c
 
--- as a call for the instance begins memory holds what the instance rests at and remembers, and at the places its inputs and outputs; the body hasn't ended
+-- memory at the start of a call encodes where the instance rests, what it remembers, and its inputs and outputs. The body hasn't ended
 pub record CallBegins (w : Setting) (activities : Activities) (i : ℕ) (unit : UnitDef) (depth : ℕ) (given : CallAddresses) (frames : Frames) (store : Store)
     (here : Memory) : Type 0 where
   pub memory : MemoryEncodes w activities i given.frame given.memory frames store here
@@ -108,7 +108,7 @@ PassStarts w activities i unit frames r = PassStart (rank_by w activities) i uni
 
 -- ---- what a call leaves
 
--- it leaves what a pass by rules leaves, at the same places, and all else as it was that was there
+-- memory after a call encodes what a pass by rules leaves, at the same places, and older memory is unchanged elsewhere
 pub record CallLeaves (w : Setting) (activities : Activities) (i : ℕ) (unit : UnitDef) (depth : ℕ) (given : CallAddresses) (frames : Frames) (left : Store)
     (r : Registers) (here : Memory) (called : CallResult) : Type 0 where
   pub returned : called.result ≡ Some (pos 0)
@@ -120,8 +120,7 @@ pub record CallLeaves (w : Setting) (activities : Activities) (i : ℕ) (unit : 
       number_in (value_at called.memory given.result) ≡ number_or_zero value
   pub kept : UnchangedOutside depth (written_by unit (remembers_any (activity_at w activities i)) given) here called.memory
 
--- the C function of the activity at a position, where a function that runs at a depth calls it: what it does for each instance of the activity is what a
--- pass by rules does, and it traps where that is cut
+-- the C function of the activity at a position simulates the passes by rules of its instances, traps included, if a function at this depth calls it
 pub record ActivitySimulates (w : Setting) (activities : Activities) (u : ℕ) (known : Table Meaning) (depth : ℕ) : Type 0 where
   pub executes : (i : ℕ) (unit : UnitDef) (given : CallAddresses) (frames : Frames) (store : Store) (r : Registers) (frames' : Frames) (left : Store)
       (r' : Registers) (here : Memory) → unit_number w i ≡ u → unit_at w i ≡ Some unit →

@@ -28,12 +28,11 @@ use Rattle.bl_emit_spec_laws.specs.Calls.Memories.{MemoryEncodes, inner}
 
 -- ---- where pointers lead
 
--- where the pointer for the result leads
+-- the location to which the pointer for the result leads
 abbrev pub result_at_c : Scope → Location
 result_at_c scope = start_of scope true (codes "r")
 
--- a place was there before the function began, and has nothing in common with the counters, with what tells whether the body has ended, and with what
--- the pointers for variables lead to
+-- a place is older than the function's call, and apart from its counters, its end flag, and what the pointers for variables lead to
 pub record PlaceIsSeparate (site : TypingContext) (scope : Scope) (place : Location) : Type 0 where
   pub older : is_older scope.depth place.root ≡ true
   pub frame : are_apart place (frame_at scope) ≡ true
@@ -46,14 +45,14 @@ pub record PlacesAreSeparate (site : TypingContext) (unit : UnitDef) (remembers 
   pub frame : FramePointersAreValid scope
   pub frame_apart : ApartFromPointers site scope (frame_at scope)
   pub over_apart : ApartFromPointers site scope (over_at scope)
-  -- what it remembers, itself or in what it calls
+  -- the place of what the activity remembers, itself or in what it calls, is separate
   pub memory : remembers ≡ true → PlaceIsSeparate site scope (remembered_at scope)
   pub result : is_some unit.result ≡ true → PlaceIsSeparate site scope (result_at_c scope)
   pub result_apart : is_some unit.result ≡ true → remembers ≡ true → are_apart (result_at_c scope) (remembered_at scope) ≡ true
 
 -- ---- what the function knows
 
--- the function for an instance of the unit at a position: its pointers stand, and the functions before it do in C what they do in the program
+-- the premises for the function of an instance: its unit is at the position, its pointers are valid, and the functions before it agree
 pub record FunctionContext (structs : List StructDef) (units : List UnitDef) (w : Setting) (activities : Activities) (i : ℕ) (unit : UnitDef)
     (scope : Scope) : Type 0 where
   pub is_there : slice_get units (unit_number w i) ≡ Some unit
@@ -65,8 +64,7 @@ pub record FunctionContext (structs : List StructDef) (units : List UnitDef) (w 
 
 -- ---- in the middle of a pass
 
--- memory holds the registers, the values of the variables and their copies, what each `run` keeps of the instance that it calls, and the result where
--- the body has ended
+-- memory represents a pass: it encodes the registers, the variables and their copies, the frames of callees, and the result once the body has ended
 pub record PassRepresents (w : Setting) (activities : Activities) (i : ℕ) (unit : UnitDef) (scope : Scope) (frames : Frames) (store : Store)
     (copies : List Value) (r : Registers) (here : Memory) : Type 0 where
   pub registers : RegistersEncoded (registered (activity_at w activities i)) scope r here

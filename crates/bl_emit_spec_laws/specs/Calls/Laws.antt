@@ -80,7 +80,7 @@ pub record PassOutside (site : TypingContext) (unit : UnitDef) (remembers : Bool
   pub outputs : (k : ℕ) (var : Var) → var_at site k ≡ Some var → home_at site k ≡ Lent → is_input var.role ≡ false →
       lies_in (lent_at scope k) root way ≡ false
 
--- such numbers that were there before the function began are as they were
+-- memory from before the call is unchanged where the function of an activity may not write
 abbrev pub PassKeepsFrame : TypingContext → UnitDef → Bool → Scope → Memory → Memory → Type 0
 PassKeepsFrame site unit remembers scope here after =
     (root : Root) (way : List Projection) → is_older scope.depth root ≡ true → PassOutside site unit remembers scope root way →
@@ -99,13 +99,13 @@ pub record PartSimulates (w : Setting) (activities : Activities) (i : ℕ) (unit
 abbrev pub start_code : Activity → List CStmt
 start_code a = map rested_code (counters_read a) ++ (entry_code (view_of a) (body_of a) ++ map (c_copied (view_of a).site) (copied_in a))
 
--- where a called function of an instance's activity begins
+-- the scope in which a called function of an instance's activity begins
 abbrev pub scope_in : Setting → Activities → ℕ → UnitDef → Table Meaning → ℕ → CallAddresses → Scope
 scope_in w activities i unit known depth given =
     let a = activity_at w activities i in
     scope_begun known (activity_function a) (depth + 1) (passed_to unit (remembers_any a) given)
 
--- and the memory
+-- the memory at the start of a call of an instance's activity
 abbrev pub memory_in : Setting → Activities → ℕ → UnitDef → ℕ → CallAddresses → Memory → Memory
 memory_in w activities i unit depth given here =
     let a = activity_at w activities i in memory_begun (activity_function a) (depth + 1) (passed_to unit (remembers_any a) given) here
@@ -137,11 +137,11 @@ pub record CalledAt (body : Block) (n : Node) (u : ℕ) : Type 0 where
 abbrev pub guarded : ActivityView → Transition → List CStmt → CStmt
 guarded view rule code = turn_code (record { test = guard_of view rule.node rule.asked; code = code })
 
--- what the block of one node does
+-- the outcome of the block of one node
 abbrev pub block_done : Setting → Activities → ℕ → ℕ → Transition → Scope → Memory → Outcome Memory
 block_done w activities i u rule scope here = block_c (block_code (view_of (activity_at w activities i)) u rule ∷ []) scope here
 
--- where the function of an instance stands in the middle of its pass
+-- the function of an instance stands in the middle of its pass
 pub record Midway (structs : List StructDef) (units : List UnitDef) (entry : ℕ) (machine : List InMachine) (activities : Activities) (i : ℕ)
     (unit : UnitDef) (scope : Scope) (frames : Frames) (store : Store) (copies : List Value) (r : Registers) (here : Memory) : Type 0 where
   pub compiled : CompilationContext structs units entry machine activities
@@ -189,7 +189,7 @@ pub record GuardsChoose (structs : List StructDef) (units : List UnitDef) (entry
 
 -- ---- the whole pass
 
--- as a pass starts, the blocks of the function do what a pass by rules does, and trap where it is cut
+-- the blocks of the function simulate a pass by rules from its start, traps included
 pub record PassesSimulate (structs : List StructDef) (units : List UnitDef) (entry : ℕ) (machine : List InMachine) (activities : Activities) : Type 0 where
   pub executes : (i : ℕ) (unit : UnitDef) (scope : Scope) (frames : Frames) (store : Store) (copies : List Value) (r : Registers)
       (frames' : Frames) (left : Store) (r' : Registers) (here : Memory) → let w = setting_of structs units entry in
@@ -205,7 +205,7 @@ pub record PassesSimulate (structs : List StructDef) (units : List UnitDef) (ent
 
 -- ---- the functions of all activities
 
--- under its name stands the C function of the activity at a position. The functions that it sees are known in this way
+-- the table has the C function of the activity at a position under its name. That function runs over a table with the property
 abbrev pub ActivityKnown : Activities → List UnitDef → ℕ → (Table Meaning → Type 0) → Table Meaning → Type 0
 ActivityKnown activities units k Below known =
     (unit : UnitDef) → slice_get units k ≡ Some unit → is_activity unit.kind ≡ true → (below : Table Meaning)
@@ -218,7 +218,7 @@ AllKnownUpTo structs units activities (suc k) known =
     AllKnownUpTo structs units activities k known × (KnownAt structs units k (AllKnownUpTo structs units activities k) known
     × ActivityKnown activities units k (AllKnownUpTo structs units activities k) known)
 
--- wherever the functions are known, that of each activity does what the passes of its instances do, at any depth in the chain of calls
+-- the C function of each activity simulates the passes of its instances, wherever it is known, at any depth of calls
 abbrev pub ActivitiesSimulate : List StructDef → List UnitDef → ℕ → List InMachine → Activities → Type 0
 ActivitiesSimulate structs units entry machine activities =
     (k u : ℕ) (known : Table Meaning) (depth : ℕ) → CompilationContext structs units entry machine activities → NoneOverlaps units →

@@ -22,8 +22,8 @@ use Rattle.bl_emit_spec_laws.specs.Calls.Built.{Activities, activity_at, rank_by
 abbrev pub inner : Location → ℕ → Location
 inner place n = further place (member (callee_name n) ∷ [])
 
--- Nests w activities i f m k f' m': where the counters of the instance i stand at f and what it remembers at m, those of the instance k, which is i or
--- called by it or by one that it calls, stand at f' and m'
+-- Nests w activities i f m k f' m': in the instance i, counters at f and memory at m; in the instance k, at f' and m'. The instance k is i, or called by it at
+-- some depth
 pub data Nests (w : Setting) (activities : Activities) : ℕ → Location → Location → ℕ → Location → Location → Type 0 where
   here : {i : ℕ} {f m : Location} → Nests w activities i f m i f m
   inside : {i j k : ℕ} {f m f' m' : Location} {unit : UnitDef} {l : Label} {at : Place} {arguments : Arguments} → unit_at w i ≡ Some unit →
@@ -31,7 +31,7 @@ pub data Nests (w : Setting) (activities : Activities) : ℕ → Location → Lo
       Nests w activities j (inner f (rank_by w activities i (EnterAt l at arguments))) (inner m (rank_by w activities i (EnterAt l at arguments))) k f' m' →
       Nests w activities i f m k f' m'
 
--- memory holds at these places what the counters of the instance, and of all that it calls, have, and what their variables are
+-- memory encodes, at these places, the counters and variables of the instance and of all that it calls
 pub record MemoryEncodes (w : Setting) (activities : Activities) (i : ℕ) (f m : Location) (frames : Frames) (store : Store) (here : Memory) : Type 0 where
   pub counters : (k : ℕ) (f' m' : Location) → Nests w activities i f m k f' m' → (c : ℕ) → c < length (activity_at w activities k).sizes →
       number_in (value_at here (further f' (member (counter_name c) ∷ []))) ≡ pos (frames k c)

@@ -41,7 +41,7 @@ ChangesSimulate =
 
 -- ---- guards
 
--- whether numbers have this counter, and values that follow one another from this one on
+-- whether the numbers have this counter and consecutive values from this one on
 abbrev pub follow_on : ℕ → ℕ → List Slot → Bool
 follow_on k v [] = true
 follow_on k v (slot ∷ rest) = nat_eq slot.counter k && (nat_eq slot.value v && follow_on k (suc v) rest)
@@ -55,7 +55,7 @@ are_in_a_row (slot ∷ rest) = follow_on slot.counter (suc slot.value) rest
 abbrev pub RestsWithin : Sizes → Registers → Type 0
 RestsWithin sizes r = (k : ℕ) → r.rested k ≤ greatest_value sizes k
 
--- nor does one hold more now
+-- no counter holds more than its greatest value, now or as the tick began
 pub record RegistersWithin (sizes : Sizes) (r : Registers) : Type 0 where
   pub counters : (k : ℕ) → r.counters k ≤ greatest_value sizes k
   pub rested : RestsWithin sizes r
@@ -78,7 +78,7 @@ asks_its_own view has n (RestedIn slots) =
     list_all (λ slot. has.copied slot.counter) slots && (list_all (fits_counter view.sizes) slots && are_in_a_row slots)
 asks_its_own view has n (Ended age needed) = has_age view.number has age && list_all (λ slot. has.counters slot.counter) needed.slots
 
--- the C of a guard doesn't trap, and is 1 where what is asked is so, and 0 where it isn't
+-- the C of a guard doesn't trap, and is 1 where the guard holds, and 0 where it doesn't
 abbrev pub GuardsEvaluate : Type 0
 GuardsEvaluate =
     (view : ActivityView) (has : Registered) (scope : Scope) (n : Node) (asked : Asked) (r : Registers) (here : Memory) →
@@ -87,7 +87,7 @@ GuardsEvaluate =
 
 -- ---- what keeps apart
 
--- registers keep apart from one another, from variables and from copies, where pointers lead to what keeps apart
+-- the places of registers are apart from one another, from variables and from copies, where the pointers are valid
 abbrev pub RegistersKeepApart : Type 0
 RegistersKeepApart =
     (site : TypingContext) (has : Registered) (scope : Scope) → FewRegisters has → FramePointersAreValid scope → PointersOlder site scope →

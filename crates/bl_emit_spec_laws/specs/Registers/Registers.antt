@@ -14,7 +14,7 @@ use Rattle.bl_emit_spec.specs.Names.{counter_name, flag_name, mark_name, rested_
 
 -- one register of a pass in C
 pub data Register : Type 0 where
-  -- the counter of this number, which tells where the instance rests
+  -- the counter with the number, which tells where the instance rests
   Counter : ℕ → Register
   -- what that counter held when the tick began
   Before : ℕ → Register
@@ -42,7 +42,7 @@ pub record Registered : Type 0 where
   pub flags : ℕ → Bool
   pub marks : ℕ → Bool
 
--- whether a register is one of them
+-- whether a register is one of the activity's
 abbrev pub has_register : Registered → Register → Bool
 has_register has (Counter k) = has.counters k
 has_register has (Before k) = has.copied k
@@ -52,11 +52,11 @@ has_register has Over = true
 
 -- ---- places
 
--- where the pointer to an instance's counters leads
+-- the location to which the pointer to an instance's counters leads
 abbrev pub frame_at : Scope → Location
 frame_at scope = start_of scope true (codes "f")
 
--- where the pointer leads behind which a pass tells whether the body has ended
+-- the location in which a pass tells whether the body has ended
 abbrev pub over_at : Scope → Location
 over_at scope = start_of scope true (codes "e")
 
@@ -106,7 +106,7 @@ pub record RegistersApart (has : Registered) (scope : Scope) : Type 0 where
       are_apart (register_at scope x) (register_at scope y) ≡ true
   pub live : (x : Register) → is_live scope.depth (register_at scope x).root ≡ true
 
--- they have nothing in common with variables and copies
+-- the places of registers are apart from those of variables and copies
 pub record RegistersBeside (site : TypingContext) (scope : Scope) : Type 0 where
   pub variables : (x : Register) (k : ℕ) (var : Var) → var_at site k ≡ Some var →
       are_apart (register_at scope x) (location_in scope site k []) ≡ true
@@ -125,7 +125,7 @@ pub record ApartFromPointers (site : TypingContext) (scope : Scope) (place : Loc
   pub remembered : (k : ℕ) (var : Var) → var_at site k ≡ Some var → home_at site k ≡ Held → is_activity site.kind ≡ true →
       are_apart place (remembered_at scope) ≡ true
 
--- where those pointers lead was there before the function began
+-- the pointers for a unit's variables lead to what was there before the function began
 pub record PointersOlder (site : TypingContext) (scope : Scope) : Type 0 where
   pub lent : (k : ℕ) (var : Var) → var_at site k ≡ Some var → home_at site k ≡ Lent → is_older scope.depth (lent_at scope k).root ≡ true
   pub remembered : (k : ℕ) (var : Var) → var_at site k ≡ Some var → home_at site k ≡ Held → is_activity site.kind ≡ true →

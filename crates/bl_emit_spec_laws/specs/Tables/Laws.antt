@@ -19,7 +19,7 @@ ActivitiesBuilt =
     (structs : List StructDef) (units : List UnitDef) (machine : List InMachine) → AreActivitiesOf units machine →
     AreBuilt structs units machine (activities_of structs units machine)
 
--- the table of the C functions of all units knows them, and so does that of the units before a position
+-- the table of the C functions of all units knows every unit's function, and that of the units before a position knows theirs
 abbrev pub TablesKnowAll : Type 0
 TablesKnowAll =
     (structs : List StructDef) (units : List UnitDef) (entry : ℕ) (machine : List InMachine) (activities : Activities) (k : ℕ) →
@@ -38,7 +38,7 @@ pub record WrittenAs (program : Program) (machine : List InMachine) (unit : Unit
       ++ (init_function unit.name
       ∷ tick_function unit (remembers_any (activities_of program.structs program.units machine program.entry)) ∷ [])
 
--- so it is written of each program with its machine, whose entry is an activity
+-- the file written of a program with its machine, whose entry is an activity, has those functions
 abbrev pub WrittenIsKept : Type 0
 WrittenIsKept =
     (program : Program) (machine : List InMachine) (unit : UnitDef) → AreActivitiesOf program.units machine →

@@ -27,24 +27,24 @@ no_unit = record { name = []; place = nowhere; kind = Function; vars = []; input
 abbrev pub no_part : InMachine
 no_part = record { blocks = []; slots = [] }
 
--- what the C of the unit at a position is made of, where it is known which of the units before it remember variables
+-- the activity of the unit at a position, as its C is made, with what is known of the earlier units' variables
 abbrev pub activity_with : List StructDef → List UnitDef → List InMachine → ℕ → List Bool → Activity
 activity_with structs units machine k remember =
     activity_of structs (take k units) remember (unwrap_or (slice_get units k) no_unit)
     (unwrap_or (slice_get machine (graph_position units k)) no_part)
 
--- whether it remembers variables: no function does
+-- whether the unit at the position remembers variables: no function does
 abbrev pub remembers_with : List StructDef → List UnitDef → List InMachine → ℕ → List Bool → Bool
 remembers_with structs units machine k remember =
     is_activity (unwrap_or (slice_get units k) no_unit).kind && remembers_any (activity_with structs units machine k remember)
 
--- which of the units before a position remember variables
+-- whether each of the units before a position remembers variables
 abbrev pub remembered_before : List StructDef → List UnitDef → List InMachine → ℕ → List Bool
 remembered_before structs units machine zero = []
 remembered_before structs units machine (suc k) =
     let earlier = remembered_before structs units machine k in earlier ++ remembers_with structs units machine k earlier ∷ []
 
--- what the C of each activity is made of
+-- the activity of each unit, as its C is made
 abbrev pub activities_of : List StructDef → List UnitDef → List InMachine → Activities
 activities_of structs units machine k = activity_with structs units machine k (remembered_before structs units machine k)
 
@@ -60,15 +60,15 @@ abbrev pub unit_function : List StructDef → List UnitDef → Activities → �
 unit_function structs units activities k unit =
     if is_activity unit.kind then activity_function (activities k) else function_code structs (take k units) unit
 
--- those of all units, in order
+-- the C functions of all units, in order
 abbrev pub functions_of_all : List StructDef → List UnitDef → Activities → List CFunc
 functions_of_all structs units activities = each_from (unit_function structs units activities) 0 units
 
--- the table that those of the units before a position make
+-- the table of the C functions of the units before a position
 abbrev pub table_up_to : List StructDef → List UnitDef → Activities → ℕ → Table Meaning
 table_up_to structs units activities k = known_after no_entries (take k (functions_of_all structs units activities))
 
--- the table that all of them make
+-- the table of the C functions of all units
 abbrev pub table_of_all : List StructDef → List UnitDef → Activities → Table Meaning
 table_of_all structs units activities = known_after no_entries (functions_of_all structs units activities)
 

@@ -19,12 +19,12 @@ object_types (variable depth name) = None
 abbrev pub regained : Parts → Memory → Memory
 regained file here = memory_of (cells_of file) (numbers_of (cells_of file) here)
 
--- where a place of one of the objects leads to a scalar the number there is kept
+-- the number of each scalar place in one of the objects is kept
 abbrev pub CellsKept : Parts → Type 0
 CellsKept file =
     (here : Memory) (place : Location) (kind : Scalar) → place_type file.structs object_types place ≡ Some (OfScalar kind) →
     number_in (value_at (regained file here) place) ≡ number_in (value_at here place)
 
--- so it is in each well-formed file
+-- the number of each scalar place is kept, in every well-formed file
 abbrev pub AllCellsKept : Type 0
 AllCellsKept = (file : Parts) → WellFormed file → CellsKept file

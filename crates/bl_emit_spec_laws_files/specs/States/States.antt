@@ -33,21 +33,20 @@ use Rattle.bl_emit_spec_laws_files.specs.States.Cells.{regained}
 
 -- ---- places
 
--- where the entry rests, and where what it remembers stands
+-- the locations of where the entry rests, and of what it remembers
 abbrev pub frame_place : Location
 frame_place = record { root = state_object; parts = member (codes "f") ∷ [] }
 
 abbrev pub memory_place : Location
 memory_place = record { root = state_object; parts = member (codes "m") ∷ [] }
 
--- where the entry's outputs stand
+-- the location of one of the entry's outputs
 abbrev pub output_place : Var → Location
 output_place var = record { root = output_object; parts = member (codes "o_" ++ var.name) ∷ [] }
 
 -- ---- what is kept
 
--- What the entry's call needs is there where only the numbers of the cells were kept: where all that it and what it calls rest at, what they
--- remember, and its outputs
+-- a memory in which only the cells' numbers were kept has what the entry's call needs: all frames, all that is remembered, and the outputs
 pub record StateKept (w : Setting) (activities : Activities) (unit : UnitDef) (file : Parts) : Type 0 where
   pub memory : (frames : Frames) (store : Store) (here : Memory) → StoreFits w store →
       MemoryEncodes w activities 0 frame_place memory_place frames store here →
@@ -67,8 +66,7 @@ TypeDeclared structs there (Ty-F.Scalar s) = Unit {0}
 TypeDeclared structs there (Ty-F.Struct k) = (def : StructDef) → slice_get structs k ≡ Some def → Contains there (c_definition structs def)
 TypeDeclared structs there (Ty-F.Array n inner) = Contains there (c_array structs n inner)
 
--- a file declares the structs of its state and its outputs, those of where each instance rests and of what it remembers, and those of the types of
--- all that variables have in them
+-- a file declares the structs of its state and outputs, of each instance's frame and memory, and of the types of variables in them
 pub record FramesDeclared (structs : List StructDef) (units : List UnitDef) (entry : ℕ) (activities : Activities) (unit : UnitDef) (file : Parts) :
     Type 0 where
   pub state : Contains file.structs (state_struct unit.name (remembers_any (activities entry)))
@@ -90,7 +88,7 @@ pub record RunFound (w : Setting) (unit : UnitDef) (l : Label) (at : Place) (arg
   pub earlier : unit_number w j < unit_number w i
   pub called : CalledAt (plain_body unit.body) (EnterAt l at arguments) (unit_number w j)
 
--- so it is of each `run`
+-- each `run` calls an instance of the unit that its node names, which stands before the caller's unit
 abbrev pub RunsFound : List StructDef → List UnitDef → ℕ → Type 0
 RunsFound structs units entry =
     let w = setting_of structs units entry in
@@ -99,7 +97,7 @@ RunsFound structs units entry =
 
 -- ---- the law
 
--- a well-formed file that declares them keeps what its program needs
+-- a well-formed file that declares these structs keeps what its program needs
 abbrev pub StatesAreKept : Type 0
 StatesAreKept =
     (structs : List StructDef) (units : List UnitDef) (entry : ℕ) (machine : List InMachine) (activities : Activities) (unit : UnitDef)

@@ -62,7 +62,7 @@ abbrev pub IsActNode : Node → Type 0
 IsActNode (ActAt l s) = is_act (out-StmtKind (out-Stmt s).what) ≡ true
 IsActNode _ = ⊥
 
--- the blocks of such nodes do what a pass by rules does there
+-- the blocks of nodes with an act simulate them
 abbrev pub ActNodesSimulate : List StructDef → List UnitDef → ℕ → Type 0
 ActNodesSimulate structs units entry =
     (machine : List InMachine) (activities : Activities) → IsWellTyped structs units entry → RulesOwn (setting_of structs units entry) activities →
@@ -70,7 +70,7 @@ ActNodesSimulate structs units entry =
     Remembering (setting_of structs units entry) activities → NodesStand structs units → ViewsFit structs units entry → PrevsAgree →
     NodesApart units → ActsSeen (setting_of structs units entry) activities → BlocksSimulate structs units entry machine activities IsActNode
 
--- the blocks of nodes at which a `return` is done do what a pass by rules does there
+-- the blocks of nodes with a `return` simulate them
 abbrev pub ReturnNodesSimulate : List StructDef → List UnitDef → ℕ → Type 0
 ReturnNodesSimulate structs units entry =
     (machine : List InMachine) (activities : Activities) → IsWellTyped structs units entry → RulesOwn (setting_of structs units entry) activities →

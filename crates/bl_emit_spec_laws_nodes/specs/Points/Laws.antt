@@ -63,7 +63,7 @@ abbrev pub is_return_node : Node → Bool
 is_return_node (ActAt l s) = is_return_kind (out-StmtKind (out-Stmt s).what)
 is_return_node _ = false
 
--- in an activity with a result nothing but a `return` ends the body
+-- only a `return` ends the body of an activity with a result
 pub record ReturnsEnd (units : List UnitDef) (activities : Activities) : Type 0 where
   pub so : (k : ℕ) (unit : UnitDef) (rule : Transition) → slice_get units k ≡ Some unit → is_activity unit.kind ≡ true →
       is_some unit.result ≡ true →
@@ -74,7 +74,7 @@ pub record ReturnsEnd (units : List UnitDef) (activities : Activities) : Type 0 
 
 -- ---- what is asked of activities
 
--- an activity that remembers a variable, itself or in what it calls, is told to remember
+-- an activity is marked as remembering if it, or what it calls, remembers a variable
 pub record Remembering (w : Setting) (activities : Activities) : Type 0 where
   pub each : (i k : ℕ) (f m f' m' : Location) (x : ℕ) (var : Var) → Nests w activities i f m k f' m' →
       var_at (site_at w activities k) x ≡ Some var →
@@ -82,13 +82,13 @@ pub record Remembering (w : Setting) (activities : Activities) : Type 0 where
 
 -- ---- changes
 
--- where registers tell that the body has ended the result is there
+-- memory has the result where the registers say that the body has ended
 abbrev pub ResultTold : UnitDef → ℕ → Scope → Store → Registers → Memory → Type 0
 ResultTold unit i scope store r here =
     (value : Value) → r.over ≡ true → is_some unit.result ≡ true → result_at store i ≡ Some value →
     number_in (value_at here (result_at_c scope)) ≡ number_or_zero value
 
--- in the middle of a pass the C of changes changes the registers, and leaves all else
+-- the C of changes simulates them in the middle of a pass, and leaves all else
 abbrev pub ChangesSimulateInPass : Type 0
 ChangesSimulateInPass =
     (structs : List StructDef) (units : List UnitDef) (entry : ℕ) (machine : List InMachine) (activities : Activities) (i : ℕ) (unit : UnitDef)
@@ -110,7 +110,7 @@ GuardsSimulate =
     (structs : List StructDef) (units : List UnitDef) (entry : ℕ) (machine : List InMachine) (activities : Activities) →
     RulesOwn (setting_of structs units entry) activities → GuardsChoose structs units entry machine activities
 
--- A block whose rule is due ends as the C of its node ends, and leaves what that leaves
+-- the block of a due rule ends as the C of its node ends, with the same memory
 abbrev pub BlocksChoose : Type 0
 BlocksChoose =
     (structs : List StructDef) (units : List UnitDef) (entry : ℕ) (machine : List InMachine) (activities : Activities) →
@@ -134,7 +134,7 @@ IsSilent (SurfaceJoinAt l at) = ⊤
 IsSilent (DepthJoinAt l at) = ⊤
 IsSilent _ = ⊥
 
--- the blocks of such nodes do what a pass by rules does there
+-- the blocks of nodes with changes alone simulate them
 abbrev pub SilentNodesSimulate : Type 0
 SilentNodesSimulate =
     (structs : List StructDef) (units : List UnitDef) (entry : ℕ) (machine : List InMachine) (activities : Activities) →

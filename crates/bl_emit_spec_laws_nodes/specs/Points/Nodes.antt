@@ -50,7 +50,7 @@ copied_there copied (TestAt l at e) = copied_in copied e
 copied_there copied (CheckAt l at e) = copied_in copied e
 copied_there copied n = true
 
--- at the nodes of each unit's body nothing is done but what fits, and what is named under a `prev` is copied
+-- what is done at the nodes of each unit's body fits, and what they name under a `prev` is copied
 pub record NodesStand (structs : List StructDef) (units : List UnitDef) : Type 0 where
   pub fitting : (k position : ℕ) (unit : UnitDef) (n : Node) → slice_get units k ≡ Some unit →
       slice_get (nodes_in (plain_body unit.body)) position ≡ Some n →
@@ -61,14 +61,14 @@ pub record NodesStand (structs : List StructDef) (units : List UnitDef) : Type 0
 
 -- ---- views
 
--- in a store that fits an instance sees values that are of its variables' types
+-- an instance sees values of its variables' types in a typed store
 abbrev pub ViewsFit : List StructDef → List UnitDef → ℕ → Type 0
 ViewsFit structs units entry =
     let w = setting_of structs units entry in
     (i : ℕ) (unit : UnitDef) (store : Store) → unit_at w i ≡ Some unit → StoreFits w store →
     values_fit structs unit.vars (view_at w store i).now ≡ true
 
--- the lists have the same at these positions
+-- the two lists have the same elements at these positions
 abbrev pub AgreeAt : List ℕ → List Value → List Value → Type 0
 AgreeAt ks before other = (x : ℕ) → list_any (nat_eq x) ks ≡ true → slice_get before x ≡ slice_get other x
 
@@ -88,7 +88,7 @@ IsTest (TestAt l at e) = ⊤
 IsTest (CheckAt l at e) = ⊤
 IsTest _ = ⊥
 
--- the blocks of such nodes do what a pass by rules does there
+-- the blocks of nodes with a condition simulate them
 abbrev pub TestNodesSimulate : List StructDef → List UnitDef → ℕ → Type 0
 TestNodesSimulate structs units entry =
     (machine : List InMachine) (activities : Activities) → IsWellTyped structs units entry → RulesOwn (setting_of structs units entry) activities →

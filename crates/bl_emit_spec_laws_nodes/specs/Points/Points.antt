@@ -12,7 +12,7 @@ use Rattle.bl_emit_spec_laws_nodes.specs.Points.Acts.{ActsSeen, NodesApart}
 use Rattle.bl_emit_spec_laws_nodes.specs.Points.Laws.{Remembering, ReturnsEnd, RulesOwn}
 use Rattle.bl_emit_spec_laws_nodes.specs.Points.Nodes.{NodesStand, PrevsAgree, ViewsFit}
 
--- in each activity of a typed program that has a result nothing but a `return` ends the body
+-- only a `return` ends the body of an activity with a result, in a typed program
 abbrev pub BodiesEnd : List StructDef → List UnitDef → ℕ → Type 0
 BodiesEnd structs units entry = (activities : Activities) → IsWellTyped structs units entry → ReturnsEnd units activities
 
@@ -26,7 +26,7 @@ pub record PointsStand (structs : List StructDef) (units : List UnitDef) (entry 
   pub agree : PrevsAgree
   pub seen : ActsSeen (setting_of structs units entry) activities
 
--- then the blocks of all points do what a pass by rules does there, and an `if` by the guard of a rule does what stands in it where the rule is due
+-- the blocks of all points simulate their nodes, and the guard of a rule holds iff the rule is due
 abbrev pub PointsSimulate : List StructDef → List UnitDef → ℕ → Type 0
 PointsSimulate structs units entry =
     (machine : List InMachine) (activities : Activities) →

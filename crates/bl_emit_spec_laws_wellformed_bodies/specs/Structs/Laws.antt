@@ -33,19 +33,19 @@ type_names structs units = names_of (each_once [] (structs_for structs units))
 
 -- the structs of the units that the entry needs
 pub record PartsStand (structs : List StructDef) (units : List UnitDef) (entry : ℕ) (parts : ProgramParts) : Type 0 where
-  -- each uses those before it alone, and those of types
+  -- each struct uses only structs before it and structs of types
   pub known : are_known (type_names structs units) parts.structs ≡ true
-  -- each is for what a unit remembers, or for where it rests
+  -- each struct is for what a unit remembers, or for where it rests
   pub each : (s : CStruct) → Contains parts.structs s → IsPart structs units memory_name s ⊎ IsPart structs units frame_name s
-  -- no two have one name
+  -- no two structs have one name
   pub differ : are_distinct (names_of parts.structs) ≡ true
-  -- those of the entry are among them
+  -- the structs of the entry are among them
   pub frame : (unit : UnitDef) → slice_get units entry ≡ Some unit →
       is_known (type_names structs units ++ names_of parts.structs) (OfStruct (frame_name unit.name)) ≡ true
   pub memory : (unit : UnitDef) → slice_get units entry ≡ Some unit → slice_get parts.remember entry ≡ Some true →
       is_known (type_names structs units ++ names_of parts.structs) (OfStruct (memory_name unit.name)) ≡ true
 
--- so they are in a typed program with a machine that shares counters, where rule Cells doesn't fail
+-- the structs of units stand, in a typed program with a machine that shares counters, where rule Cells holds
 abbrev pub PartsAreSound : List StructDef → List UnitDef → ℕ → Type 0
 PartsAreSound structs units entry =
     (machine : List InMachine) → IsWellTyped structs units entry → Passes structs units entry → AreActivitiesOf units machine →
@@ -55,14 +55,14 @@ PartsAreSound structs units entry =
 
 -- the structs of a file, some of which are those of needed units and those of the interface
 pub record FileStructs (structs : List StructDef) (units : List UnitDef) (file of_units last : List CStruct) : Type 0 where
-  -- no clause fails in them
+  -- no clause fails in the structs
   pub sound : struct_faults_after no_entries no_entries file ≡ []
-  -- those that the program's types need are declared, those of units, and those of the interface
+  -- the structs are declared that the program's types need, that units have, and that the interface has
   pub types : AreDeclared (struct_table file) (structs_for structs units)
   pub parts : AreDeclared (struct_table file) of_units
   pub interface : AreDeclared (struct_table file) last
 
--- so it is of the file that is written of a typed program with a machine that shares counters, where neither rule Frames nor Cells fails
+-- the file written of a typed program with a machine that shares counters declares its structs, where rules Frames and Cells hold
 abbrev pub FilesDeclare : Program → Type 0
 FilesDeclare program =
     (machine : List InMachine) (unit : UnitDef) → IsWellTyped program.structs program.units program.entry →

@@ -13,13 +13,13 @@ pub record Collected : Type 0 where
 abbrev pub nothing : Collected
 nothing = record { structs = []; taken = [] }
 
--- with a struct more, unless its name is taken
+-- the structs with one more, unless its name is taken
 abbrev pub added : Collected → CStruct → Collected
 added collected s =
     if list_any (bytes_eq s.name) collected.taken then collected
     else record { structs = collected.structs ++ s ∷ []; taken = collected.taken ++ s.name ∷ [] }
 
--- with these structs, one after another
+-- the structs with further ones added, one after another
 abbrev pub after : Collected → List CStruct → Collected
 after collected [] = collected
 after collected (s ∷ rest) = after (added collected s) rest

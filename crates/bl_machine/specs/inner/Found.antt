@@ -5,7 +5,7 @@ use Rattle.bl_tree.specs.declared.tree.Unit.{Unit as UnitDef}
 use Rattle.bl_cause.specs.Activities.{IsGraphOf, IsOrderOf}
 use Rattle.bl_cause.specs.declared.order.Order.{Order}
 
--- at the position stand a tick graph of the unit and an order of that
+-- the lists have a tick graph of the unit and an order of it at the position
 pub record IsFound (unit : UnitDef) (graphs : List Graph) (orders : List Order) (at : ℕ) : Type 0 where
   pub graph : Graph
   pub has_graph : slice_get graphs at ≡ Some graph

@@ -28,7 +28,7 @@ widths all = map (λ laid. laid.width) all
 abbrev pub counters_from : ℕ → List Laid → List ℕ
 counters_from low all = joined (map (λ laid. laid.counters low) all)
 
--- parts of which the widest tells how many counters they take
+-- the layout of a block from those of its parts: it takes as many counters as the widest
 abbrev pub block_laid : List Laid → Laid
 block_laid all = record { width = greatest (widths all); counters = λ low. counters_from low all }
 
@@ -39,7 +39,7 @@ either_laid some others = record {
   counters = λ low. counters_from low some ++ counters_from low others;
 }
 
--- what an `if` does where its condition is true. No `if` of a program is without an arm; one would do its `else` part
+-- the layout of an `if`. No `if` of a program is without an arm, which would do its `else` part
 abbrev pub chosen : List Laid → List Laid → List Laid
 chosen [] other = other
 chosen (arm ∷ rest) other = arm ∷ rest
@@ -49,7 +49,7 @@ abbrev pub branch_counters : List Laid → ℕ → List ℕ
 branch_counters [] low = []
 branch_counters (branch ∷ rest) low = low ∷ (branch.counters low ++ branch_counters rest (low + branch.width))
 
--- how one kind of statement is laid out, where its parts are
+-- how a kind of statement is laid out, from its laid-out parts
 abbrev pub kind_laid : StmtKind-F Laid Laid Laid Laid → Laid
 kind_laid (StmtKind-F.Declare k initial) = none_laid
 kind_laid (StmtKind-F.Assign path e) = none_laid
@@ -64,15 +64,15 @@ kind_laid (StmtKind-F.Until body e) = block_laid body
 kind_laid (StmtKind-F.While e body) = block_laid body
 kind_laid (StmtKind-F.Return e) = none_laid
 
--- how an arm is laid out, where its statements are
+-- how an arm is laid out, from its laid-out statements
 abbrev pub arm_laid : Arm-F Laid Laid Laid Laid → Laid
 arm_laid arm = block_laid arm.body
 
--- the end of a branch takes a counter where nothing else in it does
+-- how a branch is laid out: its end takes a counter where nothing else in it does
 abbrev pub branch_laid : Branch-F Laid Laid Laid Laid → Laid
 branch_laid branch = record { width = max 1 (greatest (widths branch.body)); counters = λ low. counters_from low branch.body }
 
--- a statement is laid out as its kind is
+-- how a statement is laid out: as its kind is
 abbrev pub stmt_laid : Stmt-F Laid Laid Laid Laid → Laid
 stmt_laid s = s.what
 
@@ -92,6 +92,6 @@ laid_arm = fold-Arm Laid Laid Laid Laid kind_laid arm_laid branch_laid stmt_laid
 abbrev pub laid_branch : Branch → Laid
 laid_branch = fold-Branch Laid Laid Laid Laid kind_laid arm_laid branch_laid stmt_laid
 
--- a block
+-- the layout of a block
 abbrev pub laid_block : List Stmt → Laid
 laid_block body = block_laid (map laid body)

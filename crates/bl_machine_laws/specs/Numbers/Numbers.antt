@@ -22,35 +22,35 @@ use Rattle.bl_machine.specs.Uses.{Slots, is_of, uses_in_branch}
 
 -- ---- what follows
 
--- what an instance does where a part of its body has ended
+-- where an instance goes on after a part of its body has ended
 pub data Next : Type 0 where
-  -- it goes on at this node
+  -- the instance goes on at this node
   At : Node → Next
   -- the branch has ended and rests at its number
   Rests : Slot → Next
   -- the body of the activity has ended
   Over : Next
 
--- where a block goes on: at its entry or, where nothing stands in it, at what follows
+-- where an instance goes on in a block: at its entry, or at what follows an empty one
 abbrev pub into : Block → Next → Next
 into Done next = next
 into (Then s rest) next = At (entry s)
 
 -- ---- numbers
 
--- the value of the number at its counter, and nothing at the others
+-- the value of the number at its counter, and 0 at others
 abbrev pub value_at_counter : Slot → ℕ → ℕ
 value_at_counter slot counter = if is_of slot counter then slot.value else 0
 
--- what the counters hold where a part has ended
+-- what the counters hold where a part of the body has ended
 abbrev pub at_next : Next → ℕ → ℕ
 at_next (At n) counter = 0
 at_next (Rests slot) counter = value_at_counter slot counter
 at_next Over counter = 0
 
 abbrev mutual
-  -- what a counter of an instance holds where the tree stands in it: the value of the place at which the tree rests there, be it woken or
-  -- not, and else 0. A `run` has its place in the instance of its caller; what rests in the called one has numbers of its own
+  -- the value of a counter of an instance with this tree: that of the place at which the tree rests there, else 0. A `run` has its place in its caller; the
+  -- callee has counters of its own
   pub numbers_of : Slots → Tree → Next → ℕ → ℕ
   numbers_of slots Nil next counter = at_next next counter
   numbers_of slots (Wait s) next counter = value_at_counter (slots.rest s.label) counter
@@ -62,7 +62,7 @@ abbrev mutual
   numbers_of slots (Guard s phase stood c) next counter = numbers_of slots c Over counter
   numbers_of slots (Run s callee phase stood c) next counter = value_at_counter (slots.rest s.label) counter
 
-  -- a counter of a branch holds what that branch has there; a branch that has ended rests at its end
+  -- the value of a counter of branches: that of the branch that has the counter. A branch that has ended rests at its end
   pub numbers_in : Slots → Label → ℕ → Bodies → Trees → ℕ → ℕ
   numbers_in slots l k (BodyOf weak body bodies) (beside weak' c branches) counter =
       if uses_in_branch slots l k body counter

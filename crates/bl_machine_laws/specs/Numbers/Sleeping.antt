@@ -6,7 +6,7 @@ use Rattle.bl_ctree_laws.specs.Trees.{Tree}
 use Rattle.bl_machine_laws.specs.Numbers.Turns.{AnsweredDeed, Turns}
 use Rattle.bl_machine_laws.specs.Numbers.Waiting.{Sleeps, Waits}
 
--- what has not gone on waits for its resume node
+-- what rested when the tick began, and has not gone on, waits for its resume node
 abbrev pub SleepersWait : Type 0
 SleepersWait = (c : Tree) (next : Option Node) (n : Node) → Sleeps c n → Waits c next n
 

@@ -15,7 +15,7 @@ pub data Walks (w : Setting) : ℕ → Tree → List AnsweredDeed → Tree → T
   on : {i : ℕ} {c : Tree} {d : Bool} {a : Deed} {n : StepLabel} {c' : Tree} {done : List AnsweredDeed} {c'' : Tree} →
       Moves Anyway w i c d a n c' → Walks w i c' done c'' → Walks w i c (record { deed = a; answer = d } ∷ done) c''
 
--- a turn is made of such steps, and so is a pass
+-- turns and passes are made of steps that could be taken one after another
 pub record TurnsAreWalks : Type 0 where
   pub turns : (w : Setting) (rank : ℕ → Node → ℕ) (i : ℕ) (c : Tree) (done : List AnsweredDeed) (n : Node) (c' : Tree) →
       Turns w rank i c done n c' → Walks w i c done c'

@@ -78,7 +78,7 @@ pub data InstancePoint (w : Setting) : ℕ → Tree → Bool → Deed → Node �
   -- `await` always pauses when it is reached
   pauses : {i : ℕ} {l : Label} {at : Place} {e : Expr} →
       InstancePoint w i (Do (Await l at e)) true (deed i at Silent) (entry (Await l at e)) (Wait (pause l at e))
-  -- a loop begins its turn
+  -- a loop begins a turn of its body
   repeats : {i : ℕ} {l : Label} {at : Place} {body : Block} →
       InstancePoint w i (Do (Repeat l at body)) true (deed i at Silent) (entry (Repeat l at body)) (do_block (turn body (Repeat l at body)))
   repeats_until : {i : ℕ} {l : Label} {at : Place} {body : Block} {e : Expr} →
@@ -106,7 +106,7 @@ pub data InstancePoint (w : Setting) : ℕ → Tree → Bool → Deed → Node �
   -- the condition of a guard is false: what is left of its body goes on
   lets : {i : ℕ} {s : Watch} {stood : Bool} {c : Tree} →
       InstancePoint w i (Guard s Check stood c) false (deed i s.place (Asks s.test)) (CheckAt s.label s.place s.test) (Guard s Body stood c)
-  -- it is true: `abort` drops the body, and `reset` begins it anew
+  -- the condition of a guard is true: `abort` drops the body, and `reset` begins it anew
   aborts : {i : ℕ} {s : Watch} {stood : Bool} {c : Tree} → s.guard ≡ Abort →
       InstancePoint w i (Guard s Check stood c) true (deed i s.place (Asks s.test)) (CheckAt s.label s.place s.test) Nil
   resets : {i : ℕ} {s : Watch} {stood : Bool} {c : Tree} → s.guard ≡ Reset →
@@ -114,13 +114,13 @@ pub data InstancePoint (w : Setting) : ℕ → Tree → Bool → Deed → Node �
   -- a guard ends where its body has ended
   guard_ends : {i : ℕ} {s : Watch} {stood : Bool} →
       InstancePoint w i (Guard s Body stood Nil) true (deed i s.place Silent) (end_node stood s.label s.place) Nil
-  -- a `cobegin` ends where its branches are settled and so many have ended as are needed
+  -- a `cobegin` ends where its branches are settled and enough of them have ended
   joins : {i : ℕ} {s : Fork} {stood : Bool} {branches : Trees} → are_settled branches ≡ true → are_done branches ≡ true →
       InstancePoint w i (Par s stood branches) true (deed i s.place Silent) (join_node stood s.label s.place) Nil
 
 mutual
-  -- Turns w rank i c done n c': in one turn of the node n the tree c, which stands in the instance i, becomes c', and these deeds are done in
-  -- order. Where a `run` begins or goes on, the whole pass of the instance that it calls belongs to the turn, and its end, where its body ends
+  -- Turns w rank i c done n c': one turn of the node n leads from the tree c of the instance i to c', with these deeds in order. The whole pass of a callee
+  -- belongs to the turn of its `run`
   pub data Turns (w : Setting) (rank : ℕ → Node → ℕ) : ℕ → Tree → List AnsweredDeed → Node → Tree → Type 0 where
     point : {i : ℕ} {c : Tree} {d : Bool} {a : Deed} {n : Node} {c' : Tree} → InstancePoint w i c d a n c' → Turns w rank i c (did a d) n c'
     -- a `run` begins; its body does not end in the tick in which it begins
@@ -129,23 +129,23 @@ mutual
         Passes w rank callee 0 (do_block (plain_body unit.body)) done c → is_nil c ≡ false →
         Turns w rank i (Do (RunOf l at target a inputs outputs)) (did (deed i at (Copies callee inputs)) true ++ done)
         (entry (RunOf l at target a inputs outputs)) (Run (call l at target a inputs outputs) callee Body false c)
-    -- it goes on, and its body does not end
+    -- a `run` goes on, and its body does not end
     resumes : {i : ℕ} {s : Call} {callee : ℕ} {stood : Bool} {c : Tree} {done : List AnsweredDeed} {c' : Tree} →
         Passes w rank callee 0 c done c' → is_nil c' ≡ false →
         Turns w rank i (Run s callee Check stood c) (did (deed i s.place (Copies callee s.arguments.inputs)) true ++ done)
         (run_node stood s.label s.place s.arguments) (Run s callee Body stood c')
-    -- or it does: the target gets the result
+    -- a `run` goes on, its body ends, and the target gets the result
     returns : {i : ℕ} {s : Call} {callee : ℕ} {stood : Bool} {c : Tree} {done : List AnsweredDeed} → Passes w rank callee 0 c done Nil →
         Turns w rank i (Run s callee Check stood c)
         (did (deed i s.place (Copies callee s.arguments.inputs)) true ++ (done ++ did (deed i s.place (Gives callee s.arguments.target)) true))
         (run_node stood s.label s.place s.arguments) Nil
-    -- before what follows
+    -- a turn of a node in a tree before what follows it
     in_seq : {i : ℕ} {c : Tree} {s : Plain} {rest : Block} {done : List AnsweredDeed} {n : Node} {c' : Tree} →
         Turns w rank i c done n c' → Turns w rank i (Seq c (Then s rest)) done n (seq c' (Then s rest))
-    -- inside a branch
+    -- a turn of a node inside a branch
     in_par : {i : ℕ} {s : Fork} {stood : Bool} {branches : Trees} {done : List AnsweredDeed} {n : Node} {branches' : Trees} →
         OneTurns w rank i branches done n branches' → Turns w rank i (Par s stood branches) done n (Par s stood branches')
-    -- inside a guard that let its body go on
+    -- a turn of a node inside a guard that let its body go on
     in_guard : {i : ℕ} {s : Watch} {stood : Bool} {c : Tree} {done : List AnsweredDeed} {n : Node} {c' : Tree} →
         Turns w rank i c done n c' → Turns w rank i (Guard s Body stood c) done n (Guard s Body stood c')
 
@@ -156,8 +156,8 @@ mutual
     later : {i : ℕ} {weak : Bool} {c : Tree} {others : Trees} {done : List AnsweredDeed} {n : Node} {others' : Trees} →
         OneTurns w rank i others done n others' → OneTurns w rank i (beside weak c others) done n (beside weak c others')
 
-  -- Passes w rank i k c done c': turns of nodes of the instance, in the order of their numbers from k on, lead from c to c', where nothing
-  -- is left to do in this tick. So each node has one turn at most
+  -- Passes w rank i k c done c': turns in the order of node numbers, from k on, lead from c to c'. Nothing is left to do in the tick. Each node has at most one
+  -- turn
   pub data Passes (w : Setting) (rank : ℕ → Node → ℕ) : ℕ → ℕ → Tree → List AnsweredDeed → Tree → Type 0 where
     rests : {i k : ℕ} {c : Tree} → is_settled c ≡ true → Passes w rank i k c [] c
     goes : {i k : ℕ} {c : Tree} {done : List AnsweredDeed} {n : Node} {c' : Tree} {others : List AnsweredDeed} {c'' : Tree} →

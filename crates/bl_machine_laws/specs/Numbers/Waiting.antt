@@ -31,21 +31,20 @@ test_of s = TestAt s.label s.place s.test
 abbrev pub check_of : Watch → Node
 check_of s = CheckAt s.label s.place s.test
 
--- the node that acts where a block begins: its entry or, where nothing stands in it, the one that acts behind it
+-- the node that acts where a block begins: its entry, or the one behind an empty block
 abbrev pub first_in : Block → Option Node → Option Node
 first_in Done next = next
 first_in (Then s rest) next = Some (entry s)
 
--- it is this node, where there is one
+-- the node is the one given by the option
 abbrev pub Is : Option Node → Node → Type 0
 Is (Some n) m = m ≡ n
 Is None m = ⊥
 
 abbrev mutual
-  -- Waits c next n: something in the tree waits for its turn at the node, where `next` is the node that acts when the tree has ended. What
-  -- begins waits at its entry, what has ended at what follows it, what was woken at its resume node, and a `cobegin` of which so many
-  -- branches have ended as are needed at its join. A `run` waits while its inputs are still to be copied: what is done in it, and its end,
-  -- belong to that turn
+  -- Waits c next n: something in the tree waits for its turn at the node n, where `next` is the node that acts when the tree has ended. What begins waits at
+  -- its entry, what has ended at what follows it, and what was woken at its resume node. A `cobegin` waits at its join once enough of its branches have ended.
+  -- A `run` waits while its inputs are still to be copied: its body and its end belong to that turn
   pub Waits : Tree → Option Node → Node → Type 0
   Waits Nil next n = Is next n
   Waits (Wait s) next n = ⊥
@@ -59,7 +58,7 @@ abbrev mutual
   Waits (Run s callee Body stood c) next n = ⊥
   Waits (Run s callee Check stood c) next n = n ≡ run_node stood s.label s.place s.arguments
 
-  -- in one of the branches
+  -- SomeWaits branches n: something in a branch waits for its turn at the node n
   pub SomeWaits : Trees → Node → Type 0
   SomeWaits no_tree n = ⊥
   SomeWaits (beside weak c branches) n = Waits c None n ⊎ SomeWaits branches n
@@ -79,7 +78,7 @@ abbrev mutual
   Sleeps (Run s callee Body stood c) n = ⊥
   Sleeps (Run s callee Check stood c) n = n ≡ run_node stood s.label s.place s.arguments
 
-  -- in one of the branches
+  -- SomeSleeps branches n: something in a branch rested when the tick began, and has not gone on at its resume node n
   pub SomeSleeps : Trees → Node → Type 0
   SomeSleeps no_tree n = ⊥
   SomeSleeps (beside weak c branches) n = Sleeps c n ⊎ SomeSleeps branches n

@@ -5,7 +5,7 @@ use Rattle.bl_effects.specs.Surface.{width}
 use Rattle.bl_graph_nodes.specs.Plain.{plain_body}
 use Rattle.bl_machine.specs.Layout.{counters_in, width_in}
 
--- a body that is laid out from counter 0 on takes its width of counters: those below it, and each of them
+-- the body uses exactly the counters below its width, where it is laid out from counter 0 on
 pub record TakesItsWidth (body : List Stmt) : Type 0 where
   pub many : width_in (plain_body body) ≡ width body
   pub below : All (λ counter. counter < width body) (counters_in (plain_body body) 0)

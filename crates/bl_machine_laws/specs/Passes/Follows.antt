@@ -46,7 +46,7 @@ abbrev pub DeedYields : Setting → Deed → Store → Bool → Store → Type 0
 DeedYields w a store d left = done_by w a store ≡ Some (record { answer = d; store = left })
 
 mutual
-  -- TurnSteps w rank i c store n c' left: in a turn of the node n the tree c, which stands in the instance i, becomes c', and the store is left so
+  -- TurnSteps w rank i c store n c' left: one turn of the node n leads from the tree c of the instance i to c', and from the store to `left`
   pub data TurnSteps (w : Setting) (rank : ℕ → Node → ℕ) : ℕ → Tree → Store → Node → Tree → Store → Type 0 where
     point : {i : ℕ} {c : Tree} {store : Store} {d : Bool} {a : Deed} {n : Node} {c' : Tree} {left : Store} →
         InstancePoint w i c d a n c' → DeedYields w a store d left → TurnSteps w rank i c store n c' left
@@ -57,22 +57,22 @@ mutual
         Follows w rank callee 0 (do_block (plain_body unit.body)) given c left → is_nil c ≡ false →
         TurnSteps w rank i (Do (RunOf l at target a inputs outputs)) store (entry (RunOf l at target a inputs outputs))
         (Run (call l at target a inputs outputs) callee Body false c) left
-    -- it goes on, and its body doesn't end
+    -- a `run` goes on, and its body doesn't end
     resumes : {i : ℕ} {s : Call} {callee : ℕ} {stood : Bool} {c : Tree} {store given : Store} {c' : Tree} {left : Store} →
         DeedYields w (deed i s.place (Copies callee s.arguments.inputs)) store true given → Follows w rank callee 0 c given c' left → is_nil c' ≡ false →
         TurnSteps w rank i (Run s callee Check stood c) store (run_node stood s.label s.place s.arguments) (Run s callee Body stood c') left
-    -- or it does: the target gets the result
+    -- a `run` goes on, its body ends, and the target gets the result
     returns : {i : ℕ} {s : Call} {callee : ℕ} {stood : Bool} {c : Tree} {store given ended left : Store} →
         DeedYields w (deed i s.place (Copies callee s.arguments.inputs)) store true given → Follows w rank callee 0 c given Nil ended →
         DeedYields w (deed i s.place (Gives callee s.arguments.target)) ended true left →
         TurnSteps w rank i (Run s callee Check stood c) store (run_node stood s.label s.place s.arguments) Nil left
-    -- before what follows
+    -- a turn of a node in a tree before what follows it
     in_seq : {i : ℕ} {c : Tree} {s : Plain} {rest : Block} {store : Store} {n : Node} {c' : Tree} {left : Store} →
         TurnSteps w rank i c store n c' left → TurnSteps w rank i (Seq c (Then s rest)) store n (seq c' (Then s rest)) left
-    -- inside a branch
+    -- a turn of a node inside a branch
     in_par : {i : ℕ} {s : Fork} {stood : Bool} {branches : Trees} {store : Store} {n : Node} {branches' : Trees} {left : Store} →
         OneTurnSteps w rank i branches store n branches' left → TurnSteps w rank i (Par s stood branches) store n (Par s stood branches') left
-    -- inside a guard that let its body go on
+    -- a turn of a node inside a guard that let its body go on
     in_guard : {i : ℕ} {s : Watch} {stood : Bool} {c : Tree} {store : Store} {n : Node} {c' : Tree} {left : Store} →
         TurnSteps w rank i c store n c' left → TurnSteps w rank i (Guard s Body stood c) store n (Guard s Body stood c') left
 
@@ -83,8 +83,8 @@ mutual
     later : {i : ℕ} {weak : Bool} {c : Tree} {others : Trees} {store : Store} {n : Node} {others' : Trees} {left : Store} →
         OneTurnSteps w rank i others store n others' left → OneTurnSteps w rank i (beside weak c others) store n (beside weak c others') left
 
-  -- Follows w rank i k c store c' left: turns of nodes of the instance from the number k on, each the first of those that wait, lead from c to
-  -- c', where nothing is left to do in this tick, and leave the store so
+  -- Follows w rank i k c store c' left: turns of the instance from the number k on lead from c to c' and from the store to `left`. Each turn is that of the
+  -- first waiting node, and nothing is left to do in the tick
   pub data Follows (w : Setting) (rank : ℕ → Node → ℕ) : ℕ → ℕ → Tree → Store → Tree → Store → Type 0 where
     rests : {i k : ℕ} {c : Tree} {store : Store} → is_settled c ≡ true → Follows w rank i k c store c store
     goes : {i k : ℕ} {c : Tree} {store : Store} {n : Node} {c' : Tree} {between : Store} {c'' : Tree} {left : Store} →
@@ -105,7 +105,7 @@ mutual
         {store given : Store} → callee_of w i at ≡ Some callee → unit_at w callee ≡ Some unit →
         DeedYields w (deed i at (Copies callee inputs)) store true given → Fails w rank callee 0 (do_block (plain_body unit.body)) given →
         TurnTraps w rank i (Do (RunOf l at target a inputs outputs)) store (entry (RunOf l at target a inputs outputs))
-    -- so it is where one goes on
+    -- a `run` that goes on traps: its inputs do, or a deed in what it calls
     copy_traps : {i : ℕ} {s : Call} {callee : ℕ} {stood : Bool} {c : Tree} {store : Store} →
         done_by w (deed i s.place (Copies callee s.arguments.inputs)) store ≡ None →
         TurnTraps w rank i (Run s callee Check stood c) store (run_node stood s.label s.place s.arguments)
@@ -119,14 +119,14 @@ mutual
     guard_traps : {i : ℕ} {s : Watch} {stood : Bool} {c : Tree} {store : Store} {n : Node} →
         TurnTraps w rank i c store n → TurnTraps w rank i (Guard s Body stood c) store n
 
-  -- in one branch
+  -- a turn of one branch that traps
   pub data OneTurnTraps (w : Setting) (rank : ℕ → Node → ℕ) : ℕ → Trees → Store → Node → Type 0 where
     first_traps : {i : ℕ} {weak : Bool} {c : Tree} {others : Trees} {store : Store} {n : Node} →
         TurnTraps w rank i c store n → OneTurnTraps w rank i (beside weak c others) store n
     later_traps : {i : ℕ} {weak : Bool} {c : Tree} {others : Trees} {store : Store} {n : Node} →
         OneTurnTraps w rank i others store n → OneTurnTraps w rank i (beside weak c others) store n
 
-  -- Fails w rank i k c store: such turns lead to one that traps
+  -- Fails w rank i k c store: turns of the instance from the number k on, each of the first waiting node, lead to one that traps
   pub data Fails (w : Setting) (rank : ℕ → Node → ℕ) : ℕ → ℕ → Tree → Store → Type 0 where
     breaks : {i k : ℕ} {c : Tree} {store : Store} {n : Node} → k ≤ rank i n → First rank i c n → TurnTraps w rank i c store n →
         Fails w rank i k c store

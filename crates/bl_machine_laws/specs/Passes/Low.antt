@@ -16,8 +16,8 @@ abbrev pub Lowest : Setting → (ℕ → Node → ℕ) → ℕ → Tree → Step
 Lowest w rank i c n = (d : Bool) (a : Deed) (m : StepLabel) (c' : Tree) → Moves Anyway w i c d a m c' →
     Lower (ranks_in w rank i m) (ranks_in w rank i n) → ⊥
 
--- LowSteps w rank i c store done c' store': steps that could be taken, each the lowest one, lead from the tree c, which stands in the instance
--- i, and the store to c' and store'. Their deeds are done with the answers that the store gives
+-- LowSteps w rank i c store done c' store': steps lead from the tree c of the instance i to c', and from the store to store'. Each step is the lowest possible
+-- one, and its deed has the answer that the store gives
 pub data LowSteps (w : Setting) (rank : ℕ → Node → ℕ) : ℕ → Tree → Store → List AnsweredDeed → Tree → Store → Type 0 where
   stay : {i : ℕ} {c : Tree} {store : Store} → LowSteps w rank i c store [] c store
   on : {i : ℕ} {c : Tree} {store : Store} {d : Bool} {a : Deed} {n : StepLabel} {c' : Tree} {store' : Store} {done : List AnsweredDeed}
@@ -26,7 +26,7 @@ pub data LowSteps (w : Setting) (rank : ℕ → Node → ℕ) : ℕ → Tree →
       LowSteps w rank i c' store' done c'' store'' →
       LowSteps w rank i c store (record { deed = a; answer = d } ∷ done) c'' store''
 
--- such steps lead to a tree and a store in which the lowest step traps
+-- steps that are each the lowest possible one lead to a tree and a store in which the lowest step traps
 pub record LowTrap (w : Setting) (rank : ℕ → Node → ℕ) (i : ℕ) (c : Tree) (store : Store) : Type 0 where
   pub done : List AnsweredDeed
   pub tree : Tree

@@ -18,6 +18,6 @@ pub record HasOrders (w : Setting) : Type 0 where
   pub rank : ℕ → Node → ℕ
   pub orders : Orders w rank
 
--- where the tick graph of each activity has an order there are such numbers
+-- numbers exist that rise along all edges and differ between nodes, where the tick graph of each activity has an order
 abbrev pub GraphsGiveOrders : Type 0
 GraphsGiveOrders = (w : Setting) → AllOrdered w → HasOrders w

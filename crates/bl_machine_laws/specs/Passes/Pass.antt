@@ -17,11 +17,11 @@ use Rattle.bl_machine_laws.specs.Passes.Low.{LowSteps, LowTrap}
 use Rattle.bl_machine_laws.specs.Passes.Orders.{Orders}
 use Rattle.bl_machine_laws.specs.Passes.Steady.{Steady}
 
--- all that waits in the tree has a number that is no less than this one
+-- all that waits in the tree has a number of at least k
 abbrev pub WaitsFrom : (ℕ → Node → ℕ) → ℕ → ℕ → Tree → Type 0
 WaitsFrom rank i k c = (n : Node) → Waits c None n → k ≤ rank i n
 
--- a whole pass over the instance, from its node with number k on, and where it leads: each of its steps is the lowest that could be taken
+-- a whole pass over the instance from the number k on, in which each step is the lowest possible one
 pub record WholePass (w : Setting) (rank : ℕ → Node → ℕ) (i k : ℕ) (c : Tree) (store : Store) : Type 0 where
   pub done : List AnsweredDeed
   pub tree : Tree
@@ -30,13 +30,12 @@ pub record WholePass (w : Setting) (rank : ℕ → Node → ℕ) (i k : ℕ) (c 
   pub steps : LowSteps w rank i c store done tree left
   pub follows : Follows w rank i k c store tree left
 
--- a pass comes to its end, or one of its deeds traps: turns lead to it, and so do the lowest steps
+-- a pass comes to its end, or the lowest steps and the turns lead to a trap
 pub data PassOrTrap (w : Setting) (rank : ℕ → Node → ℕ) (i k : ℕ) (c : Tree) (store : Store) : Type 0 where
   comes_to_end : WholePass w rank i k c store → PassOrTrap w rank i k c store
   is_cut : LowTrap w rank i c store → Fails w rank i k c store → PassOrTrap w rank i k c store
 
--- over each tree that stands at its place, and in which no pass of a call is under way, a pass can be made from each store: turn by turn, in
--- the order of the numbers, each node acts for which something waits
+-- a pass exists over each tree at its place and each store, turn by turn in the order of numbers. No pass of a call is under way in the tree
 abbrev pub InstancesHavePasses : Type 0
 InstancesHavePasses =
     (structs : List StructDef) (units : List UnitDef) (entry : ℕ) (rank : ℕ → Node → ℕ) (i k : ℕ) (unit : UnitDef) (stood : Bool) (c : Tree)

@@ -20,8 +20,8 @@ use Rattle.bl_ctree_laws.specs.Trees.{
 }
 
 abbrev mutual
-  -- each `run` in the tree that has its inputs has been passed: nothing is left to do in what it called, which hasn't ended. So it is in what
-  -- stands under a `run` whose inputs are still to be copied
+  -- each `run` in the tree that has its inputs has been passed: nothing is left to do in its callee, which hasn't ended. Inside of `run`s without their inputs
+  -- the same holds
   pub Steady : Tree → Type 0
   Steady Nil = ⊤
   Steady (Wait s) = ⊤
@@ -34,7 +34,7 @@ abbrev mutual
   Steady (Run s callee Check stood c) = Steady c
   Steady (Run s callee Body stood c) = (is_settled c ≡ true) × (is_nil c ≡ false)
 
-  -- in each branch
+  -- each `run` in the branches that has its inputs has been passed
   pub AllSteady : Trees → Type 0
   AllSteady no_tree = ⊤
   AllSteady (beside weak c branches) = Steady c × AllSteady branches

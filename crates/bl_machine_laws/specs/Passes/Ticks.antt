@@ -18,7 +18,7 @@ use Rattle.bl_machine_laws.specs.Passes.Low.{LowTrap}
 use Rattle.bl_machine_laws.specs.Passes.Orders.{Orders}
 use Rattle.bl_machine_laws.specs.Passes.Pass.{WholePass}
 
--- a whole pass over the woken tree is a maximal list of steps of the tick, with the same deeds in the same order, and leaves nothing to do
+-- a whole pass over the woken tree is a maximal list of steps of the tick, with the same deeds in the same order
 pub record TickPasses (w : Setting) (rank : ℕ → Node → ℕ) (row : List ℤ) (c : Control) (store : Store) : Type 0 where
   pub pass : WholePass w rank 0 0 (woken (plain_tree c)) (woken_store row store)
   pub actions : List Action
@@ -28,14 +28,14 @@ pub record TickPasses (w : Setting) (rank : ℕ → Node → ℕ) (row : List �
   pub deeds : map deed_of actions ≡ map (λ one. one.deed) pass.done
   pub settled : control.is_settled after ≡ true
 
--- or the lowest steps lead to one that traps, and that is a maximal list of steps too
+-- the lowest steps of a tick lead to one that traps, and they are a maximal list of steps
 pub record TickTraps (w : Setting) (rank : ℕ → Node → ℕ) (row : List ℤ) (c : Control) (store : Store) : Type 0 where
   pub trap : LowTrap w rank 0 (woken (plain_tree c)) (woken_store row store)
   pub actions : List Action
   pub maximal : Maximal w (control.woken c) (woken_store row store) actions Trapped
   pub deeds : map deed_of actions ≡ map (λ one. one.deed) trap.done ++ trap.deed ∷ []
 
--- so it is for each tree and store that a run of an accepted program reaches between ticks, over each row of inputs, by any order of the nodes
+-- each tick of an accepted program is a pass or traps: for every reachable tree and store, every row of inputs, and every order of the nodes
 abbrev pub TicksArePasses : Type 0
 TicksArePasses =
     (structs : List StructDef) (units : List UnitDef) (entry : ℕ) (rank : ℕ → Node → ℕ) → IsWellTyped structs units entry → Passes units →

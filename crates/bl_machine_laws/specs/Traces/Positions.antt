@@ -27,7 +27,7 @@ pub record HasPositions (w : Setting) (machine : List Activity) : Type 0 where
   pub rank : ℕ → Node → ℕ
   pub go_by : GoBy w machine rank
 
--- such numbers rise along all edges and tell nodes apart, and there are some
+-- the positions of nodes in a machine's activities rise along all edges and differ between nodes, and such positions exist
 pub record MachinesGiveOrders : Type 0 where
   pub orders : (structs : List StructDef) (units : List UnitDef) (entry : ℕ) (machine : List Activity) (rank : ℕ → Node → ℕ) →
       let w = setting_of structs units entry in

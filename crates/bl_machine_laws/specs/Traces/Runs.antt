@@ -27,12 +27,12 @@ use Rattle.bl_machine_laws.specs.Traces.Positions.{GoBy, HasPositions}
 abbrev pub no_row : Last → Trace
 no_row last = record { rows = []; last = last }
 
--- one more row before those of a trace
+-- a trace with one more row in front
 abbrev pub row_before : List ℤ → Trace → Trace
 row_before row rest = record { rows = row ∷ rest.rows; last = rest.last }
 
--- PassRun w rank rows c store trace: from the tree and the store between ticks a run over the rows shows the trace, and each of its ticks is one
--- pass over the entry's instance by these numbers. It stops at the end of the rows, of the program, or at a trap
+-- PassRun w rank rows c store trace: from a tree and a store between ticks, a run over the rows has the trace, and each tick is one pass by these numbers. It
+-- stops at the end of the rows, of the program, or at a trap
 pub data PassRun (w : Setting) (rank : ℕ → Node → ℕ) : List (List ℤ) → Tree → Store → Trace → Type 0 where
   stays_open : {c : Tree} {store : Store} → PassRun w rank [] c store (no_row Open)
   traps : {row : List ℤ} {rows : List (List ℤ)} {c : Tree} {store : Store} →
@@ -44,15 +44,14 @@ pub data PassRun (w : Setting) (rank : ℕ → Node → ℕ) : List (List ℤ) �
       (pass : WholePass w rank 0 0 (woken c) (woken_store row store)) → is_nil pass.tree ≡ false → PassRun w rank rows pass.tree pass.left rest →
       PassRun w rank (row ∷ rows) c store (row_before (outputs_row w pass.left) rest)
 
--- such a run of a whole program, from its beginning
+-- a run of a whole program, from its first tree and store, whose ticks are passes by these numbers
 abbrev pub RunsByPasses : List StructDef → List UnitDef → ℕ → (ℕ → Node → ℕ) → List (List ℤ) → Trace → Type 0
 RunsByPasses structs units entry rank rows trace =
     let w = setting_of structs units entry in PassRun w rank rows (Idle (entry_block w)) (first_store w) trace
 
 -- ---- traces
 
--- over these rows there is a run of passes; its trace is allowed by the meaning of the program, which allows nothing else; and no run of passes
--- shows another one
+-- a run of passes over the rows exists. All such runs have one trace, which is the only one that the semantics allows
 pub record OneRun (structs : List StructDef) (units : List UnitDef) (entry : ℕ) (rank : ℕ → Node → ℕ) (rows : List (List ℤ)) : Type 0 where
   pub trace : Trace
   pub runs : RunsByPasses structs units entry rank rows trace
@@ -60,8 +59,8 @@ pub record OneRun (structs : List StructDef) (units : List UnitDef) (entry : ℕ
   pub only : (shows : ShownTrace) → Means structs units entry rows shows → shows ≡ shown_trace trace
   pub same : (other : Trace) → RunsByPasses structs units entry rank rows other → other ≡ trace
 
--- in a program that passes the rules, by numbers that rise along all edges and tell nodes apart: what a run of passes shows is allowed by the
--- meaning, and there is one over all rows
+-- each run of passes has a trace that the semantics allows, and there is one over all rows. The program passes the rules, and numbers rise along all edges and
+-- differ between nodes
 pub record RunsAreMeant : Type 0 where
   pub meant : (structs : List StructDef) (units : List UnitDef) (entry : ℕ) (rank : ℕ → Node → ℕ) → IsWellTyped structs units entry → Passes units →
       Orders (setting_of structs units entry) rank → (rows : List (List ℤ)) (trace : Trace) → RunsByPasses structs units entry rank rows trace →
@@ -69,8 +68,8 @@ pub record RunsAreMeant : Type 0 where
   pub one : (structs : List StructDef) (units : List UnitDef) (entry : ℕ) (rank : ℕ → Node → ℕ) → IsWellTyped structs units entry → Passes units →
       Orders (setting_of structs units entry) rank → (rows : List (List ℤ)) → OneRun structs units entry rank rows
 
--- so it is of the machine of each accepted program, with no further premise on orders: there are numbers by which its passes go, and whatever such
--- numbers are taken, over all rows there is exactly one run of passes, with the only trace that the meaning of the program allows
+-- the machine of each accepted program has exactly one run of passes over all rows. Its trace is the one that the semantics allows, for any numbers that fit
+-- the machine, and such numbers exist
 pub record MachinesHaveOneTrace : Type 0 where
   pub positions : (accepted : AcceptedProgram) (machine : List Activity) →
       let program = accepted.tree in

@@ -50,7 +50,7 @@ abbrev mutual
   RunsArePassed (Run s callee Check stood c) = ⊤
   RunsArePassed (Run s callee Body stood c) = (is_settled c ≡ true) × (is_nil c ≡ false)
 
-  -- in each branch
+  -- each `run` in the branches that has its inputs has been passed
   pub AllPassed : Trees → Type 0
   AllPassed no_tree = ⊤
   AllPassed (beside weak c branches) = RunsArePassed c × AllPassed branches
@@ -60,7 +60,7 @@ pub record SomethingWaits (c : Tree) : Type 0 where
   pub node : Node
   pub waits : Waits c None node
 
--- so it is in a tree in which something is left to do, where each called instance has been passed
+-- a node waits in every tree in which something is left to do and each called instance has had its pass
 abbrev pub UnsettledWaits : Type 0
 UnsettledWaits =
     (w : Setting) (i : ℕ) (stood : Bool) (body : Block) (c : Tree) → FitsGraph w i c (whole stood body) → RunsArePassed c → is_settled c ≡ false →
@@ -71,8 +71,8 @@ abbrev pub WaitsInPart : Type 0
 WaitsInPart =
     (w : Setting) (i : ℕ) (stood : Bool) (body : Block) (c : Tree) (n : Node) → FitsGraph w i c (whole stood body) → Waits c None n → In stood body n
 
--- what waits after a turn waited before it at another node, or control edges lead to it from the node that had the turn. So where numbers
--- rise along control edges no node waits again after its own turn
+-- what waits after a turn waited before it at another node, or control edges lead to it from the turn's node. With numbers that rise along control edges no
+-- node waits again after its turn
 abbrev pub TurnsLeadOn : Type 0
 TurnsLeadOn =
     (w : Setting) (rank : ℕ → Node → ℕ) (i : ℕ) (stood : Bool) (unit : UnitDef) (c : Tree) (done : List AnsweredDeed) (n : Node) (c' : Tree)

@@ -10,7 +10,7 @@ use Rattle.bl_machine.specs.Uses.{Slots}
 use Rattle.bl_machine_laws.specs.Numbers.Numbers.{Over, numbers_of}
 use Rattle.bl_machine_laws.specs.Numbers.Waiting.{Sleeps, Waits}
 
--- all that waits when a tick goes on from where it rested is what rested: each at its resume node
+-- only what rested waits when a tick goes on, each part at its resume node
 abbrev pub WokenRested : Type 0
 WokenRested =
     (w : Setting) (i : ℕ) (stood : Bool) (body : Block) (c : Tree) (n : Node) → FitsGraph w i c (whole stood body) → is_settled c ≡ true →

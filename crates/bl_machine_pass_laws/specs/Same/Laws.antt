@@ -16,7 +16,7 @@ use Rattle.bl_machine_pass_laws.specs.Same.Residual.{Calls, InstanceResidual}
 
 -- ---- what is left of a body stays so
 
--- a body that begins is left of itself; waking a tree leaves it left of its body, and so do each turn and a whole pass
+-- the tree with which a body begins is a residual of the body, and waking, turns and passes keep that
 pub record StaysResidual : Type 0 where
   pub begins : (w : Setting) (i : ℕ) (body : Block) → InstanceResidual w i body (do_block body)
   pub wakes : (w : Setting) (i : ℕ) (body : Block) (c : Tree) → InstanceResidual w i body c → InstanceResidual w i body (woken c)
@@ -27,7 +27,7 @@ pub record StaysResidual : Type 0 where
 
 -- ---- between ticks
 
--- the tree of a running instance between ticks: it is left of the body, in which it stands with its rules and counters, and rests
+-- the tree of a running instance between ticks: it is a residual of the body, has its rules and counters, and rests
 pub record RestsBetweenTicks (w : Setting) (i : ℕ) (slots : Slots) (body : Block) (c : Tree) : Type 0 where
   pub left : InstanceResidual w i body c
   pub stood : Bool
@@ -36,11 +36,11 @@ pub record RestsBetweenTicks (w : Setting) (i : ℕ) (slots : Slots) (body : Blo
   pub settled : is_settled c ≡ true
   pub unended : is_nil c ≡ false
 
--- whatever a `run` that stands in both trees has called goes on alike
+-- the callees of a `run` that stands in both trees continue alike
 abbrev pub CallAlike : Tree → Tree → Type 0
 CallAlike c c' = (l : Label) (d d' : Tree) → Calls c l d → Calls c' l d' → woken d ≡ woken d'
 
--- two trees of an instance between ticks that have the same numbers go on as one, where what they have called does
+-- two trees of an instance between ticks with the same numbers are the same once woken, if their callees' are
 abbrev pub NumbersTell : Type 0
 NumbersTell =
     (w : Setting) (i : ℕ) (slots : Slots) (unit : UnitDef) (c c' : Tree) → SlotsAreDistinct slots (plain_body unit.body) →
@@ -49,13 +49,12 @@ NumbersTell =
 
 -- ---- whole programs
 
--- Agree w slots c c': two trees of one instance between ticks have the same numbers, and so have those of whatever a `run` that stands in both
--- has called. The numbers of each activity are those of its unit
+-- Agree w slots c c': two trees of one instance between ticks have the same numbers, and so have those of their callees
 pub data Agree (w : Setting) (slots : UnitDef → Slots) : Tree → Tree → Type 0 where
   agree : {i : ℕ} {unit : UnitDef} {c c' : Tree} → SlotsAreDistinct (slots unit) (plain_body unit.body) → RestsBetweenTicks w i (slots unit) (plain_body unit.body) c →
       RestsBetweenTicks w i (slots unit) (plain_body unit.body) c' → ((j : ℕ) → numbers_of (slots unit) c Over j ≡ numbers_of (slots unit) c' Over j) →
       ((l : Label) (d d' : Tree) → Calls c l d → Calls c' l d' → Agree w slots d d') → Agree w slots c c'
 
--- such trees go on as one: where a program stands is told by the counters of its instances
+-- two trees of one instance whose counters agree are the same once woken: counters determine the control state
 abbrev pub CountersTell : Type 0
 CountersTell = (w : Setting) (slots : UnitDef → Slots) (c c' : Tree) → Agree w slots c c' → woken c ≡ woken c'

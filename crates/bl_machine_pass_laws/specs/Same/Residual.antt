@@ -44,8 +44,8 @@ use Rattle.bl_ctree_laws.specs.Trees.{
 -- ---- what is left of a body
 
 abbrev mutual
-  -- BegunResidual w i s c: the statement has begun in the instance, and the tree, which has not ended, is what is left of it. After a turn of a loop
-  -- its test or the loop itself follows; a `run` has begun the instance of its place
+  -- BegunResidual w i s c: the statement has begun in the instance, has not ended, and leaves the tree. After a turn of a loop its test or the loop follows; a
+  -- `run` has begun the instance of its place
   pub BegunResidual : Setting → ℕ → Plain → Tree → Type 0
   BegunResidual w i (Act l s) c = ⊥
   BegunResidual w i (Await l at e) c = (c ≡ Wait (pause l at e)) ⊎ (c ≡ Test (pause l at e))
@@ -62,14 +62,14 @@ abbrev mutual
   BegunResidual w i (While l at e body) c = InstanceResidualIn w i body (Then (While l at e body) Done) c
   BegunResidual w i (Again l at body e) c = InstanceResidualIn w i body (Then (Again l at body e) Done) c ⊎ (c ≡ Do (Until l at body e))
 
-  -- InstanceResidualIn w i body after c: a statement of the block is to begin, or has begun, and the tree is what is left of it, before the statements behind
-  -- it and what follows the block
+  -- InstanceResidualIn w i body after c: the tree is the residual of a statement of the block, begun or not, before the statements behind it and what follows
+  -- the block
   pub InstanceResidualIn : Setting → ℕ → Block → Block → Tree → Type 0
   InstanceResidualIn w i Done after c = ⊥
   InstanceResidualIn w i (Then s rest) after c = ((part : Tree) × ((part ≡ Do s) ⊎ BegunResidual w i s part) × (c ≡ followed part (before rest after)))
       ⊎ InstanceResidualIn w i rest after c
 
-  -- each branch has ended, or is left of its body
+  -- each branch has ended, or leaves the residual of its body
   pub InstanceResidualEach : Setting → ℕ → Bodies → Trees → Type 0
   InstanceResidualEach w i Last no_tree = ⊤
   InstanceResidualEach w i Last (beside weak c branches) = ⊥
@@ -77,7 +77,7 @@ abbrev mutual
   InstanceResidualEach w i (BodyOf weak body rest) (beside weak' c branches) =
       (weak ≡ weak') × ((c ≡ Nil) ⊎ InstanceResidualIn w i body Done c) × InstanceResidualEach w i rest branches
 
--- the statement is to begin, or the tree is what is left of it
+-- the statement is to begin, or the tree is its residual
 abbrev pub InstanceResidualOf : Setting → ℕ → Plain → Tree → Type 0
 InstanceResidualOf w i s c = (c ≡ Do s) ⊎ BegunResidual w i s c
 
@@ -100,7 +100,7 @@ abbrev mutual
   Calls (Guard s phase stood c) l d = Calls c l d
   Calls (Run s callee phase stood c) l d = (s.label ≡ l) × (c ≡ d)
 
-  -- it stands in a branch
+  -- OneCalls branches l d: a `run` with the label stands in a branch, and d is the residual of the body that it has called
   pub OneCalls : Trees → Label → Tree → Type 0
   OneCalls no_tree l d = ⊥
   OneCalls (beside weak c branches) l d = Calls c l d ⊎ OneCalls branches l d

@@ -20,7 +20,7 @@ use Rattle.bl_graph_nodes.specs.Plain.{
   While,
 }
 
--- there is a branch
+-- a `cobegin` has at least one branch
 abbrev pub HasBranch : Bodies → Type 0
 HasBranch Last = ⊥
 HasBranch (BodyOf weak body rest) = ⊤
@@ -39,12 +39,12 @@ abbrev mutual
   BranchesOf (While l at e body) = EachBranches body
   BranchesOf (Again l at body e) = EachBranches body
 
-  -- in the block
+  -- each `cobegin` in the block has a branch
   pub EachBranches : Block → Type 0
   EachBranches Done = ⊤
   EachBranches (Then s rest) = BranchesOf s × EachBranches rest
 
-  -- in the branches
+  -- each `cobegin` in the branches has a branch
   pub BranchesInEach : Bodies → Type 0
   BranchesInEach Last = ⊤
   BranchesInEach (BodyOf weak body rest) = EachBranches body × BranchesInEach rest

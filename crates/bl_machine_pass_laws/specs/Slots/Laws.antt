@@ -11,13 +11,13 @@ use Rattle.bl_machine_pass.specs.SlotLayout.{SlotsAreDistinct}
 use Rattle.bl_machine_pass.specs.Numbered.{slots_of}
 use Rattle.bl_machine_pass_laws.specs.Slots.Branches.{EachBranches}
 
--- the places of a body whose numbers stand in a list are told apart by these, by labels
+-- the places of a body are distinguished by their numbers, found by labels, where a list of these has them
 abbrev pub NumbersAreDistinct : Type 0
 NumbersAreDistinct =
     (body : List Stmt) (list : List Slot) → Counters (plain_body body) list → EachBranches (plain_body body) →
     SlotsAreDistinct (slots_of (plain_body body) list) (plain_body body)
 
--- in the body of each unit of a typed program each `cobegin` has a branch
+-- each `cobegin` in a typed program has a branch
 abbrev pub TypedHaveBranches : Type 0
 TypedHaveBranches =
     (structs : List StructDef) (units : List UnitDef) (entry : ℕ) (k : ℕ) (unit : UnitDef) → IsWellTyped structs units entry →

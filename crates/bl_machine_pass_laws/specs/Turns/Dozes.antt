@@ -41,12 +41,12 @@ abbrev mutual
   Dozes (Guard s Check stood c) = ((n : Node) → Waits c None n → Sleeps c n) × Dozes c
   Dozes (Run s callee phase stood c) = ⊤
 
-  -- in each branch
+  -- only what rested when the tick began waits under each untested `when` of the branches
   pub AllDoze : Trees → Type 0
   AllDoze no_tree = ⊤
   AllDoze (beside weak c branches) = Dozes c × AllDoze branches
 
--- so is a body that begins, and a tree that rested once it is woken; and so each turn leaves it
+-- a body that begins is dozing, so is a tree that rested once it is woken, and each turn keeps this
 pub record StaysDozing : Type 0 where
   pub begins : (body : Block) → Dozes (do_block body)
   pub wakes : (w : Setting) (i : ℕ) (stood : Bool) (body : Block) (c : Tree) → FitsGraph w i c (whole stood body) → is_settled c ≡ true → Dozes (woken c)

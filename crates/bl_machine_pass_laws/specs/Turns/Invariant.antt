@@ -32,14 +32,14 @@ IsFlagged (Rested slot) = ⊥
 IsFlagged (RestedIn slots) = ⊥
 IsFlagged (Ended age needed) = ⊥
 
--- whether it asks where the instance rested when the tick began
+-- whether the question is where the instance rested when the tick began
 abbrev pub IsResume : Asked → Type 0
 IsResume Flagged = ⊥
 IsResume (Rested slot) = ⊤
 IsResume (RestedIn slots) = ⊤
 IsResume (Ended age needed) = ⊥
 
--- whether it asks for the ends of branches
+-- whether the question is for the ends of branches
 abbrev pub IsJoin : Asked → Type 0
 IsJoin Flagged = ⊥
 IsJoin (Rested slot) = ⊥
@@ -47,8 +47,7 @@ IsJoin (RestedIn slots) = ⊥
 IsJoin (Ended age needed) = ⊤
 
 abbrev mutual
-  -- each `cobegin` and `when` that stands in the tree, and may end in the tick in which it begins, is marked exactly where it has begun in
-  -- this one
+  -- the marks tell which `cobegin`s and `when`s of the tree began in this tick, among those that may end in the tick in which they begin
   pub Marked : (Node → ℕ) → (ℕ → Bool) → Tree → Type 0
   Marked number marks Nil = ⊤
   Marked number marks (Wait s) = ⊤
@@ -62,26 +61,25 @@ abbrev mutual
       (are_instant s.body ≡ true → marks (number (StartAt s.label s.place)) ≡ not stood) × Marked number marks c
   Marked number marks (Run s callee phase stood c) = ⊤
 
-  -- in each branch
+  -- the marks tell what began in this tick in each branch
   pub MarkEach : (Node → ℕ) → (ℕ → Bool) → Trees → Type 0
   MarkEach number marks no_tree = ⊤
   MarkEach number marks (beside weak c branches) = Marked number marks c × MarkEach number marks branches
 
--- one holds exactly where the other does
+-- the test is true iff the proposition holds
 abbrev pub Exactly : Bool → Type 0 → Type 0
 Exactly test there = (test ≡ true → there) × (there → test ≡ true)
 
--- PassInvariant slots number body k c r: before the node with number k has its turn the registers tell how the tree c stands in the body. What is
--- passed below k doesn't matter any more
+-- PassInvariant slots number body k c r: the registers represent the tree c before the node number k has its turn; what lies below k no longer matters
 pub record PassInvariant (slots : Slots) (number : Node → ℕ) (body : Block) (k : ℕ) (c : Tree) (r : Registers) : Type 0 where
   -- each counter holds the number of the tree there
   pub counters : (j : ℕ) → r.counters j ≡ numbers_of slots c Over j
   -- what waits is still to have its turn
   pub ahead : (n : Node) → Waits c None n → k ≤ number n
-  -- a node has its flag exactly where it waits
+  -- the flag of a node is set iff something waits at it
   pub flags : (rule : Transition) → Contains (rules slots body) rule → IsFlagged rule.asked → k ≤ number rule.node →
       Exactly (is_due number rule r) (Waits c None rule.node)
-  -- a node at which a later tick goes on is due exactly where what rested there still waits
+  -- a resume node is due iff what rested there still waits
   pub resumes : (rule : Transition) → Contains (rules slots body) rule → IsResume rule.asked → k ≤ number rule.node →
       Exactly (is_due number rule r) (Waits c None rule.node)
   pub marks : Marked number r.marks c

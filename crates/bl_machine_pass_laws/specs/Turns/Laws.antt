@@ -21,7 +21,7 @@ use Rattle.bl_machine_pass_laws.specs.Turns.Sits.{Lies, Sits, UsesOnly}
 -- ---- turns
 
 abbrev mutual
-  -- the answer by which a rule goes on: that of the deed or, where a `run` goes on, whether the body that it called has ended
+  -- the answer by which a rule goes on: that of the deed, or for a `run` that goes on, whether its callee's body has ended
   pub answer_of : {w : Setting} {rank : ℕ → Node → ℕ} {i : ℕ} {c : Tree} {done : List AnsweredDeed} {n : Node} {c' : Tree} →
       Turns w rank i c done n c' → Bool
   answer_of (point {d = d} p) = d
@@ -32,7 +32,7 @@ abbrev mutual
   answer_of (in_par t) = one_answer_of t
   answer_of (in_guard t) = answer_of t
 
-  -- of a branch
+  -- the answer by which the rule of a node in a branch goes on
   pub one_answer_of : {w : Setting} {rank : ℕ → Node → ℕ} {i : ℕ} {c : Trees} {done : List AnsweredDeed} {n : Node} {c' : Trees} →
       OneTurns w rank i c done n c' → Bool
   one_answer_of (first t) = answer_of t
@@ -46,7 +46,7 @@ pub record Placed (slots : Slots) (body : Block) (c : Tree) : Type 0 where
   pub lies : Lies slots 0 c
   pub uses : UsesOnly slots (uses_in slots body) c
 
--- the rules of a body are those of its nodes, in their order; the body stands so as it begins, waking leaves that, and so does each turn
+-- the rules of a body are those of its nodes, in order. The tree with which a body begins is placed, and waking and turns keep that
 pub record StaysPlaced : Type 0 where
   pub nodes : (slots : Slots) (body : Block) → map (λ rule. rule.node) (rules slots body) ≡ nodes_in body
   pub begins : (slots : Slots) (body : Block) → SlotsAreDistinct slots body → Placed slots body (do_block body)
@@ -56,7 +56,7 @@ pub record StaysPlaced : Type 0 where
 
 -- ---- what a turn changes
 
--- a turn of an instance of a unit, with the rule of its node: the law of a turn has all this as its premise
+-- the premises of the laws of a turn: a turn of an instance of a unit, with the rule of its node
 pub record Turning (w : Setting) (rank : ℕ → Node → ℕ) (i : ℕ) (slots : Slots) (unit : UnitDef) (stood : Bool) (c : Tree) (n : Node) (rule : Transition) :
     Type 0 where
   pub paces : Paces w
@@ -69,7 +69,7 @@ pub record Turning (w : Setting) (rank : ℕ → Node → ℕ) (i : ℕ) (slots 
   pub there : Contains (rules slots (plain_body unit.body)) rule
   pub of_node : rule.node ≡ n
 
--- where counters tell the numbers of the tree before a turn they do after it, and so does whether the body has ended
+-- a turn keeps the counters those of the tree, and the end of the body told
 abbrev pub TurnsChangeNumbers : Type 0
 TurnsChangeNumbers =
     (w : Setting) (rank : ℕ → Node → ℕ) (i : ℕ) (slots : Slots) (unit : UnitDef) (stood : Bool) (c : Tree) (done : List AnsweredDeed) (n : Node)

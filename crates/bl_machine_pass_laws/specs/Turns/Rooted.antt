@@ -54,9 +54,9 @@ use Rattle.bl_machine_pass.specs.Transitions.{Asked, Ended, Flagged, Rested, Res
 pub record Around : Type 1 where
   -- the resting places of the body
   pub spots : Spot → Type 0
-  -- the nodes of their conditions
+  -- the nodes of the conditions of these `when`s
   pub checks : Node → Type 0
-  -- the numbers that each of them takes for those of its body, where the part rests at their counter
+  -- the numbers that these `when`s take for places of their bodies, where the part rests at their counter
   pub home : Slot → Type 0
 
 -- a part of the body that stands in none
@@ -71,7 +71,7 @@ in_when slots l at e body around = record {
   home = λ slot. Contains (rests_in slots body) slot × around.home slot;
 }
 
--- a branch: the first one alone rests at the counter of what is around
+-- the `when`s around a branch: only the first branch rests at the counter of what is around
 abbrev pub in_branch : ℕ → Around → Around
 in_branch zero around = around
 in_branch (suc k) around = record { spots = around.spots; checks = around.checks; home = λ slot. ⊤ }
@@ -83,14 +83,14 @@ AsksOf (Rested other) slot = ⊥
 AsksOf (RestedIn slots) slot = Contains slots slot
 AsksOf (Ended age needed) slot = ⊥
 
--- the place is one of the body, and its number is taken for one of its body by the `when`s around it, and by no others
+-- the place is one of the body, and only the `when`s around it ask for its number
 pub record Held (slots : Slots) (all : List Transition) (around : Around) (spot : Spot) : Type 0 where
   pub inside : around.spots spot
   pub home : around.home (slot_at slots spot)
   pub asked : (rule : Transition) → Contains all rule → AsksOf rule.asked (slot_at slots spot) → around.checks rule.node
 
 abbrev mutual
-  -- so are all places of a statement
+  -- each place of the statement is held: it is one of the body, and only the `when`s around it ask for its number
   pub HeldOf : Slots → List Transition → Around → Plain → Type 0
   HeldOf slots all around (Act l s) = ⊤
   HeldOf slots all around (Await l at e) = Held slots all around (RestOf l)
@@ -103,19 +103,19 @@ abbrev mutual
   HeldOf slots all around (While l at e body) = HeldIn slots all around body
   HeldOf slots all around (Again l at body e) = HeldIn slots all around body
 
-  -- of a block
+  -- each place of the block is held by the `when`s around it
   pub HeldIn : Slots → List Transition → Around → Block → Type 0
   HeldIn slots all around Done = ⊤
   HeldIn slots all around (Then s rest) = HeldOf slots all around s × HeldIn slots all around rest
 
-  -- of branches, from the one with this number on
+  -- each place of the branches, from the one with this number on, is held by the `when`s around it
   pub HeldEach : Slots → List Transition → Around → Label → ℕ → Bodies → Type 0
   HeldEach slots all around l k Last = ⊤
   HeldEach slots all around l k (BodyOf weak body rest) =
       Held slots all (in_branch k around) (EndOf l k) × HeldIn slots all (in_branch k around) body × HeldEach slots all around l (suc k) rest
 
 abbrev mutual
-  -- and those of all that is left in a tree: a Guard stands for its `when`
+  -- each place of the residual tree is held by the `when`s around it, for which `Guard`s stand in the tree
   pub Rooted : Slots → List Transition → Around → Tree → Type 0
   Rooted slots all around Nil = ⊤
   Rooted slots all around (Wait s) = Held slots all around (RestOf s.label)
@@ -129,13 +129,13 @@ abbrev mutual
       × Rooted slots all (in_when slots s.label s.place s.test s.body around) c
   Rooted slots all around (Run s callee phase stood c) = Held slots all around (RestOf s.label)
 
-  -- in each branch, from the one with this number on
+  -- each place in the branches, from the one with this number on, is held by the `when`s around it
   pub AllRooted : Slots → List Transition → Around → Label → ℕ → Trees → Type 0
   AllRooted slots all around l k no_tree = ⊤
   AllRooted slots all around l k (beside weak c branches) =
       Rooted slots all (in_branch k around) c × AllRooted slots all around l (suc k) branches
 
--- so a body begins; waking leaves that, and so does each turn
+-- the tree with which a body begins is rooted, and waking and turns keep this
 pub record StaysRooted : Type 0 where
   pub begins : (slots : Slots) (unit : UnitDef) → SlotsAreDistinct slots (plain_body unit.body) →
       Rooted slots (rules slots (plain_body unit.body)) (in_none (plain_body unit.body)) (do_block (plain_body unit.body))

@@ -21,7 +21,7 @@ use Rattle.bl_machine.specs.Uses.{Slots, uses, uses_in, uses_in_branch}
 use Rattle.bl_machine_pass.specs.SlotLayout.{BlockRestsAt, StatementRestsAt}
 use Rattle.bl_machine_pass.specs.Transitions.{Change, SetsCounter, Transition, body_ends, enter, rules_in, rules_of}
 
--- all of these rules are among those
+-- the second list of rules is part of the first
 abbrev pub RulesAreAmong : List Transition → List Transition → Type 0
 RulesAreAmong all some = (rule : Transition) → Contains some rule → Contains all rule
 
@@ -40,7 +40,7 @@ abbrev mutual
       RulesAreAmong all (rules_of slots (watch_stmt s) next) × Sits slots all c (body_ends s.label s.place s.body)
   Sits slots all (Run s callee phase stood c) next = RulesAreAmong all (rules_of slots (call_stmt s) next)
 
-  -- each branch does, from the one with this number on; it has a body, and the other way round
+  -- the rules of all that is left in each branch are among these, from the branch with this number on; branches and bodies correspond
   pub SitEach : Slots → List Transition → Label → ℕ → Bodies → Trees → Type 0
   SitEach slots all l k Last no_tree = ⊤
   SitEach slots all l k (BodyOf weak body rest) (beside weak' c branches) =
@@ -49,7 +49,7 @@ abbrev mutual
   SitEach slots all l k (BodyOf weak body rest) no_tree = ⊥
 
 abbrev mutual
-  -- wherever the tree rests it rests at the counter, and so do the statements that are left in it
+  -- the tree, and the statements left in it, rest at the counter wherever they rest
   pub Lies : Slots → ℕ → Tree → Type 0
   Lies slots low Nil = ⊤
   Lies slots low (Wait s) = (slots.rest s.label).counter ≡ low
@@ -81,7 +81,7 @@ abbrev mutual
       ((j : ℕ) → uses_in slots s.body j ≡ true → used j ≡ true) × UsesOnly slots (uses_in slots s.body) c
   UsesOnly slots used (Run s callee phase stood c) = used (slots.rest s.label).counter ≡ true
 
-  -- each branch uses those of its body and of its end alone
+  -- each branch uses only the counters of its body and of its end
   pub UseEach : Slots → Label → ℕ → Bodies → Trees → Type 0
   UseEach slots l k Last branches = ⊤
   UseEach slots l k bodies no_tree = ⊤

@@ -48,15 +48,14 @@ use Rattle.bl_machine_pass_laws_execution.specs.Fresh.Fresh.{arity, locals}
 abbrev pub IsAmongVariables : List ℕ → ℕ → Type 0
 IsAmongVariables xs x = list_any (nat_eq x) xs ≡ true
 
--- so many inputs fit before the variables that the unit's body declares
+-- the unit has at least n parameters for inputs, and its parameters are among its variables
 abbrev pub InputsFit : ℕ → UnitDef → Type 0
 InputsFit n unit = (n ≤ arity unit) × (arity unit ≤ length unit.vars)
 
 -- ---- statements
 
 abbrev mutual
-  -- each declaration in a statement of the unit, in this instance, is of a variable behind the parameters, and each `run` gives no more inputs
-  -- than there are parameters
+  -- each declaration in the statement is of a variable behind the parameters, and each `run` gives at most as many inputs as there are parameters
   pub Bounded : Setting → ℕ → UnitDef → Plain → Type 0
   Bounded w i unit (Act l s) = (x : ℕ) → IsAmongVariables (declared_in s) x → IsAmongVariables (locals unit) x
   Bounded w i unit (Await l at e) = ⊤
@@ -71,17 +70,17 @@ abbrev mutual
   Bounded w i unit (While l at e body) = BoundedAll w i unit body
   Bounded w i unit (Again l at body e) = BoundedAll w i unit body
 
-  -- in a block
+  -- each declaration in the block is of a variable behind the parameters, and each `run` gives at most as many inputs as there are parameters
   pub BoundedAll : Setting → ℕ → UnitDef → Block → Type 0
   BoundedAll w i unit Done = ⊤
   BoundedAll w i unit (Then s rest) = Bounded w i unit s × BoundedAll w i unit rest
 
-  -- in branches
+  -- each declaration in branches is of a variable behind the parameters, and each `run` gives at most as many inputs as there are parameters
   pub BoundedEach : Setting → ℕ → UnitDef → Bodies → Type 0
   BoundedEach w i unit Last = ⊤
   BoundedEach w i unit (BodyOf weak body rest) = BoundedAll w i unit body × BoundedEach w i unit rest
 
--- a block asks for none but these variables and those that it declares before, and is bounded
+-- a block asks only for known variables and those that it declares before, and is bounded
 abbrev pub BlockAsks : Setting → ℕ → UnitDef → List ℕ → Block → Type 0
 BlockAsks w i unit known body = (prevs_stand_in known body ≡ true) × BoundedAll w i unit body
 
@@ -98,8 +97,8 @@ declared_at (ActAt l s) = declared_in s
 declared_at _ = []
 
 abbrev mutual
-  -- Asks w i unit known c: what is left of the unit's body in the instance asks for none but these variables and those that it declares before;
-  -- and what is called asks for none but its locals
+  -- Asks w i unit known c: the residual of the unit's body asks only for known variables and those that it declares before, and callees ask only for their
+  -- locals
   pub Asks : Setting → ℕ → UnitDef → List ℕ → Tree → Type 0
   Asks w i unit known Nil = ⊤
   Asks w i unit known (Wait s) = are_known known (prevs_in_expr s.test) ≡ true
@@ -115,7 +114,7 @@ abbrev mutual
       × ((other : UnitDef) → unit_at w callee ≡ Some other →
       InputsFit (length s.arguments.inputs) other × Asks w callee other (locals other) c)
 
-  -- each branch does
+  -- each branch asks only for known variables and those that it declares before
   pub EachAsks : Setting → ℕ → UnitDef → List ℕ → Trees → Type 0
   EachAsks w i unit known no_tree = ⊤
   EachAsks w i unit known (beside weak c branches) = Asks w i unit known c × EachAsks w i unit known branches
@@ -136,7 +135,7 @@ abbrev mutual
   DueIn w (Run s callee Check stood c) j = Inside w callee j
   DueIn w (Run s callee Body stood c) j = ⊥
 
-  -- in one of the branches
+  -- the instance j is inside a call in one of the branches whose inputs are still to be copied in this tick
   pub OneDueIn : Setting → Trees → ℕ → Type 0
   OneDueIn w no_tree j = ⊥
   OneDueIn w (beside weak c branches) j = DueIn w c j ⊎ OneDueIn w branches j

@@ -27,7 +27,7 @@ abbrev pub CopiesTo : Effect → ℕ → Type 0
 CopiesTo (Copies callee inputs) j = j ≡ callee
 CopiesTo _ j = ⊥
 
--- inputs that it copies fit before the variables that a body declares
+-- the inputs that an effect copies fit before the variables that the callee's body declares
 abbrev pub CopiesFit : Setting → Effect → Type 0
 CopiesFit w (Copies callee inputs) = (other : UnitDef) → unit_at w callee ≡ Some other → InputsFit (length inputs) other
 CopiesFit w _ = ⊤
@@ -39,20 +39,20 @@ effect_declared _ = []
 
 -- a deed of an instance, done in a store
 pub record DeedsAreSeen : Type 0 where
-  -- it leaves each frame but its own, those that hold homes of its paths, and the one to which it copies inputs
+  -- the deed leaves all frames but its own, those with homes of its paths, and the one to which it copies inputs
   pub others : (w : Setting) (i j : ℕ) (at : Place) (effect : Effect) (store : Store) (d : Bool) (left : Store) →
       DeedYields w (deed i at effect) store d left → (j ≡ i → ⊥) → (CopiesTo effect j → ⊥) →
       ((path : Static) → (home w (record { instance = i; path = path })).instance ≡ j → ⊥) → slice_get left j ≡ slice_get store j
-  -- and what was before in each but its own
+  -- the deed leaves the values before the tick in all frames but its own
   pub before : (w : Setting) (i j : ℕ) (at : Place) (effect : Effect) (store : Store) (d : Bool) (left : Store) →
       DeedYields w (deed i at effect) store d left → (j ≡ i → ⊥) →
       option_map before_of (slice_get left j) ≡ option_map before_of (slice_get store j)
-  -- in its own it leaves what was before in all variables that it doesn't declare
+  -- the deed leaves in its own frame the values before the tick of all variables that it doesn't declare
   pub own : (w : Setting) (i x : ℕ) (unit : UnitDef) (at : Place) (effect : Effect) (store : Store) (d : Bool) (left : Store) →
       unit_at w i ≡ Some unit → DeedYields w (deed i at effect) store d left → IsAmongVariables (locals unit) x →
       (IsAmongVariables (effect_declared effect) x → ⊥) →
       slice_get (view_at w left i).before x ≡ slice_get (view_at w store i).before x
-  -- and a declared one was before what it is now
+  -- a variable that the deed declares has its new value as the value before the tick, too
   pub declared : (w : Setting) (i x : ℕ) (unit : UnitDef) (at : Place) (s : Stmt) (store : Store) (d : Bool) (left : Store) →
       unit_at w i ≡ Some unit → Framed w store → DeedYields w (deed i at (Acts s)) store d left → IsAmongVariables (locals unit) x →
       IsAmongVariables (declared_in s) x →
@@ -65,27 +65,27 @@ pub record DeedsAreSeen : Type 0 where
 
 -- what is seen of an instance's own variables
 pub record OwnIsSeen : Type 0 where
-  -- of a fresh frame they are what they were
+  -- the own variables of a fresh frame have the values that they had before
   pub fresh : (w : Setting) (i x : ℕ) (unit : UnitDef) (store : Store) → unit_at w i ≡ Some unit → Fresh w store i →
       IsAmongVariables (locals unit) x →
       slice_get (view_at w store i).now x ≡ slice_get (view_at w store i).before x
-  -- what they were stands in the frame alone
+  -- the values before the tick of an instance's own variables depend on its frame only
   pub before : (w : Setting) (i x : ℕ) (unit : UnitDef) (store left : Store) → unit_at w i ≡ Some unit →
       option_map before_of (slice_get left i) ≡ option_map before_of (slice_get store i) → IsAmongVariables (locals unit) x →
       slice_get (view_at w left i).before x ≡ slice_get (view_at w store i).before x
 
 -- ---- trees
 
--- a point of a tree that asks for none but the known variables
+-- a point of a tree that asks only for known variables
 pub record PointAsks (w : Setting) (i : ℕ) (unit : UnitDef) (known : List ℕ) (c : Tree) (n : Node) (c' : Tree) : Type 0 where
-  -- its node asks for them alone
+  -- the node asks for known variables only
   pub asked : (x : ℕ) → IsAmongVariables (prevs_at n) x → IsAmongVariables known x
-  -- what it declares is of the body
+  -- the variables that the node declares are declared by the body
   pub bound : (x : ℕ) → IsAmongVariables (declared_at n) x → IsAmongVariables (locals unit) x
   pub next : (x : ℕ) → IsAmongVariables (next_declared c) x → IsAmongVariables (declared_at n) x
-  -- the next tree asks for them, and for what is declared
+  -- the next tree asks only for known variables and those that the node declares
   pub asks : Asks w i unit (declared_at n ++ known) c'
-  -- and no call is due in it that wasn't
+  -- no call becomes due in the next tree
   pub due : (j : ℕ) → DueIn w c' j → DueIn w c j
 
 pub record TreesAsk : Type 0 where
@@ -97,13 +97,13 @@ pub record TreesAsk : Type 0 where
   pub wakes : (w : Setting) (i : ℕ) (unit : UnitDef) (known : List ℕ) (c : Tree) → Asks w i unit known c → Asks w i unit known (woken c)
   pub points : (w : Setting) (i : ℕ) (unit : UnitDef) (known : List ℕ) (c : Tree) (d : Bool) (a : Deed) (n : Node) (c' : Tree) →
       InstancePoint w i c d a n c' → Asks w i unit known c → PointAsks w i unit known c n c'
-  -- before what follows
+  -- the next tree, before what follows it, asks for known variables only
   pub follows : (w : Setting) (i : ℕ) (unit : UnitDef) (known : List ℕ) (c : Tree) (n : Node) (c' : Tree) (s : Plain) (rest : Block) →
       ((x : ℕ) → IsAmongVariables (next_declared c) x → IsAmongVariables (declared_at n) x) → BlockAsks w i unit (next_declared c ++ known) (Then s rest) →
       Asks w i unit (declared_at n ++ known) c' → Asks w i unit (declared_at n ++ known) (seq c' (Then s rest))
   pub follows_due : (w : Setting) (c : Tree) (s : Plain) (rest : Block) (j : ℕ) → DueIn w (seq c (Then s rest)) j → DueIn w c j
 
--- the body of each unit that has an instance, in a typed program that is made of a source text, asks for none
+-- the body of each unit with an instance asks for no variables before, in a typed program that is made of a source text
 abbrev pub BodiesAsk : Type 0
 BodiesAsk =
     (structs : List StructDef) (units : List UnitDef) (entry i : ℕ) (unit : UnitDef) → let w = setting_of structs units entry in
@@ -111,7 +111,7 @@ BodiesAsk =
 
 -- ---- stores between ticks
 
--- the first store has a value for each variable, and a woken one has; and there each frame is fresh
+-- the first store of a run has a value for each variable, and so has a woken store; each frame in them is fresh
 pub record StoresAreFresh : Type 0 where
   pub first : (w : Setting) → Framed w (first_store w)
   pub woken : (w : Setting) (row : List ℤ) (store : Store) → ((unit : UnitDef) → unit_at w 0 ≡ Some unit → InputsFit (length row) unit) →

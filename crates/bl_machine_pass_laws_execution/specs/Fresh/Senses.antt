@@ -23,9 +23,9 @@ pub record Senses (w : Setting) (i : ℕ) (unit : UnitDef) (known : List ℕ) (s
 
 -- what an instance does to a store
 pub record InstanceChanges (w : Setting) (i : ℕ) (store left : Store) : Type 0 where
-  -- it leaves the frames that are neither inside it nor hold a home of its paths
+  -- frames are unchanged that are neither inside the instance nor hold a home of its paths
   pub apart : (j : ℕ) → (Inside w i j → ⊥) →
       ((path : Static) → (home w (record { instance = i; path = path })).instance ≡ j → ⊥) →
       slice_get left j ≡ slice_get store j
-  -- and what was before in all frames that aren't inside it
+  -- values before the tick are unchanged in all frames that aren't inside the instance
   pub before : (j : ℕ) → (Inside w i j → ⊥) → option_map before_of (slice_get left j) ≡ option_map before_of (slice_get store j)

@@ -16,8 +16,8 @@ NoOutput w j unit at =
 pub record StoreKept (w : Setting) (j : ℕ) (unit : UnitDef) (store left : Store) : Type 0 where
   -- each frame that isn't inside the instance is there where it was there, with what was before
   pub before : (x : ℕ) → (Inside w j x → ⊥) → option_map before_of (slice_get left x) ≡ option_map before_of (slice_get store x)
-  -- and with its result
+  -- the result of each frame that isn't inside the instance is unchanged
   pub results : (x : ℕ) → (Inside w j x → ⊥) → result_at left x ≡ result_at store x
-  -- and what is there now at locations that overlap no home of an output
+  -- current values are unchanged outside of the instance, at locations that overlap no home of an output
   pub now : (at : Location) → (Inside w j at.instance → ⊥) → NoOutput w j unit at →
       value_among now_of left at ≡ value_among now_of store at

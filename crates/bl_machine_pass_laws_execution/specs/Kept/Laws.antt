@@ -25,17 +25,17 @@ pub record PassesKeepIn (w : Setting) (rank : ℕ → Node → ℕ) (slots : ℕ
   pub stores : (j k : ℕ) (unit : UnitDef) (frames : Frames) (store : Store) (copies : List Value) (r : Registers) (frames' : Frames) (left : Store)
       (r' : Registers) → unit_at w j ≡ Some unit → Executes w rank slots clear j k frames store copies r frames' left r' →
       StoreKept w j unit store left
-  -- so does what is done at a node of it
+  -- the deed at a node of an instance leaves the store but for what is inside the instance and for homes of its outputs
   pub nodes : (j : ℕ) (n : Node) (unit : UnitDef) (frames : Frames) (store : Store) (answer : Bool) (frames' : Frames) (left : Store) →
       unit_at w j ≡ Some unit → Performs w rank slots clear j n frames store answer frames' left → StoreKept w j unit store left
-  -- and where what a `run` clears is inside the call, the frames of counters change inside the instance alone
+  -- frames of counters change inside the instance only, where a `run` clears only frames inside the callee
   pub counters : (j k : ℕ) (frames : Frames) (store : Store) (copies : List Value) (r : Registers) (frames' : Frames) (left : Store)
       (r' : Registers) → ClearsInside w clear → Executes w rank slots clear j k frames store copies r frames' left r' →
       ChangeOnly (Inside w j) frames frames'
   pub node_counters : (j : ℕ) (n : Node) (frames : Frames) (store : Store) (answer : Bool) (frames' : Frames) (left : Store) →
       ClearsInside w clear → Performs w rank slots clear j n frames store answer frames' left → ChangeOnly (Inside w j) frames frames'
 
--- so it is in every program
+-- passes keep the store and the frames outside of their instance, in every program
 abbrev pub PassesKeep : Type 0
 PassesKeep =
     (structs : List StructDef) (units : List UnitDef) (entry : ℕ) (rank : ℕ → Node → ℕ) (slots : ℕ → Slots)
@@ -47,7 +47,7 @@ pub record InputsGoIn : Type 0 where
   -- all other frames stay
   pub others : (w : Setting) (i callee x : ℕ) (at : Place) (inputs : List Expr) (store : Store) (d : Bool) (given : Store) →
       DeedYields w (deed i at (Copies callee inputs)) store d given → (x ≡ callee → ⊥) → slice_get given x ≡ slice_get store x
-  -- and what was before in each, and the results
+  -- values before the tick and results are unchanged in each frame
   pub before : (w : Setting) (i callee x : ℕ) (at : Place) (inputs : List Expr) (store : Store) (d : Bool) (given : Store) →
       DeedYields w (deed i at (Copies callee inputs)) store d given →
       option_map before_of (slice_get given x) ≡ option_map before_of (slice_get store x)

@@ -18,20 +18,20 @@ use Rattle.bl_machine.specs.Uses.{Slots}
 use Rattle.bl_machine_pass.specs.Transitions.{Transition}
 use Rattle.bl_machine_pass_laws_execution.specs.Executes.{HasRule}
 
--- where a `run` at a place of the body of instance i, with these outputs, begins instance j
+-- the outputs of a `run` lead to the paths that it gives: it stands at a place in the body of instance i and begins instance j
 pub record OutputsLeadIn (structs : List StructDef) (units : List UnitDef) (entry : ℕ) : Type 0 where
   -- the instance was begun with these outputs
   pub begun : (i j : ℕ) (place : Place) (outputs : List Path) (unit : UnitDef) (instance : Instance) (origin : Origin) →
       let w = setting_of structs units entry in
       unit_at w i ≡ Some unit → SomeIn (RunsWith place outputs) (plain_body unit.body) → callee_of w i place ≡ Some j →
       slice_get w.instances j ≡ Some instance → instance.origin ≡ Some origin → origin.outputs ≡ map static_of outputs
-  -- and each of its outputs has the home of the path that stands at its number among them
+  -- each output of the callee has the home of the caller's path that stands at its number among the outputs of the `run`
   pub homes : (i j k : ℕ) (place : Place) (outputs : List Path) (unit other : UnitDef) (path : Path) → let w = setting_of structs units entry in
       unit_at w i ≡ Some unit → unit_at w j ≡ Some other → SomeIn (RunsWith place outputs) (plain_body unit.body) →
       callee_of w i place ≡ Some j → k < other.outputs → slice_get outputs k ≡ Some path →
       home w (whole_of j (other.inputs + k)) ≡ home w (record { instance = i; path = static_of path })
 
--- so it is in a typed program
+-- outputs lead to their paths in every typed program
 abbrev pub OutputsLead : Type 0
 OutputsLead = (structs : List StructDef) (units : List UnitDef) (entry : ℕ) → IsWellTyped structs units entry → OutputsLeadIn structs units entry
 
@@ -41,7 +41,7 @@ IsRunNode (EnterAt l at arguments) place outputs = (at ≡ place) × (arguments.
 IsRunNode (ResumeAt l at arguments) place outputs = (at ≡ place) × (arguments.outputs ≡ outputs)
 IsRunNode _ place outputs = ⊥
 
--- where a rule of an instance has such a node, such a `run` stands in the body of its unit
+-- the rules of an instance have a node of a `run` only if that `run` stands in the body of its unit
 abbrev pub RulesRun : Type 0
 RulesRun =
     (slots : ℕ → Slots) (i : ℕ) (unit : UnitDef) (rule : Transition) (place : Place) (outputs : List Path) → HasRule slots i unit rule →

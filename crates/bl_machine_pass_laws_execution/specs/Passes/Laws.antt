@@ -31,7 +31,7 @@ abbrev pub PointsAreOfNodes : Type 0
 PointsAreOfNodes =
     (w : Setting) (i : ℕ) (c : Tree) (d : Bool) (a : Deed) (n : Node) (c' : Tree) → InstancePoint w i c d a n c' → (a ≡ deed_at i n) × IsPoint n
 
--- a turn of the node is performed by rules, and leaves frames that hold what the next tree has called, and copies that hold what it asks for
+-- rules perform a turn of the node. Afterwards the frames match the calls of the next tree, and the copies hold what it asks for
 pub record Performed (w : Setting) (rank : ℕ → Node → ℕ) (slots : ℕ → Slots) (clear : ℕ → Frames → Frames) (i : ℕ)
     (unit : UnitDef) (stood : Bool)
     (frames : Frames) (c : Tree) (store : Store) (copies : List Value) (n : Node) (c' : Tree) (left : Store) : Type 0 where
@@ -40,14 +40,14 @@ pub record Performed (w : Setting) (rank : ℕ → Node → ℕ) (slots : ℕ �
   pub inner : Frames
   pub sees : CopiesMatch w i n store copies
   pub performs : Performs w rank slots clear i n frames store (answer_of turn) inner left
-  -- only frames inside calls of the instance change
+  -- frames change inside calls of the instance only
   pub change : ChangeOnly (InCall w i) frames inner
   pub standing : Standing w slots i unit stood inner c'
   pub known : List ℕ
   pub senses : Senses w i unit known left (recopied w i n left copies) c'
   pub leaves : InstanceChanges w i store left
 
--- so all turns of the instance are, and what begins a turn that traps stops
+-- rules perform all turns of the instance, and a turn that traps makes them trap at its start
 pub record TurnsPerform (w : Setting) (rank : ℕ → Node → ℕ) (slots : ℕ → Slots) (clear : ℕ → Frames → Frames) (i : ℕ)
     (unit : UnitDef)
     (stood : Bool) : Type 0 where
@@ -60,7 +60,7 @@ pub record TurnsPerform (w : Setting) (rank : ℕ → Node → ℕ) (slots : ℕ
 
 -- ---- a pass
 
--- a pass by rules, from the number k on, that leaves the store so, and counters and frames that hold what is left of the tree
+-- a pass by rules from the number k on leaves this store, and counters and frames that match the tree that is left
 pub record Executed (w : Setting) (rank : ℕ → Node → ℕ) (slots : ℕ → Slots) (clear : ℕ → Frames → Frames) (i k : ℕ)
     (unit : UnitDef) (stood : Bool)
     (frames : Frames) (store : Store) (copies : List Value) (r : Registers) (c' : Tree) (left : Store) : Type 0 where
@@ -72,13 +72,12 @@ pub record Executed (w : Setting) (rank : ℕ → Node → ℕ) (slots : ℕ →
   pub change : ChangeOnly (InCall w i) frames inner
   pub stands : FitsBody (slots i) (plain_body unit.body) c'
   pub standing : Standing w slots i unit stood inner c'
-  -- what is left asks for no other variables than those that its body declares
+  -- the next tree asks only for variables that the body declares
   pub asks : Asks w i unit (locals unit) c'
   pub framed : Framed w left
   pub leaves : InstanceChanges w i store left
 
--- where all turns of an instance can be performed, the rules do what turns lead to, from registers that tell how the tree stands and copies that
--- hold what it asks for; and where turns lead to a trap the rules do too
+-- rules execute what turns lead to, traps included, from registers that satisfy the invariant, where all turns of the instance can be performed
 pub record PassesExecute : Type 0 where
   pub follows : (w : Setting) (rank : ℕ → Node → ℕ) (slots : ℕ → Slots) (clear : ℕ → Frames → Frames) (i : ℕ)
       (unit : UnitDef) (stood : Bool)

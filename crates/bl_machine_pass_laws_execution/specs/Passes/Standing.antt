@@ -42,7 +42,7 @@ pub record Rested (w : Setting) (slots : ℕ → Slots) (i : ℕ) (unit : UnitDe
   pub settled : is_settled c ≡ true
   pub unended : is_nil c ≡ false
 
--- what a `run` has called: where its inputs are still to be copied that is woken, and rested before; else it stands in its body
+-- the tree of a callee is woken and rested before, if its inputs are still to be copied, and else stands in its body
 pub record Woken (w : Setting) (slots : ℕ → Slots) (i : ℕ) (c : Tree) : Type 0 where
   pub unit : UnitDef
   pub is : unit_at w i ≡ Some unit
@@ -50,14 +50,14 @@ pub record Woken (w : Setting) (slots : ℕ → Slots) (i : ℕ) (c : Tree) : Ty
   pub rested : Rested w slots i unit before
   pub wakes : c ≡ woken before
 
--- the same of one that has had its pass
+-- a tree of a called instance that has had its pass stands in the body of its unit
 pub record Passed (w : Setting) (slots : ℕ → Slots) (i : ℕ) (c : Tree) : Type 0 where
   pub unit : UnitDef
   pub is : unit_at w i ≡ Some unit
   pub stands : FitsBody (slots i) (plain_body unit.body) c
 
 abbrev mutual
-  -- so it is of each `run` in the tree, and in what it has called
+  -- each `run` in the tree, at every depth of calls, has called a tree that is woken and rested before, or stands in its body
   pub CallsRest : Setting → (ℕ → Slots) → Tree → Type 0
   CallsRest w slots Nil = ⊤
   CallsRest w slots (Wait s) = ⊤
@@ -70,7 +70,7 @@ abbrev mutual
   CallsRest w slots (Run s callee Check stood c) = Woken w slots callee c × CallsRest w slots c
   CallsRest w slots (Run s callee Body stood c) = Passed w slots callee c × CallsRest w slots c
 
-  -- in each branch
+  -- each `run` in the branches, at every depth of calls, has called a tree that is woken and rested before, or stands in its body
   pub AllCallsRest : Setting → (ℕ → Slots) → Trees → Type 0
   AllCallsRest w slots no_tree = ⊤
   AllCallsRest w slots (beside weak c branches) = CallsRest w slots c × AllCallsRest w slots branches
@@ -90,13 +90,13 @@ abbrev mutual
   RunsIn place (Guard s phase stood c) = SomeIn (RunsAt place) s.body ⊎ RunsIn place c
   RunsIn place (Run s callee phase stood c) = s.place ≡ place
 
-  -- in one of the branches
+  -- a `run` at the place is left in one of the branches, begun or not
   pub OneRunsIn : Place → Trees → Type 0
   OneRunsIn place no_tree = ⊥
   OneRunsIn place (beside weak c branches) = RunsIn place c ⊎ OneRunsIn place branches
 
 abbrev mutual
-  -- no two branches of a `cobegin` that is left in the tree, or in what is called in it, run at one place, and each runs what its body does
+  -- no two branches of a `cobegin` in the tree, or in what it calls, run at one place. Each branch runs only what its body does
   pub RunsApart : Tree → Type 0
   RunsApart Nil = ⊤
   RunsApart (Wait s) = ⊤

@@ -15,20 +15,20 @@ use Rattle.bl_machine_pass_laws.specs.Turns.Invariant.{Exactly, IsJoin, Marked, 
 use Rattle.bl_machine_pass_laws.specs.Turns.Laws.{StaysPlaced, Turning, answer_of}
 use Rattle.bl_machine_pass_laws_turns.specs.Joins.Stems.{Stemmed}
 
--- the tree with which an instance begins is left of the body; waking leaves that, and so does each turn
+-- the tree with which an instance begins is left of its body, and waking and turns keep that
 pub record StaysStemmed : Type 0 where
   pub begins : (unit : UnitDef) → Stemmed (plain_body unit.body) (do_block (plain_body unit.body))
   pub wakes : (body : Block) (c : Tree) → Stemmed body c → Stemmed body (woken c)
   pub turns : (w : Setting) (rank : ℕ → Node → ℕ) (i : ℕ) (body : Block) (c : Tree) (done : List AnsweredDeed) (n : Node) (c' : Tree) →
       Turns w rank i c done n c' → Stemmed body c → Stemmed body c'
 
--- as a pass begins the marks tell what stood when the tick began: nothing has begun yet
+-- the marks at the start of a pass say that nothing has begun in this tick: they fit a woken tree and a body that begins
 pub record MarksBegin : Type 0 where
   pub resumes : (number : Node → ℕ) (c : Tree) (counters : ℕ → ℕ) (flags : ℕ → Bool) → Marked number (started counters flags).marks (woken c)
   pub begins : (number : Node → ℕ) (body : Block) (counters : ℕ → ℕ) (flags : ℕ → Bool) →
       Marked number (started counters flags).marks (do_block body)
 
--- where marks tell what has begun in this tick before a turn they do after it
+-- a turn keeps the marks telling what began in this tick
 abbrev pub TurnsKeepMarks : Type 0
 TurnsKeepMarks =
     (w : Setting) (rank : ℕ → Node → ℕ) (i : ℕ) (slots : Slots) (unit : UnitDef) (stood : Bool) (c : Tree) (done : List AnsweredDeed) (n : Node)
@@ -36,8 +36,7 @@ TurnsKeepMarks =
     (rule : Transition) (r : Registers) (turn : Turns w rank i c done n c') → StaysPlaced → Turning w rank i slots unit stood c n rule →
     Stemmed (plain_body unit.body) c → Marked (rank i) r.marks c → Marked (rank i) (after_rule (rank i) rule (answer_of turn) r).marks c'
 
--- a rule that asks for the ends of branches is due exactly where something waits at its node, where the counters hold the numbers of the tree
--- and the marks tell what has begun in this tick
+-- a rule of a join is due iff something waits at its node, where the counters and the marks fit the tree
 abbrev pub JoinsWait : Type 0
 JoinsWait =
     (w : Setting) (rank : ℕ → Node → ℕ) (i : ℕ) (slots : Slots) (unit : UnitDef) (stood : Bool) (c : Tree) (rule : Transition) (r : Registers) →
@@ -45,7 +44,7 @@ JoinsWait =
     ((j : ℕ) → r.counters j ≡ numbers_of slots c Over j) → Marked (rank i) r.marks c → IsJoin rule.asked →
     Exactly (is_due (rank i) rule r) (Waits c None rule.node)
 
--- so whatever a rule asks whose node has not been passed, it is due exactly where something waits there
+-- a rule of any kind is due iff something waits at its node, where the node has not been passed
 abbrev pub RulesWait : Type 0
 RulesWait =
     (w : Setting) (rank : ℕ → Node → ℕ) (i : ℕ) (slots : Slots) (unit : UnitDef) (stood : Bool) (k : ℕ) (c : Tree) (rule : Transition) (r : Registers) →

@@ -33,7 +33,7 @@ abbrev pub Member : {X : Type 0} → List X → X → Type 0
 Member [] x = ⊥
 Member (y ∷ ys) x = (x ≡ y) ⊎ Member ys x
 
--- no two of these nodes have one label and one sort
+-- no two of the nodes have one label and one sort
 abbrev pub NodesAreDistinct : List Node → Type 0
 NodesAreDistinct [] = ⊤
 NodesAreDistinct (n ∷ nodes) = ((m : Node) → Member nodes m → Same n m → ⊥) × NodesAreDistinct nodes
@@ -46,14 +46,14 @@ pub record Own (Rests : Spot → Type 0) (Part : Node → Type 0) (s : Plain) : 
   pub differ : NodesAreDistinct (nodes_of s)
   pub spots : (p : Spot) → Member (spots_of s) p → Rests p
 
--- so it is of each statement of a block
+-- OwnAll Rests Part body: the nodes of each statement of the block differ and are of the part, and its resting places are among those
 abbrev pub OwnAll : (Spot → Type 0) → (Node → Type 0) → Block → Type 0
 OwnAll Rests Part Done = ⊤
 OwnAll Rests Part (Then s rest) = Own Rests Part s × OwnAll Rests Part rest
 
 abbrev mutual
-  -- Stems Rests Part c: the tree is left of statements of the part with these resting places. What stands in a branch of a `cobegin` is left
-  -- of the body of that branch, and what stands under a `when` is left of its body
+  -- Stems Rests Part c: the tree is the residual of statements of the part with these resting places. Branches and bodies of `when`s in it are residuals of
+  -- theirs
   pub Stems : (Spot → Type 0) → (Node → Type 0) → Tree → Type 0
   Stems Rests Part Nil = ⊤
   Stems Rests Part (Wait s) = Rests (RestOf s.label)
@@ -66,7 +66,7 @@ abbrev mutual
   Stems Rests Part (Guard s phase stood c) = Own Rests Part (watch_stmt s) × Stems Rests (Member (nodes_in s.body)) c
   Stems Rests Part (Run s callee phase stood c) = Rests (RestOf s.label)
 
-  -- each tree is left of its body
+  -- each tree is the residual of its body
   pub StemEach : (Spot → Type 0) → Bodies → Trees → Type 0
   StemEach Rests Last no_tree = ⊤
   StemEach Rests Last (beside weak c branches) = ⊥

@@ -51,7 +51,7 @@ then_size a b = record { nodes = a.nodes + b.nodes; places = a.places + b.places
 abbrev pub or_size : Size → Size → Size
 or_size a b = record { nodes = a.nodes + b.nodes; places = a.places + b.places; instant = a.instant || b.instant }
 
--- a `when` with this body
+-- the size of a `when` with this body
 abbrev pub guarded_size : Size → Size
 guarded_size body = sized (guard_nodes body.instant) body.instant body
 
@@ -88,7 +88,7 @@ fork_size fork = record { nodes = fork_nodes (fork_instant fork) + fork.nodes; p
 
 -- ---- changes
 
--- what a block does where it is entered, which may be empty, and whose first node has the position
+-- the change where a block is entered, whose first node has the position, if it isn't empty
 abbrev pub entered : Layout → Bool → ℕ → Change → Change
 entered layout true k next = next
 entered layout false k next = SetFlag (layout.number k)
@@ -100,7 +100,7 @@ fired layout k Reset empty ends next = entered layout empty k ends
 
 -- ---- counters that were found
 
--- the table tells of each of its counters, which begin with the low one, whether it was found
+-- the table says for each counter from the low one on whether it is among those found
 abbrev pub Seen : ℕ → List Bool → List ℕ → Type 0
 Seen low seen found = (j : ℕ) → j < length seen → slice_index_or seen j false ≡ list_any (nat_eq (low + j)) found
 
@@ -121,12 +121,12 @@ joined layout k p places needed age next = record {
   otherwise = [];
 }
 
--- how far behind the first node of a construct the one stands by which it goes on in a later tick
+-- how far behind the first node of a construct its resume node stands
 abbrev pub later : Bool → ℕ
 later true = 2
 later false = 1
 
--- how far behind it stands the one by which it ends in a later tick
+-- how far behind the first node of a construct its end in a later tick stands
 abbrev pub last : Bool → ℕ
 last true = 3
 last false = 2

@@ -35,8 +35,8 @@ use Rattle.bl_machine_transitions.specs.inner.Joined.{
   watched,
 }
 
--- a part: whether it is a block without statements, what stands in it, the numbers at which it rests, where its first resting place has the
--- position, and its rules, where its first node and its first place have the positions and the change follows it
+-- what is computed of a block or statement. `rests` takes the position of its first place; `rules` takes those of its first node and place, and the change that
+-- follows
 pub record Part : Type 0 where
   pub empty : Bool
   pub size : Size
@@ -126,7 +126,7 @@ abbrev pub ArmsListed : Layout → List ArmPart → Bool → ℕ → ℕ → ℕ
 ArmsListed layout arms bare k p node place next before after = (other : Part) → bare ≡ other.empty →
     after ++ other.rules layout node place next ≡ before ++ (chain arms other).rules layout k p next
 
--- no `if` of a program is without an arm; one would do its `else` part, whatever its condition
+-- the part of an `if`. No program has one without an arm, which would do its `else` part
 abbrev pub chosen : Place → List ArmPart → Part → Part
 chosen place [] other = choice (never place) other other
 chosen place (arm ∷ rest) other = chain (arm ∷ rest) other
@@ -151,7 +151,7 @@ endless body = record {
       ∷ body.rules layout (k + 1) p (SetFlag (layout.number k));
 }
 
--- a loop with its test at the end
+-- the part of a loop with its test at the end
 abbrev pub until : Part → Expr → Part
 until body e = record {
   empty = false;
@@ -160,7 +160,7 @@ until body e = record {
   rules = λ layout k p next. turned layout k (Tests e) body.empty next ++ body.rules layout (k + 2) p (SetFlag (layout.number (k + 1)));
 }
 
--- a loop with its test at the start
+-- the part of a loop with its test at the start
 abbrev pub while : Expr → Part → Part
 while e body = record {
   empty = false;
@@ -172,7 +172,7 @@ while e body = record {
 
 -- ---- branches
 
--- what stands in them
+-- what stands in the branches of a `cobegin`
 abbrev pub forked : List BranchPart → Fork
 forked [] = no_fork
 forked (branch ∷ rest) = join_fork (fork_of branch.weak branch.body.size) (forked rest)
@@ -198,13 +198,13 @@ ends strong layout p (branch ∷ rest) =
 abbrev pub needs : Layout → ℕ → List BranchPart → Needed
 needs layout p branches = record { all = (forked branches).strong; slots = ends (forked branches).strong layout p branches }
 
--- what the branches do where they begin
+-- the changes by which branches begin
 abbrev pub begins : Layout → ℕ → ℕ → List BranchPart → List Change
 begins layout k p [] = []
 begins layout k p (branch ∷ rest) =
     entered layout branch.body.empty k (SetCounter (layout.slot p)) ∷ begins layout (k + branch.body.size.nodes) (p + places_of branch) rest
 
--- their rules
+-- the rules of the nodes of branches, in their order, from these positions on
 abbrev pub each : Layout → ℕ → ℕ → List BranchPart → List NumberedTransition
 each layout k p [] = []
 each layout k p (branch ∷ rest) =
@@ -249,7 +249,7 @@ arm_of arm = record { test = arm.test; body = block arm.body }
 abbrev pub branch_of : Branch-F (Place → Part) ArmPart BranchPart Part → BranchPart
 branch_of branch = record { weak = branch.weak; body = block branch.body }
 
--- a statement is its kind at its place
+-- the part of a statement is that of its kind, at its place
 abbrev pub stmt_of : Stmt-F (Place → Part) ArmPart BranchPart Part → Part
 stmt_of s = s.what s.place
 
@@ -257,10 +257,10 @@ stmt_of s = s.what s.place
 abbrev pub part : Stmt → Part
 part = fold-Stmt (Place → Part) ArmPart BranchPart Part kind_part arm_of branch_of stmt_of
 
--- of an arm
+-- the part of an arm of an `if`
 abbrev pub arm_part : Arm → ArmPart
 arm_part = fold-Arm (Place → Part) ArmPart BranchPart Part kind_part arm_of branch_of stmt_of
 
--- of a branch
+-- the part of a branch of a `cobegin`
 abbrev pub branch_part : Branch → BranchPart
 branch_part = fold-Branch (Place → Part) ArmPart BranchPart Part kind_part arm_of branch_of stmt_of

@@ -11,7 +11,7 @@ use Rattle.bl_plant_drive.specs.inner.Names.{HasAbsent, HasOtherWidth, HasTwice}
 use Rattle.bl_plant_drive.specs.inner.Ticks.{new_seat}
 use Rattle.bl_plant.specs.Plants.{PlantView}
 
--- the names and their widths have passed, and there is a seat for each name
+-- the names and widths of the plants fit, and there is a seat for each name
 pub record HasBegun (runner : Running) (plants : List PlantView) (names : List ℕ) (seats : List Seat) : Type 0 where
   pub there : AreThere plants names
   pub distinct : IsDistinct nat_eq names

@@ -51,7 +51,7 @@ IsTested inputs first numbers (Err fault.NoMemory) = ⊥
 abbrev pub numbers_in : List Seat → List ℤ
 numbers_in seats = flat_map (λ seat. seat.columns) seats
 
--- the numbers of so many seats are in the ranges of their inputs
+-- the numbers of the first k seats are in the ranges of their inputs
 abbrev pub FrontFits : List Column → ℕ → List Seat → Type 0
 FrontFits inputs k seats = in_ranges (types_of (take (length (numbers_in (take k seats))) inputs)) (numbers_in (take k seats)) ≡ true
 

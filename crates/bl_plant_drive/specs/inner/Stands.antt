@@ -25,7 +25,7 @@ pub record Scene : Type 0 where
   pub ins : List (List ℤ)
   pub outs : List (List ℤ)
 
--- so many of the named plants have been asked in this tick
+-- k of the named plants have been asked in this tick, and the lists are those that this leaves
 pub record AskedSoFar (s : Scene) (k : ℕ) (plants : List PlantView) (seats : List Seat) (dropped : List Gone) : Type 0 where
   pub done : List Role
   pub rest : List Role

@@ -32,11 +32,11 @@ new_seat plants name = record {
 
 -- ---- the record
 
--- one more tick, with a row of outputs
+-- a drive with one more tick, and its row of outputs
 abbrev pub with_tick : Driven → List ℤ → List ℤ → Last → Driven
 with_tick d ins outs how = record { ins = d.ins ++ ins ∷ []; trace = record { rows = d.trace.rows ++ outs ∷ []; last = how }; gone = d.gone }
 
--- one more tick, which has trapped
+-- a drive with one more tick, which has trapped
 abbrev pub with_trap : Driven → List ℤ → Driven
 with_trap d ins = record { ins = d.ins ++ ins ∷ []; trace = record { rows = d.trace.rows; last = last.Trap }; gone = d.gone }
 
@@ -69,8 +69,7 @@ RowEnds s inputs plants seats gone (Err e) = RoundEnds s inputs plants seats gon
 
 -- ---- told
 
--- what stays while the plants are told a row: the list as it was handed in, the names, the rows of inputs with that of this tick, the rows of
--- outputs before it, its own, and the plants that were dropped
+-- the constants of telling a row to plants: the list as handed in, the names, the rows so far with those of this tick, and the plants dropped
 pub record Hearing : Type 0 where
   pub plants : List PlantView
   pub names : List ℕ
@@ -83,7 +82,7 @@ pub record Hearing : Type 0 where
 abbrev pub outs_now : Hearing → List (List ℤ)
 outs_now h = h.outs ++ h.row ∷ []
 
--- so many of the named plants have been told the row
+-- k of the named plants have been told the row, and the lists are those that this leaves
 pub record ToldSoFar (h : Hearing) (k : ℕ) (plants : List PlantView) (seats : List Seat) : Type 0 where
   pub done : List Role
   pub rest : List Role
@@ -114,7 +113,7 @@ pub record HasInputs (s : DriveSetting) (plants : List PlantView) (seats : List 
   pub stands : AskedSoFar (scene_of s d) (length seats) plants seats d.gone
   pub row : ins ≡ numbers_in seats
 
--- what stays while they are told the outputs of this tick
+-- the constants of telling the outputs of this tick to plants
 abbrev pub hearing_of : DriveSetting → Driven → List ℤ → List ℤ → Hearing
 hearing_of s d ins outs = record {
   plants = s.plants;
@@ -125,13 +124,13 @@ hearing_of s d ins outs = record {
   dropped = d.gone;
 }
 
--- they were told these outputs and the tick was recorded, or memory was refused
+-- the plants were told these outputs and the tick was recorded, or memory was refused
 abbrev pub RowCloses : DriveSetting → Driven → List ℤ → List ℤ → Last → List PlantView → List Seat → Driven → Result (Unit {0}) NoMemory → Type 0
 RowCloses s d ins outs how plants seats now (Ok done) =
     (now ≡ with_tick d ins outs how) × ToldSoFar (hearing_of s d ins outs) (length seats) plants seats
 RowCloses s d ins outs how plants seats now (Err e) = (now ≡ d) × ((k : ℕ) × ToldSoFar (hearing_of s d ins outs) k plants seats)
 
--- they gave the row of inputs, it fits, and the runner's tick over it came to this
+-- the plants gave the row of inputs, it fits, and the runner's tick over it gives these outputs and this answer
 pub record IsTickOfRunner (s : DriveSetting) (runner : Running) (plants : List PlantView) (seats : List Seat) (d : Driven) (ins outs : List ℤ) (answer : TickAnswer)
     : Type 0 where
   pub within : length d.ins < s.ticks

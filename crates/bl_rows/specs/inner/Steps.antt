@@ -25,6 +25,6 @@ abbrev pub left_after_stop : Option RowFault → RowPlace → Scan → Scan
 left_after_stop None at s = s
 left_after_stop (Some fault) at s = record { rows = []; at = at; fault = Some fault }
 
--- rows before those of a scan
+-- a scan with more rows in front
 abbrev pub with_rows : List (List ℤ) → Scan → Scan
 with_rows rows s = record s { rows = rows ++ s.rows }

@@ -39,24 +39,24 @@ pub record HasFed (ins : List Column) (read : List ℕ) (reader : Reading) : Typ
 abbrev pub reach : Reading → ℕ
 reach reader = reader.at.lines * 65537 + length reader.line
 
--- and how far one can come, which takes 1,000,000 lines and begins no other
+-- the most bytes that a reader can take: 1,000,000 lines and the front of no other
 abbrev pub most_reach : ℕ
 most_reach = 1000000 * 65537 + 65536
 
--- where a live runner stands: the numbers of its cells, and whether its start hasn't trapped
+-- the state of a live runner: the numbers of its cells, and whether its start hasn't trapped
 pub record Start : Type 0 where
   pub cells : List ℤ
   pub ready : Bool
 
--- a live runner of a file from there on
+-- a live runner of a file in this state
 abbrev pub runner_at : Start → Parts → Running
 runner_at start file = record { parts = file; cells = start.cells; ready = start.ready; live = true }
 
--- where a runner stands
+-- the state of a runner
 abbrev pub start_of : Running → Start
 start_of r = record { cells = r.cells; ready = r.ready }
 
--- these bytes were read, their rows have run, and what is written of them was written
+-- these bytes were read, their rows have run, and the report of them was written
 pub record RunStands (report : Report) (start : Start) (file : Parts) (read : List ℕ) (before : Option (List ℕ)) (s : Session) (r : Running)
     (now : Option (List ℕ)) : Type 0 where
   pub fed : HasFed (inputs_of file) read s.reader
@@ -87,7 +87,7 @@ progress_of Open (Some fault) = progress.Over (finish_of Open (Some fault))
 progress_of Ended fault = progress.Over finish.Done
 progress_of Trap fault = progress.Over finish.Trapped
 
--- a piece with which these bytes are read has left the run so
+-- a piece with which these bytes are read has left the run in this state
 abbrev pub Leaves : Report → Start → Parts → List ℕ → Option (List ℕ) → Session → Running → Option (List ℕ) → Progress → Type 0
 Leaves report start file read before s r now progress.Open = RunStands report start file read before s r now
 Leaves report start file read before s r now (progress.Over ended) =
@@ -100,7 +100,7 @@ pub record Going (report : Report) (start : Start) (file : Parts) (all before : 
   pub has_read : HasRead all read left
   pub stands : RunStands report start file read before s r now
 
--- a piece of the file has left the run so
+-- a piece of the file has left the run going on, or has ended it
 abbrev pub GoesOrEnds : Report → Start → Parts → Option (List ℕ) → Option (List ℕ) → Session → Running → Option (List ℕ)
     → Option (List ℕ) →
     Progress → Type 0

@@ -9,7 +9,7 @@ use Rattle.bl_rows_stream.specs.declared.gathered.RowsEnd.{RowsEnd}
 use Rattle.bl_rows_stream.specs.declared.gathered.RowsEnd.TheVariants.{Read}
 use Rattle.bl_rows_stream.specs.inner.Going.{HasFed}
 
--- these bytes were read, and there is no fault in them: their rows were gathered
+-- these bytes were read without a fault, and their rows were gathered
 pub record Taken (ins : List Column) (all left : Option (List ℕ)) (reader : Reading) (rows : List (List ℤ)) : Type 0 where
   pub read : List ℕ
   pub has_read : HasRead all read left
@@ -23,7 +23,7 @@ abbrev pub at_fault : Option RowFault → Option RowsEnd
 at_fault None = None
 at_fault (Some fault) = Some (Read (Some fault))
 
--- a piece of the file leaves the rows so, or it is the last one
+-- a piece of the file has left these rows taken, or the rows have ended
 abbrev pub TakesOn : List Column → Option (List ℕ) → Option (List ℕ) → Reading → List (List ℤ) → Option RowsEnd → Type 0
 TakesOn ins all left reader rows None = Taken ins all left reader rows
 TakesOn ins all left reader rows (Some end) = Gathers ins all left rows end

@@ -6,7 +6,7 @@ use Rattle.bl_crun.specs.Running.{Running}
 use Rattle.bl_save.specs.Bytes.{cells_bytes}
 use Rattle.bl_save.specs.States.{with_numbers}
 
--- its cells have these numbers, whose bytes these are
+-- the runner's cells were set to the numbers, in the ranges of their types, that the bytes stand for
 pub record HasPut (before : Running) (bytes : List ℕ) (after : Running) : Type 0 where
   pub numbers : List ℤ
   pub fit : in_ranges (kinds_of before.parts) numbers ≡ true

@@ -10,7 +10,7 @@ pub data Allowed : Type 0 where
   exactly : ℕ → Allowed
   at_most : ℕ → Allowed
 
--- whether a byte may stand there
+-- whether a byte may stand at a place
 abbrev pub allows : Allowed → ℕ → Bool
 allows (exactly n) byte = byte == n
 allows (at_most n) byte = nat_le byte n
@@ -26,16 +26,16 @@ most_of (Bits w) = 255
 abbrev pub cell_shape : Scalar → List Allowed
 cell_shape kind = replicate (size_of kind) (at_most (most_of kind))
 
--- those of cells, one after the other
+-- the bytes of cells, one cell after the other
 abbrev pub cells_shape : List Scalar → List Allowed
 cells_shape [] = []
 cells_shape (kind ∷ kinds) = cell_shape kind ++ cells_shape kinds
 
--- those of a state with cells of these types
+-- the bytes of a saved state with cells of these types: a header, and the cells
 abbrev pub state_shape : List Scalar → List Allowed
 state_shape kinds = map exactly (state_header (length kinds)) ++ cells_shape kinds
 
--- where bytes first leave a shape, or their number where they are too few; none where they have it
+-- the first position at which bytes leave a shape, or their number where they are too few; none where they have it
 abbrev pub misfit : List Allowed → List ℕ → Option ℕ
 misfit [] [] = None
 misfit [] (byte ∷ bytes) = Some 0

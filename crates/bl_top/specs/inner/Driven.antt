@@ -22,7 +22,7 @@ pub record Drives (structs : List StructDef) (units : List UnitDef) (entry : ℕ
   pub one_trace : OneTrace structs units entry (behaviour_of parts)
   pub is_driven : IsDriven (setting_of parts plants.before ticks names) plants.after driven how
 
--- and this is told of it
+-- the report tells of a C file with the one trace of a program that was driven against the plants
 pub record TellsReport (structs : List StructDef) (units : List UnitDef) (entry : ℕ) (plants : Plants) (ticks : ℕ) (names : List ℕ)
     (report : Report) : Type 0 where
   pub parts : Parts
@@ -31,12 +31,12 @@ pub record TellsReport (structs : List StructDef) (units : List UnitDef) (entry 
   pub drives : Drives structs units entry plants ticks names parts driven how
   pub tells : IsReportOf (outputs_of parts) driven how report
 
--- it was driven, or the plants were kept
+-- a C file of the program was driven against the plants, or the plants are unchanged
 abbrev pub MayHaveDriven : List StructDef → List UnitDef → ℕ → Plants → ℕ → List ℕ → Type 0
 MayHaveDriven structs units entry plants ticks names = (plants.after ≡ plants.before)
     ⊎ ((parts : Parts) × ((driven : Driven) × ((how : Result (Unit {0}) DriveFault) × Drives structs units entry plants ticks names parts driven how)))
 
--- what was written of what is told, and the answer
+-- the text of a report was written, or a prefix where a write failed or memory was refused, with the answer for that
 pub data WritesReport (report : Report) (out : Output) (answer : Answer) : Type 0 where
   wrote : Appends out.before report.text.items out.after → answer.told.items ≡ report.told.items →
       answer.outcome.status ≡ status_at report.end → answer.outcome.line.items ≡ report.line.items → WritesReport report out answer

@@ -40,27 +40,27 @@ lines_in answer = answer.told.items ++ line_in answer.outcome
 abbrev pub IsTold : Status → List ℕ → Outcome → Type 0
 IsTold ended line outcome = ((outcome.status ≡ ended) × (outcome.line.items ≡ line)) ⊎ (outcome.status ≡ status.NoMemory)
 
--- the outcome is that of a source that is refused so
+-- the outcome is that of a source that is refused for this reason
 abbrev pub IsRefusedBy : Refusal → Outcome → Type 0
 IsRefusedBy (refusal.Rule rule place also) outcome = IsTold status.Refused (refusal_line rule place also) outcome
 IsRefusedBy refusal.NoMemory outcome = outcome.status ≡ status.NoMemory
 
--- of a C text that is refused so
+-- the outcome is that of a C text that is refused so
 abbrev pub IsEndAtText : CRefusal → Outcome → Type 0
 IsEndAtText (text.NotSubset at) outcome = IsTold status.NotSubset (not_subset_line at) outcome
 IsEndAtText text.NoMemory outcome = outcome.status ≡ status.NoMemory
 
--- of a file that isn't loaded for this
+-- the outcome is that of a file that isn't loaded for this fault
 abbrev pub IsEndAtLoad : LoadFault → Outcome → Type 0
 IsEndAtLoad (load.IllFormed at) outcome = IsTold status.NotSubset (not_subset_line at.start) outcome
 IsEndAtLoad (load.TooLarge cells) outcome = IsTold status.TooLarge (too_large_line cells) outcome
 IsEndAtLoad load.NoMemory outcome = outcome.status ≡ status.NoMemory
 
--- of bytes that are no saved state for this
+-- the outcome is that of bytes that are no saved state for this fault
 abbrev pub IsEndAtState : StateFault → Outcome → Type 0
 IsEndAtState (state.BadState at) outcome = IsTold status.BadState (bad_state_line at) outcome
 
--- the status of a run that ended so
+-- the status of a run with this end
 abbrev pub status_of : Finish → Status
 status_of finish.Done = status.Ok
 status_of finish.Trapped = status.Trapped
@@ -69,7 +69,7 @@ status_of finish.ReadFault = status.ReadFault
 status_of finish.WriteFault = status.WriteFault
 status_of finish.NoMemory = status.NoMemory
 
--- of a run that ended so, or memory was refused for its line
+-- the outcome is that of a run that ended so, or memory was refused for its line
 abbrev pub IsEndOf : Finish → Outcome → Type 0
 IsEndOf (finish.BadRows line) outcome = IsTold status.BadRows (bad_rows_line line) outcome
 IsEndOf ended outcome = outcome.status ≡ status_of ended

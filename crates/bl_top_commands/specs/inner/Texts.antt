@@ -19,20 +19,20 @@ pub record IsFileIn (text : List ℕ) (file : CFile) : Type 0 where
   pub spells : SpellsC file text
   pub placed : HasPlaces text file
 
--- the text that was left of a file does
+-- the text that was left of a file spells this C file, with its places
 pub record IsFileOf (left : Option (List ℕ)) (file : CFile) : Type 0 where
   pub text : List ℕ
   pub of_source : IsSource left text
   pub is : IsFileIn text file
 
--- it has a file with these parts, which can be loaded
+-- the text that was left of a file has a C file with these parts, which can be loaded
 pub record HasLoaded (left : Option (List ℕ)) (parts : Parts) : Type 0 where
   pub text : List ℕ
   pub of_source : IsSource left text
   pub loads : Loads text (behaviour_of parts)
   pub is : loads.file ≡ parts
 
--- these bytes tell the costs of its functions
+-- the bytes tell the costs of the functions of the text that was left of a file
 pub record HasBounds (left : Option (List ℕ)) (written : List ℕ) : Type 0 where
   pub text : List ℕ
   pub of_source : IsSource left text

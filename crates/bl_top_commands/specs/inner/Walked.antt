@@ -35,7 +35,7 @@ pub record WalksRows (structs : List StructDef) (units : List UnitDef) (entry se
   pub told_is : told ≡ tick_lines_from 1 lists
   pub how_is : how ≡ finish_over trace.last end
 
--- the same over the rows that were gathered of what is left of a file
+-- a walk of a program by the seed over the rows left of a file: the text of its trace, the lines of its steps, and how it ends
 pub record IsWalk (structs : List StructDef) (units : List UnitDef) (entry : ℕ) (left rest : Option (List ℕ)) (seed : ℕ)
     (text told : List ℕ) (how : Finish) : Type 0 where
   pub unit : UnitDef
@@ -45,7 +45,7 @@ pub record IsWalk (structs : List StructDef) (units : List UnitDef) (entry : ℕ
   pub gathers : Gathers (input_columns unit) left rest gathered end
   pub walks : WalksRows structs units entry seed gathered end (output_columns unit) text told how
 
--- what was written of it, and the answer
+-- the text of a walk was written, or a prefix where a write failed or memory was refused, with the answer for that
 pub data WritesWalk (text told : List ℕ) (how : Finish) (out : Output) (answer : Answer) : Type 0 where
   wrote : Appends out.before text out.after → answer.told.items ≡ told → IsEndOf how answer.outcome → WritesWalk text told how out answer
   failed : AppendsPart out.before text out.after → HasRisen out.faults → answer.told.items ≡ [] → answer.outcome.status ≡ status.WriteFault →
