@@ -8,3 +8,4 @@ pub mod Ends
 pub mod WalkLaws
 pub mod RuleLaws
 pub mod NameLaws
+pub mod FrontLaws

@@ -98,9 +98,10 @@ kind_form Comment kind is = cc
 kind_form (Token other) kind is = cc
 kind_form Outside kind is = cc
 
-pub names_are_names : (text : List ℕ) (tokens : List Lexed) → Lexes text tokens → (k : ℕ) (d : Lexed) → k < length tokens →
+pub names_among : (text : List ℕ) (parts : List LexedPiece) (end : ℕ) → Covers text 0 parts end →
+    (tokens : List Lexed) → tokens ≡ tokens_of text parts → (k : ℕ) (d : Lexed) → k < length tokens →
     (get_or tokens k d).kind ≡ Name → is_name (slice_range text (get_or tokens k d).place.start (get_or tokens k d).place.end) ≡ true
-names_are_names text tokens is = rw is.are_tokens (of_tokens text IsNamed here 0 is.parts (length text) is.covers)
+names_among text parts end covers tokens are = rw are (of_tokens text IsNamed here 0 parts end covers)
   where
     IsNamed : Lexed → Type 0
     IsNamed token = token.kind ≡ Name → is_name (slice_range text token.place.start token.place.end) ≡ true
@@ -109,3 +110,7 @@ names_are_names text tokens is = rw is.are_tokens (of_tokens text IsNamed here 0
         is_name (slice_range text part.start part.end) ≡ true
     here part kind longest is_kind is_name = name_piece text part.start part.end
         (subst (IsPiece text part.start part.end) (kind_form part.form kind is_kind ∙ ap Token is_name) longest.piece)
+
+pub names_are_names : (text : List ℕ) (tokens : List Lexed) → Lexes text tokens → (k : ℕ) (d : Lexed) → k < length tokens →
+    (get_or tokens k d).kind ≡ Name → is_name (slice_range text (get_or tokens k d).place.start (get_or tokens k d).place.end) ≡ true
+names_are_names text tokens is = names_among text is.parts (length text) is.covers tokens is.are_tokens

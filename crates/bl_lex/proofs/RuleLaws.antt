@@ -32,6 +32,7 @@ use Rattle.std.proofs.Common.{
   arith,
   add-one,
 }
+use Rattle.std.proofs.lemmas.List.Elements.{All-head, All-tail}
 use Rattle.std.proofs.Math.ListN.{get_or-eq_default}
 use Rattle.std.proofs.str.Laws.{order}
 use Rattle.std.specs.Prelude.{Option, Some, None, option_map, slice_range, All}
@@ -59,7 +60,7 @@ same_part : (p q : LexedPiece) → p.start ≡ q.start → p.end ≡ q.end → p
 same_part p q s e f = λ i. record { start = s i; end = e i; form = f i }
 
 -- the longest piece at a place is one
-one_longest : (text : List ℕ) (p q : LexedPiece) → p.start ≡ q.start → IsLongest text p → IsLongest text q → p ≡ q
+pub one_longest : (text : List ℕ) (p q : LexedPiece) → p.start ≡ q.start → IsLongest text p → IsLongest text q → p ≡ q
 one_longest text p q at a b =
     let q_here : IsPiece text p.start q.end q.form = subst (λ (s : ℕ). IsPiece text s q.end q.form) (sym at) b.piece in
     let p_there : IsPiece text q.start p.end p.form = subst (λ (s : ℕ). IsPiece text s p.end p.form) at a.piece in
@@ -68,20 +69,30 @@ one_longest text p q at a b =
     let ends : p.end ≡ q.end = omega arith in
     same_part p q at ends (one_form text p.start a.piece (subst (λ (e : ℕ). IsPiece text p.start e q.form) (sym ends) q_here))
 
+-- two covers from one place by parts of some forms, to where nothing of these forms begins, are one
+pub covers_are_one : (P : Form → Type 0) (text : List ℕ) (start : ℕ) (ps qs : List LexedPiece) (a b : ℕ) → Covers text start ps a → Covers text start qs b →
+    All (λ part. P part.form) ps → All (λ part. P part.form) qs →
+    ((end : ℕ) (form : Form) → IsPiece text a end form → ¬ P form) → ((end : ℕ) (form : Form) → IsPiece text b end form → ¬ P form) →
+    (ps ≡ qs) × (a ≡ b)
+covers_are_one P text start [] [] a b p q all_p all_q none_a none_b = (refl, sym p ∙ q)
+covers_are_one P text start [] (q ∷ qs) a b p c all_p all_q none_a none_b =
+    absurd (none_a q.end q.form (subst (λ (s : ℕ). IsPiece text s q.end q.form) (c.0 ∙ p) c.1.piece) (All-head (λ part. P part.form) q qs all_q))
+covers_are_one P text start (p ∷ ps) [] a b c q all_p all_q none_a none_b =
+    absurd (none_b p.end p.form (subst (λ (s : ℕ). IsPiece text s p.end p.form) (c.0 ∙ q) c.1.piece) (All-head (λ part. P part.form) p ps all_p))
+covers_are_one P text start (p ∷ ps) (q ∷ qs) a b c d all_p all_q none_a none_b =
+    let first = one_longest text p q (c.0 ∙ sym d.0) c.1 d.1 in
+    let rest = covers_are_one P text p.end ps qs a b c.2 (subst (λ (e : ℕ). Covers text e qs b) (ap (λ (r : LexedPiece). r.end) (sym first)) d.2)
+    (All-tail (λ part. P part.form) p ps all_p) (All-tail (λ part. P part.form) q qs all_q) none_a none_b in
+    ((λ i. first i ∷ rest.0 i), rest.1)
+
 -- two covers from one place, to where nothing begins, are one
 one_cover : (text : List ℕ) (start : ℕ) (ps qs : List LexedPiece) (a b : ℕ) → Covers text start ps a → Covers text start qs b →
     NoPieceAt text a → NoPieceAt text b → (ps ≡ qs) × (a ≡ b)
-one_cover text start [] [] a b p q none_a none_b = (refl, sym p ∙ q)
-one_cover text start [] (q ∷ qs) a b p c none_a none_b =
-    absurd (none_a q.end q.form (subst (λ (s : ℕ). IsPiece text s q.end q.form) (c.0 ∙ p) c.1.piece))
-one_cover text start (p ∷ ps) [] a b c q none_a none_b =
-    absurd (none_b p.end p.form (subst (λ (s : ℕ). IsPiece text s p.end p.form) (c.0 ∙ q) c.1.piece))
-one_cover text start (p ∷ ps) (q ∷ qs) a b c d none_a none_b =
-    let first = one_longest text p q (c.0 ∙ sym d.0) c.1 d.1 in
-    let rest = one_cover text p.end ps qs a b c.2 (subst (λ (e : ℕ). Covers text e qs b) (ap (λ (r : LexedPiece). r.end) (sym first)) d.2) none_a none_b in
-    ((λ i. first i ∷ rest.0 i), rest.1)
+one_cover text start ps qs a b p q none_a none_b =
+    covers_are_one (λ form. Unit {0}) text start ps qs a b p q (λ k d inside. tt) (λ k d inside. tt)
+    (λ end form piece any. none_a end form piece) (λ end form piece any. none_b end form piece)
 
-nothing_at_end : (text : List ℕ) → NoPieceAt text (length text)
+pub nothing_at_end : (text : List ℕ) → NoPieceAt text (length text)
 nothing_at_end text end form p = let a = piece_forward text (length text) p in let b = piece_inside text (length text) p in omega arith
 
 -- a text has one list of tokens
@@ -338,18 +349,23 @@ unfolding ArePlaced
 placed_from size low more [] less a = tt
 placed_from size low more (t ∷ ts) less a = (omega (arith, a.0), a.1, a.2, a.3)
 
+pub covers_forward : (text : List ℕ) (start : ℕ) (parts : List LexedPiece) (end : ℕ) → Covers text start parts end → start ≤ end
+covers_forward text start [] end c = omega (arith, c)
+covers_forward text start (p ∷ ps) end c =
+    let a = piece_forward text p.start c.1.piece in let b = covers_forward text p.end ps end c.2 in omega (arith, c.0)
+
 tokens_placed : (text : List ℕ) (start : ℕ) (parts : List LexedPiece) (end : ℕ) → Covers text start parts end →
-    ArePlaced (length text) start (tokens_of text parts)
+    ArePlaced end start (tokens_of text parts)
 unfolding ArePlaced
 tokens_placed text start [] end c = tt
 tokens_placed text start (p ∷ ps) end c = by_kind (kind_of p.form) (tokens_placed text p.end ps end c.2)
   where
-    by_kind : (kind : Option TokenKind) → ArePlaced (length text) p.end (tokens_of text ps)
-        → ArePlaced (length text) start (cons_option (option_map
+    by_kind : (kind : Option TokenKind) → ArePlaced end p.end (tokens_of text ps)
+        → ArePlaced end start (cons_option (option_map
         (λ k. record { kind = k; place = place_of p; line = line_at text p.start }) kind) (tokens_of text ps))
-    by_kind (Some kind) rest = (omega (arith, c.0), piece_forward text p.start c.1.piece, piece_inside text p.start c.1.piece, rest)
+    by_kind (Some kind) rest = (omega (arith, c.0), piece_forward text p.start c.1.piece, covers_forward text p.end ps end c.2, rest)
     by_kind None rest = let forward = piece_forward text p.start c.1.piece in
-        placed_from (length text) start p.end (tokens_of text ps) (omega (arith, c.0)) rest
+        placed_from end start p.end (tokens_of text ps) (omega (arith, c.0)) rest
 
 placed_at : (size low : ℕ) (ts : List Token) (k : ℕ) (d : Token) → ArePlaced size low ts → k < length ts →
     (low ≤ (get_or ts k d).place.start) × ((get_or ts k d).place.start < (get_or ts k d).place.end) × ((get_or ts k d).place.end ≤ size)
@@ -365,13 +381,22 @@ placed_in_order size low [] k d a inside = absurd (omega arith)
 placed_in_order size low (t ∷ ts) zero d a inside = (placed_at size t.place.end ts zero d a.3 (omega arith)).0
 placed_in_order size low (t ∷ ts) (suc k) d a inside = placed_in_order size t.place.end ts k d a.3 (omega arith)
 
-lexed_placed : (text : List ℕ) (tokens : List Token) → Lexes text tokens → ArePlaced (length text) 0 tokens
-lexed_placed text tokens is = rw is.are_tokens (tokens_placed text 0 is.parts (length text) is.covers)
+module _ (text : List ℕ) (parts : List LexedPiece) (end : ℕ) (covers : Covers text 0 parts end) (tokens : List Token)
+    (are : tokens ≡ tokens_of text parts) where
+  parts_placed : ArePlaced end 0 tokens
+  parts_placed = rw are (tokens_placed text 0 parts end covers)
+
+  pub placed_inside : (k : ℕ) (d : Token) → k < length tokens →
+      ((get_or tokens k d).place.start < (get_or tokens k d).place.end) × ((get_or tokens k d).place.end ≤ end)
+  placed_inside k d inside = let h = placed_at end 0 tokens k d parts_placed inside in (h.1, h.2)
+
+  pub placed_one_by_one : (k : ℕ) (d : Token) → k + 1 < length tokens → (get_or tokens k d).place.end ≤ (get_or tokens (k + 1) d).place.start
+  placed_one_by_one k d inside = rw add-one (placed_in_order end 0 tokens k d parts_placed (omega arith))
 
 pub tokens_inside : (text : List ℕ) (tokens : List Token) → Lexes text tokens → (k : ℕ) (d : Token) → k < length tokens →
     ((get_or tokens k d).place.start < (get_or tokens k d).place.end) × ((get_or tokens k d).place.end ≤ length text)
-tokens_inside text tokens is k d inside = let h = placed_at (length text) 0 tokens k d (lexed_placed text tokens is) inside in (h.1, h.2)
+tokens_inside text tokens is = placed_inside text is.parts (length text) is.covers tokens is.are_tokens
 
 pub tokens_in_order : (text : List ℕ) (tokens : List Token) → Lexes text tokens → (k : ℕ) (d : Token) → k + 1 < length tokens →
     (get_or tokens k d).place.end ≤ (get_or tokens (k + 1) d).place.start
-tokens_in_order text tokens is k d inside = rw add-one (placed_in_order (length text) 0 tokens k d (lexed_placed text tokens is) (omega arith))
+tokens_in_order text tokens is = placed_one_by_one text is.parts (length text) is.covers tokens is.are_tokens

@@ -66,3 +66,15 @@ pub record Lexes (text : List ℕ) (tokens : List Token) : Type 0 where
   pub covers : Covers text 0 parts (length text)
   pub each_has_a_kind : All (λ part. part.form ≢ Outside) parts
   pub are_tokens : tokens ≡ tokens_of text parts
+
+-- what begins at this place is at most a word that the profile leaves out
+abbrev pub BeginsNoToken : List ℕ → ℕ → Type 0
+BeginsNoToken text at = (end : ℕ) (form : Form) → IsPiece text at end form → form ≡ Outside
+
+-- these are the tokens before `stop`, the first place where neither a token nor white space nor a comment begins
+pub record FrontOf (text : List ℕ) (tokens : List Token) (stop : ℕ) : Type 0 where
+  pub parts : List LexedPiece
+  pub covers : Covers text 0 parts stop
+  pub each_has_a_kind : All (λ part. part.form ≢ Outside) parts
+  pub are_tokens : tokens ≡ tokens_of text parts
+  pub stops : BeginsNoToken text stop

@@ -64,8 +64,8 @@ enum Before {
 
 /// What was found up to a place.
 #[derive(Drop)]
-struct Scan {
-    tokens: Vec<Token>,
+pub struct Scan {
+    pub tokens: Vec<Token>,
     line: u32,
     before: Before,
     /// The first token that the profile leaves out.
@@ -73,7 +73,7 @@ struct Scan {
 }
 
 impl Scan {
-    fn new(alloc: Global) -> Scan
+    pub fn new(alloc: Global) -> Scan
         ensures { (text : List ℕ) → IsScanned text 0 result }
     {
         Scan {
@@ -85,7 +85,7 @@ impl Scan {
     }
 
     /// Adds the piece that stands next.
-    fn take(&mut self, text: &[u8], start: usize, piece: Piece) -> Result<(), AllocError>
+    pub fn take(&mut self, text: &[u8], start: usize, piece: Piece) -> Result<(), AllocError>
         requires short { length text.now ≤ 1048576 }
         requires longest { IsLongestAt text.now start piece }
         requires scanned { IsScanned text.now start self.old }

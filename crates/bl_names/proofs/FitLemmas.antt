@@ -6,7 +6,7 @@ use Rattle.bl_names_scopes.specs.declared.kind.Wanted.{Wanted}
 use Rattle.bl_names_scopes.specs.declared.scopes.Declaration.{Declaration}
 use Rattle.bl_names_scopes.specs.Kinds.{suits}
 use Rattle.bl_names_scopes.specs.Marks.{Mark, Marks, opens, closes, declares, uses, marks_of}
-use Rattle.bl_names_scopes.specs.Rules.{MarkStands, Passes}
+use Rattle.bl_names_scopes.specs.Rules.{MarkStands, Passes, PassesBehind}
 use Rattle.bl_names_scopes.specs.Scopes.{Scopes, after, bound, enter, file_scope}
 use Rattle.bl_parse_tree.specs.declared.item.RawItem.{RawItem}
 use Rattle.bl_parse_tree.specs.declared.name.Name.{Name}
@@ -41,22 +41,22 @@ fits_second scopes (mark ∷ first) second fits = fits_second (enter scopes mark
 pub fits_behind : (scopes : Scopes) (first second : Marks) → Still first → Fits scopes (first ++ second) → Fits scopes second
 fits_behind scopes first second still fits = subst (λ s. Fits s second) (still scopes) (fits_second scopes first second fits)
 
-module _ (items : List RawItem) (passes : Passes items) where
-  stands_at : (before : Marks) (mark : Mark) (rest : Marks) → marks_of items ≡ before ++ (mark ∷ rest) →
-      MarkStands (marks_of items) mark (after file_scope before)
+module _ (start : Scopes) (marks : Marks) (passes : PassesBehind start marks) where
+  stands_at : (before : Marks) (mark : Mark) (rest : Marks) → marks ≡ before ++ (mark ∷ rest) →
+      MarkStands start marks mark (after start before)
   stands_at before mark rest there = record { before = before; rest = rest; there = there; are_open = refl }
 
-  use_fits : (before : Marks) (name : Name) (wanted : Wanted) (rest : Marks) → marks_of items ≡ before ++ (uses name wanted ∷ rest)
-      → IsFit (after file_scope before) name wanted
+  use_fits : (before : Marks) (name : Name) (wanted : Wanted) (rest : Marks) → marks ≡ before ++ (uses name wanted ∷ rest)
+      → IsFit (after start before) name wanted
   use_fits before name wanted rest there =
-      elim (bound (after file_scope before) name.text) as (λ found. bound (after file_scope before) name.text ≡ found
-      → IsFit (after file_scope before) name wanted) [
+      elim (bound (after start before) name.text) as (λ found. bound (after start before) name.text ≡ found
+      → IsFit (after start before) name wanted) [
         | None ↦ λ is. absurd (passes rule.Unknown name.place [] (inr (inl (
           refl,
           record {
             name = name;
             wanted = wanted;
-            scopes = after file_scope before;
+            scopes = after start before;
             stands = stands_at before (uses name wanted) rest there;
             unbound = is;
             at_use = refl;
@@ -64,7 +64,7 @@ module _ (items : List RawItem) (passes : Passes items) where
           },
         ))))
         | Some d ↦ λ is.
-            elim (suits wanted d.kind) as (λ test. suits wanted d.kind ≡ test → IsFit (after file_scope before) name wanted) [
+            elim (suits wanted d.kind) as (λ test. suits wanted d.kind ≡ test → IsFit (after start before) name wanted) [
               | true ↦ λ suited. record { declaration = d; is_bound = is; is_suited = suited }
               | false ↦ λ unfit. absurd (passes rule.Kind name.place (d.place ∷ []) (inr (inr (
                 refl,
@@ -72,7 +72,7 @@ module _ (items : List RawItem) (passes : Passes items) where
                   name = name;
                   wanted = wanted;
                   declaration = d;
-                  binds = record { scopes = after file_scope before; stands = stands_at before (uses name wanted) rest there; is_bound = is };
+                  binds = record { scopes = after start before; stands = stands_at before (uses name wanted) rest there; is_bound = is };
                   unfit = unfit;
                   at_use = refl;
                   at_declaration = refl;
@@ -81,19 +81,23 @@ module _ (items : List RawItem) (passes : Passes items) where
             ] refl
       ] refl
 
-  mark_fits : (before : Marks) (mark : Mark) (rest : Marks) → marks_of items ≡ before ++ (mark ∷ rest) → FitsAt (after file_scope before) mark
+  mark_fits : (before : Marks) (mark : Mark) (rest : Marks) → marks ≡ before ++ (mark ∷ rest) → FitsAt (after start before) mark
   mark_fits before opens rest there = tt
   mark_fits before closes rest there = tt
   mark_fits before (declares name kind) rest there = tt
   mark_fits before (uses name wanted) rest there = use_fits before name wanted rest there
 
-  rest_fits : (before rest : Marks) → marks_of items ≡ before ++ rest → Fits (after file_scope before) rest
+  rest_fits : (before rest : Marks) → marks ≡ before ++ rest → Fits (after start before) rest
   rest_fits before [] there = tt
   rest_fits before (mark ∷ rest) there = (
     mark_fits before mark rest there,
-    subst (λ s. Fits s rest) (after-append file_scope before (mark ∷ []))
+    subst (λ s. Fits s rest) (after-append start before (mark ∷ []))
         (rest_fits (before ++ (mark ∷ [])) rest (there ∙ sym (append_assoc before (mark ∷ []) rest))),
   )
 
-  pub program_fits : Fits file_scope (marks_of items)
-  program_fits = rest_fits [] (marks_of items) refl
+  pub marks_fit : Fits start marks
+  marks_fit = rest_fits [] marks refl
+
+-- in a program nothing is declared before
+pub program_fits : (items : List RawItem) → Passes items → Fits file_scope (marks_of items)
+program_fits items passes = marks_fit file_scope (marks_of items) passes

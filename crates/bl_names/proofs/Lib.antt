@@ -1,5 +1,6 @@
 pub mod BelowLemmas
 pub mod FitLemmas
+pub mod HeadingLemmas
 pub mod ItemLemmas
 pub mod KindLemmas
 pub mod PastLemmas

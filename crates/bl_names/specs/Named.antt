@@ -1,7 +1,9 @@
 -- Programs with positions in place of names.
-use Rattle.std.specs.Prelude.{ℕ, List, [], ◌∷◌, ◌++◌, map, length, Option, Some, option_map}
+use Rattle.std.specs.Prelude.{ℕ, false, List, [], ◌∷◌, ◌++◌, map, length, Option, Some, None, option_map}
 use Rattle.bl_tree.specs.declared.tree.Role.{Role}
 use Rattle.bl_tree.specs.declared.tree.Role.TheVariants as role
+use Rattle.bl_tree.specs.declared.tree.UnitKind.{UnitKind}
+use Rattle.bl_tree.specs.declared.tree.UnitKind.TheVariants as unit
 use Rattle.bl_tree.specs.Reduce.{joined}
 use Rattle.bl_parse_tree.specs.declared.expr.RawExpr.{RawExpr}
 use Rattle.bl_parse_tree.specs.declared.item.RawField.{RawField}
@@ -18,6 +20,8 @@ use Rattle.bl_parse_tree.specs.declared.stmt.RawStmt.{RawStmt, fold-RawStmt}
 use Rattle.bl_parse_tree.specs.declared.stmt.RawStmtKind.{RawStmtKind, fold-RawStmtKind}
 use Rattle.bl_parse_tree.specs.declared.stmt.RawStmtKind.TheOpen.{RawStmtKind-F, RawArm-F, RawBranch-F, RawStmt-F}
 use Rattle.bl_parse_tree.specs.declared.types.RawType.{RawType}
+use Rattle.bl_names_tree.specs.declared.expr.NamedExpr.{roll-NamedExpr}
+use Rattle.bl_names_tree.specs.declared.expr.NamedExprKind.TheVariants as expr_kind
 use Rattle.bl_names_tree.specs.declared.item.NamedConstant.{NamedConstant}
 use Rattle.bl_names_tree.specs.declared.item.NamedField.{NamedField}
 use Rattle.bl_names_tree.specs.declared.item.NamedStruct.{NamedStruct}
@@ -29,6 +33,8 @@ use Rattle.bl_names_tree.specs.declared.stmt.NamedBranch.{NamedBranch, roll-Name
 use Rattle.bl_names_tree.specs.declared.stmt.NamedStmt.{NamedStmt, roll-NamedStmt}
 use Rattle.bl_names_tree.specs.declared.stmt.NamedStmtKind.{NamedStmtKind}
 use Rattle.bl_names_tree.specs.declared.stmt.NamedStmtKind.TheVariants as what
+use Rattle.bl_names_scopes.specs.declared.heading.Heading.{Heading}
+use Rattle.bl_names_scopes.specs.declared.kind.Kind.{Kind}
 use Rattle.bl_names_scopes.specs.declared.kind.Kind.TheVariants as kind
 use Rattle.bl_names_scopes.specs.declared.kind.Wanted.TheVariants as wanted
 use Rattle.bl_names_scopes.specs.Marks.{
@@ -49,7 +55,7 @@ use Rattle.bl_names_scopes.specs.Marks.{
 }
 use Rattle.bl_names.specs.Naming.{named_expr, named_path, named_target, named_type, position}
 use Rattle.bl_names.specs.Order.{order_of}
-use Rattle.bl_names_scopes.specs.Scopes.{Scopes, after, enter, file_scope}
+use Rattle.bl_names_scopes.specs.Scopes.{Scopes, after, enter, file_scope, opened_by}
 
 -- the naming of a part of a program: its marks, its named form in open scopes, and the variables and constants that it declares
 pub record Piece (A : Type 0) : Type 0 where
@@ -311,6 +317,50 @@ named_program items bytes = record {
   structs = along structs_of file_scope items;
   constants = along constants_of file_scope items;
   units = along units_of file_scope items;
+  order = order_of items;
+  bytes = bytes;
+}
+
+-- ---- behind headings
+
+-- a struct without fields
+abbrev pub empty_struct : Name → NamedStruct
+empty_struct name = record { name = name; fields = [] }
+
+-- an empty struct stands for the heading of a struct
+abbrev pub blank_struct : Kind → Name → List NamedStruct
+blank_struct kind.Struct name = empty_struct name ∷ []
+blank_struct _ name = []
+
+-- a constant without a type, of value 0
+abbrev pub zero_constant : Name → NamedConstant
+zero_constant name = record { name = name; ty = None; value = roll-NamedExpr (record { place = name.place; what = expr_kind.Number false 0 }) }
+
+-- a constant of value 0 stands for the heading of a constant
+abbrev pub blank_constant : Kind → Name → List NamedConstant
+blank_constant kind.Constant name = zero_constant name ∷ []
+blank_constant _ name = []
+
+-- a unit without parameters, result, statements and mark
+abbrev pub empty_unit : UnitKind → Name → NamedUnit
+empty_unit kind name = record { entry = false; kind = kind; name = name; vars = []; inputs = 0; outputs = 0; result = None; body = [] }
+
+-- an empty unit stands for the heading of a unit
+abbrev pub blank_unit : Kind → Name → List NamedUnit
+blank_unit kind.Function name = empty_unit unit.Function name ∷ []
+blank_unit kind.Activity name = empty_unit unit.Activity name ∷ []
+blank_unit _ name = []
+
+-- what stands for headings in order
+abbrev pub blanks : {A : Type 0} → (Kind → Name → List A) → List Heading → List A
+blanks blank headings = joined (map (λ heading. blank heading.kind heading.name) headings)
+
+-- a program behind headings: before its own structs, constants and units blank ones stand for the headings, so positions are those of the scopes
+abbrev pub named_behind : List Heading → List RawItem → ℕ → Named
+named_behind headings items bytes = record {
+  structs = blanks blank_struct headings ++ along structs_of (opened_by headings) items;
+  constants = blanks blank_constant headings ++ along constants_of (opened_by headings) items;
+  units = blanks blank_unit headings ++ along units_of (opened_by headings) items;
   order = order_of items;
   bytes = bytes;
 }

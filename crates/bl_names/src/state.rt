@@ -3,12 +3,17 @@
 ghost use Rattle.std.specs.Prelude.{◌≡◌, ◌++◌, ◌∷◌, [], IfOk, OnOk};
 ghost use Rattle.bl_names_scopes.specs.Marks.{declares};
 ghost use Rattle.bl_names_scopes.specs.Scopes.{enter};
-ghost use Rattle.bl_names.specs.inner.Past.{begun, with_constant, with_variable};
+ghost use Rattle.bl_names.specs.Named.{empty_struct, empty_unit, zero_constant};
+ghost use Rattle.bl_names.specs.inner.Past.{begun, with_blank, with_constant, with_heading, with_variable};
 
+use crate::expr::copy_of;
+use bl_names_scopes::heading::Heading;
 use bl_names_scopes::kind::Kind;
 use bl_names_scopes::scopes::Scopes;
+use bl_names_tree::expr::{NamedExpr, NamedExprKind};
 use bl_names_tree::item::{NamedConstant, NamedStruct, NamedUnit, NamedVar};
 use bl_parse_tree::name::Name;
+use bl_tree::tree::UnitKind;
 use bl_tree::{List, NoMemory};
 use std::alloc::Global;
 
@@ -23,9 +28,19 @@ pub struct State<'a> {
 }
 
 impl<'a> State<'a> {
-    /// At the start of a program.
-    pub fn new(alloc: Global) -> State<'a>
-        ensures { result ≡ begun }
+    /// At the start of a program behind headings.
+    pub fn behind(alloc: Global, headings: &'a [Heading]) -> Result<State<'a>, NoMemory>
+        ensures { IfOk result (λ state. state ≡ begun headings.now) }
+    {
+        let mut state = State::new(alloc);
+        for heading in headings {
+            state.add_heading(alloc, heading)?;
+        }
+        Ok(state)
+    }
+
+    fn new(alloc: Global) -> State<'a>
+        ensures { result ≡ begun [] }
     {
         State {
             scopes: Scopes::new(alloc),
@@ -34,6 +49,31 @@ impl<'a> State<'a> {
             units: List::new(alloc),
             vars: List::new(alloc),
         }
+    }
+
+    fn add_heading(&mut self, alloc: Global, heading: &'a Heading) -> Result<(), NoMemory>
+        ensures { OnOk result (self.new ≡ with_heading self.old heading.now) }
+    {
+        self.scopes.declare(&heading.name, heading.kind)?;
+        self.add_blank(alloc, heading.kind, &heading.name)
+    }
+
+    /// Something without parts stands for a heading, so that each item has its position behind it.
+    fn add_blank(&mut self, alloc: Global, kind: Kind, name: &Name) -> Result<(), NoMemory>
+        ensures { OnOk result (self.new ≡ with_blank kind name.now self.old) }
+    {
+        match kind {
+            Kind::Struct => self.structs.push(empty_struct(alloc, name)?)?,
+            Kind::Constant => self.constants.push(zero_constant(alloc, name)?)?,
+            Kind::Function => self
+                .units
+                .push(empty_unit(alloc, UnitKind::Function, name)?)?,
+            Kind::Activity => self
+                .units
+                .push(empty_unit(alloc, UnitKind::Activity, name)?)?,
+            Kind::Variable | Kind::Field => {}
+        }
+        Ok(())
     }
 
     /// Declares a variable, and answers its position.
@@ -61,4 +101,41 @@ impl<'a> State<'a> {
         self.scopes.declare(name, Kind::Constant)?;
         Ok(position)
     }
+}
+
+fn empty_struct(alloc: Global, name: &Name) -> Result<NamedStruct, NoMemory>
+    ensures { IfOk result (λ made. made ≡ empty_struct name.now) }
+{
+    Ok(NamedStruct {
+        name: copy_of(alloc, name)?,
+        fields: List::new(alloc),
+    })
+}
+
+fn zero_constant(alloc: Global, name: &Name) -> Result<NamedConstant, NoMemory>
+    ensures { IfOk result (λ made. made ≡ zero_constant name.now) }
+{
+    Ok(NamedConstant {
+        name: copy_of(alloc, name)?,
+        ty: None,
+        value: NamedExpr {
+            place: name.place,
+            what: NamedExprKind::Number(false, 0),
+        },
+    })
+}
+
+fn empty_unit(alloc: Global, kind: UnitKind, name: &Name) -> Result<NamedUnit, NoMemory>
+    ensures { IfOk result (λ made. made ≡ empty_unit kind name.now) }
+{
+    Ok(NamedUnit {
+        entry: false,
+        kind,
+        name: copy_of(alloc, name)?,
+        vars: List::new(alloc),
+        inputs: 0,
+        outputs: 0,
+        result: None,
+        body: List::new(alloc),
+    })
 }

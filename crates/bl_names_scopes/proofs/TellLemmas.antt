@@ -3,12 +3,11 @@ use Rattle.std.proofs.Common.{◌≡◌, List, [], ◌∷◌, ◌++◌, inl, inr
 use Rattle.bl_tree.specs.declared.rule.Failure.{Failure}
 use Rattle.bl_tree.specs.Rules.{first_of}
 use Rattle.bl_tree.proofs.FirstLemmas.{In}
-use Rattle.bl_parse_tree.specs.declared.item.RawItem.{RawItem}
 use Rattle.bl_names_scopes.specs.declared.judge.Judge.{Judge}
 use Rattle.bl_names_scopes.specs.inner.Failures.{failure_at}
 use Rattle.bl_names_scopes.specs.inner.Judged.{first_failure, fresh, judged, judged_by, kept}
-use Rattle.bl_names_scopes.specs.Marks.{Mark, Marks, marks_of}
-use Rattle.bl_names_scopes.specs.Scopes.{Scopes, after, enter, file_scope}
+use Rattle.bl_names_scopes.specs.Marks.{Mark, Marks}
+use Rattle.bl_names_scopes.specs.Scopes.{Scopes, after, enter}
 
 abbrev listed : Option Failure → List Failure → List Failure
 listed (Some failure) rest = failure ∷ rest
@@ -19,10 +18,6 @@ abbrev pub told : Scopes → Marks → List Failure
 told scopes [] = []
 told scopes (mark ∷ rest) = listed (failure_at scopes mark) (told (enter scopes mark) rest)
 
--- what fails in a program
-abbrev pub failures : List RawItem → List Failure
-failures items = told file_scope (marks_of items)
-
 first_listed : (first found : Option Failure) (rest : List Failure) → first_of (kept first found) rest ≡ first_of first (listed found rest)
 first_listed first (Some failure) rest = refl
 first_listed first None rest = refl
@@ -32,8 +27,8 @@ judged_first judge [] = refl
 judged_first judge (mark ∷ rest) =
     judged_first (judged judge mark) rest ∙ first_listed judge.first (failure_at judge.scopes mark) (told (enter judge.scopes mark) rest)
 
-pub first_is_told : (items : List RawItem) → first_failure items ≡ first_of None (failures items)
-first_is_told items = judged_first fresh (marks_of items)
+pub first_is_told : (start : Scopes) (marks : Marks) → first_failure start marks ≡ first_of None (told start marks)
+first_is_told start marks = judged_first (fresh start) marks
 
 -- this fails at a mark behind others
 pub record Happens (scopes : Scopes) (marks : Marks) (failure : Failure) : Type 0 where

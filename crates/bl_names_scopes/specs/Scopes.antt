@@ -4,6 +4,7 @@ use Rattle.std.specs.Borrow.{Bor}
 use Rattle.std.specs.Map.{lookup}
 use Rattle.std.specs.Option.{option_or}
 use Rattle.bl_parse_tree.specs.declared.name.Name.{Name}
+use Rattle.bl_names_scopes.specs.declared.heading.Heading.{Heading}
 use Rattle.bl_names_scopes.specs.declared.kind.Kind.{Kind}
 use Rattle.bl_names_scopes.specs.declared.kind.Kind.TheVariants as kind
 use Rattle.bl_names_scopes.specs.declared.scopes.Counts.{Counts}
@@ -100,3 +101,11 @@ enter scopes (uses name wanted) = scopes
 abbrev pub after : Scopes → Marks → Scopes
 after scopes [] = scopes
 after scopes (mark ∷ rest) = after (enter scopes mark) rest
+
+-- a heading declares its name as what it is
+abbrev pub heading_mark : Heading → Mark
+heading_mark heading = declares heading.name heading.kind
+
+-- the scope of a file behind headings, which declare their names in order
+abbrev pub opened_by : List Heading → Scopes
+opened_by headings = after file_scope (map heading_mark headings)

@@ -1,11 +1,13 @@
 //! What is judged on the way through a program: the open scopes, and the first failure so far.
 
-ghost use Rattle.std.specs.Prelude.{◌≡◌, OnOk};
+ghost use Rattle.std.specs.Prelude.{◌≡◌, IfOk, OnOk};
 ghost use Rattle.bl_tree.specs.Rules.{lesser};
 ghost use Rattle.bl_names_scopes.specs.inner.Failures.{failure};
 ghost use Rattle.bl_names_scopes.specs.inner.Judged.{fresh, judged};
 ghost use Rattle.bl_names_scopes.specs.Marks.{closes, declares, opens, uses};
+ghost use Rattle.bl_names_scopes.specs.Scopes.{opened_by};
 
+use crate::heading::Heading;
 use crate::kind::{Kind, Wanted, suits};
 use crate::scopes::Scopes;
 use bl_parse_tree::name::Name;
@@ -21,13 +23,14 @@ pub struct Judge<'a> {
 }
 
 impl<'a> Judge<'a> {
-    pub fn new(alloc: Global) -> Judge<'a>
-        ensures { result ≡ fresh }
+    /// Behind headings nothing has failed yet.
+    pub fn behind(alloc: Global, headings: &'a [Heading]) -> Result<Judge<'a>, NoMemory>
+        ensures { IfOk result (λ judge. judge ≡ fresh (opened_by headings.now)) }
     {
-        Judge {
-            scopes: Scopes::new(alloc),
+        Ok(Judge {
+            scopes: Scopes::behind(alloc, headings)?,
             first: None,
-        }
+        })
     }
 
     /// A scope begins.

@@ -2,8 +2,10 @@
 
 ghost use Rattle.std.specs.Prelude.{◌≡◌, ◌+◌, None, IfOk, OnOk, reverse};
 ghost use Rattle.bl_names_scopes.specs.Marks.{closes, declares, opens};
-ghost use Rattle.bl_names_scopes.specs.Scopes.{bound, bound_around, count_of, counted, declared, enter, file_scope, found, no_counts, nothing, with_name};
+ghost use Rattle.bl_names_scopes.specs.Scopes.{bound, bound_around, count_of, counted, declared, enter, file_scope, found, no_counts, nothing};
+ghost use Rattle.bl_names_scopes.specs.Scopes.{opened_by, with_name};
 
+use crate::heading::Heading;
 use crate::kind::Kind;
 use bl_parse_tree::name::Name;
 use bl_tree::{NoMemory, Place};
@@ -184,6 +186,17 @@ impl<'a> Scopes<'a> {
             outer: Vec::new(alloc),
             counts: Counts::new(),
         }
+    }
+
+    /// The scope of a file behind headings.
+    pub fn behind(alloc: Global, headings: &'a [Heading]) -> Result<Scopes<'a>, NoMemory>
+        ensures { IfOk result (λ scopes. scopes ≡ opened_by headings.now) }
+    {
+        let mut scopes = Scopes::new(alloc);
+        for heading in headings {
+            scopes.declare(&heading.name, heading.kind)?;
+        }
+        Ok(scopes)
     }
 
     pub fn open(&mut self, alloc: Global) -> Result<(), NoMemory>

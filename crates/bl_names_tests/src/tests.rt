@@ -3,12 +3,15 @@
 ghost use Rattle.std.specs.Prelude.{◌<◌, length};
 
 use bl_lex::lex;
-use bl_names::resolve;
+use bl_names::resolve_behind;
+use bl_names_scopes::heading::Heading;
+use bl_names_scopes::kind::Kind;
 use bl_names_tree::Named;
 use bl_names_tree::expr::{NamedExpr, NamedExprKind, NamedTarget, Root};
 use bl_names_tree::stmt::{NamedStmt, NamedStmtKind};
 use bl_parse::parse;
-use bl_tree::{List, NoMemory, Refusal};
+use bl_parse_tree::name::Name;
+use bl_tree::{List, NoMemory, Place, Refusal, Text};
 use std::alloc::Global;
 use std::process::Abort;
 
@@ -29,12 +32,23 @@ end
 const last = size
 ";
 
-fn named(alloc: Global, text: &str) -> Result<Named, Refusal>
+/// Uses a constant and a function that are declared before it.
+const BEHIND: &str = "
+@[EntryPoint] activity Main()(out: int32)
+  const own = size
+  repeat
+    out = Twice(own)
+    await true
+  until out == size end
+end
+";
+
+fn named(alloc: Global, headings: &[Heading], text: &str) -> Result<Named, Refusal>
     requires { length text.now < 4294967296 }
 {
     let tokens = lex(alloc, text.as_bytes())?;
     let raw = parse(alloc, text.as_bytes(), &tokens)?;
-    resolve(alloc, &raw)
+    resolve_behind(alloc, headings, &raw)
 }
 
 /// A variable by its position, and a constant by a letter before it.
@@ -132,13 +146,58 @@ const IN_UNITS: [(char, u32); 13] = [
 #[test]
 fn an_inner_name_hides_an_outer_one(rt: HostRuntime) -> Result<(), NoMemory> {
     let alloc = rt.alloc();
-    match named(alloc, TEXT) {
+    match named(alloc, &[], TEXT) {
         Ok(named) => {
             assert_eq!(&rt; in_units(alloc, &named)?.as_slice(), IN_UNITS.as_slice());
             assert_eq!(&rt;
                 in_constants(alloc, &named)?.as_slice(),
                 [('c', 0)].as_slice()
             );
+        }
+        Err(_) => assert!(&rt; false),
+    }
+    Ok(())
+}
+
+fn heading(alloc: Global, name: &str, kind: Kind) -> Result<Heading, NoMemory> {
+    Ok(Heading {
+        name: Name {
+            text: Text::copy_of(alloc, name)?,
+            place: Place { start: 0, end: 0 },
+        },
+        kind,
+    })
+}
+
+/// An activity, a constant and a function.
+fn headings(alloc: Global) -> Result<List<Heading>, NoMemory> {
+    let mut made = List::new(alloc);
+    made.push(heading(alloc, "Other", Kind::Activity)?)?;
+    made.push(heading(alloc, "size", Kind::Constant)?)?;
+    made.push(heading(alloc, "Twice", Kind::Function)?)?;
+    Ok(made)
+}
+
+const IN_UNIT_BEHIND: [(char, u32); 6] = [
+    ('k', 1),
+    ('v', 0),
+    ('u', 1),
+    ('c', 1),
+    ('v', 0),
+    ('c', 0),
+];
+
+#[test]
+fn a_use_may_bind_to_what_is_declared_before(rt: HostRuntime) -> Result<(), NoMemory> {
+    let alloc = rt.alloc();
+    match named(alloc, &headings(alloc)?, BEHIND) {
+        Ok(named) => {
+            assert_eq!(&rt;
+                in_units(alloc, &named)?.as_slice(),
+                IN_UNIT_BEHIND.as_slice()
+            );
+            assert_eq!(&rt; named.constants.len(), 2);
+            assert_eq!(&rt; named.units.len(), 3);
         }
         Err(_) => assert!(&rt; false),
     }

@@ -1,19 +1,39 @@
 -- What is made of a program behind its parts.
-use Rattle.std.specs.Prelude.{[], ◌∷◌, ◌++◌}
+use Rattle.std.specs.Prelude.{List, [], ◌∷◌, ◌++◌}
 use Rattle.bl_names_tree.specs.declared.item.NamedConstant.{NamedConstant}
 use Rattle.bl_names_tree.specs.declared.item.NamedVar.{NamedVar}
+use Rattle.bl_names_scopes.specs.declared.heading.Heading.{Heading}
+use Rattle.bl_names_scopes.specs.declared.kind.Kind.{Kind}
 use Rattle.bl_names_scopes.specs.declared.kind.Kind.TheVariants as kind
 use Rattle.bl_names_scopes.specs.Marks.{declares, struct_marks, unit_marks}
-use Rattle.bl_names_scopes.specs.Scopes.{after, enter, file_scope}
+use Rattle.bl_names_scopes.specs.Scopes.{after, enter, heading_mark, opened_by}
 use Rattle.bl_parse_tree.specs.declared.item.RawStruct.{RawStruct}
 use Rattle.bl_parse_tree.specs.declared.item.RawUnit.{RawUnit}
 use Rattle.bl_parse_tree.specs.declared.name.Name.{Name}
 use Rattle.bl_names.specs.declared.state.State.{State}
-use Rattle.bl_names.specs.Named.{Piece, constants_in_unit, named_struct, named_unit}
+use Rattle.bl_names.specs.Named.{Piece, blank_constant, blank_struct, blank_unit, blanks, constants_in_unit, named_struct, named_unit}
 
--- the state of naming at the start of a program
-abbrev pub begun : State
-begun = record { scopes = file_scope; structs = []; constants = []; units = []; vars = [] }
+-- the state of naming at the start of a program behind headings
+abbrev pub begun : List Heading → State
+begun headings = record {
+  scopes = opened_by headings;
+  structs = blanks blank_struct headings;
+  constants = blanks blank_constant headings;
+  units = blanks blank_unit headings;
+  vars = [];
+}
+
+-- the state of naming after the blank item that stands for a heading of this kind and name
+abbrev pub with_blank : Kind → Name → State → State
+with_blank kind.Struct name state = record state { structs = state.structs ++ blank_struct kind.Struct name }
+with_blank kind.Constant name state = record state { constants = state.constants ++ blank_constant kind.Constant name }
+with_blank kind.Function name state = record state { units = state.units ++ blank_unit kind.Function name }
+with_blank kind.Activity name state = record state { units = state.units ++ blank_unit kind.Activity name }
+with_blank _ name state = state
+
+-- the state of naming after a heading
+abbrev pub with_heading : State → Heading → State
+with_heading state heading = with_blank heading.kind heading.name (record state { scopes = enter state.scopes (heading_mark heading) })
 
 -- the state of naming after the declaration of a variable
 abbrev pub with_variable : State → Name → NamedVar → State

@@ -1,12 +1,11 @@
 -- What a judge remembers after marks.
-use Rattle.std.specs.Prelude.{List, [], ◌∷◌, Option, Some, None}
+use Rattle.std.specs.Prelude.{[], ◌∷◌, Option, Some, None}
 use Rattle.bl_tree.specs.declared.rule.Failure.{Failure}
 use Rattle.bl_tree.specs.Rules.{lesser}
-use Rattle.bl_parse_tree.specs.declared.item.RawItem.{RawItem}
 use Rattle.bl_names_scopes.specs.declared.judge.Judge.{Judge}
 use Rattle.bl_names_scopes.specs.inner.Failures.{failure_at}
-use Rattle.bl_names_scopes.specs.Marks.{Mark, Marks, marks_of}
-use Rattle.bl_names_scopes.specs.Scopes.{enter, file_scope}
+use Rattle.bl_names_scopes.specs.Marks.{Mark, Marks}
+use Rattle.bl_names_scopes.specs.Scopes.{Scopes, enter}
 
 -- the first failure so far, or the given one if that comes before it
 abbrev pub kept : Option Failure → Option Failure → Option Failure
@@ -25,10 +24,10 @@ abbrev pub judged_by : Judge → Marks → Judge
 judged_by judge [] = judge
 judged_by judge (mark ∷ rest) = judged_by (judged judge mark) rest
 
--- a judge at the start of a file
-abbrev pub fresh : Judge
-fresh = record { scopes = file_scope; first = None }
+-- a judge that has seen no mark, where these scopes are open
+abbrev pub fresh : Scopes → Judge
+fresh start = record { scopes = start; first = None }
 
--- the first failure in a program
-abbrev pub first_failure : List RawItem → Option Failure
-first_failure items = (judged_by fresh (marks_of items)).first
+-- the first failure at marks that begin where the scopes of the start are open
+abbrev pub first_failure : Scopes → Marks → Option Failure
+first_failure start marks = (judged_by (fresh start) marks).first
