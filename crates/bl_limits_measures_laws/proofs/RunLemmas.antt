@@ -1,9 +1,9 @@
--- The `run` statements of units whose statements begin one after another stand at places of their own.
+-- The `run` statements of units whose statements and conditions of loops begin one after another stand at places of their own.
 use Rattle.std.proofs.Common.{◌≡◌, ℕ, zero, suc, Bool, true, false, ◌&&◌, List, [], ◌∷◌, ◌++◌, map, get_or, Some, refl, sym, subst, arith}
 use Rattle.std.specs.Prelude.{All, AllPairs, nat_eq, nat_lt, slice_get}
 use Rattle.std.specs.List.{list_all}
 use Rattle.std.proofs.lemmas.Bool.Decides.{nat_tests}
-use Rattle.std.proofs.lemmas.List.{map-append}
+use Rattle.std.proofs.lemmas.List.{append-nil, map-append}
 use Rattle.std.proofs.lemmas.List.Elements.{All-cons, All-head, All-nil, All-tail}
 use Rattle.std.proofs.lemmas.List.Kept.{AllPairs-cons}
 use Rattle.std.proofs.lemmas.Option.{same_Some}
@@ -20,7 +20,7 @@ use Rattle.bl_tree.proofs.StmtInduction.{Each, EachArm, EachBranch, induct, stmt
 use Rattle.bl_parse_tree.specs.Starts.{ascends}
 use Rattle.bl_ctree.specs.declared.instance.Run.{Run}
 use Rattle.bl_ctree.specs.Instances.{arm_runs, branch_runs, kind_runs, runs_in, runs_in_arm, runs_in_branch, stmt_layer_runs}
-use Rattle.bl_types_laws.specs.Starts.{StatementOffsets, all_starts, arm_layer_starts, branch_layer_starts, starts_of, stmt_kind_starts, stmt_layer_starts, unit_starts}
+use Rattle.bl_types_laws.specs.Starts.{StatementOffsets, all_starts, arm_layer_starts, branch_layer_starts, start_of, starts_of, stmt_kind_starts, stmt_layer_starts, unit_starts}
 use Rattle.bl_types_laws.specs.inner.Starts.{starts_of_arm, starts_of_branch}
 use Rattle.bl_limits_measures_laws.specs.Laws.{OrderedRunsStandApart}
 
@@ -36,6 +36,14 @@ picked_append : {a b c d : List ℕ} → Picked a b → Picked c d → Picked (a
 picked_append none rest = rest
 picked_append (left y more) rest = left y (picked_append more rest)
 picked_append (taken x more) rest = taken x (picked_append more rest)
+
+picked_none : (ys : List ℕ) → Picked [] ys
+picked_none [] = none
+picked_none (y ∷ ys) = left y (picked_none ys)
+
+-- what is picked from the front of a list
+picked_front : (xs ys zs : List ℕ) → Picked xs ys → Picked xs (ys ++ zs)
+picked_front xs ys zs picked = subst (λ l. Picked l (ys ++ zs)) (append-nil xs) (picked_append picked (picked_none zs))
 
 both : {a b : Bool} → a ≡ true → b ≡ true → (a && b) ≡ true
 both one two = λ i. one i && two i
@@ -145,8 +153,9 @@ begins = induct Begins (record {
   cobegin = λ place all each. within place (StmtKind-F.Cobegin all) (left place.start (branches all each));
   guarded = λ place guard e body each. within place (StmtKind-F.When guard e body) (left place.start (block body each));
   repeat = λ place body each. within place (StmtKind-F.Repeat body) (left place.start (block body each));
-  until = λ place body e each. within place (StmtKind-F.Until body e) (left place.start (block body each));
-  while = λ place e body each. within place (StmtKind-F.While e body) (left place.start (block body each));
+  until = λ place body e each. within place (StmtKind-F.Until body e)
+      (left place.start (picked_front (begin (joined (map runs_in body))) (joined (map starts_of body)) (start_of e ∷ []) (block body each)));
+  while = λ place e body each. within place (StmtKind-F.While e body) (left place.start (left (start_of e) (block body each)));
   returns = λ place e. within place (StmtKind-F.Return e) (left place.start none);
 })
 

@@ -32,7 +32,7 @@ InstancesAreCounted =
     (units : List UnitDef) (k : ℕ) → UsesEarlier units → ((j : ℕ) (unit : UnitDef) → slice_get units j ≡ Some unit → RunsStandApart unit)
     → length (instances_of units k) ≡ instances_at units k
 
--- where statements begin one after another, the `run` statements of each unit stand at places of their own
+-- where statements and the conditions of loops begin one after another, the `run` statements of each unit stand at places of their own
 abbrev pub OrderedRunsStandApart : Type 0
 OrderedRunsStandApart = (units : List UnitDef) → IsTrue (ascends (all_starts units)) → (j : ℕ) (unit : UnitDef) → slice_get units j ≡ Some unit
     → RunsStandApart unit

@@ -26,7 +26,7 @@ pub fn ordered_runs_stand_apart()
 {}
 
 /// The number of instances of a typed program that a raw tree has is how many the list of them has: its units use earlier ones, and its
-/// statements begin one after another.
+/// statements and the conditions of its loops begin one after another.
 pub fn typed_instances_are_counted()
     ensures { TypedInstancesAreCounted }
 {

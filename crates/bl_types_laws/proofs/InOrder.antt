@@ -1,4 +1,4 @@
--- The statements of a typed program begin one after another.
+-- The statements of a typed program and the conditions of its loops begin one after another.
 use Rattle.std.proofs.Common.{◌≡◌, ℕ, true, false, map, refl, sym, ◌∙◌}
 use Rattle.std.specs.Prelude.{List, IsTrue}
 use Rattle.bl_tree.specs.declared.tree.Stmt.{fold-Stmt}

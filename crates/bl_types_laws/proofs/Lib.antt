@@ -49,6 +49,7 @@ pub mod Onward
 pub mod Standing
 pub mod Starts
 pub mod Occurrences
+pub mod Conditions
 pub mod Places
 pub mod Reached
 pub mod StructTurn

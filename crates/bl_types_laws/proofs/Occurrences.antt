@@ -21,9 +21,11 @@ use Rattle.std.proofs.Common.{
   ◌⊎◌,
   arith,
 }
+use Rattle.std.proofs.lemmas.List.{append-nil}
 use Rattle.bl_tree.specs.declared.place.Place.{Place}
 use Rattle.bl_tree.specs.declared.tree.Arm.{Arm, fold-Arm, fold_out-Arm, out-Arm}
 use Rattle.bl_tree.specs.declared.tree.Branch.{Branch, fold-Branch, fold_out-Branch, out-Branch}
+use Rattle.bl_tree.specs.declared.tree.Expr.{Expr, out-Expr}
 use Rattle.bl_tree.specs.declared.tree.Stmt.{Stmt, fold-Stmt, fold_out-Stmt, out-Stmt}
 use Rattle.bl_tree.specs.declared.tree.StmtKind.{StmtKind, fold-StmtKind, fold_out-StmtKind, map-StmtKind, out-StmtKind}
 use Rattle.bl_tree.specs.declared.tree.StmtKind.TheOpen.{StmtKind-F, Arm-F, Branch-F, Stmt-F}
@@ -47,12 +49,29 @@ use Rattle.bl_tree.specs.Within.{
 }
 use Rattle.bl_tree.proofs.FirstLemmas.{In, contains_in}
 use Rattle.bl_parse_tree.specs.Starts.{ascends}
-use Rattle.bl_types_laws.proofs.Starts.{ascends_rest, first_less, in_joined, one_part, one_position, part_ascends}
+use Rattle.bl_types_laws.proofs.Starts.{
+  Picked,
+  ascends_rest,
+  first_less,
+  in_joined,
+  left,
+  one_part,
+  one_position,
+  part_ascends,
+  picked_append,
+  picked_ascends,
+  picked_in,
+  picked_none,
+  picked_self,
+}
 
--- ---- where statements begin
+-- ---- where statements and the conditions of loops begin
 
 abbrev pub Starts : Type 0
 Starts = List ℕ
+
+abbrev pub start_of : Expr → ℕ
+start_of e = (out-Expr e).place.start
 
 abbrev pub kind_starts : StmtKind-F Starts Starts Starts Starts → Starts
 kind_starts (StmtKind-F.Declare k value) = []
@@ -64,8 +83,8 @@ kind_starts (StmtKind-F.If arms other) = joined arms ++ joined other
 kind_starts (StmtKind-F.Cobegin branches) = joined branches
 kind_starts (StmtKind-F.When guard e body) = joined body
 kind_starts (StmtKind-F.Repeat body) = joined body
-kind_starts (StmtKind-F.Until body e) = joined body
-kind_starts (StmtKind-F.While e body) = joined body
+kind_starts (StmtKind-F.Until body e) = joined body ++ (start_of e ∷ [])
+kind_starts (StmtKind-F.While e body) = start_of e ∷ joined body
 kind_starts (StmtKind-F.Return e) = []
 
 abbrev pub arm_layer : Arm-F Starts Starts Starts Starts → Starts
@@ -77,7 +96,7 @@ branch_layer branch = joined branch.body
 abbrev pub stmt_layer : Stmt-F Starts Starts Starts Starts → Starts
 stmt_layer s = s.place.start ∷ s.what
 
--- where a statement and those in it begin
+-- where a statement, those in it and the conditions of its loops begin
 abbrev pub starts_of : Stmt → Starts
 starts_of = fold-Stmt Starts Starts Starts Starts kind_starts arm_layer branch_layer stmt_layer
 
@@ -135,32 +154,43 @@ branch_bodies (branch ∷ rest) =
     ap (λ l. branch_starts branch ++ l) (branch_bodies rest) ∙ sym (block_append (out-Branch branch).body
     (joined (map (λ (branch : Branch). (out-Branch branch).body) rest)))
 
-of_children : (layer : Layer) → layer_starts layer ≡ block_starts (kind_children layer)
-of_children (StmtKind-F.Declare k value) = refl
-of_children (StmtKind-F.Assign path e) = refl
-of_children (StmtKind-F.Call f inputs outputs) = refl
-of_children (StmtKind-F.Await e) = refl
-of_children (StmtKind-F.Run target a inputs outputs) = refl
+-- those directly in the blocks begin among all that stands in a kind of statement: the conditions of loops are left out
+of_children : (layer : Layer) → Picked (block_starts (kind_children layer)) (layer_starts layer)
+of_children (StmtKind-F.Declare k value) = picked_none []
+of_children (StmtKind-F.Assign path e) = picked_none []
+of_children (StmtKind-F.Call f inputs outputs) = picked_none []
+of_children (StmtKind-F.Await e) = picked_none []
+of_children (StmtKind-F.Run target a inputs outputs) = picked_none []
 of_children (StmtKind-F.If arms other) =
-    ap (λ l. l ++ block_starts other) (of_arms arms) ∙ sym (block_append (joined (map (λ (arm : Arm). (out-Arm arm).body) arms)) other)
-of_children (StmtKind-F.Cobegin branches) = of_branches branches ∙ branch_bodies branches
-of_children (StmtKind-F.When guard e body) = refl
-of_children (StmtKind-F.Repeat body) = refl
-of_children (StmtKind-F.Until body e) = refl
-of_children (StmtKind-F.While e body) = refl
-of_children (StmtKind-F.Return e) = refl
+    let bodies = joined (map (λ (arm : Arm). (out-Arm arm).body) arms) in
+    subst (Picked (block_starts (bodies ++ other))) (sym (ap (λ l. l ++ block_starts other) (of_arms arms) ∙ sym (block_append bodies other)))
+    (picked_self (block_starts (bodies ++ other)))
+of_children (StmtKind-F.Cobegin branches) =
+    let bodies = joined (map (λ (branch : Branch). (out-Branch branch).body) branches) in
+    subst (Picked (block_starts bodies)) (sym (of_branches branches ∙ branch_bodies branches)) (picked_self (block_starts bodies))
+of_children (StmtKind-F.When guard e body) = picked_self (block_starts body)
+of_children (StmtKind-F.Repeat body) = picked_self (block_starts body)
+of_children (StmtKind-F.Until body e) =
+    subst (λ l. Picked l (block_starts body ++ start_of e ∷ [])) (append-nil (block_starts body))
+    (picked_append (picked_self (block_starts body)) (picked_none (start_of e ∷ [])))
+of_children (StmtKind-F.While e body) = left (start_of e) (picked_self (block_starts body))
+of_children (StmtKind-F.Return e) = picked_none []
 
-starts_by : (s : Stmt) → starts_of s ≡ (place_of s).start ∷ layer_starts (out-StmtKind (out-Stmt s).what)
+-- where all that stands in a statement begins
+abbrev inside : Stmt → Starts
+inside s = layer_starts (out-StmtKind (out-Stmt s).what)
+
+-- a statement begins, and then all that stands in it
+starts_by : (s : Stmt) → starts_of s ≡ (place_of s).start ∷ inside s
 starts_by s =
     fold_out-Stmt Starts Starts Starts Starts kind_starts arm_layer branch_layer stmt_layer s
     ∙ ap (λ rest. (place_of s).start ∷ rest) (kind_is (out-Stmt s).what (out-StmtKind (out-Stmt s).what) refl)
 
--- a statement begins, and then those directly in its blocks, with all that stands in them
-pub starts_are : (s : Stmt) → starts_of s ≡ (place_of s).start ∷ block_starts (children s)
-starts_are s = starts_by s ∙ ap (λ rest. (place_of s).start ∷ rest) (of_children (out-StmtKind (out-Stmt s).what))
+children_inside : (s : Stmt) → Picked (block_starts (children s)) (inside s)
+children_inside s = of_children (out-StmtKind (out-Stmt s).what)
 
 children_ascend : (s : Stmt) → ascends (starts_of s) ≡ true → ascends (block_starts (children s)) ≡ true
-children_ascend s up = ascends_rest (place_of s).start (block_starts (children s)) (ap ascends (sym (starts_are s)) ∙ up)
+children_ascend s up = picked_ascends (children_inside s) (ascends_rest (place_of s).start (inside s) (ap ascends (sym (starts_by s)) ∙ up))
 
 branches_ascend_by : (layer : Layer) → ascends (layer_starts layer) ≡ true → ascends (joined (map branch_starts (kind_branches layer))) ≡ true
 branches_ascend_by (StmtKind-F.Cobegin branches) up = ap ascends (sym (of_branches branches)) ∙ up
@@ -178,19 +208,22 @@ branches_ascend_by (StmtKind-F.Return e) up = refl
 
 branches_ascend : (s : Stmt) → ascends (starts_of s) ≡ true → ascends (joined (map branch_starts (branches_of s))) ≡ true
 branches_ascend s up =
-    let layer = out-StmtKind (out-Stmt s).what in
-    branches_ascend_by layer (ascends_rest (place_of s).start (layer_starts layer) (ap ascends (sym (starts_by s)) ∙ up))
+    branches_ascend_by (out-StmtKind (out-Stmt s).what) (ascends_rest (place_of s).start (inside s) (ap ascends (sym (starts_by s)) ∙ up))
 
 -- ---- what stands in a statement
 
 starts_there : (s : Stmt) → In (place_of s).start (starts_of s)
-starts_there s = subst (In (place_of s).start) (sym (starts_are s)) (inl refl)
+starts_there s = subst (In (place_of s).start) (sym (starts_by s)) (inl refl)
+
+-- what begins in one directly in the blocks begins in the statement
+child_starts : (outer next : Stmt) (n : ℕ) → In next (children outer) → In n (starts_of next) → In n (inside outer)
+child_starts outer next n there begins = picked_in (children_inside outer) n (in_joined starts_of (children outer) next n there begins)
 
 within_starts : (inner outer : Stmt) → Within inner outer → In (place_of inner).start (starts_of outer)
 within_starts inner outer itself = starts_there inner
 within_starts inner whole (deeper outer next there within) =
-    subst (In (place_of inner).start) (sym (starts_are outer))
-    (inr (in_joined starts_of (children outer) next (place_of inner).start (contains_in next (children outer) there) (within_starts inner next within)))
+    subst (In (place_of inner).start) (sym (starts_by outer))
+    (inr (child_starts outer next (place_of inner).start (contains_in next (children outer) there) (within_starts inner next within)))
 
 within_ascends : (inner outer : Stmt) → Within inner outer → ascends (starts_of outer) ≡ true → ascends (starts_of inner) ≡ true
 within_ascends inner outer itself up = up
@@ -209,8 +242,8 @@ either inner whole (deeper outer next there within) = inr (record { next = next;
 
 below_later : (inner outer : Stmt) → ascends (starts_of outer) ≡ true → Below inner outer → (place_of outer).start < (place_of inner).start
 below_later inner outer up below =
-    first_less (place_of outer).start (block_starts (children outer)) (place_of inner).start (ap ascends (sym (starts_are outer)) ∙ up)
-    (in_joined starts_of (children outer) below.next (place_of inner).start below.is_there (within_starts inner below.next below.within))
+    first_less (place_of outer).start (inside outer) (place_of inner).start (ap ascends (sym (starts_by outer)) ∙ up)
+    (child_starts outer below.next (place_of inner).start below.is_there (within_starts inner below.next below.within))
 
 not_less : (m n : ℕ) → m ≡ n → m < n → ⊥
 not_less m n is less = omega arith

@@ -1,7 +1,6 @@
 -- What is made of statements begins where they do: what fails and the constants of blocks are left out.
 use Rattle.std.proofs.Common.{◌≡◌, ℕ, Bool, true, false, List, [], ◌∷◌, ◌++◌, map, Option, Some, None, refl, subst, sym}
 use Rattle.std.specs.Prelude.{All, option_map, slice_get, if◌then◌else◌}
-use Rattle.std.proofs.lemmas.List.{append-nil}
 use Rattle.std.proofs.lemmas.List.Elements.{All-head, All-tail}
 use Rattle.bl_tree.specs.declared.place.Place.{Place}
 use Rattle.bl_tree.specs.declared.scalar.Scalar.{Scalar as ScalarType}
@@ -54,6 +53,7 @@ use Rattle.bl_types.specs.Statements.{
   walked_branch,
   walked_stmt,
 }
+use Rattle.bl_types_laws.proofs.Conditions.{MadeFrom, condition_from}
 use Rattle.bl_types_laws.proofs.NamedStmtInduction.{Cases, induct, stmt}
 use Rattle.bl_types_laws.proofs.Occurrences.{Starts, block_starts, kind_is, layer_starts, starts_in, starts_of, starts_of_arm, starts_of_branch}
 use Rattle.bl_types_laws.proofs.Starts.{Picked, none, picked_append, picked_none, taken, left}
@@ -158,17 +158,19 @@ guarded_picked guard (Some e) body inside picked = kind_picked (what.When guard 
     picked
 guarded_picked guard None body inside picked = picked_none inside
 
-until_picked : (test : Option Expr) (body : List Stmt) (inside : Starts) (n : ℕ) → Picked (block_starts body) inside →
+until_picked : (test : Option Expr) (body : List Stmt) (inside : Starts) (n : ℕ) → MadeFrom n test → Picked (block_starts body) inside →
     KindPicked (inside ++ n ∷ []) (option_map (λ e. what.Until body e) test)
-until_picked (Some e) body inside n picked =
+until_picked (Some e) body inside n from picked =
     kind_picked (what.Until body e) (StmtKind-F.Until body e) (inside ++ n ∷ []) (what.outs-Until body e)
-    (subst (λ l. Picked l (inside ++ n ∷ [])) (append-nil (block_starts body)) (picked_append picked (picked_none (n ∷ []))))
-until_picked None body inside n picked = picked_none (inside ++ n ∷ [])
+    (subst (λ m. Picked (block_starts body ++ m ∷ []) (inside ++ n ∷ [])) (sym from) (picked_append picked (taken n none)))
+until_picked None body inside n from picked = picked_none (inside ++ n ∷ [])
 
-while_picked : (test : Option Expr) (body : List Stmt) (inside : Starts) (n : ℕ) → Picked (block_starts body) inside →
+while_picked : (test : Option Expr) (body : List Stmt) (inside : Starts) (n : ℕ) → MadeFrom n test → Picked (block_starts body) inside →
     KindPicked (n ∷ inside) (option_map (λ e. what.While e body) test)
-while_picked (Some e) body inside n picked = kind_picked (what.While e body) (StmtKind-F.While e body) (n ∷ inside) (what.outs-While e body) (left n picked)
-while_picked None body inside n picked = picked_none (n ∷ inside)
+while_picked (Some e) body inside n from picked =
+    kind_picked (what.While e body) (StmtKind-F.While e body) (n ∷ inside) (what.outs-While e body)
+    (subst (λ m. Picked (m ∷ block_starts body) (n ∷ inside)) (sym from) (taken n picked))
+while_picked None body inside n from picked = picked_none (n ∷ inside)
 
 arm_picked : (test : Option Expr) (body : List Stmt) (inside : Starts) → Picked (block_starts body) inside →
     Picked (starts_if starts_of_arm (option_map (λ e. arm_of e body) test)) inside
@@ -272,9 +274,10 @@ module _ (constants : List NamedConstant) (vars : List NamedVar) where
         (body_picked body each env));
     until = λ place body e each. by_kind place (NamedStmtKind-F.Until body e)
         (λ env. until_picked (condition (walked_body body env).env e).made (walked_body body env).made (named_block body) (named.start_of e)
-        (body_picked body each env));
+        (condition_from (walked_body body env).env e) (body_picked body each env));
     while = λ place e body each. by_kind place (NamedStmtKind-F.While e body)
-        (λ env. while_picked (condition env e).made (walked_body body env).made (named_block body) (named.start_of e) (body_picked body each env));
+        (λ env. while_picked (condition env e).made (walked_body body env).made (named_block body) (named.start_of e) (condition_from env e)
+        (body_picked body each env));
     returns = λ place e. by_kind place (NamedStmtKind-F.Return e) (λ env. return_picked place e env.result env);
     arm = arm_case;
     branch = branch_case;

@@ -43,6 +43,10 @@ pub picked_none : (ys : List ℕ) → Picked [] ys
 picked_none [] = none
 picked_none (y ∷ ys) = left y (picked_none ys)
 
+pub picked_self : (xs : List ℕ) → Picked xs xs
+picked_self [] = none
+picked_self (x ∷ xs) = taken x (picked_self xs)
+
 pub picked_append : {a b c d : List ℕ} → Picked a b → Picked c d → Picked (a ++ c) (b ++ d)
 picked_append none rest = rest
 picked_append (left y more) rest = left y (picked_append more rest)
@@ -76,6 +80,12 @@ pub in_at : {A : Type 0} (xs : List A) (k : ℕ) (x : A) → slice_get xs k ≡ 
 in_at [] k x is = absurd (cc)
 in_at (y ∷ xs) zero x is = inl (sym (same_Some y x is))
 in_at (y ∷ xs) (suc k) x is = inr (in_at xs k x is)
+
+-- a member of what is picked is one of the whole
+pub picked_in : {xs ys : List ℕ} → Picked xs ys → (n : ℕ) → In n xs → In n ys
+picked_in none n there = absurd there
+picked_in (left y more) n there = inr (picked_in more n there)
+picked_in (taken x more) n there = ⊎_elim (λ is. inl is) (λ later. inr (picked_in more n later)) there
 
 -- a member of the list that is made of a member of another
 pub in_joined : {A B : Type 0} (f : A → List B) (xs : List A) (x : A) (y : B) → In x xs → In y (f x) → In y (joined (map f xs))

@@ -3,8 +3,8 @@
 //! entry, keep what each `Program` keeps (`IsWellTyped` of `bl_tree`), and blocks nest no deeper than in a source. It is put
 //! together from three others. `fits`: what is made of a named tree in which no rule on types fails fits its site
 //! (`specs/Fitting.antt`). `named`: naming gives what `fits` asks of names. `shapes`: what is made of a tree is nested
-//! no deeper, and keeps branches apart. `order`: its statements begin one after another, as those of the raw tree do
-//! (`specs/Starts.antt`).
+//! no deeper, and keeps branches apart. `order`: its statements and the conditions of its loops begin one after another,
+//! as those of the raw tree do (`specs/Starts.antt`).
 #![tactic(auto)]
 
 pub mod fits;

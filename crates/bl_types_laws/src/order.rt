@@ -1,4 +1,5 @@
-//! The law that the statements of a typed program begin one after another, as the contract of a function that does nothing.
+//! The law that the statements of a typed program and the conditions of its loops begin one after another, as the contract of a
+//! function that does nothing.
 
 ghost use Rattle.std.specs.Prelude.{ℕ, List, IsTrue};
 ghost use Rattle.bl_parse_tree.specs.declared.item.RawItem.{RawItem};
@@ -14,7 +15,8 @@ use crate::named::what_is_named_suits;
 use crate::shapes::what_is_made_keeps_shape;
 use bl_names_laws::kept::what_is_named_keeps;
 
-/// The statements of a program in which no rule fails begin one after another, so no two of them have one place.
+/// The statements of a program in which no rule fails, and the conditions of its loops, begin one after another: no two of them have
+/// one place.
 pub fn statements_begin_in_order()
     ensures { (items : List RawItem) (bytes : ℕ) → RawIsWellFormed items → NamesPass items → TypesPass (named_program items bytes) →
         IsTrue (ascends (all_starts (typed_program (named_program items bytes)).units)) }

@@ -66,6 +66,13 @@ covers_more nodes start starts covers = record {
   alone = λ up. covers.alone (ascends_rest start starts up);
 }
 
+-- places that stand behind those
+pub covers_front : (nodes : List Node) (starts more : List ℕ) → Covers nodes starts → Covers nodes (starts ++ more)
+covers_front nodes starts more covers = record {
+  inside = λ l at x there. in_left at.start starts more (covers.inside l at x there);
+  alone = λ up. covers.alone (ascends_left starts more up);
+}
+
 -- the nodes of a `run`
 pub covers_run : (l : Label) (at : Place) (x : Arguments) → Covers (EnterAt l at x ∷ ResumeAt l at x ∷ []) (at.start ∷ [])
 covers_run l at x = record {

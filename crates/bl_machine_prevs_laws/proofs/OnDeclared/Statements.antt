@@ -48,11 +48,11 @@ use Rattle.bl_machine_prevs.specs.Prevs.{
   stmt_kind_prevs,
   stmt_layer_prevs,
 }
-use Rattle.bl_types_laws.specs.Starts.{StatementOffsets, arm_layer_starts, branch_layer_starts, starts_of, stmt_kind_starts, stmt_layer_starts}
+use Rattle.bl_types_laws.specs.Starts.{StatementOffsets, arm_layer_starts, branch_layer_starts, start_of, starts_of, stmt_kind_starts, stmt_layer_starts}
 use Rattle.bl_types_laws.specs.inner.Starts.{starts_of_arm, starts_of_branch}
 use Rattle.bl_machine_prevs_laws.specs.Types.Declared.{arm_scoped, branch_scoped, scoped_of, stmt_kind_scoped, stmt_layer_scoped}
 use Rattle.bl_machine_prevs_laws.specs.Types.inner.Declared.{scoped_of_arm, scoped_of_branch}
-use Rattle.bl_machine_prevs_laws.proofs.OnDeclared.Alone.{Covers, covers_append, covers_more, covers_none, covers_run, covers_skip, covers_where}
+use Rattle.bl_machine_prevs_laws.proofs.OnDeclared.Alone.{Covers, covers_append, covers_front, covers_more, covers_none, covers_run, covers_skip, covers_where}
 use Rattle.bl_machine_prevs_laws.proofs.OnDeclared.Expressions.{Related, expr_stands, exprs_stand, path_stands, paths_stand}
 
 -- ---- expressions that must have a type
@@ -501,11 +501,12 @@ module _ (plains : PlainStatements) (site : TypingContext) where
       let l : Label = label_at p in
       let b : Block = plain_block body (inside l 0) in
       let starts = joined (map starts_of body) in
+      let all = starts ++ start_of e ∷ [] in
       let block = block_here body each (and_left (all_of (map (fits site) body)) (is_truth (type_of site e)) fit) (inside l 0) in
       record {
-        covers = covers_more (HeadAt l place ∷ TestAt l place e ∷ nodes_in b) place.start starts
-            (covers_skip (HeadAt l place) (TestAt l place e ∷ nodes_in b) starts refl
-            (covers_skip (TestAt l place e) (nodes_in b) starts refl block.covers));
+        covers = covers_more (HeadAt l place ∷ TestAt l place e ∷ nodes_in b) place.start all
+            (covers_skip (HeadAt l place) (TestAt l place e ∷ nodes_in b) all refl
+            (covers_skip (TestAt l place e) (nodes_in b) all refl (covers_front (nodes_in b) starts (start_of e ∷ []) block.covers)));
         declared = refl;
         stands = tested_stands e b (map scoped_of body) starts (and_right (all_of (map (fits site) body)) (is_truth (type_of site e)) fit) block;
       })
@@ -520,8 +521,8 @@ module _ (plains : PlainStatements) (site : TypingContext) where
       let starts = joined (map starts_of body) in
       let block = block_here body each (and_right (is_truth (type_of site e)) (all_of (map (fits site) body)) fit) (inside l 0) in
       record {
-        covers = covers_more (TestAt l place e ∷ nodes_in b) place.start starts (covers_skip (TestAt l place e)
-            (nodes_in b) starts refl block.covers);
+        covers = covers_more (TestAt l place e ∷ nodes_in b) place.start (start_of e ∷ starts) (covers_skip (TestAt l place e)
+            (nodes_in b) (start_of e ∷ starts) refl (covers_more (nodes_in b) (start_of e) starts block.covers));
         declared = refl;
         stands = tested_stands e b (map scoped_of body) starts (and_left (is_truth (type_of site e)) (all_of (map (fits site) body)) fit) block;
       })

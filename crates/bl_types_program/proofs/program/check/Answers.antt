@@ -1,7 +1,7 @@
 use Rattle.std.proofs.Common.{subst}
 use Rattle.bl_types.specs.Rules.{Passes}
 use Rattle.bl_types_program.proofs.Causes.{names_cause, types_cause}
-use Rattle.bl_types_program.proofs.Made.{kept, shallow}
+use Rattle.bl_types_program.proofs.Made.{kept, ordered, shallow}
 use Rattle.bl_types_program.proofs.program.check.Goals as goal
 
 pub returns-in-Err-clause-cause : goal.returns-in-Err-clause-cause
@@ -21,6 +21,13 @@ returns-in-Ok-judge-clause-shallow c =
     shallow c.args.raw.now c.in-Ok.named c.in-Ok-judge.typed c.program_of.result.units c.in-Ok.ensures.named c.in-Ok-judge.ensures.typed
     c.program_of.ensures.units
     (c.what_is_typed_keeps.ensures.shallow c.args.raw.now.items c.args.raw.now.bytes c.requires.keeps c.in-Ok.ensures.passes
+    (subst Passes c.in-Ok.ensures.named c.in-Ok-judge.ensures.passes))
+
+pub returns-in-Ok-judge-clause-ordered : goal.returns-in-Ok-judge-clause-ordered
+returns-in-Ok-judge-clause-ordered c =
+    ordered c.args.raw.now c.in-Ok.named c.in-Ok-judge.typed c.program_of.result.units c.in-Ok.ensures.named c.in-Ok-judge.ensures.typed
+    c.program_of.ensures.units
+    (c.statements_begin_in_order.ensures c.args.raw.now.items c.args.raw.now.bytes c.requires.keeps c.in-Ok.ensures.passes
     (subst Passes c.in-Ok.ensures.named c.in-Ok-judge.ensures.passes))
 
 pub returns-clause-cause : goal.returns-clause-cause
