@@ -1,6 +1,7 @@
 pub mod ActFits
 pub mod ExprFits
 pub mod FitLemmas
+pub mod KindLemmas
 pub mod LawLemmas
 pub mod MeaningLemmas
 pub mod OperatorFits

@@ -47,6 +47,7 @@ use Rattle.bl_tree.specs.declared.value.Value.{Value, out-Value, roll-Value, rol
 use Rattle.bl_tree.specs.declared.value.Value.TheVariants.{rolls-Number}
 use Rattle.bl_tree.specs.declared.value.Value.TheOpen.{Value-F}
 use Rattle.bl_tree.specs.Types.{scalar_in}
+use Rattle.bl_tree.specs.Typing.{is_function}
 use Rattle.bl_eval.specs.declared.datum.Datum.{Datum}
 use Rattle.bl_eval.specs.declared.datum.Left.{Left}
 use Rattle.bl_eval.specs.declared.datum.Put.{Put}
@@ -59,6 +60,7 @@ use Rattle.bl_eval.specs.Functions.{
   arm_does,
   branch_does,
   call_of,
+  callable_of,
   callee_of,
   callees_after,
   callees_of,
@@ -98,6 +100,7 @@ use Rattle.bl_eval.specs.Meaning.{
   values_of,
 }
 use Rattle.bl_eval.specs.Values.{put_at}
+use Rattle.bl_eval.proofs.KindLemmas.{activity_is, function_is}
 use Rattle.bl_eval.proofs.PartLemmas.{put_unwrapped}
 use Rattle.bl_eval.proofs.PassLemmas.{get_front, get_seam}
 
@@ -151,32 +154,32 @@ callees_start : (structs : List StructDef) (units : List UnitDef) (callees : Lis
     → slice_get callees k ≡ Some callee → slice_get (callees_after structs callees units) k ≡ Some callee
 callees_start structs [] callees k callee there = there
 callees_start structs (unit ∷ rest) callees k callee there =
-    callees_start structs rest (callees ++ callee_of structs callees unit ∷ []) k callee
-    (get_front callees (callee_of structs callees unit ∷ []) k callee there)
+    callees_start structs rest (callees ++ callable_of structs callees unit ∷ []) k callee
+    (get_front callees (callable_of structs callees unit ∷ []) k callee there)
 
 callee_after : (structs : List StructDef) (units : List UnitDef) (callees : List Callee) (j k : ℕ) (unit : UnitDef) →
     slice_get units k ≡ Some unit → j ≡ length callees + k
-    → slice_get (callees_after structs callees units) j ≡ Some (callee_of structs (callees_after structs callees (take k units)) unit)
+    → slice_get (callees_after structs callees units) j ≡ Some (callable_of structs (callees_after structs callees (take k units)) unit)
 callee_after structs [] callees j k unit there is = absurd (cc)
 callee_after structs (first ∷ rest) callees j zero unit there is =
     let same : first ≡ unit = cc in
-    callees_start structs rest (callees ++ callee_of structs callees first ∷ []) j (callee_of structs callees first)
-    (get_seam callees (callee_of structs callees first) j (omega arith))
-    ∙ ap (λ u. Some (callee_of structs callees u)) same
+    callees_start structs rest (callees ++ callable_of structs callees first ∷ []) j (callable_of structs callees first)
+    (get_seam callees (callable_of structs callees first) j (omega arith))
+    ∙ ap (λ u. Some (callable_of structs callees u)) same
 callee_after structs (first ∷ rest) callees j (suc k) unit there is =
-    let is' : j ≡ length (callees ++ callee_of structs callees first ∷ []) + k =
-    omega (arith, length-append callees (callee_of structs callees first ∷ [])) in
-    callee_after structs rest (callees ++ callee_of structs callees first ∷ []) j k unit there is'
+    let is' : j ≡ length (callees ++ callable_of structs callees first ∷ []) + k =
+    omega (arith, length-append callees (callable_of structs callees first ∷ [])) in
+    callee_after structs rest (callees ++ callable_of structs callees first ∷ []) j k unit there is'
 
 pub callee_is : (structs : List StructDef) (units : List UnitDef) (k : ℕ) (unit : UnitDef) → slice_get units k ≡ Some unit
-    → slice_get (callees_of structs units) k ≡ Some (callee_of structs (callees_of structs (take k units)) unit)
+    → slice_get (callees_of structs units) k ≡ Some (callable_of structs (callees_of structs (take k units)) unit)
 callee_is structs units k unit there = callee_after structs units [] k k unit there (omega arith)
 
 callees_length : (structs : List StructDef) (units : List UnitDef) (callees : List Callee) →
     length (callees_after structs callees units) ≡ length callees + length units
 callees_length structs [] callees = omega arith
 callees_length structs (unit ∷ rest) callees =
-    omega (arith, callees_length structs rest (callees ++ callee_of structs callees unit ∷ []), length-append callees (callee_of structs callees unit ∷ []))
+    omega (arith, callees_length structs rest (callees ++ callable_of structs callees unit ∷ []), length-append callees (callable_of structs callees unit ∷ []))
 
 get_past : {A : Type 0} (xs : List A) (k : ℕ) → length xs ≤ k → slice_get xs k ≡ None
 get_past [] k past = refl
@@ -193,20 +196,34 @@ callee_none structs units k none =
     let past : length (callees_of structs units) ≤ k = omega (arith, callees_length structs units [], past_get units k none) in
     get_past (callees_of structs units) k past
 
+-- a function among the units
+pub function_there : (structs : List StructDef) (units : List UnitDef) (k : ℕ) (unit : UnitDef) → slice_get units k ≡ Some unit
+    → is_function unit.kind ≡ true → slice_get (callees_of structs units) k ≡ Some (callee_of structs (callees_of structs (take k units)) unit)
+function_there structs units k unit there function =
+    callee_is structs units k unit there ∙ ap (λ (callee : Callee). Some callee) (function_is structs (callees_of structs (take k units)) unit function)
+
+-- an activity among them leaves nothing
+pub activity_leaves : (structs : List StructDef) (units : List UnitDef) (k : ℕ) (unit : UnitDef) (arguments : List Value) →
+    Some unit ≡ slice_get units k → is_function unit.kind ≡ false →
+    None ≡ option_and_then (λ callee. callee arguments) (slice_get (callees_of structs units) k)
+activity_leaves structs units k unit arguments there activity =
+    sym (ap (option_and_then (λ (callee : Callee). callee arguments)) (callee_is structs units k unit (sym there))
+    ∙ ap (λ (callee : Callee). callee arguments) (activity_is structs (callees_of structs (take k units)) unit activity))
+
 -- the end of a function's body, as what the function leaves
 pub called_is : (structs : List StructDef) (earlier : List UnitDef) (f : ℕ) (unit : UnitDef) (arguments frame : List Value)
     (vars : List Var) (body : List Stmt) (flow : Option Flow)
-    → Some unit ≡ slice_get earlier f → vars ≡ unit.vars → body ≡ unit.body → frame ≡ frame_of structs unit arguments
+    → Some unit ≡ slice_get earlier f → is_function unit.kind ≡ true → vars ≡ unit.vars → body ≡ unit.body → frame ≡ frame_of structs unit arguments
     → flow ≡ in_order (map (does (record { structs = structs; vars = vars; callees = callees_of structs (take f earlier) })) body) frame
     → option_map (left_by unit) flow ≡ option_and_then (λ callee. callee arguments) (slice_get (callees_of structs earlier) f)
-called_is structs earlier f unit arguments frame vars body flow there is_vars is_body is_frame is_flow =
+called_is structs earlier f unit arguments frame vars body flow there function is_vars is_body is_frame is_flow =
     let callees : List Callee = callees_of structs (take f earlier) in
     ap (option_map (left_by unit))
     (is_flow
     ∙ ap (λ vars. in_order (map (does (record { structs = structs; vars = vars; callees = callees })) body) frame) is_vars
     ∙ ap (λ body. in_order (map (does (record { structs = structs; vars = unit.vars; callees = callees })) body) frame) is_body
     ∙ ap (in_order (map (does (record { structs = structs; vars = unit.vars; callees = callees })) unit.body)) is_frame)
-    ∙ sym (ap (option_and_then (λ callee. callee arguments)) (callee_is structs earlier f unit (sym there)))
+    ∙ sym (ap (option_and_then (λ callee. callee arguments)) (function_there structs earlier f unit (sym there) function))
 
 pub if_ok : {A B E : Type 0} (r : Result A E) (f : A → B) (a b : B) → IfOk r (λ x. f x ≡ a) → a ≡ b → IfOk r (λ x. f x ≡ b)
 if_ok r f a b h is = subst (λ a. IfOk r (λ x. f x ≡ a)) is h

@@ -8,6 +8,7 @@ use Rattle.std.proofs.Common.{
   length,
   Bool,
   true,
+  false,
   ◌&&◌,
   List,
   [],
@@ -17,6 +18,7 @@ use Rattle.std.proofs.Common.{
   take,
   drop,
   Some,
+  None,
   refl,
   sym,
   ap,
@@ -26,7 +28,7 @@ use Rattle.std.proofs.Common.{
 }
 use Rattle.std.proofs.lemmas.List.{append-nil, take-append-drop}
 use Rattle.std.proofs.lemmas.Option.{same_Some}
-use Rattle.std.specs.Prelude.{slice_get}
+use Rattle.std.specs.Prelude.{slice_get, if◌then◌else◌}
 use Rattle.std.specs.List.{AllZip, list_all}
 use Rattle.bl_tree.specs.declared.tree.Stmt.{Stmt}
 use Rattle.bl_tree.specs.declared.tree.StructDef.{StructDef}
@@ -36,8 +38,8 @@ use Rattle.bl_tree.specs.declared.value.Value.{Value}
 use Rattle.bl_tree.specs.Program.{IsWellTyped, locals_of, parameters_of, structs_stand_from, unit_stands, units_stand_after}
 use Rattle.bl_tree.specs.Reduce.{all_of}
 use Rattle.bl_tree.specs.Types.{type_stands}
-use Rattle.bl_tree.specs.Typing.{fits, site_of}
-use Rattle.bl_eval.specs.Functions.{Flow, callee_of, callees_after, callees_of, does, frame_of, in_order, left_by, scope_among}
+use Rattle.bl_tree.specs.Typing.{fits, is_function, site_of}
+use Rattle.bl_eval.specs.Functions.{Flow, callable_of, callee_of, callees_after, callees_of, does, frame_of, in_order, left_by, scope_among}
 use Rattle.bl_eval.specs.Meaning.{Callee}
 use Rattle.bl_eval.specs.Values.{value_fits, zero_of}
 use Rattle.bl_eval.proofs.ActFits.{AllFit}
@@ -97,6 +99,15 @@ callee_fits structs earlier unit callees sound stands arguments given =
     (frame_fits structs unit arguments sound.structs_stand sound.vars_stand given))
     (left_fits structs unit)
 
+callable_fits : (structs : List StructDef) (earlier : List UnitDef) (unit : UnitDef) (callees : List Callee) →
+    Sound structs earlier unit callees → unit_stands structs earlier unit ≡ true
+    → CalleeFits structs unit (callable_of structs callees unit)
+callable_fits structs earlier unit callees sound stands = by_kind (is_function unit.kind)
+  where
+    by_kind : (function : Bool) → CalleeFits structs unit (if function then callee_of structs callees unit else (λ arguments. None))
+    by_kind true = callee_fits structs earlier unit callees sound stands
+    by_kind false = λ arguments given. tt
+
 -- ---- all units
 
 zip_push : (structs : List StructDef) (units : List UnitDef) (callees : List Callee) (unit : UnitDef) (callee : Callee) →
@@ -121,10 +132,10 @@ callees_fit_after structs earlier callees (unit ∷ rest) structs_stand all stan
           vars_stand structs earlier unit here;
       callees_fit = all;
     } in
-    subst (λ units. AllZip (CalleeFits structs) units (callees_after structs (callees ++ callee_of structs callees unit ∷ []) rest))
+    subst (λ units. AllZip (CalleeFits structs) units (callees_after structs (callees ++ callable_of structs callees unit ∷ []) rest))
     (append_assoc earlier (unit ∷ []) rest)
-    (callees_fit_after structs (earlier ++ unit ∷ []) (callees ++ callee_of structs callees unit ∷ []) rest structs_stand
-    (zip_push structs earlier callees unit (callee_of structs callees unit) all (callee_fits structs earlier unit callees sound here))
+    (callees_fit_after structs (earlier ++ unit ∷ []) (callees ++ callable_of structs callees unit ∷ []) rest structs_stand
+    (zip_push structs earlier callees unit (callable_of structs callees unit) all (callable_fits structs earlier unit callees sound here))
     (and_right (unit_stands structs earlier unit) (units_stand_after structs (earlier ++ unit ∷ []) rest) stand))
 
 units_take : (structs : List StructDef) (earlier units : List UnitDef) (k : ℕ) → units_stand_after structs earlier units ≡ true →

@@ -31,6 +31,7 @@ use Rattle.bl_tree.specs.declared.tree.Unit.{Unit as UnitDef}
 use Rattle.bl_tree.specs.declared.value.Value.{Value}
 use Rattle.bl_tree.specs.Numbers.{is_one}
 use Rattle.bl_tree.specs.Program.{locals_of}
+use Rattle.bl_tree.specs.Typing.{is_function}
 use Rattle.bl_eval.specs.declared.datum.Datum.{Datum}
 use Rattle.bl_eval.specs.declared.datum.Left.{Left}
 use Rattle.bl_eval.specs.Meaning.{View, Callee, Scope, Meaning, PathMeaning, meaning_of, operand, reading, path_meaning_of, value_in, values_of}
@@ -194,16 +195,20 @@ frame_of structs unit arguments = arguments ++ map (λ var. zero_of structs var.
 abbrev pub scope_among : List StructDef → List Callee → UnitDef → Scope
 scope_among structs callees unit = record { structs = structs; vars = unit.vars; callees = callees }
 
--- a unit that sees these functions, as one more of them
+-- what a function that sees these others leaves when it is called
 abbrev pub callee_of : List StructDef → List Callee → UnitDef → Callee
 callee_of structs callees unit arguments =
     option_map (left_by unit) (in_order (map (does (scope_among structs callees unit)) unit.body) (frame_of structs unit arguments))
 
+-- what a unit leaves when it is called among the functions before it: a function its results, an activity nothing
+abbrev pub callable_of : List StructDef → List Callee → UnitDef → Callee
+callable_of structs callees unit = if is_function unit.kind then callee_of structs callees unit else (λ arguments. None)
+
 -- the functions with the units appended, each of which sees those before it
 abbrev pub callees_after : List StructDef → List Callee → List UnitDef → List Callee
 callees_after structs callees [] = callees
-callees_after structs callees (unit ∷ rest) = callees_after structs (callees ++ callee_of structs callees unit ∷ []) rest
+callees_after structs callees (unit ∷ rest) = callees_after structs (callees ++ callable_of structs callees unit ∷ []) rest
 
--- what each of the units leaves when it is called: a unit calls those before it alone
+-- what each of the units leaves when it is called: a unit calls those before it alone, and an activity leaves nothing
 abbrev pub callees_of : List StructDef → List UnitDef → List Callee
 callees_of structs units = callees_after structs [] units

@@ -13,7 +13,9 @@ use crate::steps::{
     result_of, returned, single, with_current,
 };
 use bl_tree::slices::element;
-use bl_tree::tree::{Arm, Expr, ExprKind, Part, Path, Stmt, StmtKind, StructDef, Unit, Var};
+use bl_tree::tree::{
+    Arm, Expr, ExprKind, Part, Path, Stmt, StmtKind, StructDef, Unit, UnitKind, Var,
+};
 use bl_tree::{List, NoMemory, Value};
 use std::alloc::Global;
 
@@ -145,7 +147,7 @@ fn arguments(
     Ok(Some(values))
 }
 
-/// What a function leaves when it is called; `None` where it traps.
+/// What a function leaves when it is called; `None` where it traps, and where the unit is an activity.
 #[cycle(evaluation)]
 pub fn call(
     alloc: Global,
@@ -159,6 +161,10 @@ pub fn call(
     let Some(unit) = element(earlier, f) else {
         return Ok(None);
     };
+    match unit.kind {
+        UnitKind::Activity => return Ok(None),
+        UnitKind::Function => {}
+    }
     let mut frame = frame(alloc, structs, unit, arguments)?;
     let site = Site {
         structs,

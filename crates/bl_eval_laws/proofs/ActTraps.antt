@@ -38,7 +38,7 @@ use Rattle.bl_eval.specs.Meaning.{Meaning, PathMeaning, Scope, View, datum_of, m
 use Rattle.bl_eval.specs.Values.{put_at, value_fits, values_fit, zero_of}
 use Rattle.bl_eval.proofs.ActFits.{AllFit, same_found}
 use Rattle.bl_eval.proofs.ExprFits.{GivesFit, Sound, expr_fits, match_fits, reading_fits, spot_fits}
-use Rattle.bl_eval.proofs.MeaningLemmas.{callee_is, values_append}
+use Rattle.bl_eval.proofs.MeaningLemmas.{function_there, values_append}
 use Rattle.bl_eval.proofs.PartFits.{if_map, if_then}
 use Rattle.bl_eval.proofs.PartLemmas.{put_at_is}
 use Rattle.bl_eval.proofs.PassLemmas.{and_left, and_right, pass_append, pass_at}
@@ -230,4 +230,4 @@ module _ (structs : List StructDef) (home : Home) (sound : Sound structs home.ea
         (outputs_given outputs (outputs_of callee) others)))
         (none_of_then (outcome_of_call ins (map (path_meaning_of scope) outputs) view) (slice_get (callees_of structs home.earlier) f)
         (called_at structs home f callee)
-        (callee_is structs home.earlier f callee there) none)
+        (function_there structs home.earlier f callee there function) none)

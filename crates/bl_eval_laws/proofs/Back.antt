@@ -13,6 +13,7 @@ use Rattle.std.proofs.Common.{
   ◌∷◌,
   ◌++◌,
   map,
+  take,
   Option,
   Some,
   None,
@@ -35,10 +36,12 @@ use Rattle.bl_tree.specs.declared.tree.Stmt.{Stmt, fold-roll-Stmt}
 use Rattle.bl_tree.specs.declared.tree.StmtKind.{StmtKind, fold-roll-StmtKind}
 use Rattle.bl_tree.specs.declared.tree.StmtKind.TheOpen.{StmtKind-F}
 use Rattle.bl_tree.specs.declared.tree.StructDef.{StructDef}
+use Rattle.bl_tree.specs.declared.tree.Unit.{Unit as UnitDef}
 use Rattle.bl_tree.specs.declared.value.Value.{Value}
 use Rattle.bl_tree.specs.Numbers.{checked_of, checked_one_of, is_one, takes_one, takes_two, type_of_result}
 use Rattle.bl_tree.specs.Scalar.{in_range}
 use Rattle.bl_tree.specs.Types.{scalar_in}
+use Rattle.bl_tree.specs.Typing.{is_function}
 use Rattle.bl_eval.specs.declared.datum.Datum.{Datum}
 use Rattle.bl_eval.specs.declared.datum.Datum.TheVariants.{Scalar as OfScalar}
 use Rattle.bl_eval.specs.declared.datum.Left.{Left}
@@ -50,6 +53,7 @@ use Rattle.bl_eval.specs.Functions.{
   StmtMeaning,
   acted,
   assigned,
+  callable_of,
   callees_of,
   condition,
   does,
@@ -286,6 +290,15 @@ module _ (scope : Scope) (view : View) (f : ℕ) (inputs : List Expr) (outputs :
       (values_of (ins ++ map reading spots) view) values given
       (map_gone (λ (left : Left). put_all spots left.outputs view view.now) (callee values) none))
 
+-- whatever its kind, a unit leaves nothing where its body doesn't
+callable_none : (structs : List StructDef) (home : Home) (f : ℕ) (callee : UnitDef) (values : List Value) → called_at structs home f callee values ≡ None →
+    callable_of structs (callees_of structs (take f home.earlier)) callee values ≡ None
+callable_none structs home f callee values none = by_kind (is_function callee.kind)
+  where
+    by_kind : (function : Bool) → (if function then called_at structs home f callee else (λ arguments. None)) values ≡ None
+    by_kind true = none
+    by_kind false = refl
+
 -- a function leaves nothing for these values
 record Unanswered (structs : List StructDef) (home : Home) (f : ℕ) (values : List Value) : Type 0 where
   pub callee : Callee
@@ -426,9 +439,9 @@ module _ (structs : List StructDef) where
 
     call_none : {home : Home} {f : ℕ} {values : List Value} → CallTraps structs home f values → Unanswered structs home f values
     call_none (CallTraps.in_body {home = home} {f = f} {callee = callee} {values = values} there body) = record {
-      callee = called_at structs home f callee;
+      callee = callable_of structs (callees_of structs (take f home.earlier)) callee;
       is_there = callee_is structs home.earlier f callee there;
-      none = map_gone (left_by callee) _ (block_none body);
+      none = callable_none structs home f callee values (map_gone (left_by callee) _ (block_none body));
     }
 
     block_none : {home : Home} {body : List Stmt} {now : List Value} → BlockTraps structs home body now →

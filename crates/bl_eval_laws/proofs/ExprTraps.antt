@@ -93,7 +93,7 @@ use Rattle.bl_eval.specs.Meaning.{
 use Rattle.bl_eval.specs.Values.{part_of, position_of, value_at, value_fits, values_fit}
 use Rattle.bl_eval.proofs.ExprFits.{Sound, expr_fits, match_fits}
 use Rattle.bl_eval.proofs.FitLemmas.{same_scalar_is}
-use Rattle.bl_eval.proofs.MeaningLemmas.{callee_is}
+use Rattle.bl_eval.proofs.MeaningLemmas.{function_there}
 use Rattle.bl_eval.proofs.OperatorFits.{DatumFits, OperandFits, operand_fits, some_found, where_holds}
 use Rattle.bl_eval.proofs.PartFits.{Fits, type_of_part}
 use Rattle.bl_eval.proofs.PassLemmas.{and_left, and_right, pass_at}
@@ -309,7 +309,7 @@ module _ (structs : List StructDef) (home : Home) (sound : Sound structs home.ea
       (subst (λ vars. IfSome (values_of (map (meaning_of scope) inputs) view) (λ values. values_fit structs vars values ≡ true)) same given)
       (none_of_then (call_datum (values_of (map (meaning_of scope) inputs) view)) (slice_get (callees_of structs home.earlier) f)
       (called_at structs home f callee)
-      (callee_is structs home.earlier f callee found.1) (rw (fold-roll-Expr, fold-roll-ExprKind) at none))
+      (function_there structs home.earlier f callee found.1 function) (rw (fold-roll-Expr, fold-roll-ExprKind) at none))
 
   -- ---- paths
 

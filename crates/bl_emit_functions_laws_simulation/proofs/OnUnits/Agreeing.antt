@@ -17,7 +17,7 @@ use Rattle.bl_eval.specs.declared.datum.Left.{Left}
 use Rattle.bl_eval.specs.Functions.{callee_of, callees_of}
 use Rattle.bl_eval.specs.Meaning.{Callee}
 use Rattle.bl_eval.specs.Values.{values_fit}
-use Rattle.bl_eval.proofs.MeaningLemmas.{callee_is}
+use Rattle.bl_eval.proofs.MeaningLemmas.{function_there}
 use Rattle.bl_eval.proofs.PassLemmas.{and_left, and_right, get_take, take_less}
 use Rattle.bl_ctext_semantics.specs.Meaning.{ArgumentValue, CallResult, Meaning, Scope, applied, by_address, function_c}
 use Rattle.bl_ctext_semantics.specs.Memory.{Location, Memory}
@@ -102,12 +102,12 @@ module _ (structs : List StructDef) (units : List UnitDef) (entry : ℕ) (keeps 
     abbrev made : ℕ → UnitDef → Callee
     made f unit = callee_of structs (callees_of structs (take f units)) unit
 
-    made_is : (f : ℕ) (unit : UnitDef) (callee : Callee) → slice_get (take k units) f ≡ Some unit →
+    made_is : (f : ℕ) (unit : UnitDef) (callee : Callee) → slice_get (take k units) f ≡ Some unit → is_function unit.kind ≡ true →
         slice_get (callees_of structs (take k units)) f ≡ Some callee → made f unit ≡ callee
-    made_is f unit callee at is =
+    made_is f unit callee at function is =
         ap (λ earlier. callee_of structs (callees_of structs earlier) unit) (sym (take_less units k f (inside f unit at)))
         ∙ same_Some (callee_of structs (callees_of structs (take f (take k units))) unit) callee
-        (sym (callee_is structs (take k units) f unit at) ∙ is)
+        (sym (function_there structs (take k units) f unit at function) ∙ is)
 
     may_run : (f : ℕ) (unit : UnitDef) (below : Table Meaning) (depth : ℕ) (passed : List ArgumentValue) → slice_get (take k units) f ≡ Some unit →
         is_function unit.kind ≡ true → KnownUpTo structs units f below → MayRun structs units f unit below depth passed
@@ -134,7 +134,7 @@ module _ (structs : List StructDef) (units : List UnitDef) (entry : ℕ) (keeps 
         ∙ (returned_by scope.depth here (made f unit values) (function_c found.0 code (scope.depth + 1) passed here)
         (results f unit s found.0 scope.depth values passed here keeps (there_at f unit at) function result
         (may_run f unit found.0 (scope.depth + 1) passed at function found.2) fit holds)
-        ∙ ap (λ (callee : Callee). number_returned (callee values)) (made_is f unit callee at is))
+        ∙ ap (λ (callee : Callee). number_returned (callee values)) (made_is f unit callee at function is))
 
     procedure_comes : (f : ℕ) (unit : UnitDef) (callee : Callee) (values given : List Value) (passed : List ArgumentValue) (outputs : List Location)
         (here : Memory) → slice_get (take k units) f ≡ Some unit → slice_get (callees_of structs (take k units)) f ≡ Some callee →
@@ -150,7 +150,7 @@ module _ (structs : List StructDef) (units : List UnitDef) (entry : ℕ) (keeps 
         subst (λ meaning. CallSimulates structs (outputs_of unit) scope.depth outputs here (callee (values ++ given))
         (applied meaning (scope.depth + 1) (passed ++ map by_address outputs) here)) (sym found.1)
         (subst (λ (callee : Callee). CallSimulates structs (outputs_of unit) scope.depth outputs here (callee (values ++ given))
-        (function_c found.0 code (scope.depth + 1) (passed ++ map by_address outputs) here)) (made_is f unit callee at is)
+        (function_c found.0 code (scope.depth + 1) (passed ++ map by_address outputs) here)) (made_is f unit callee at kind.0 is)
         (procedures f unit found.0 scope.depth values given passed outputs here keeps (there_at f unit at) kind.0 kind.1
         (may_run f unit found.0 (scope.depth + 1) (passed ++ map by_address outputs) at kind.0 found.2) fit fit_given holds outs may))
 

@@ -25,10 +25,12 @@ use Rattle.bl_tree.specs.declared.tree.Arm.{out-Arm}
 use Rattle.bl_tree.specs.declared.tree.Expr.{size-Expr}
 use Rattle.bl_tree.specs.declared.tree.Part.{size-Part}
 use Rattle.bl_tree.specs.declared.tree.Path.{out-Path}
+use Rattle.bl_tree.specs.Typing.{is_function}
 use Rattle.bl_eval.specs.Changes.{all_changed, choice_of, current_of, ended, part_of_path, scope_in, view_in}
 use Rattle.bl_eval.specs.Functions.{condition, does, in_order, truth}
 use Rattle.bl_eval.specs.Meaning.{meaning_of, path_meaning_of, positions_of}
 use Rattle.bl_eval.proofs.MeaningLemmas.{
+  activity_leaves,
   callee_none,
   called_is,
   choice_out,
@@ -115,6 +117,10 @@ pub call-returns-in_default : goal.call-returns-in_default
 call-returns-in_default t c =
     sym (ap (option_and_then (λ callee. callee c.args.arguments)) (callee_none c.args.structs.now c.args.earlier.now c.args.f (sym c.in_default.ensures)))
 
+pub call-returns-in-Activity : goal.call-returns-in-Activity
+call-returns-in-Activity t c =
+    activity_leaves c.args.structs.now c.args.earlier.now c.args.f c.in-Some.unit.now c.args.arguments c.in-Some.ensures (ap is_function c.in-Activity.is)
+
 pub call-slice_bounds-site-end : goal.call-slice_bounds-site-end
 call-slice_bounds-site-end t c =
     let within = slice_get_within c.args.earlier.now c.args.f c.in-Some.unit.now (sym c.in-Some.ensures) in
@@ -134,7 +140,7 @@ call-returns t c =
     if_ok c.left.result (λ left. left) _ _ c.left.ensures
     (called_is c.args.structs.now c.args.earlier.now c.args.f c.in-Some.unit.now c.args.arguments c.in_ok-frame.frame.items
     c.deref.result.now c.deref-2.result.now
-    (ended c.in_ok-flow.flow c.block.new.frame.items) c.in-Some.ensures c.deref.ensures c.deref-2.ensures c.in_ok-frame.ensures c.in_ok-flow.ensures)
+    (ended c.in_ok-flow.flow c.block.new.frame.items) c.in-Some.ensures (ap is_function c.in-Function.is) c.deref.ensures c.deref-2.ensures c.in_ok-frame.ensures c.in_ok-flow.ensures)
 
 pub choice-condition-requires : goal.choice-condition-requires
 choice-condition-requires t c =
