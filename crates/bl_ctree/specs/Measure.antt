@@ -1,12 +1,16 @@
 -- How many steps a tick can have at most in an accepted program.
-use Rattle.std.specs.Prelude.{ℕ, ◌+◌, ◌-◌, ◌*◌, List, map, length, unwrap_or, option_map}
+use Rattle.std.specs.Prelude.{ℕ, zero, suc, ◌+◌, ◌-◌, ◌*◌, List, map, length, filter, slice_get, unwrap_or, option_map}
+use Rattle.bl_tree.specs.declared.place.Place.{Place}
 use Rattle.bl_tree.specs.declared.tree.Stmt.{Stmt, fold-Stmt}
 use Rattle.bl_tree.specs.declared.tree.StmtKind.TheOpen.{StmtKind-F, Arm-F, Branch-F, Stmt-F}
 use Rattle.bl_tree.specs.declared.tree.StructDef.{StructDef}
 use Rattle.bl_tree.specs.declared.tree.Unit.{Unit as UnitDef}
-use Rattle.bl_tree.specs.Reduce.{total}
+use Rattle.bl_tree.specs.Reduce.{joined, total}
+use Rattle.bl_tree.specs.Rules.{same_place}
 use Rattle.bl_ctree.specs.declared.instance.Instance.{Instance}
-use Rattle.bl_ctree.specs.Instances.{Setting, setting_of, unit_of}
+use Rattle.bl_ctree.specs.declared.instance.Origin.{Origin}
+use Rattle.bl_ctree.specs.declared.instance.Run.{Run}
+use Rattle.bl_ctree.specs.Instances.{Setting, runs_in, setting_of, unit_at, unit_of}
 
 -- a statement of this kind and those that stand in it, where the numbers of its parts are given
 abbrev pub kind_step_statements : StmtKind-F ℕ ℕ ℕ ℕ → ℕ
@@ -43,9 +47,24 @@ step_statements_in = fold-Stmt ℕ ℕ ℕ ℕ kind_step_statements arm_step_sta
 abbrev pub step_statements_of : UnitDef → ℕ
 step_statements_of unit = total (map step_statements_in unit.body)
 
--- a bound on the steps of an instance in a tick: six for each of its statements, times its depth plus one
+-- how many of the `run` statements stand at the place
+abbrev pub count_at : Place → List Run → ℕ
+count_at place runs = length (filter (λ run. same_place run.place place) runs)
+
+-- how many `run` statements of the caller's unit stand at the place of the one that begins the instance
+abbrev pub copies : Setting → Origin → ℕ
+copies w origin = unwrap_or (option_map (λ unit. count_at origin.place (joined (map runs_in unit.body))) (unit_at w origin.caller)) 0
+
+-- how often an instance at this depth is passed in a tick at most: once for itself, and by each copy of its `run` whenever its caller is passed
+abbrev pub passes : Setting → ℕ → Instance → ℕ
+passes w zero instance = 1
+passes w (suc depth) instance =
+    unwrap_or (option_map (λ origin. unwrap_or (option_map (passes w depth) (slice_get w.instances origin.caller)) 0 * copies w origin + 1)
+    instance.origin) 1
+
+-- a bound on the steps of an instance in a tick: six for each of its statements and each of its passes
 abbrev pub instance_steps : Setting → Instance → ℕ
-instance_steps w instance = 6 * (instance.depth + 1) * unwrap_or (option_map step_statements_of (unit_of w instance)) 0
+instance_steps w instance = 6 * passes w instance.depth instance * unwrap_or (option_map step_statements_of (unit_of w instance)) 0
 
 -- the most steps of a tick
 abbrev pub steps : List StructDef → List UnitDef → ℕ → ℕ

@@ -7,5 +7,6 @@ pub mod Differing
 pub mod Listed
 pub mod Lists
 pub mod Onward
+pub mod Passes
 pub mod Statements
 pub mod Stepping

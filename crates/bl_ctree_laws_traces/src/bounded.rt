@@ -4,7 +4,7 @@
 //! numbers and `run` statements stand at places of their own, as those of a source do, no list of steps of one tick of a
 //! program that passes the rules on effects is longer than that (`specs/Bounded/Bounds.antt`). There is no code here.
 
-ghost use Rattle.bl_ctree_laws_traces.specs.Bounded.Bounds.{AcceptedIsBounded, TypedIsBounded};
+ghost use Rattle.bl_ctree_laws_traces.specs.Bounded.Bounds.{AcceptedIsBounded, PassesAreDepths, TypedIsBounded};
 ghost use Rattle.bl_ctree_laws_traces.specs.Bounded.Differ.{TicksDiffer};
 
 use crate::progress::{accepted_trees_fit_graphs, programs_are_callable, steps_keep_fits_graph};
@@ -28,6 +28,13 @@ pub fn ticks_differ()
     acting_is_open();
     steps_shrink();
     steps_keep_fits_graph();
+}
+
+/// Where `run` statements have places of their own, an instance at depth d is passed at most d + 1 times in a tick.
+pub fn passes_are_depths()
+    ensures { PassesAreDepths }
+{
+    instances_have_callers();
 }
 
 /// Where nodes have numbers that rise and `run` statements places of their own, no list of steps of one tick is longer than the

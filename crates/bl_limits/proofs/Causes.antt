@@ -12,13 +12,14 @@ use Rattle.bl_tree.specs.Rules.{FailsAmong, IsCause, Refuses, first_of, further_
 use Rattle.bl_tree.proofs.FirstLemmas.{In, alike_first, alike_passes, contains_in, first_fails, in_contains, is_cause, none_passes}
 use Rattle.bl_limits_measures.specs.Types.{nesting, struct_nestings}
 use Rattle.bl_limits_measures.specs.Units.{all_chains, cells_at, instances_at}
-use Rattle.bl_limits.specs.Rules.{Fails, FailsCells, FailsFrames, Passes}
+use Rattle.bl_limits.specs.Rules.{Fails, FailsCells, FailsFrames, FailsNesting, NestingFails, NestingPasses, Passes}
 use Rattle.bl_limits.specs.inner.Failures.{
   chain_failures,
   failure_at,
   failures,
   large_state,
   many_instances,
+  nesting_failures,
   of_variable,
   struct_failures,
   unit_variable_failures,
@@ -33,10 +34,98 @@ use Rattle.bl_limits.proofs.Members.{
   in_append,
   in_at_unit,
   in_joined,
+  in_later,
   in_numbered,
   joined_in,
+  later_in,
   numbered_in,
 }
+
+-- ---- nesting
+
+module _ (from : ℕ) (structs : List StructDef) (units : List UnitDef) where
+  abbrev deep : List Failure
+  deep = nesting_failures from structs units
+
+  -- a type that is nested too deep, at this place
+  record Nested (x : Failure) : Type 0 where
+    pub at : Place
+    pub is : x ≡ failure_at rule.Cells at
+    pub fails : FailsNesting from structs units at
+
+  nested_structs : (x : Failure) → In x (struct_failures from structs) → Nested x
+  nested_structs x h =
+      let it = in_later rule.Cells 100 (λ (def : StructDef). def.place) from structs (struct_nestings structs) x h in
+      record {
+        at = it.1.place;
+        is = it.5;
+        fails = inl (record { position = it.0; later = it.2; def = it.1; is_there = it.3; deep = it.4; at_name = refl });
+      }
+
+  nested_variables : (x : Failure) → In x (variable_failures structs units) → Nested x
+  nested_variables x h =
+      let outer = in_joined (λ (unit : UnitDef). unit_variable_failures structs unit.vars) x units h in
+      let inner = in_joined (of_variable structs) x outer.0.vars outer.2 in
+      let it = in_above 100 (nesting structs inner.0.ty) (failure_at rule.Cells inner.0.place) x inner.2 in
+      record {
+        at = inner.0.place;
+        is = it.1;
+        fails = inr (record {
+          unit = outer.0;
+          of_program = in_contains outer.0 units outer.1;
+          var = inner.0;
+          of_unit = in_contains inner.0 outer.0.vars inner.1;
+          deep = it.0;
+          at_name = refl;
+        });
+      }
+
+  nested : (x : Failure) → In x deep → Nested x
+  nested x h = ⊎_elim (nested_structs x) (nested_variables x) (in_append x (struct_failures from structs) (variable_failures structs units) h)
+
+  nesting_in : (p : Place) → FailsNesting from structs units p → In (failure_at rule.Cells p) deep
+  nesting_in p h =
+      ⊎_elim
+      (λ def. subst (λ p. In (failure_at rule.Cells p) deep) (sym def.at_name)
+      (append_left (failure_at rule.Cells def.def.place) (struct_failures from structs) (variable_failures structs units)
+      (later_in rule.Cells 100 (λ (def : StructDef). def.place) from structs (struct_nestings structs) def.position def.def def.later def.is_there def.deep)))
+      (λ var. subst (λ p. In (failure_at rule.Cells p) deep) (sym var.at_name)
+      (append_right (failure_at rule.Cells var.var.place) (struct_failures from structs) (variable_failures structs units)
+      (joined_in (λ (unit : UnitDef). unit_variable_failures structs unit.vars) (failure_at rule.Cells var.var.place) var.unit units
+      (contains_in var.unit units var.of_program)
+      (joined_in (of_variable structs) (failure_at rule.Cells var.var.place) var.var var.unit.vars (contains_in var.var var.unit.vars var.of_unit)
+      (above_in 100 (nesting structs var.var.ty) (failure_at rule.Cells var.var.place) var.deep)))))
+      h
+
+  to_nesting : (r : Rule) (p : Place) (a : List Place) → FailsAmong deep r p a → NestingFails from structs units r p a
+  to_nesting r p a among =
+      let it = nested among.failure (contains_in among.failure deep among.is_there) in
+      let of_rule : r ≡ rule.Cells = among.of_rule ∙ ap (λ (f : Failure). f.rule) it.is in
+      let at_place : p ≡ it.at = among.at_place ∙ ap (λ (f : Failure). f.at) it.is in
+      let further : a ≡ [] = among.further ∙ ap (λ (f : Failure). further_places f.further) it.is in
+      subst (λ r. NestingFails from structs units r p a) (sym of_rule) (subst (FailsNesting from structs units) (sym at_place) it.fails, further)
+
+  from_nesting : (r : Rule) (p : Place) (a : List Place) → NestingFails from structs units r p a → FailsAmong deep r p a
+  from_nesting rule.Cells p a h = record {
+    failure = failure_at rule.Cells p;
+    is_there = in_contains (failure_at rule.Cells p) deep (nesting_in p h.0);
+    of_rule = refl;
+    at_place = refl;
+    further = h.1;
+  }
+  from_nesting _ p a h = absurd h
+
+  pub nesting_passes : first_of None deep ≡ None → NestingPasses from structs units
+  nesting_passes is = alike_passes (FailsAmong deep) (NestingFails from structs units) to_nesting from_nesting (none_passes deep is)
+
+  pub nesting_cause : (first : Failure) (told : Refusal) → first_of None deep ≡ Some first → Refuses first told →
+      IsCause (NestingFails from structs units) told
+  nesting_cause first told is tells =
+      is_cause (NestingFails from structs units) first told
+      (alike_first (FailsAmong deep) (NestingFails from structs units) to_nesting from_nesting first.rule first.at (further_places first.further)
+      (first_fails deep first is)) tells
+
+-- ---- all of both rules
 
 module _ (structs : List StructDef) (units : List UnitDef) (entry : ℕ) where
   abbrev all : List Failure
@@ -44,7 +133,7 @@ module _ (structs : List StructDef) (units : List UnitDef) (entry : ℕ) where
 
   -- the lists, one after another
   abbrev after_cells : List Failure
-  after_cells = struct_failures structs ++ variable_failures structs units
+  after_cells = nesting_failures 0 structs units
 
   abbrev after_chains : List Failure
   after_chains = large_state structs units entry ++ after_cells
@@ -89,44 +178,16 @@ module _ (structs : List StructDef) (units : List UnitDef) (entry : ℕ) where
         fails = (inl (record { unit = it.0; is_entry = it.1; large = it.2; at_name = refl }), refl);
       }
 
-  found_structs : (x : Failure) → In x (struct_failures structs) → Found x
-  found_structs x h =
-      let it = in_numbered rule.Cells 100 (λ (def : StructDef). def.place) structs (struct_nestings structs) x h in
-      record {
-        rule = rule.Cells;
-        at = it.1.place;
-        is = it.4;
-        fails = (inr (inl (record { position = it.0; def = it.1; is_there = it.2; deep = it.3; at_name = refl })), refl);
-      }
-
-  found_variables : (x : Failure) → In x (variable_failures structs units) → Found x
-  found_variables x h =
-      let outer = in_joined (λ (unit : UnitDef). unit_variable_failures structs unit.vars) x units h in
-      let inner = in_joined (of_variable structs) x outer.0.vars outer.2 in
-      let it = in_above 100 (nesting structs inner.0.ty) (failure_at rule.Cells inner.0.place) x inner.2 in
-      record {
-        rule = rule.Cells;
-        at = inner.0.place;
-        is = it.1;
-        fails = (
-          inr (inr (record {
-            unit = outer.0;
-            of_program = in_contains outer.0 units outer.1;
-            var = inner.0;
-            of_unit = in_contains inner.0 outer.0.vars inner.1;
-            deep = it.0;
-            at_name = refl;
-          })),
-          refl,
-        );
-      }
+  found_nesting : (x : Failure) → In x after_cells → Found x
+  found_nesting x h =
+      let it = nested 0 structs units x h in
+      record { rule = rule.Cells; at = it.at; is = it.is; fails = (inr it.fails, refl) }
 
   found : (x : Failure) → In x all → Found x
   found x h =
       ⊎_elim (found_instances x)
       (λ h. ⊎_elim (found_chains x)
-      (λ h. ⊎_elim (found_state x)
-      (λ h. ⊎_elim (found_structs x) (found_variables x) (in_append x (struct_failures structs) (variable_failures structs units) h))
+      (λ h. ⊎_elim (found_state x) (found_nesting x)
       (in_append x (large_state structs units entry) after_cells h))
       (in_append x (chain_failures units) after_chains h))
       (in_append x (many_instances units entry) after_instances h)
@@ -172,22 +233,9 @@ module _ (structs : List StructDef) (units : List UnitDef) (entry : ℕ) where
       (behind (failure_at rule.Cells large.unit.place)
       (append_left (failure_at rule.Cells large.unit.place) (large_state structs units entry) after_cells
       (at_unit_in rule.Cells 1_000_000 (cells_at structs units entry) (slice_get units entry) large.unit large.is_entry large.large))) large.at_name none)
-      (λ deep. ⊎_elim
-      (λ def. among rule.Cells p def.def.place a
-      (behind (failure_at rule.Cells def.def.place)
-      (append_right (failure_at rule.Cells def.def.place) (large_state structs units entry) after_cells
-      (append_left (failure_at rule.Cells def.def.place) (struct_failures structs) (variable_failures structs units)
-      (numbered_in rule.Cells 100 (λ (def : StructDef). def.place) structs (struct_nestings structs) def.position def.def def.is_there def.deep))))
-      def.at_name none)
-      (λ var. among rule.Cells p var.var.place a
-      (behind (failure_at rule.Cells var.var.place)
-      (append_right (failure_at rule.Cells var.var.place) (large_state structs units entry) after_cells
-      (append_right (failure_at rule.Cells var.var.place) (struct_failures structs) (variable_failures structs units)
-      (joined_in (λ (unit : UnitDef). unit_variable_failures structs unit.vars) (failure_at rule.Cells var.var.place) var.unit units
-      (contains_in var.unit units var.of_program)
-      (joined_in (of_variable structs) (failure_at rule.Cells var.var.place) var.var var.unit.vars (contains_in var.var var.unit.vars var.of_unit)
-      (above_in 100 (nesting structs var.var.ty) (failure_at rule.Cells var.var.place) var.deep))))))
-      var.at_name none) deep) h
+      (λ nested. among rule.Cells p p a
+      (behind (failure_at rule.Cells p)
+      (append_right (failure_at rule.Cells p) (large_state structs units entry) after_cells (nesting_in 0 structs units p nested))) refl none) h
 
   from : (r : Rule) (p : Place) (a : List Place) → Fails structs units entry r p a → FailsAmong all r p a
   from rule.Frames p a h = from_frames p a h.0 h.1

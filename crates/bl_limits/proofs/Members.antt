@@ -3,6 +3,7 @@ use Rattle.std.proofs.Common.{
   ◌≡◌,
   ℕ,
   ◌<◌,
+  ◌≤◌,
   zero,
   suc,
   true,
@@ -13,6 +14,7 @@ use Rattle.std.proofs.Common.{
   ◌∷◌,
   ◌++◌,
   map,
+  drop,
   ◌⊎◌,
   inl,
   inr,
@@ -113,3 +115,29 @@ numbered_in rule limit place (x ∷ rest) (n ∷ numbers) zero a there less =
 numbered_in rule limit place (x ∷ rest) (n ∷ numbers) (suc k) a there less =
     append_right (failure_at rule (place a)) (above limit n (failure_at rule (place x))) (numbered rule limit place rest numbers)
     (numbered_in rule limit place rest numbers k a there less)
+
+-- numbers of the elements from a position on
+numbered_nothing : {A : Type 0} (rule : Rule) (limit : ℕ) (place : A → Place) (xs : List A) (x : Failure) → In x (numbered rule limit place xs []) → ⊥
+numbered_nothing rule limit place [] x h = h
+numbered_nothing rule limit place (a ∷ rest) x h = h
+
+pub in_later : {A : Type 0} (rule : Rule) (limit : ℕ) (place : A → Place) (from : ℕ) (xs : List A) (numbers : List ℕ) (x : Failure)
+    → In x (numbered rule limit place (drop from xs) (drop from numbers))
+    → (k : ℕ) × (a : A) × (from ≤ k) × (slice_get xs k ≡ Some a) × (limit < slice_index numbers k) × (x ≡ failure_at rule (place a))
+in_later rule limit place zero xs numbers x h =
+    let found = in_numbered rule limit place xs numbers x h in (found.0, found.1, omega arith, found.2, found.3, found.4)
+in_later rule limit place (suc from) [] numbers x h = absurd h
+in_later rule limit place (suc from) (a ∷ xs) [] x h = absurd (numbered_nothing rule limit place (drop from xs) x h)
+in_later rule limit place (suc from) (a ∷ xs) (n ∷ numbers) x h =
+    let found = in_later rule limit place from xs numbers x h in
+    let later : from ≤ found.0 = found.2 in
+    (suc found.0, found.1, omega (arith, later), found.3, found.4, found.5)
+
+pub later_in : {A : Type 0} (rule : Rule) (limit : ℕ) (place : A → Place) (from : ℕ) (xs : List A) (numbers : List ℕ) (k : ℕ) (a : A) → from ≤ k
+    → slice_get xs k ≡ Some a → limit < slice_index numbers k → In (failure_at rule (place a)) (numbered rule limit place (drop from xs) (drop from numbers))
+later_in rule limit place zero xs numbers k a within there less = numbered_in rule limit place xs numbers k a there less
+later_in rule limit place (suc from) xs numbers zero a within there less = absurd (omega (arith, within))
+later_in rule limit place (suc from) [] numbers (suc k) a within there less = absurd (cc)
+later_in rule limit place (suc from) (x ∷ xs) [] (suc k) a within there less = absurd (omega (arith, less))
+later_in rule limit place (suc from) (x ∷ xs) (n ∷ numbers) (suc k) a within there less =
+    later_in rule limit place from xs numbers k a (omega (arith, within)) there less

@@ -1,5 +1,5 @@
 -- The rules Frames and Cells of a typed program (docs/LANGUAGE.md, "Rules").
-use Rattle.std.specs.Prelude.{◌≡◌, ℕ, ◌<◌, List, [], Contains, slice_get, slice_index, Some, ◌⊎◌}
+use Rattle.std.specs.Prelude.{◌≡◌, ℕ, ◌<◌, ◌≤◌, List, [], Contains, slice_get, slice_index, Some, ◌⊎◌}
 use Rattle.bl_tree.specs.declared.place.Place.{Place}
 use Rattle.bl_tree.specs.declared.rule.Rule.{Rule}
 use Rattle.bl_tree.specs.declared.rule.Rule.TheVariants as rule
@@ -40,9 +40,10 @@ pub record LargeState (structs : List StructDef) (units : List UnitDef) (entry :
   pub large : 1_000_000 < cells_at structs units entry
   pub at_name : at ≡ unit.place
 
--- a struct is nested deeper than 100: at its name
-pub record DeepStruct (structs : List StructDef) (at : Place) : Type 0 where
+-- a struct at the given position or behind it is nested deeper than 100: at its name
+pub record DeepStruct (from : ℕ) (structs : List StructDef) (at : Place) : Type 0 where
   pub position : ℕ
+  pub later : from ≤ position
   pub def : StructDef
   pub is_there : slice_get structs position ≡ Some def
   pub deep : 100 < slice_index (struct_nestings structs) position
@@ -57,9 +58,13 @@ pub record DeepVariable (structs : List StructDef) (units : List UnitDef) (at : 
   pub deep : 100 < nesting structs var.ty
   pub at_name : at ≡ var.place
 
+-- a struct from the position on, or a variable of the units, is nested too deep
+abbrev pub FailsNesting : ℕ → List StructDef → List UnitDef → Place → Type 0
+FailsNesting from structs units at = DeepStruct from structs at ⊎ DeepVariable structs units at
+
 -- Cells fails: the entry has too many cells, or a struct or a variable is nested too deep
 abbrev pub FailsCells : List StructDef → List UnitDef → ℕ → Place → Type 0
-FailsCells structs units entry at = LargeState structs units entry at ⊎ (DeepStruct structs at ⊎ DeepVariable structs units at)
+FailsCells structs units entry at = LargeState structs units entry at ⊎ FailsNesting 0 structs units at
 
 -- ---- the rules by name
 
@@ -76,3 +81,14 @@ FailsFirst structs units entry = FirstOf (Fails structs units entry)
 -- neither Frames nor Cells fails
 abbrev pub Passes : List StructDef → List UnitDef → ℕ → Type 0
 Passes structs units entry = NoneOf (Fails structs units entry)
+
+-- ---- the part of Cells that structs and units answer for, whatever the entry is
+
+-- rule Cells fails at this place by nesting, and its line names no further place; no other rule is judged
+abbrev pub NestingFails : ℕ → List StructDef → List UnitDef → Rule → Place → List Place → Type 0
+NestingFails from structs units rule.Cells at also = FailsNesting from structs units at × (also ≡ [])
+NestingFails from structs units _ at also = ⊥
+
+-- no struct from the position on and no variable of the units is nested too deep
+abbrev pub NestingPasses : ℕ → List StructDef → List UnitDef → Type 0
+NestingPasses from structs units = NoneOf (NestingFails from structs units)

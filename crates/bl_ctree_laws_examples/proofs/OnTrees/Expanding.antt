@@ -14,6 +14,7 @@ use Rattle.bl_ctree.specs.Instances.{called_from, expanded, instances_below, ins
 use Rattle.bl_ctree.specs.Measure.{
   arm_step_statements,
   branch_step_statements,
+  count_at,
   instance_steps,
   kind_step_statements,
   layer_step_statements,
@@ -70,10 +71,13 @@ second_runs : runs_of second_called ≡ []
 second_runs j =
     one_a_place (joined (set_runs 4 1 (two Add (value 1) (value 0)) j ∷ pause_runs 5 j ∷ set_runs 6 1 (two Add (value 1) (number 100)) j ∷ []))
 
+caller_all : joined (map runs_in caller.body) ≡ one_run 8 0 2 ∷ one_run 9 1 1 ∷ []
+caller_all =
+    (λ j. joined (declare_runs 10 2 j ∷ loop_runs 11 (turn ∷ []) j ∷ []))
+    ∙ (λ j. joined ([] ∷ joined (turn_runs j ∷ []) ∷ []))
+
 caller_runs : runs_of caller ≡ one_run 8 0 2 ∷ one_run 9 1 1 ∷ []
-caller_runs =
-    (λ j. one_a_place (joined (declare_runs 10 2 j ∷ loop_runs 11 (turn ∷ []) j ∷ [])))
-    ∙ (λ j. one_a_place (joined ([] ∷ joined (turn_runs j ∷ []) ∷ [])))
+caller_runs = (λ j. one_a_place (caller_all j))
 
 -- ---- instances
 
@@ -139,4 +143,5 @@ caller_counts =
 pub steps_are : steps [] units 2 ≡ 102
 steps_are =
     (λ j. total (map (instance_steps (record { structs = []; units = units; instances = instances_is j })) (instances_is j)))
-    ∙ (λ j. total (6 * (0 + 1) * caller_counts j ∷ 6 * (1 + 1) * first_counts j ∷ 6 * (1 + 1) * second_counts j ∷ []))
+    ∙ (λ j. total (6 * 1 * caller_counts j ∷ 6 * (1 * count_at (at 8) (caller_all j) + 1) * first_counts j
+    ∷ 6 * (1 * count_at (at 9) (caller_all j) + 1) * second_counts j ∷ []))

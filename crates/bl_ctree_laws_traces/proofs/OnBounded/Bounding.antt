@@ -34,11 +34,12 @@ use Rattle.bl_tree.specs.Typing.{site_of}
 use Rattle.bl_graph_nodes.specs.Plain.{Block, plain_body}
 use Rattle.bl_graph_nodes.specs.Steps.{StepLabel, head_of}
 use Rattle.bl_graph.specs.Laws.{StaysWithin}
+use Rattle.bl_ctree.specs.declared.instance.Instance.{Instance}
 use Rattle.bl_ctree.specs.Control as control
 use Rattle.bl_ctree.specs.Instances.{Setting, expanded, instances_below, runs_in, runs_of, setting_of, unit_at, unit_of}
 use Rattle.bl_ctree.specs.Laws.{ReachedIsResidual, WokenTreeIsResidual}
 use Rattle.bl_ctree.specs.Means.{entry_items}
-use Rattle.bl_ctree.specs.Measure.{instance_steps, step_statements_of, steps}
+use Rattle.bl_ctree.specs.Measure.{step_statements_of, steps}
 use Rattle.bl_ctree.specs.Positions.{body_items}
 use Rattle.bl_ctree.specs.Reaches.{ReachesInside}
 use Rattle.bl_ctree.specs.Store.{Store, woken_store}
@@ -68,6 +69,7 @@ use Rattle.bl_ctree_laws_traces.proofs.OnBounded.Calls.{CalleesAreNamed, calls_i
 use Rattle.bl_ctree_laws_traces.proofs.OnBounded.Counting.{Counted, few_whole, unit_of_run}
 use Rattle.bl_ctree_laws_traces.proofs.OnBounded.Listed.{CallsEarlier, body_labels, labels, listed, node_listed}
 use Rattle.bl_ctree_laws_traces.proofs.OnBounded.Lists.{Among, EachOf, pigeons}
+use Rattle.bl_ctree_laws_traces.proofs.OnBounded.Passes.{by_depth, steps_by_depth}
 use Rattle.bl_ctree_laws_traces.proofs.OnBounded.Statements.{FewIn, body_few}
 
 -- ---- the steps of a tick are in the list of the entry's labels
@@ -115,8 +117,8 @@ root_there units (suc longest) k unit less is =
     ap (λ found. slice_get (unwrap_or (option_map (λ unit. record { unit = k; depth = 0; origin = None }
     ∷ instances_below (expanded units longest) 1 (runs_of unit)) found) []) 0) is
 
-module _ (structs : List StructDef) (units : List UnitDef) (entry : ℕ) (stand : units_stand_after structs [] units ≡ true)
-    (apart : RunsStandApart units) where
+module _ (callers : InstancesHaveCallers) (structs : List StructDef) (units : List UnitDef) (entry : ℕ)
+    (stand : units_stand_after structs [] units ≡ true) (apart : RunsStandApart units) where
   few_at : (k : ℕ) (unit : UnitDef) → slice_get units k ≡ Some unit → FewIn (plain_body unit.body) (joined (map runs_in unit.body)) (step_statements_of unit)
   few_at k unit there = body_few (site_of structs (take k units) unit) unit.body (typed_at structs [] units k unit stand there)
 
@@ -139,14 +141,17 @@ module _ (structs : List StructDef) (units : List UnitDef) (entry : ℕ) (stand 
       length (body_labels (labels units entry) true (plain_body unit.body)) ≤ steps structs units entry
   entry_few unit there =
       let w : Setting = setting_of structs units entry in
-      let all : length (labels units (suc entry) true entry) ≤ total (map (instance_steps w) (expanded units (suc entry) entry)) =
+      let weight : Instance → ℕ = by_depth callers structs units entry apart in
+      let all : length (labels units (suc entry) true entry) ≤ total (map weight (expanded units (suc entry) entry)) =
       few_whole w counted_at (suc entry) entry in
       let opened : length (labels units (suc entry) true entry) ≡ length (body_labels (labels units entry) true (plain_body unit.body)) =
       ap (λ found. length (unwrap_or (option_map (λ unit. body_labels (labels units entry) true (plain_body unit.body)) found) [])) there in
       let one : entry + 1 ≡ suc entry = omega arith in
-      let same : total (map (instance_steps w) (expanded units (entry + 1) entry)) ≡ total (map (instance_steps w) (expanded units (suc entry) entry)) =
-      ap (λ n. total (map (instance_steps w) (expanded units n entry))) one in
-      omega arith
+      let same : total (map weight (expanded units (entry + 1) entry)) ≡ total (map weight (expanded units (suc entry) entry)) =
+      ap (λ n. total (map weight (expanded units n entry))) one in
+      let deep : steps structs units entry ≡ total (map weight (expanded units (entry + 1) entry)) =
+      steps_by_depth callers structs units entry apart in
+      omega (arith, all, opened, same, deep)
 
 entry_is : StatementsArePlain → (w : Setting) (unit : UnitDef) → unit_at w 0 ≡ Some unit → entry_block w ≡ plain_body unit.body
 entry_is plain w unit is =
@@ -161,9 +166,9 @@ module _ (between : ReachedIsResidual) (woken_left : WokenTreeIsResidual) (state
       let w : Setting = setting_of structs units entry in
       let found = entry_found units entry (slice_get units entry) refl keeps.entry_stands in
       let unit : UnitDef = found.0 in
-      let at : unit_at w 0 ≡ Some unit = entry_at structs units entry keeps.units_stand apart unit found.1 in
+      let at : unit_at w 0 ≡ Some unit = entry_at callers structs units entry keeps.units_stand apart unit found.1 in
       let body : entry_block w ≡ plain_body unit.body = entry_is statements w unit at in
-      let are : CallsAreRuns units = calls_are_runs structs units entry keeps.units_stand apart in
+      let are : CallsAreRuns units = calls_are_runs callers structs units entry keeps.units_stand apart in
       let earlier : CallsEarlier units = calls_earlier structs units keeps.units_stand are in
       let named : CalleesAreNamed w = callees_are_named callers structs units entry apart are in
       let pace : Paces w = (orderly structs units entry keeps passes).paces in
@@ -186,6 +191,6 @@ module _ (between : ReachedIsResidual) (woken_left : WokenTreeIsResidual) (state
       let among = all_listed could kept left_kept within w earlier named pace call unit at now.stood entry (λ s inside. earlier entry unit s found.1 inside)
       plain.steps live left in
       let fewer = pigeons plain.labels (body_labels (labels units entry) true (plain_body unit.body)) different among in
-      let few = entry_few structs units entry keeps.units_stand apart unit found.1 in
+      let few = entry_few callers structs units entry keeps.units_stand apart unit found.1 in
       let long = plain.as_many in
       omega arith

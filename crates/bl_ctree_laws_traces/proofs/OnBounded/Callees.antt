@@ -115,7 +115,7 @@ taken_before (u ∷ units) (suc n) (suc k) unit e = let more = taken_before unit
 abbrev pub Apart : Run → Run → Type 0
 Apart one other = same_place one.place other.place ≡ false
 
-first_apart : (run : Run) (rest : List Run) (x : Run) →
+pub first_apart : (run : Run) (rest : List Run) (x : Run) →
     ((k : ℕ) (d : Run) → k < length rest → same_place run.place (get_or rest k d).place ≡ false) →
     Among x rest → same_place run.place x.place ≡ false
 first_apart run [] x each at = elim at [ ]

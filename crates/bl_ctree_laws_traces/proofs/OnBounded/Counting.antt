@@ -33,8 +33,8 @@ use Rattle.bl_graph_nodes.specs.Plain.{plain_body}
 use Rattle.bl_graph_nodes.specs.Steps.{Here, Inside, StepLabel}
 use Rattle.bl_ctree.specs.declared.instance.Instance.{Instance}
 use Rattle.bl_ctree.specs.declared.instance.Run.{Run}
-use Rattle.bl_ctree.specs.Instances.{Setting, called_from, expanded, instances_below, runs_of}
-use Rattle.bl_ctree.specs.Measure.{instance_steps, step_statements_of}
+use Rattle.bl_ctree.specs.Instances.{Setting, called_from, expanded, instances_below, runs_of, unit_of}
+use Rattle.bl_ctree.specs.Measure.{step_statements_of}
 use Rattle.bl_ctree_laws.specs.Trees.{Call}
 use Rattle.bl_ctree_laws_traces.proofs.OnBounded.Calls.{calls_in}
 use Rattle.bl_ctree_laws_traces.proofs.OnBounded.Listed.{body_labels, call_labels, labels, node_at}
@@ -103,9 +103,9 @@ module _ (w : Setting) (counted : (k : ℕ) (unit : UnitDef) → slice_get w.uni
   abbrev fresh : Instance → ℕ
   fresh x = 6 * unwrap_or (option_map step_statements_of (slice_get w.units x.unit)) 0
 
-  -- and as often as it is passed
+  -- and once more for each of its callers
   abbrev whole : Instance → ℕ
-  whole x = instance_steps w x
+  whole x = 6 * (x.depth + 1) * unwrap_or (option_map step_statements_of (unit_of w x)) 0
 
   deeper : (n : ℕ) (run : Run) (x : Instance) → whole (called_from n run x) ≡ whole x + fresh x
   deeper n run x =

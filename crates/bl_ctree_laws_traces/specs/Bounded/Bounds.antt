@@ -1,5 +1,5 @@
 -- No tick has more steps than the number that its program's statements and instances come to.
-use Rattle.std.specs.Prelude.{◌≡◌, ℕ, false, List, map, Some, AllPairs, slice_get}
+use Rattle.std.specs.Prelude.{◌≡◌, ℕ, suc, false, List, map, Some, AllPairs, slice_get}
 use Rattle.bl_tree.specs.declared.tree.StructDef.{StructDef}
 use Rattle.bl_tree.specs.declared.tree.Unit.{Unit as UnitDef}
 use Rattle.bl_tree.specs.Program.{IsWellTyped}
@@ -12,9 +12,10 @@ use Rattle.bl_names.specs.Named.{named_program}
 use Rattle.bl_types.specs.Programs.{typed_program}
 use Rattle.bl_types.specs.Rules.{Passes as TypesPass}
 use Rattle.bl_effects.specs.Rules.{Passes}
+use Rattle.bl_ctree.specs.declared.instance.Instance.{Instance}
 use Rattle.bl_ctree.specs.declared.instance.Run.{Run}
-use Rattle.bl_ctree.specs.Instances.{runs_in, setting_of}
-use Rattle.bl_ctree.specs.Measure.{steps}
+use Rattle.bl_ctree.specs.Instances.{instances_of, runs_in, setting_of}
+use Rattle.bl_ctree.specs.Measure.{passes, steps}
 use Rattle.bl_ctree.specs.Reaches.{Bounded}
 use Rattle.bl_ctree_laws_traces.specs.Bounded.Differ.{AllNumbered}
 
@@ -23,6 +24,12 @@ abbrev pub RunsStandApart : List UnitDef → Type 0
 RunsStandApart units =
     (k : ℕ) (unit : UnitDef) → slice_get units k ≡ Some unit →
     AllPairs (λ (one : Run) (other : Run). same_place one.place other.place ≡ false) (joined (map runs_in unit.body))
+
+-- an instance is passed once for itself and once for each of its callers, where no `run` statement is copied
+abbrev pub PassesAreDepths : Type 0
+PassesAreDepths =
+    (structs : List StructDef) (units : List UnitDef) (entry i : ℕ) (instance : Instance) → RunsStandApart units →
+    slice_get (instances_of units entry) i ≡ Some instance → passes (setting_of structs units entry) instance.depth instance ≡ suc instance.depth
 
 -- an accepted program with distinct `run` places and node numbers that rise along control edges has bounded ticks
 abbrev pub AcceptedIsBounded : Type 0

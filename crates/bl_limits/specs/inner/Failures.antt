@@ -1,5 +1,5 @@
 -- The failures of the two rules as lists.
-use Rattle.std.specs.Prelude.{ℕ, nat_lt, List, [], ◌∷◌, ◌++◌, map, slice_get, Option, Some, None, if◌then◌else◌}
+use Rattle.std.specs.Prelude.{ℕ, nat_lt, List, [], ◌∷◌, ◌++◌, map, drop, slice_get, Option, Some, None, if◌then◌else◌}
 use Rattle.bl_tree.specs.declared.place.Place.{Place}
 use Rattle.bl_tree.specs.declared.rule.Failure.{Failure}
 use Rattle.bl_tree.specs.declared.rule.Further.TheVariants.{Nothing}
@@ -43,9 +43,9 @@ chain_failures units = numbered rule.Frames 100 (λ (unit : UnitDef). unit.place
 abbrev pub large_state : List StructDef → List UnitDef → ℕ → List Failure
 large_state structs units entry = at_unit rule.Cells 1_000_000 (cells_at structs units entry) (slice_get units entry)
 
--- the failures of structs that are nested too deep
-abbrev pub struct_failures : List StructDef → List Failure
-struct_failures structs = numbered rule.Cells 100 (λ (def : StructDef). def.place) structs (struct_nestings structs)
+-- the failures of structs that are nested too deep, from the position on
+abbrev pub struct_failures : ℕ → List StructDef → List Failure
+struct_failures from structs = numbered rule.Cells 100 (λ (def : StructDef). def.place) (drop from structs) (drop from (struct_nestings structs))
 
 -- the failure of a variable that is nested too deep
 abbrev pub of_variable : List StructDef → Var → List Failure
@@ -59,8 +59,12 @@ unit_variable_failures structs vars = joined (map (of_variable structs) vars)
 abbrev pub variable_failures : List StructDef → List UnitDef → List Failure
 variable_failures structs units = joined (map (λ (unit : UnitDef). unit_variable_failures structs unit.vars) units)
 
+-- the failures of nesting, of structs from the position on and of the units' variables
+abbrev pub nesting_failures : ℕ → List StructDef → List UnitDef → List Failure
+nesting_failures from structs units = struct_failures from structs ++ variable_failures structs units
+
 -- all failures of Frames and Cells
 abbrev pub failures : List StructDef → List UnitDef → ℕ → List Failure
 failures structs units entry =
     many_instances units entry
-    ++ (chain_failures units ++ (large_state structs units entry ++ (struct_failures structs ++ variable_failures structs units)))
+    ++ (chain_failures units ++ (large_state structs units entry ++ nesting_failures 0 structs units))

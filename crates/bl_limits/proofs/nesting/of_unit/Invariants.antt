@@ -1,7 +1,7 @@
 use Rattle.std.proofs.Common.{◌≡◌, drop}
 use Rattle.bl_tree.specs.Rules.{first_of}
 use Rattle.bl_limits.specs.inner.Failures.{unit_variable_failures}
-use Rattle.bl_limits.proofs.cells.of_unit.Given as goal
+use Rattle.bl_limits.proofs.nesting.of_unit.Given as goal
 
 abbrev pub invariant-loop-var : goal.invariant-loop-var
 invariant-loop-var l =

@@ -1,7 +1,7 @@
 use Rattle.bl_tree.specs.declared.tree.Unit.{Unit as UnitDef}
 use Rattle.bl_limits.specs.inner.Failures.{unit_variable_failures}
 use Rattle.bl_limits.proofs.Lists.{first-next, next_of}
-use Rattle.bl_limits.proofs.cells.of_variables.Goals as goal
+use Rattle.bl_limits.proofs.nesting.of_variables.Goals as goal
 
 pub loop-unit-preserved : goal.loop-unit-preserved
 loop-unit-preserved c =
