@@ -8,7 +8,6 @@ use Rattle.std.proofs.Common.{
   true,
   false,
   not,
-  Some,
   List,
   [],
   ◌∷◌,
@@ -21,8 +20,7 @@ use Rattle.std.proofs.Common.{
   subst,
   ◌∙◌,
 }
-use Rattle.std.specs.Prelude.{Contains, slice_get}
-use Rattle.std.proofs.lemmas.Option.{slice_get_read}
+use Rattle.std.specs.Prelude.{Contains}
 use Rattle.bl_tree.specs.declared.graph.Edge.{Edge}
 use Rattle.bl_tree.specs.declared.graph.Graph.{Graph}
 use Rattle.bl_tree.specs.declared.graph.Node.{Node}
@@ -152,27 +150,20 @@ pub no_activity : (kind : UnitKind) → (kind ≡ kinds.Activity → ⊥) → is
 no_activity kinds.Function other = refl
 no_activity kinds.Activity other = absurd (other refl)
 
-module _ (units view : List UnitDef) (same : view ≡ units) (k : ℕ) (unit : UnitDef) (inside : k < length view) (is : unit ≡ get_or view k unit)
-    (graphs : List Graph) (are : AreGraphs (take k units) graphs) where
-  within : k < length units
-  within = subst (λ it. k < length it) same inside
-
-  is_there : unit ≡ get_or units k unit
-  is_there = subst (λ it. unit ≡ get_or it k unit) same is
-
+module _ (units : List UnitDef) (k : ℕ) (unit : UnitDef) (inside : k < length units) (is : unit ≡ get_or units k unit) (graphs : List Graph)
+    (are : AreGraphs (take k units) graphs) where
   -- an activity has the next graph
-  pub graphs_more : (next : List Graph) (graph : Graph) → is_activity unit.kind ≡ true → next ≡ graphs ++ graph ∷ [] →
-      ((of : UnitDef) → slice_get units k ≡ Some of → IsGraphOf of graph) → AreGraphs (take (k + 1) units) next
+  pub graphs_more : (next : List Graph) (graph : Graph) → is_activity unit.kind ≡ true → next ≡ graphs ++ graph ∷ [] → IsGraphOf unit graph →
+      AreGraphs (take (k + 1) units) next
   graphs_more next graph activity grew own =
       each_more IsGraphOf (activities (take k units)) (activities (take (k + 1) units)) graphs next unit graph
-      (filtered_more (λ it. is_activity it.kind) units k unit within is_there activity) grew are
-      (own unit (slice_get_read units (length units) k unit refl within is_there))
+      (filtered_more (λ it. is_activity it.kind) units k unit inside is activity) grew are own
 
   -- a function has none
   pub graphs_same : (next : List Graph) → is_activity unit.kind ≡ false → next ≡ graphs → AreGraphs (take (k + 1) units) next
   graphs_same next function grew =
       subst (λ it. EachTwo IsGraphOf (activities (take (k + 1) units)) it) (sym grew)
-      (subst (λ it. EachTwo IsGraphOf it graphs) (sym (filtered_same (λ it. is_activity it.kind) units k unit within is_there function)) are)
+      (subst (λ it. EachTwo IsGraphOf it graphs) (sym (filtered_same (λ it. is_activity it.kind) units k unit inside is function)) are)
 
 -- ---- a program by its graphs
 

@@ -1,7 +1,8 @@
 //! The rules Twice and Cycle (docs/LANGUAGE.md, "Rules"), and what an accepted program is. `check` answers Ok exactly where
 //! neither fails for an activity of the program, and gives its schedule: effects, the tick graphs of the activities, and
 //! an order for each. Else it names the first that fails, at its least place over all activities (`specs/Rules.antt`,
-//! `FailsFirst`); want of memory aside. `Accepted` is a program for which no rule fails, with its schedule
+//! `FailsFirst`); want of memory aside. `check_units` judges units that need not be a program's: neither rule looks at
+//! anything but the bodies of activities. `Accepted` is a program for which no rule fails, with its schedule
 //! (`specs/Accepted.antt`, `IsAccepted`).
 //!
 //! `twice` and `ordered` judge one tick graph. `twice` looks for a closed walk of control edges, `ordered` for one that
@@ -47,7 +48,7 @@ pub use accepted::Accepted;
 use bl_tree::graph::Graph;
 use bl_tree::{NoMemory, Refusal, Rule};
 pub use order::Order;
-pub use schedule::{Schedule, check};
+pub use schedule::{Schedule, check, check_units};
 use std::alloc::Global;
 
 /// Judges rule Twice for the graph. The walk that the refusal tells is one of many.

@@ -1,3 +1,4 @@
 pub mod Elements
 pub mod Placing
 pub mod Ranking
+pub mod Rising

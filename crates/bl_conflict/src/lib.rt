@@ -1,6 +1,7 @@
 //! The rules Pause, Conflict, Alias and Instant (docs/LANGUAGE.md, "Rules"), one module each. `check` answers Ok
 //! exactly where none of the four fails. Else it names the first that fails, at its least places, with the further
-//! places of its line (`Rules.antt` of `bl_effects`, `FailsFirst`); want of memory aside.
+//! places of its line (`Rules.antt` of `bl_effects`, `FailsFirst`); want of memory aside. `check_units` is the same for
+//! units that need not be a program's: it looks at nothing but them.
 #![tactic(auto, using(crate::proofs::FirstLemmas::firsts))]
 
 ghost use Rattle.std.specs.Prelude.{◌≡◌, None, IfErr, IfOk, OnOk};
@@ -27,7 +28,8 @@ pub fn check(alloc: Global, program: &Program) -> Result<(), Refusal>
     check_units(alloc, &program.units)
 }
 
-fn check_units(alloc: Global, units: &[Unit]) -> Result<(), Refusal>
+/// Judges the four rules for units that need not be those of a program.
+pub fn check_units(alloc: Global, units: &[Unit]) -> Result<(), Refusal>
     ensures passes { OnOk result (Passes units.now) }
     ensures cause { IfErr result (IsCause (Fails units.now)) }
 {

@@ -3,7 +3,8 @@
 use crate::drive::{ORDERS, Order, Seen, Stand, run};
 use crate::effects::{Told, is_told};
 use bl_rules::accept;
-use bl_rules_laws::traces::accepted_texts_have_few_instances;
+use bl_rules::laws::programs_of_texts_are_of_trees;
+use bl_rules_laws::traces::accepted_trees_have_few_instances;
 use bl_tree::NoMemory;
 use std::alloc::Global;
 
@@ -110,7 +111,8 @@ fn seen_of(
     order: Order,
     rows: &[&[i128]],
 ) -> Result<Option<Seen>, NoMemory> {
-    accepted_texts_have_few_instances();
+    programs_of_texts_are_of_trees();
+    accepted_trees_have_few_instances();
     let Ok(accepted) = accept(alloc, text.as_bytes()) else {
         return Ok(None);
     };

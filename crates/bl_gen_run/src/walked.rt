@@ -13,8 +13,9 @@ ghost use Rattle.bl_rules.specs.Accepted.{HasProgram};
 use crate::text::{Run, text_of};
 use crate::unrun::Unrun;
 use bl_gen::{GenFault, input_rows, program};
+use bl_rules::laws::programs_of_texts_are_of_trees;
 use bl_rules::{Accepted, accept};
-use bl_rules_laws::traces::{accepted_texts_have_few_instances, accepted_texts_have_one_trace};
+use bl_rules_laws::traces::{accepted_trees_have_few_instances, accepted_trees_have_one_trace};
 use bl_tree::{List, NoMemory, Refusal, Trace};
 use std::alloc::Global;
 
@@ -58,8 +59,9 @@ fn run_of(alloc: Global, stages: u32, accepted: &Accepted) -> Result<Run, NoMemo
     requires program { HasProgram (program_text stages) accepted.now.program }
     ensures { IfOk result (λ run. IsGeneratedRun stages run.text.items run.last) }
 {
-    accepted_texts_have_one_trace();
-    accepted_texts_have_few_instances();
+    programs_of_texts_are_of_trees();
+    accepted_trees_have_one_trace();
+    accepted_trees_have_few_instances();
     let trace = trace_of(alloc, accepted)?;
     let text = text_of(alloc, stages, &trace)?;
     Ok(Run {

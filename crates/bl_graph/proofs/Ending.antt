@@ -20,6 +20,9 @@ use Rattle.std.proofs.Common.{
   length,
   get_or,
   Some,
+  Result,
+  Ok,
+  Err,
   refl,
   rules,
   ap,
@@ -29,11 +32,12 @@ use Rattle.std.proofs.Common.{
   arith,
   zero-add,
 }
-use Rattle.std.specs.Prelude.{Contains, IsTrue, slice_get, ◌↔◌}
+use Rattle.std.specs.Prelude.{Contains, IfOk, IsTrue, slice_get, ◌↔◌}
 use Rattle.std.specs.List.{list_all}
 use Rattle.std.proofs.lemmas.List.{length-map}
 use Rattle.std.proofs.lemmas.List.Elements.{Contains-append_left, Contains-append_right, Contains-append_cases}
 use Rattle.bl_tree.specs.declared.graph.Edge.{Edge as GraphEdge}
+use Rattle.bl_tree.specs.declared.graph.Graph.{Graph}
 use Rattle.bl_tree.specs.declared.graph.Node.{Node as GraphNode}
 use Rattle.bl_tree.specs.declared.tree.Stmt.{Stmt}
 use Rattle.bl_tree.specs.declared.tree.Unit.{Unit as UnitDef}
@@ -177,18 +181,24 @@ graph_joins body made one two links first second block nodes edges flows nodes_a
     joins_nodes body made links (subst (λ start. BlockMade body 0 made start links) (λ i. record { control = first i; by_data = second i }) block) nodes edges
     (nodes_are ∙ ap (map (λ (flow : Flow). flow.node)) flows_are) edges_are
 
-pub graph_shows : NodesDiffer → (body : List Stmt) (of : UnitDef) (made : Made) (one two : List GraphEdge) (links : Links) → one ≡ [] → two ≡ []
+pub graph_shows : NodesDiffer → (body : List Stmt) (made : Made) (one two : List GraphEdge) (links : Links) → one ≡ [] → two ≡ []
     → BlockMade body 0 made (record { control = one; by_data = two }) links → (nodes : List GraphNode) (edges : List GraphEdge) (flows : List Flow)
-    → nodes ≡ map (λ (flow : Flow). flow.node) flows → flows ≡ made.flows → edges ≡ links.control ++ links.by_data → body ≡ of.body
-    → IsTickGraph (plain_body of.body) nodes edges
-graph_shows differ body of made one two links first second block nodes edges flows nodes_are flows_are edges_are same =
-    subst (λ body. IsTickGraph (plain_body body) nodes edges) same
-    (is_tick_graph differ body made links
+    → nodes ≡ map (λ (flow : Flow). flow.node) flows → flows ≡ made.flows → edges ≡ links.control ++ links.by_data → IsTickGraph (plain_body body) nodes edges
+graph_shows differ body made one two links first second block nodes edges flows nodes_are flows_are edges_are =
+    is_tick_graph differ body made links
     (subst (λ start. BlockMade body 0 made start links) (λ i. record { control = first i; by_data = second i }) block) nodes edges
-    (nodes_are ∙ ap (map (λ (flow : Flow). flow.node)) flows_are) edges_are)
+    (nodes_are ∙ ap (map (λ (flow : Flow). flow.node)) flows_are) edges_are
 
 -- the unit at a position
 pub unit_at : (units : List UnitDef) (k : ℕ) (of : UnitDef) → slice_get units k ≡ Some of → (d : UnitDef) → get_or units k d ≡ of
 unit_at [] k of is d = cc
 unit_at (u ∷ units) zero of is d = cc
 unit_at (u ∷ units) (suc k) of is d = unit_at units k of is d
+
+-- the graph of a body that is the unit's is one of the unit
+pub of_unit : {E : Type 0} (units : List UnitDef) (k : ℕ) (body : List Stmt) (made : Result Graph E)
+    → ((of : UnitDef) → slice_get units k ≡ Some of → body ≡ of.body)
+    → IfOk made (λ graph. IsTickGraph (plain_body body) graph.nodes graph.edges)
+    → IfOk made (λ graph. (of : UnitDef) → slice_get units k ≡ Some of → IsTickGraph (plain_body of.body) graph.nodes graph.edges)
+of_unit units k body (Ok graph) same is = λ of there. subst (λ body. IsTickGraph (plain_body body) graph.nodes graph.edges) (same of there) is
+of_unit units k body (Err e) same is = tt

@@ -12,6 +12,7 @@ use crate::part::Links;
 use bl_effects::Effects;
 use bl_graph_nodes::nodes_differ;
 use bl_tree::graph::{Edge, Graph, Node};
+use bl_tree::tree::Stmt;
 use bl_tree::{List, NoMemory, Program};
 use std::alloc::Global;
 
@@ -27,13 +28,19 @@ pub fn graph_of(
     ensures { IfOk result (λ graph. (of : UnitDef) → slice_get program.now.units unit ≡ Some of
         → IsTickGraph (plain_body of.body) graph.nodes graph.edges) }
 {
+    graph_of_body(alloc, &program.units[unit as usize].body)
+}
+
+/// The tick graph of a unit with this body. Fails only for want of memory.
+pub fn graph_of_body(alloc: Global, body: &[Stmt]) -> Result<Graph, NoMemory>
+    ensures { IfOk result (λ graph. IsTickGraph (plain_body body.now) graph.nodes graph.edges) }
+{
     nodes_differ();
-    let of = &program.units[unit as usize];
     let mut links = Links {
         control: List::new(alloc),
         by_data: List::new(alloc),
     };
-    let made = block(alloc, of.body.as_slice(), 0, &mut links)?;
+    let made = block(alloc, body, 0, &mut links)?;
     let nodes = shown_nodes(alloc, &made.flows)?;
     let edges = joined(links)?;
     Ok(Graph { nodes, edges })

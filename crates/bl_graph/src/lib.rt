@@ -1,8 +1,8 @@
 //! The tick graph of an activity: what may act after what in one tick (docs/LANGUAGE.md, "Tick graphs"). Control edges,
 //! surfaces and depths are defined by recursion on plain statements (`specs/Edges.antt`), and on them data edges
-//! (`specs/DataEdges.antt`) and what a `Graph` shows of a body (`specs/Graph.antt`, `IsTickGraph`). `graph_of` gives the
-//! graph of a unit, and fails for want of memory alone: in one pass over the body, each part with its nodes, which of them
-//! lead on and how they are reached. How surfaces and depths are found so, by marks, is in `specs/Marks.antt`, and all edges
+//! (`specs/DataEdges.antt`) and what a `Graph` shows of a body (`specs/Graph.antt`, `IsTickGraph`). `graph_of_body` gives
+//! the graph of a body, and `graph_of` that of a program's unit, which hangs on its body alone. Both fail for want of memory
+//! alone. The graph is made in one pass over the body, each part with its nodes, which of them lead on and how they are reached. How surfaces and depths are found so, by marks, is in `specs/Marks.antt`, and all edges
 //! are listed by them (`specs/Listed.antt`).
 //!
 //! Laws (`specs/Laws.antt`): a graph speaks of the body's nodes alone; what may end in the tick in which it begins has a
@@ -22,7 +22,7 @@ mod link;
 mod part;
 
 use bl_graph_nodes::{labels_tell_apart, nodes_differ, plain_statements};
-pub use graph::graph_of;
+pub use graph::{graph_of, graph_of_body};
 
 /// The edges of a body join nodes of it, and its surface and depth are made of such.
 pub fn graphs_stay_within()

@@ -6,8 +6,10 @@ use Rattle.bl_lex.specs.Rules.{Fails as TextFails, Passes as TextPasses}
 use Rattle.bl_lex.specs.Tokens.{Lexes}
 use Rattle.bl_limits.specs.Rules.{Fails as LimitsFail, Passes as LimitsPass}
 use Rattle.bl_parse.specs.Programs.{Spells}
-use Rattle.bl_types_program.specs.Programs.{named_of, typed_of}
+use Rattle.bl_types_program.specs.Programs.{IsProgramOf, named_of, typed_of}
 use Rattle.bl_parse_tree.specs.declared.raw.Raw.{Raw}
+use Rattle.bl_parse_tree.specs.WellFormed.{RawIsWellFormed}
+use Rattle.bl_rules.specs.Accepted.{HasProgram, IsOfTree}
 use Rattle.bl_rules.specs.Rules.{
   Fails,
   Parses,
@@ -27,9 +29,10 @@ use Rattle.bl_rules.specs.Rules.{
   in_units,
 }
 use Rattle.bl_names_scopes.specs.Rules.{Fails as NamesFail, Passes as NamesPass}
-use Rattle.bl_parse_syntax.specs.Rules.{Fails as TokensFail, Passes as TokensPass}
+use Rattle.bl_parse_syntax.specs.Rules.{Fails as TokensFail, Passes as TokensPass, PassesDepth}
 use Rattle.bl_tree.proofs.FirstLemmas.{alike_first}
 use Rattle.bl_tree.specs.declared.place.Place.{Place}
+use Rattle.bl_tree.specs.declared.program.Program.{Program}
 use Rattle.bl_tree.specs.declared.rule.Rule.{Rule}
 use Rattle.bl_tree.specs.declared.token.Token.{Token}
 use Rattle.bl_tree.specs.declared.tree.StructDef.{StructDef}
@@ -178,3 +181,23 @@ passes_text text passes r p a f = passes r p a (in_bytes f)
 
 pub passes_tree : (text : List ℕ) (raw : Raw) → Passes text → Parses text raw → TreePasses raw
 passes_tree text raw passes parsed r p a f = passes r p a (in_tree raw (passes_text text passes) parsed f)
+
+-- ---- programs
+
+-- what a tree keeps that tokens of a text spell
+abbrev pub SpelledKeeps : Type 0
+SpelledKeeps =
+    (text : List ℕ) (tokens : List Token) (raw : Raw) → Lexes text tokens → PassesDepth tokens → Spells text tokens raw → RawIsWellFormed raw.items
+
+pub of_tree : SpelledKeeps → (text : List ℕ) (raw : Raw) (program : Program) → Parses text raw → TreePasses raw → IsProgramOf raw program
+    → IsOfTree program
+of_tree keeps text raw program parsed most is = record {
+  raw = raw;
+  well_formed = keeps text parsed.tokens raw parsed.lexes parsed.passes.depth parsed.spells;
+  passes = most;
+  is = is;
+}
+
+pub of_tree_of_text : SpelledKeeps → (text : List ℕ) (program : Program) → HasProgram text program → IsOfTree program
+of_tree_of_text keeps text program has =
+    of_tree keeps text has.raw program has.has.parses (passes_tree text has.raw has.has.passes has.has.parses) has.is

@@ -1,8 +1,9 @@
--- The program of a source text that is accepted.
+-- The program of a source text, or of a tree, that is accepted.
 use Rattle.std.specs.Prelude.{ℕ, List}
 use Rattle.bl_types_program.specs.Programs.{IsProgramOf}
 use Rattle.bl_parse_tree.specs.declared.raw.Raw.{Raw}
-use Rattle.bl_rules.specs.Rules.{Parses, Passes}
+use Rattle.bl_parse_tree.specs.WellFormed.{RawIsWellFormed}
+use Rattle.bl_rules.specs.Rules.{Parses, Passes, TreePasses}
 use Rattle.bl_tree.specs.declared.program.Program.{Program}
 
 -- no rule fails for the text, and this is its tree
@@ -14,4 +15,11 @@ pub record HasTree (text : List ℕ) (raw : Raw) : Type 0 where
 pub record HasProgram (text : List ℕ) (program : Program) : Type 0 where
   pub raw : Raw
   pub has : HasTree text raw
+  pub is : IsProgramOf raw program
+
+-- no rule fails for some well-formed tree, and this is its program
+pub record IsOfTree (program : Program) : Type 0 where
+  pub raw : Raw
+  pub well_formed : RawIsWellFormed raw.items
+  pub passes : TreePasses raw
   pub is : IsProgramOf raw program

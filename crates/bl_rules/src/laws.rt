@@ -2,13 +2,16 @@
 
 ghost use Rattle.std.specs.Prelude.{◌≡◌, false, ℕ, List};
 ghost use Rattle.bl_parse_tree.specs.declared.raw.Raw.{Raw};
-ghost use Rattle.bl_rules.specs.Accepted.{HasTree};
-ghost use Rattle.bl_rules.specs.Rules.{FirstFailing, Passes, TreePasses};
+ghost use Rattle.bl_rules.specs.Accepted.{HasProgram, HasTree, IsOfTree};
+ghost use Rattle.bl_rules.specs.Rules.{FirstFailing, Parses, Passes, TreePasses};
 ghost use Rattle.bl_tree.specs.declared.place.Place.{Place};
+ghost use Rattle.bl_tree.specs.declared.program.Program.{Program};
 ghost use Rattle.bl_tree.specs.declared.rule.Rule.{Rule};
 ghost use Rattle.bl_tree.specs.Rules.{tells_walk};
+ghost use Rattle.bl_types_program.specs.Programs.{IsProgramOf};
 
 use bl_lex::laws::tokens_are_one;
+use bl_parse_laws::kept::what_is_spelled_keeps;
 use bl_parse_laws::spelled::a_text_has_one_tree;
 
 /// A text has at most one first failing rule, with one place; its further places are determined too, unless they are a
@@ -28,4 +31,14 @@ pub fn an_accepted_text_has_one_tree()
 {
     tokens_are_one();
     a_text_has_one_tree();
+}
+
+/// A text of any size whose tokens pass spells a well-formed tree, so that its program is one of a tree. An accepted text
+/// is such a text.
+pub fn programs_of_texts_are_of_trees()
+    ensures spelled { (text : List ℕ) (raw : Raw) (program : Program) → Parses text raw → TreePasses raw → IsProgramOf raw program
+        → IsOfTree program }
+    ensures accepted { (text : List ℕ) (program : Program) → HasProgram text program → IsOfTree program }
+{
+    what_is_spelled_keeps();
 }

@@ -6,7 +6,8 @@
 //! each (`Accepted` of `bl_cause`).
 //!
 //! Laws: a text has at most one first failing rule, with one place, and one that passes has none; it has at most one
-//! tree.
+//! tree. Its program is that of a well-formed tree that passes (`specs/Accepted.antt`, `IsOfTree`), which is all that laws of
+//! accepted programs ask for: so they hold of texts of any size.
 #![tactic(auto)]
 
 mod judge;

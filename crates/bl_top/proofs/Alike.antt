@@ -3,7 +3,7 @@ use Rattle.std.proofs.Common.{◌≡◌, ◌∙◌, ℕ, ℤ, List, refl, sym, a
 use Rattle.std.specs.Prelude.{Option, Some, None, unwrap_or}
 use Rattle.bl_top_commands.specs.Calls.{Count, Output}
 use Rattle.bl_top_commands.specs.Rows.{Ran, RanInPart, Streams, bad_rows, done, no_memory, trapped, unread, unwritten}
-use Rattle.bl_top_commands.specs.Sources.{IsTreeOf, RunsAs}
+use Rattle.bl_top_commands.specs.Sources.{IsRawTreeOf, RunsAs}
 use Rattle.bl_top_commands.specs.Traces.{HasCourse}
 use Rattle.bl_top_commands.specs.declared.status.Status.{Status}
 use Rattle.bl_ctree.specs.Means.{ShownTrace, shown_trace}
@@ -130,7 +130,7 @@ module _ (structs : List StructDef) (units : List UnitDef) (entry : ℕ) (course
 abbrev pub OneTree : Type 0
 OneTree = (text : List ℕ) (raw other : Raw) → HasTree text raw → HasTree text other → raw ≡ other
 
-tree_here : (source : List ℕ) (raw : Raw) → IsTreeOf (Some source) raw → HasTree source raw
+tree_here : (source : List ℕ) (raw : Raw) → IsRawTreeOf (Some source) raw → HasTree source raw
 tree_here source raw tree = subst (λ text. HasTree text raw) (sym tree.of_source) tree.has
 
 pub source_streams : OneTree → (source : List ℕ) (course other : Course) → RunsAs (Some source) course → RunsAs (Some source) other →

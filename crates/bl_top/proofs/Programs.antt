@@ -1,18 +1,19 @@
 -- The program of a source, and what is written for it.
 use Rattle.std.proofs.Common.{◌≡◌, ℕ, List, subst}
 use Rattle.std.specs.Prelude.{Option}
-use Rattle.bl_top_commands.specs.Sources.{IsProgram, IsTreeOf}
+use Rattle.bl_top_commands.specs.Sources.{IsProgram, IsRawTreeOf}
 use Rattle.bl_types_program.specs.Programs.{typed_of}
+use Rattle.bl_rules.specs.Accepted.{HasProgram, IsOfTree}
 use Rattle.bl_top.specs.Build.{IsBuiltOf, IsBuiltOfProgram}
-use Rattle.bl_top.specs.inner.Programs.{IsOfText}
 use Rattle.bl_tree.specs.declared.program.Program.{Program}
 use Rattle.bl_tree.specs.declared.tree.StructDef.{StructDef}
 use Rattle.bl_tree.specs.declared.tree.Unit.{Unit as UnitDef}
 
-pub is_of_text : (left : Option (List ℕ)) (program : Program) → IsProgram left program → IsOfText program
-is_of_text left program is = record { text = is.source; has = is.has }
+pub is_of_tree : ((text : List ℕ) (program : Program) → HasProgram text program → IsOfTree program) → (left : Option (List ℕ)) (program : Program) →
+    IsProgram left program → IsOfTree program
+is_of_tree of left program is = of is.source program is.has
 
-pub tree_of_program : (left : Option (List ℕ)) (program : Program) (is : IsProgram left program) → IsTreeOf left is.has.raw
+pub tree_of_program : (left : Option (List ℕ)) (program : Program) (is : IsProgram left program) → IsRawTreeOf left is.has.raw
 tree_of_program left program is = record { source = is.source; of_source = is.of_source; has = is.has.has }
 
 -- what is built of the program is built of the tree

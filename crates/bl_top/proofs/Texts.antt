@@ -1,4 +1,4 @@
--- The C file of an accepted program of a text.
+-- The C file of an accepted program of a tree.
 use Rattle.std.proofs.Common.{◌≡◌, ℕ, List, subst, sym}
 use Rattle.bl_cause.specs.Accepted.{AcceptedProgram, IsAccepted}
 use Rattle.bl_ctext_semantics.specs.Parts.{parts_of}
@@ -6,8 +6,8 @@ use Rattle.bl_ctext.specs.declared.file.CFile.{CFile}
 use Rattle.bl_ctree_laws_traces.specs.Traces.OneTrace.{HasOneTrace as MeansOneTrace}
 use Rattle.bl_emit_file.specs.Shows.{ShowsProgram}
 use Rattle.bl_machine_prevs.specs.Declared.{FromText}
-use Rattle.bl_rules.specs.Accepted.{HasProgram}
-use Rattle.bl_top.specs.inner.Programs.{IsFileOf, IsOfText}
+use Rattle.bl_rules.specs.Accepted.{IsOfTree}
+use Rattle.bl_top.specs.inner.Programs.{IsFileOf}
 use Rattle.bl_tree.specs.declared.program.Program.{Program}
 use Rattle.bl_tree.specs.declared.tree.StructDef.{StructDef}
 use Rattle.bl_tree.specs.declared.tree.Unit.{Unit as UnitDef}
@@ -36,16 +36,16 @@ file_shows structs units entry file one shows = record {
 tree_is : (accepted : AcceptedProgram) → IsAccepted accepted → accepted.tree ≡ accepted.program
 tree_is accepted is = is.is_tree
 
--- so it is made of the text, as the program is
-pub tree_of_text : (accepted : AcceptedProgram) → IsAccepted accepted → IsOfText accepted.program →
-    ((text : List ℕ) (program : Program) → HasProgram text program → FromText program.units) → FromText accepted.tree.units
-tree_of_text accepted is of_text declare =
-    subst (λ (p : Program). FromText p.units) (sym (tree_is accepted is)) (declare of_text.text accepted.program of_text.has)
+-- it keeps what the program does
+pub tree_declares : (accepted : AcceptedProgram) → IsAccepted accepted → IsOfTree accepted.program →
+    ((program : Program) → IsOfTree program → FromText program.units) → FromText accepted.tree.units
+tree_declares accepted is of_tree declare =
+    subst (λ (p : Program). FromText p.units) (sym (tree_is accepted is)) (declare accepted.program of_tree)
 
-pub file_of_tree : (accepted : AcceptedProgram) (file : CFile) → IsAccepted accepted → IsOfText accepted.program →
-    ((text : List ℕ) (program : Program) → HasProgram text program → MeansOneTrace program.structs program.units program.entry) →
+pub file_of_tree : (accepted : AcceptedProgram) (file : CFile) → IsAccepted accepted → IsOfTree accepted.program →
+    ((program : Program) → IsOfTree program → MeansOneTrace program.structs program.units program.entry) →
     ShowsProgram accepted.tree.structs accepted.tree.units accepted.tree.entry (parts_of file) →
     IsFileOf accepted.program.structs accepted.program.units accepted.program.entry file
-file_of_tree accepted file is of_text one shows =
-    file_shows accepted.program.structs accepted.program.units accepted.program.entry file (one of_text.text accepted.program of_text.has)
+file_of_tree accepted file is of_tree one shows =
+    file_shows accepted.program.structs accepted.program.units accepted.program.entry file (one accepted.program of_tree)
     (subst (λ (p : Program). ShowsProgram p.structs p.units p.entry (parts_of file)) (tree_is accepted is) shows)

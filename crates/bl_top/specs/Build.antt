@@ -6,7 +6,7 @@ use Rattle.bl_top_commands.specs.Notes.{line_of}
 use Rattle.bl_top_commands.specs.Refusals.{IsNotAccepted}
 use Rattle.bl_top_commands.specs.Results.{WritesResult}
 use Rattle.bl_top_commands.specs.declared.status.Status.{Status}
-use Rattle.bl_top_commands.specs.Sources.{IsTextOfProgram, IsTreeOf}
+use Rattle.bl_top_commands.specs.Sources.{IsTextOfProgram, IsRawTreeOf}
 use Rattle.bl_emit_file.specs.Merged.{HasMergedBlocks}
 use Rattle.bl_emit_laws.specs.Counters.Own.{FunctionsOwn}
 use Rattle.bl_emit_laws.specs.Width.{EachFrameHasWidth}
@@ -28,7 +28,7 @@ pub record IsBuiltOfProgram (structs : List StructDef) (units : List UnitDef) (e
 -- the bytes are a C text of the program of a source, with its functions, counters and `if`s
 pub record IsBuiltOf (left : Option (List ℕ)) (text : List ℕ) : Type 0 where
   pub raw : Raw
-  pub tree : IsTreeOf left raw
+  pub tree : IsRawTreeOf left raw
   pub is : IsBuiltOfProgram (typed_of raw).structs (typed_of raw).units (typed_of raw).entry text
 
 -- the status with which a C text of a source is built, and the lines for `notes`

@@ -5,7 +5,7 @@ use Rattle.bl_ctext_semantics_laws_places.specs.Behaviour.{behaviour_of}
 use Rattle.bl_top_commands.specs.Calls.{Call, HasRisen, Output}
 use Rattle.bl_top_commands.specs.Notes.{line_of}
 use Rattle.bl_top_commands.specs.Refusals.{IsNotAccepted}
-use Rattle.bl_top_commands.specs.Sources.{IsTreeOf}
+use Rattle.bl_top_commands.specs.Sources.{IsRawTreeOf}
 use Rattle.bl_top_commands.specs.declared.status.Status.{Status}
 use Rattle.bl_top_commands.specs.declared.status.Status.TheVariants as status
 use Rattle.bl_top_commands.specs.Traces.{OneTrace}
@@ -40,7 +40,7 @@ setting_of parts plants ticks names = record { runner = loaded parts; plants = p
 pub record HasDriven (left : Option (List ℕ)) (plants : Plants) (ticks : ℕ) (names : List ℕ) (driven : Driven)
     (how : Result (Unit {0}) DriveFault) (text : List ℕ) : Type 0 where
   pub raw : Raw
-  pub tree : IsTreeOf left raw
+  pub tree : IsRawTreeOf left raw
   pub parts : Parts
   pub one_trace : OneTrace (typed_of raw).structs (typed_of raw).units (typed_of raw).entry (behaviour_of parts)
   pub is_driven : IsDriven (setting_of parts plants.before ticks names) plants.after driven how

@@ -7,13 +7,14 @@ ghost use Rattle.bl_top_commands.specs.Notes.{line_of};
 ghost use Rattle.bl_top_commands.specs.Reads.{Reads, files_read};
 ghost use Rattle.bl_top_commands.specs.Results.{WritesResult};
 ghost use Rattle.bl_io.specs.Count.{NeverFell};
+ghost use Rattle.bl_rules.specs.Accepted.{IsOfTree};
 ghost use Rattle.bl_top.specs.Build.{BuildEnds, IsBuiltOfProgram};
-ghost use Rattle.bl_top.specs.inner.Programs.{IsOfText};
 ghost use Rattle.bl_top_args.specs.Jobs.{build};
 
 use crate::emitted::c_file;
 use bl_io::{Files, Sink};
 use bl_rules::Accepted;
+use bl_rules::laws::programs_of_texts_are_of_trees;
 use bl_top_commands::outcome::Outcome;
 use bl_top_commands::source::accepted_of;
 use bl_top_commands::status::Status;
@@ -31,15 +32,16 @@ pub fn build<F: Files, O: Sink>(alloc: Global, source: &str, files: &mut F, out:
     ensures file_counts { NeverFell (F.faults files.old) (F.faults files.new) }
     ensures out_count { O.faults out.old ≤ O.faults out.new }
 {
+    programs_of_texts_are_of_trees();
     match accepted_of(alloc, source, files) {
         Ok(accepted) => write_c(alloc, &accepted, out),
         Err(outcome) => outcome,
     }
 }
 
-/// Writes the C text of the accepted program of a text.
+/// Writes the C text of the accepted program of a tree.
 fn write_c<O: Sink>(alloc: Global, accepted: &Accepted, out: &mut O) -> Outcome
-    requires { IsOfText accepted.now.program }
+    requires { IsOfTree accepted.now.program }
     ensures writes { WritesResult (IsBuiltOfProgram accepted.now.program.structs accepted.now.program.units accepted.now.program.entry)
         (output_of (O.faults out.old) (O.faults out.new) (O.held out.old) (O.held out.new)) result.status }
     ensures line { line_in result ≡ line_of result.status }
@@ -54,7 +56,7 @@ fn write_c<O: Sink>(alloc: Global, accepted: &Accepted, out: &mut O) -> Outcome
 
 /// The C text of it.
 fn c_text(alloc: Global, accepted: &Accepted) -> Result<Vec<u8>, NoMemory>
-    requires { IsOfText accepted.now.program }
+    requires { IsOfTree accepted.now.program }
     ensures { IfOk result (λ text. IsBuiltOfProgram accepted.now.program.structs accepted.now.program.units accepted.now.program.entry text.items) }
 {
     let file = c_file(alloc, accepted)?;

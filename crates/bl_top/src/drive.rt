@@ -5,9 +5,9 @@ ghost use Rattle.bl_top_commands.specs.Calls.{Output, call_of, output_of};
 ghost use Rattle.bl_top_commands.specs.inner.Outcomes.{lines_in};
 ghost use Rattle.bl_top_commands.specs.Reads.{Reads, files_read};
 ghost use Rattle.bl_io.specs.Count.{NeverFell};
+ghost use Rattle.bl_rules.specs.Accepted.{IsOfTree};
 ghost use Rattle.bl_top.specs.Drive.{DriveEnds, status_at};
 ghost use Rattle.bl_top.specs.inner.Driven.{MayHaveDriven, TellsReport, WritesReport};
-ghost use Rattle.bl_top.specs.inner.Programs.{IsOfText};
 ghost use Rattle.bl_top_args.specs.Jobs.{drive};
 
 use crate::run::runner_of;
@@ -15,6 +15,7 @@ use bl_io::{Files, IoFault, Sink, write_all};
 use bl_plant::Plant;
 use bl_plant_drive_report::{End, Report, run};
 use bl_rules::Accepted;
+use bl_rules::laws::programs_of_texts_are_of_trees;
 use bl_top_commands::answer::Answer;
 use bl_top_commands::outcome::Outcome;
 use bl_top_commands::source::accepted_of;
@@ -42,6 +43,7 @@ pub fn drive<F: Files, O: Sink>(
     ensures file_counts { NeverFell (F.faults files.old) (F.faults files.new) }
     ensures out_count { O.faults out.old ≤ O.faults out.new }
 {
+    programs_of_texts_are_of_trees();
     let accepted = match accepted_of(alloc, source, files) {
         Ok(accepted) => accepted,
         Err(outcome) => return Answer::alone(alloc, outcome),
@@ -52,7 +54,7 @@ pub fn drive<F: Files, O: Sink>(
     }
 }
 
-/// Drives the C file of the accepted program of a text, and tells what came of it.
+/// Drives the C file of the accepted program of a tree, and tells what came of it.
 fn report_of(
     alloc: Global,
     accepted: &Accepted,
@@ -60,7 +62,7 @@ fn report_of(
     names: &[u32],
     plants: &mut Vec<Box<dyn Plant>>,
 ) -> Result<Report, NoMemory>
-    requires { IsOfText accepted.now.program }
+    requires { IsOfTree accepted.now.program }
     ensures report { IfOk result (TellsReport accepted.now.program.structs accepted.now.program.units accepted.now.program.entry
         (record { before = map (λ b. shown b) plants.old.items; after = map (λ b. shown b) plants.new.items }) ticks names.now) }
     ensures left { IfErr result (λ e. MayHaveDriven accepted.now.program.structs accepted.now.program.units accepted.now.program.entry

@@ -15,7 +15,7 @@ use Rattle.bl_top_commands.specs.Refusals.{
   unread,
 }
 use Rattle.bl_top_commands.specs.inner.Outcomes.{IsRefusedBy, chosen_line, line_in}
-use Rattle.bl_top_commands.specs.Sources.{IsProgram, IsTreeOf}
+use Rattle.bl_top_commands.specs.Sources.{IsProgram, IsRawTreeOf}
 use Rattle.bl_io.specs.Left.{GivesUpTo}
 use Rattle.bl_rules.specs.Accepted.{HasProgram}
 use Rattle.bl_rules.specs.Rules.{Fails, FirstFailing, Passes, in_bytes, in_tokens, in_tree}
@@ -54,7 +54,7 @@ is_program None got after program read made = record { source = got; of_source =
 is_program (Some whole) got after program read made =
     record { source = got; of_source = whole_of_passing whole got read.front made.has.passes; has = made }
 
-pub tree_of_program : (left : Option (List ℕ)) (program : Program) (is : IsProgram left program) → IsTreeOf left is.has.raw
+pub tree_of_program : (left : Option (List ℕ)) (program : Program) (is : IsProgram left program) → IsRawTreeOf left is.has.raw
 tree_of_program left program is = record { source = is.source; of_source = is.of_source; has = is.has.has }
 
 -- ---- what is refused

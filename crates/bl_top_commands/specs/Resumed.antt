@@ -9,7 +9,7 @@ use Rattle.bl_top_commands.specs.Notes.{line_of}
 use Rattle.bl_top_commands.specs.Reads.{LeftBehind, state_limit, text_limit}
 use Rattle.bl_top_commands.specs.Rows.{Streams}
 use Rattle.bl_top_commands.specs.Save.{ResumeEnds, SaveEnds, SaveFromEnds}
-use Rattle.bl_top_commands.specs.Sources.{IsTextOf, IsTextOfProgram, IsTreeOf}
+use Rattle.bl_top_commands.specs.Sources.{IsTextOf, IsTextOfProgram, IsRawTreeOf}
 use Rattle.bl_top_commands.specs.declared.status.Status.{Status}
 use Rattle.bl_top_commands.specs.declared.status.Status.TheVariants as status
 use Rattle.bl_ctext.specs.SpellsC.{SpellsC}
@@ -84,7 +84,7 @@ pub record ResumesCourse (structs : List StructDef) (units : List UnitDef) (entr
 -- the course goes on, after these rows, as the program of the source does
 pub record GoesOnAs (source : Option (List ℕ)) (first : List (List ℤ)) (course : Course) : Type 0 where
   pub raw : Raw
-  pub tree : IsTreeOf source raw
+  pub tree : IsRawTreeOf source raw
   pub goes_on : ResumesCourse (typed_of raw).structs (typed_of raw).units (typed_of raw).entry first course
 
 -- the status and the lines for `notes` of `resume` with the C text of a source and a state saved after these rows: neither is rejected

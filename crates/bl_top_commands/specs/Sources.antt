@@ -15,8 +15,8 @@ use Rattle.bl_tree.specs.declared.tree.Unit.{Unit as UnitDef}
 abbrev pub IsSource : Option (List ℕ) → List ℕ → Type 0
 IsSource = AreLeft
 
--- no rule fails for a source, and this is its tree
-pub record IsTreeOf (left : Option (List ℕ)) (raw : Raw) : Type 0 where
+-- no rule fails for a source, and this is its raw tree
+pub record IsRawTreeOf (left : Option (List ℕ)) (raw : Raw) : Type 0 where
   pub source : List ℕ
   pub of_source : IsSource left source
   pub has : HasTree source raw
@@ -36,11 +36,11 @@ pub record IsTextOfProgram (structs : List StructDef) (units : List UnitDef) (en
 -- the bytes are a C text of the program of a source. What `build` writes is one (`IsBuiltOf`); the laws ask for no more
 pub record IsTextOf (left : Option (List ℕ)) (text : List ℕ) : Type 0 where
   pub raw : Raw
-  pub tree : IsTreeOf left raw
+  pub tree : IsRawTreeOf left raw
   pub is : IsTextOfProgram (typed_of raw).structs (typed_of raw).units (typed_of raw).entry text
 
 -- the course runs the program of a source
 pub record RunsAs (left : Option (List ℕ)) (course : Course) : Type 0 where
   pub raw : Raw
-  pub tree : IsTreeOf left raw
+  pub tree : IsRawTreeOf left raw
   pub has : HasCourse (typed_of raw).structs (typed_of raw).units (typed_of raw).entry course

@@ -24,7 +24,8 @@ use bl_rows::{input_columns, output_columns, text};
 use bl_rows_stream::laws::{rows_of_bytes_fit, rows_of_lines_fit};
 use bl_rows_stream::{Finish, Gathering, finish_over, gather};
 use bl_rules::Accepted;
-use bl_rules_laws::traces::{accepted_texts_have_few_instances, accepted_texts_have_one_trace};
+use bl_rules::laws::programs_of_texts_are_of_trees;
+use bl_rules_laws::traces::{accepted_trees_have_few_instances, accepted_trees_have_one_trace};
 use bl_tree::{Column, List, NoMemory, Program};
 use bl_walk::laws::{
     closed_runs_stay_closed, fronts_show_fronts, rows_bound_runs, walks_are_allowed,
@@ -66,8 +67,9 @@ pub fn walk<F: Files, O: Sink>(
     ensures file_counts { NeverFell (F.faults files.old) (F.faults files.new) }
     ensures out_count { O.faults out.old ≤ O.faults out.new }
 {
-    accepted_texts_have_one_trace();
-    accepted_texts_have_few_instances();
+    programs_of_texts_are_of_trees();
+    accepted_trees_have_one_trace();
+    accepted_trees_have_few_instances();
     walks_are_allowed();
     closed_runs_stay_closed();
     fronts_show_fronts();

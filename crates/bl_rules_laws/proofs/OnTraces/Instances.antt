@@ -5,7 +5,6 @@ use Rattle.std.specs.Prelude.{Option, Some, None, slice_get}
 use Rattle.bl_tree.specs.declared.rule.Rule.TheVariants as rule
 use Rattle.bl_tree.specs.declared.tree.Unit.{Unit as UnitDef}
 use Rattle.bl_tree.specs.Program.{IsWellTyped, is_entry}
-use Rattle.bl_lex.specs.Rules.{Passes as TextPasses}
 use Rattle.bl_parse_tree.specs.declared.item.RawItem.{RawItem}
 use Rattle.bl_parse_tree.specs.declared.raw.Raw.{Raw}
 use Rattle.bl_parse_tree.specs.WellFormed.{RawIsWellFormed as ItemsKeep}
@@ -19,9 +18,8 @@ use Rattle.bl_cause.specs.Rules.{Passes as GraphsPass}
 use Rattle.bl_ctree.specs.Instances.{instances_of}
 use Rattle.bl_limits_measures.specs.Units.{instances_at}
 use Rattle.bl_limits_measures_laws.specs.Laws.{TypedInstancesAreCounted}
-use Rattle.bl_rules.specs.Rules.{in_bytes, in_graphs, in_limits, in_names, in_program, in_tree, in_types, in_units}
-use Rattle.bl_rules_laws.proofs.OnTraces.OneTrace.{SpelledKeeps}
-use Rattle.bl_rules_laws.specs.Traces.Instances.{TextsHaveFewInstances}
+use Rattle.bl_rules.specs.Rules.{in_graphs, in_limits, in_names, in_program, in_types, in_units}
+use Rattle.bl_rules_laws.specs.Traces.Instances.{TreesHaveFewInstances}
 
 -- what a typed program keeps
 abbrev pub TypedKeeps : Type 0
@@ -37,28 +35,23 @@ entry_there : (found : Option UnitDef) → is_entry found ≡ true → IsThere f
 entry_there (Some unit) e = record { unit = unit; is = refl }
 entry_there None e = absurd cc
 
-pub texts_have_few_instances : SpelledKeeps → TypedKeeps → TypedInstancesAreCounted → TextsHaveFewInstances
-texts_have_few_instances keeps typed_keeps counted text program has =
-    let raw : Raw = has.raw in
-    let parses = has.has.parses in
-    let text_passes : TextPasses text = λ r p a f. has.has.passes r p a (in_bytes f) in
-    let names : NamesPass raw.items = λ r p a f. has.has.passes r p a (in_tree raw text_passes parses (in_names f)) in
-    let types : TypesPass (named_of raw) = λ r p a f. has.has.passes r p a (in_tree raw text_passes parses (in_types names f)) in
-    let units : UnitsPass (typed_of raw).units =
-    λ r p a f. has.has.passes r p a (in_tree raw text_passes parses (in_program names types (in_units f))) in
-    let graphs : GraphsPass (typed_of raw).units =
-    λ r p a f. has.has.passes r p a (in_tree raw text_passes parses (in_program names types (in_graphs units f))) in
-    let raw_keeps = keeps text parses.tokens raw parses.lexes parses.passes.depth parses.spells in
-    let kept = typed_keeps raw.items raw.bytes raw_keeps names types in
+pub trees_have_few_instances : TypedKeeps → TypedInstancesAreCounted → TreesHaveFewInstances
+trees_have_few_instances typed_keeps counted program of =
+    let raw : Raw = of.raw in
+    let names : NamesPass raw.items = λ r p a f. of.passes r p a (in_names f) in
+    let types : TypesPass (named_of raw) = λ r p a f. of.passes r p a (in_types names f) in
+    let units : UnitsPass (typed_of raw).units = λ r p a f. of.passes r p a (in_program names types (in_units f)) in
+    let graphs : GraphsPass (typed_of raw).units = λ r p a f. of.passes r p a (in_program names types (in_graphs units f)) in
+    let kept = typed_keeps raw.items raw.bytes of.well_formed names types in
     let there = entry_there (slice_get (typed_of raw).units (typed_of raw).entry) kept.entry_stands in
     let count : length (instances_of (typed_of raw).units (typed_of raw).entry) ≡ instances_at (typed_of raw).units (typed_of raw).entry =
-    counted raw.items raw.bytes raw_keeps names types (typed_of raw).entry in
+    counted raw.items raw.bytes of.well_formed names types (typed_of raw).entry in
     let few : instances_at (typed_of raw).units (typed_of raw).entry ≤ 4_096 =
     elim (cases_lt 4_096 (instances_at (typed_of raw).units (typed_of raw).entry)) [
-      | inl many ↦ absurd (has.has.passes rule.Frames there.unit.place [] (in_tree raw text_passes parses (in_program names types
-          (in_limits units graphs (inl (record { unit = there.unit; is_entry = there.is; many = many; at_name = refl }), refl)))))
+      | inl many ↦ absurd (of.passes rule.Frames there.unit.place [] (in_program names types
+          (in_limits units graphs (inl (record { unit = there.unit; is_entry = there.is; many = many; at_name = refl }), refl))))
       | inr few ↦ few
     ] in
     let whole : length (instances_of (typed_of raw).units (typed_of raw).entry) ≤ 4_096 = omega (arith, count, few) in
-    subst (λ units. length (instances_of units program.entry) ≤ 4_096) (sym has.is.units)
-    (subst (λ entry. length (instances_of (typed_of raw).units entry) ≤ 4_096) (sym has.is.entry) whole)
+    subst (λ units. length (instances_of units program.entry) ≤ 4_096) (sym of.is.units)
+    (subst (λ entry. length (instances_of (typed_of raw).units entry) ≤ 4_096) (sym of.is.entry) whole)

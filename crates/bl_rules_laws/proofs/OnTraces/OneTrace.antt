@@ -1,13 +1,7 @@
--- What passes the rules of a text has exactly one trace.
-use Rattle.std.proofs.Common.{ℕ, List, sym, subst}
+-- What passes the rules of a tree has exactly one trace.
+use Rattle.std.proofs.Common.{sym, subst}
 use Rattle.bl_tree.specs.declared.rule.Rule.TheVariants as rule
-use Rattle.bl_tree.specs.declared.token.Token.{Token}
-use Rattle.bl_lex.specs.Rules.{Passes as TextPasses}
-use Rattle.bl_lex.specs.Tokens.{Lexes}
-use Rattle.bl_parse_syntax.specs.Rules.{PassesDepth}
 use Rattle.bl_parse_tree.specs.declared.raw.Raw.{Raw}
-use Rattle.bl_parse_tree.specs.WellFormed.{RawIsWellFormed}
-use Rattle.bl_parse.specs.Programs.{Spells}
 use Rattle.bl_names_scopes.specs.Rules.{Passes as NamesPass}
 use Rattle.bl_types.specs.Rules.{Passes as TypesPass}
 use Rattle.bl_types_program.specs.Programs.{named_of, typed_of}
@@ -15,9 +9,9 @@ use Rattle.bl_effects.specs.Rules.{Passes as UnitsPass}
 use Rattle.bl_cause.specs.Laws.{RulesLeaveNoWalk}
 use Rattle.bl_cause.specs.Rules.{Passes as GraphsPass}
 use Rattle.bl_cause_laws.specs.Orders.{BodiesHaveGraphs, UnwalkedHaveRanks}
-use Rattle.bl_rules.specs.Rules.{in_bytes, in_graphs, in_names, in_program, in_tree, in_types, in_units}
+use Rattle.bl_rules.specs.Rules.{in_graphs, in_names, in_program, in_types, in_units}
 use Rattle.bl_ctree_laws_traces.specs.Traces.OneTrace.{HasOneTrace, TypedHaveOneTrace}
-use Rattle.bl_rules_laws.specs.Traces.OneTrace.{TextsHaveOneTrace, UnitsAreOrdered}
+use Rattle.bl_rules_laws.specs.Traces.OneTrace.{TreesHaveOneTrace, UnitsAreOrdered}
 
 pub units_are_ordered : BodiesHaveGraphs → RulesLeaveNoWalk → UnwalkedHaveRanks → UnitsAreOrdered
 units_are_ordered graphs walks ranks units passes unit there activity =
@@ -29,25 +23,15 @@ units_are_ordered graphs walks ranks units passes unit there activity =
     (record { unit = unit; is_there = there; activity = activity; graph = has.graph; of_unit = has.is_graph; fails = fails }))) in
     record { nodes = has.graph.nodes; edges = has.graph.edges; is_graph = has.is_graph; ranks = order.ranks; rises = order.rises }
 
--- what a tree keeps that tokens of a text spell
-abbrev pub SpelledKeeps : Type 0
-SpelledKeeps =
-    (text : List ℕ) (tokens : List Token) (raw : Raw) → Lexes text tokens → PassesDepth tokens → Spells text tokens raw → RawIsWellFormed raw.items
-
-pub texts_have_one_trace : SpelledKeeps → UnitsAreOrdered → TypedHaveOneTrace → TextsHaveOneTrace
-texts_have_one_trace keeps ordered traces text program has =
-    let raw : Raw = has.raw in
-    let parses = has.has.parses in
-    let text_passes : TextPasses text = λ r p a f. has.has.passes r p a (in_bytes f) in
-    let names : NamesPass raw.items = λ r p a f. has.has.passes r p a (in_tree raw text_passes parses (in_names f)) in
-    let types : TypesPass (named_of raw) = λ r p a f. has.has.passes r p a (in_tree raw text_passes parses (in_types names f)) in
-    let units : UnitsPass (typed_of raw).units =
-    λ r p a f. has.has.passes r p a (in_tree raw text_passes parses (in_program names types (in_units f))) in
-    let graphs : GraphsPass (typed_of raw).units =
-    λ r p a f. has.has.passes r p a (in_tree raw text_passes parses (in_program names types (in_graphs units f))) in
+pub trees_have_one_trace : UnitsAreOrdered → TypedHaveOneTrace → TreesHaveOneTrace
+trees_have_one_trace ordered traces program of =
+    let raw : Raw = of.raw in
+    let names : NamesPass raw.items = λ r p a f. of.passes r p a (in_names f) in
+    let types : TypesPass (named_of raw) = λ r p a f. of.passes r p a (in_types names f) in
+    let units : UnitsPass (typed_of raw).units = λ r p a f. of.passes r p a (in_program names types (in_units f)) in
+    let graphs : GraphsPass (typed_of raw).units = λ r p a f. of.passes r p a (in_program names types (in_graphs units f)) in
     let one : HasOneTrace (typed_of raw).structs (typed_of raw).units (typed_of raw).entry =
-    traces raw.items raw.bytes (keeps text parses.tokens raw parses.lexes parses.passes.depth parses.spells) names types units
-    (ordered (typed_of raw).units graphs) in
-    subst (λ structs. HasOneTrace structs program.units program.entry) (sym has.is.structs)
-    (subst (λ units. HasOneTrace (typed_of raw).structs units program.entry) (sym has.is.units)
-    (subst (λ entry. HasOneTrace (typed_of raw).structs (typed_of raw).units entry) (sym has.is.entry) one))
+    traces raw.items raw.bytes of.well_formed names types units (ordered (typed_of raw).units graphs) in
+    subst (λ structs. HasOneTrace structs program.units program.entry) (sym of.is.structs)
+    (subst (λ units. HasOneTrace (typed_of raw).structs units program.entry) (sym of.is.units)
+    (subst (λ entry. HasOneTrace (typed_of raw).structs (typed_of raw).units entry) (sym of.is.entry) one))

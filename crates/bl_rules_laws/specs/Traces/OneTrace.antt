@@ -1,9 +1,9 @@
--- Source texts in which no rule fails have exactly one trace.
-use Rattle.std.specs.Prelude.{ℕ, List}
+-- Trees in which no rule fails have exactly one trace.
+use Rattle.std.specs.Prelude.{List}
 use Rattle.bl_tree.specs.declared.program.Program.{Program}
 use Rattle.bl_tree.specs.declared.tree.Unit.{Unit as UnitDef}
 use Rattle.bl_cause.specs.Rules.{Passes as GraphsPass}
-use Rattle.bl_rules.specs.Accepted.{HasProgram}
+use Rattle.bl_rules.specs.Accepted.{IsOfTree}
 use Rattle.bl_ctree_laws_traces.specs.Ready.Ordered.{ActivitiesAreOrdered}
 use Rattle.bl_ctree_laws_traces.specs.Traces.OneTrace.{HasOneTrace}
 
@@ -11,6 +11,6 @@ use Rattle.bl_ctree_laws_traces.specs.Traces.OneTrace.{HasOneTrace}
 abbrev pub UnitsAreOrdered : Type 0
 UnitsAreOrdered = (units : List UnitDef) → GraphsPass units → ActivitiesAreOrdered units
 
--- where no rule fails for a text its program has exactly one trace
-abbrev pub TextsHaveOneTrace : Type 0
-TextsHaveOneTrace = (text : List ℕ) (program : Program) → HasProgram text program → HasOneTrace program.structs program.units program.entry
+-- where no rule fails for a tree its program has exactly one trace
+abbrev pub TreesHaveOneTrace : Type 0
+TreesHaveOneTrace = (program : Program) → IsOfTree program → HasOneTrace program.structs program.units program.entry

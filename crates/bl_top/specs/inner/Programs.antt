@@ -1,4 +1,4 @@
--- The program of a text, on its way to what is written.
+-- The program of a tree, on its way to what is written.
 use Rattle.std.specs.Prelude.{ℕ, List}
 use Rattle.bl_ctext_semantics.specs.Faults.{WellFormed}
 use Rattle.bl_ctext_semantics.specs.Parts.{parts_of}
@@ -8,15 +8,8 @@ use Rattle.bl_ctext.specs.declared.file.CFile.{CFile}
 use Rattle.bl_emit_file.specs.Merged.{HasMergedBlocks}
 use Rattle.bl_emit_laws.specs.Counters.Own.{FunctionsOwn}
 use Rattle.bl_emit_laws.specs.Width.{EachFrameHasWidth}
-use Rattle.bl_rules.specs.Accepted.{HasProgram}
-use Rattle.bl_tree.specs.declared.program.Program.{Program}
 use Rattle.bl_tree.specs.declared.tree.StructDef.{StructDef}
 use Rattle.bl_tree.specs.declared.tree.Unit.{Unit as UnitDef}
-
--- no rule fails for some text, and this is its program
-pub record IsOfText (program : Program) : Type 0 where
-  pub text : List ℕ
-  pub has : HasProgram text program
 
 -- the C file is well formed and has the one trace of a program. Each activity with an instance has one function in it, which alone names its counters. There
 -- are as many counters as the activity's width. The function's body has as many `if`s as a machine of the program with merged blocks has blocks

@@ -32,21 +32,25 @@ is_run stages trace text last within has text_is last_is =
 
 pub trace_of-requires-clause-few : goal.trace_of-requires-clause-few
 trace_of-requires-clause-few c =
-    let few = c.accepted_texts_have_few_instances.ensures (program_text c.args.stages) c.args.accepted.now.program c.requires.program in
+    let few = c.accepted_trees_have_few_instances.ensures c.args.accepted.now.program
+    (c.programs_of_texts_are_of_trees.ensures.accepted (program_text c.args.stages) c.args.accepted.now.program c.requires.program) in
     omega (arith, few)
 
 pub trace_of-requires-clause-bounded : goal.trace_of-requires-clause-bounded
 trace_of-requires-clause-bounded c =
-    (c.accepted_texts_have_one_trace.ensures (program_text c.args.stages) c.args.accepted.now.program c.requires.program).bounded
+    (c.accepted_trees_have_one_trace.ensures c.args.accepted.now.program
+    (c.programs_of_texts_are_of_trees.ensures.accepted (program_text c.args.stages) c.args.accepted.now.program c.requires.program)).bounded
 
 pub trace_of-requires-clause-never_stuck : goal.trace_of-requires-clause-never_stuck
 trace_of-requires-clause-never_stuck c =
-    (c.accepted_texts_have_one_trace.ensures (program_text c.args.stages) c.args.accepted.now.program c.requires.program).never_stuck
+    (c.accepted_trees_have_one_trace.ensures c.args.accepted.now.program
+    (c.programs_of_texts_are_of_trees.ensures.accepted (program_text c.args.stages) c.args.accepted.now.program c.requires.program)).never_stuck
 
 pub returns : goal.returns
 returns c =
     is_run c.args.stages c.in_ok-trace.trace _ _ c.requires.within
     (the_trace c.args.stages c.args.accepted.now.program c.in_ok-trace.trace c.requires.program
-    (c.accepted_texts_have_one_trace.ensures (program_text c.args.stages) c.args.accepted.now.program c.requires.program)
+    (c.accepted_trees_have_one_trace.ensures c.args.accepted.now.program
+    (c.programs_of_texts_are_of_trees.ensures.accepted (program_text c.args.stages) c.args.accepted.now.program c.requires.program))
     c.in_ok-trace.ensures)
     c.in_ok-text.ensures refl

@@ -18,23 +18,27 @@ returns-in-Err-clause-reads g c =
 pub walk_file-requires-clause-few : goal.walk_file-requires-clause-few
 walk_file-requires-clause-few g c =
     let is = c.in-Ok.ensures.program in
-    let few = c.accepted_texts_have_few_instances.ensures is.source c.in-Ok.accepted.program is.has in
+    let few = c.accepted_trees_have_few_instances.ensures c.in-Ok.accepted.program
+    (c.programs_of_texts_are_of_trees.ensures.accepted is.source c.in-Ok.accepted.program is.has) in
     omega (arith, few)
 
 pub walk_file-requires-clause-bounded : goal.walk_file-requires-clause-bounded
 walk_file-requires-clause-bounded g c =
     let is = c.in-Ok.ensures.program in
-    (c.accepted_texts_have_one_trace.ensures is.source c.in-Ok.accepted.program is.has).bounded
+    (c.accepted_trees_have_one_trace.ensures c.in-Ok.accepted.program
+    (c.programs_of_texts_are_of_trees.ensures.accepted is.source c.in-Ok.accepted.program is.has)).bounded
 
 pub walk_file-requires-clause-never_stuck : goal.walk_file-requires-clause-never_stuck
 walk_file-requires-clause-never_stuck g c =
     let is = c.in-Ok.ensures.program in
-    (c.accepted_texts_have_one_trace.ensures is.source c.in-Ok.accepted.program is.has).never_stuck
+    (c.accepted_trees_have_one_trace.ensures c.in-Ok.accepted.program
+    (c.programs_of_texts_are_of_trees.ensures.accepted is.source c.in-Ok.accepted.program is.has)).never_stuck
 
 pub returns-in-Ok-walk_file-clause-ends : goal.returns-in-Ok-walk_file-clause-ends
 returns-in-Ok-walk_file-clause-ends g c = λ notes.
     let is = c.in-Ok.ensures.program in
-    walk_ran _ _ _ _ c.in-Ok.accepted.program is (c.accepted_texts_have_one_trace.ensures is.source c.in-Ok.accepted.program is.has)
+    walk_ran _ _ _ _ c.in-Ok.accepted.program is (c.accepted_trees_have_one_trace.ensures c.in-Ok.accepted.program
+    (c.programs_of_texts_are_of_trees.ensures.accepted is.source c.in-Ok.accepted.program is.has))
     c.rows_of_bytes_fit.ensures c.rows_of_lines_fit.ensures (g.F.Files.left c.accepted_of.new.files) c.in-Ok.ensures.behind
     c.closed_runs_stay_closed.ensures c.fronts_show_fronts.ensures c.walks_are_allowed.ensures.means _ (c.accepted_of.ensures.file_counts _)
     _ _ _ c.in-Ok-walk_file.ensures.walk c.in-Ok-walk_file.ensures.read_fault c.write_walk.result c.write_walk.ensures.writes
@@ -48,7 +52,8 @@ returns-in-Ok-walk_file-clause-reads g c =
 pub returns-clause-ends : goal.returns-clause-ends
 returns-clause-ends g c = λ notes.
     let is = c.in-Ok.ensures.program in
-    walk_refused _ _ _ _ c.in-Ok.accepted.program is (c.accepted_texts_have_one_trace.ensures is.source c.in-Ok.accepted.program is.has)
+    walk_refused _ _ _ _ c.in-Ok.accepted.program is (c.accepted_trees_have_one_trace.ensures c.in-Ok.accepted.program
+    (c.programs_of_texts_are_of_trees.ensures.accepted is.source c.in-Ok.accepted.program is.has))
     c.rows_of_bytes_fit.ensures c.rows_of_lines_fit.ensures (g.F.Files.left c.accepted_of.new.files) c.in-Ok.ensures.behind c.alone-in-Err-walk_file.result
     c.in-Ok.accepted.program.keeps.entry_stands refl
     (ap (λ (o : Outcome). o.status) c.alone-in-Err-walk_file.ensures.outcome ∙ c.plain.ensures) c.alone-in-Err-walk_file.ensures.told

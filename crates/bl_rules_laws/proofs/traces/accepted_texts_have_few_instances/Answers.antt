@@ -1,6 +1,0 @@
-use Rattle.bl_rules_laws.proofs.OnTraces.Instances.{texts_have_few_instances}
-use Rattle.bl_rules_laws.proofs.traces.accepted_texts_have_few_instances.Goals as goal
-
-pub returns : goal.returns
-returns c =
-    texts_have_few_instances c.what_is_spelled_keeps.ensures.keeps c.what_is_typed_keeps.ensures.keeps c.typed_instances_are_counted.ensures
