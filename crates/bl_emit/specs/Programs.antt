@@ -24,12 +24,12 @@ pub record SharedRules : Type 0 where
   pub rules : List NumberedTransition
   pub sizes : List ℕ
 
--- those where the last resting place shares the number 0 with the beginning, by how many values each counter has before
+-- the rules and sizes of an activity whose last resting place shares the number 0 with the beginning, from how many values each counter has before
 abbrev pub home_told : List ℕ → Block → List Slot → List ℕ → SharedRules
 home_told order body slots sizes =
     record { rules = listed (layout_of order (map (shared_slot (last_value sizes)) slots)) body; sizes = (last_value sizes - 1) ∷ [] }
 
--- those of an activity of a machine: its last resting place shares the number 0 with the beginning where it goes home
+-- the rules and sizes of an activity of a machine, whose last resting place shares the number 0 with the beginning where it goes home
 abbrev pub shared_told : UnitDef → InMachine → SharedRules
 shared_told unit one = record {
   rules = listed (layout_of (joined one.blocks) (shared (joined one.blocks) (plain_body unit.body) one.slots)) (plain_body unit.body);

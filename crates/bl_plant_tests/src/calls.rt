@@ -1,7 +1,7 @@
 //! Each kind of plant, asked and told a few times.
 
-use bl_plant::{Give, Plant, PlantName, Ramp, Script, Tank, Turn};
-use bl_tree::{List, NoMemory, Row};
+use bl_plant::{Give, Plant, PlantName, Ramp, Tank};
+use bl_tree::{NoMemory, Row};
 use std::alloc::Global;
 use std::test::Fail;
 

@@ -1,4 +1,4 @@
-//! Tests of `bl_plant`: a tank, a ramp and a script are asked and told.
+//! Tests of `bl_plant`: a tank and a ramp are asked and told.
 #![tactic(auto)]
 
 #[cfg(test)]

@@ -53,7 +53,7 @@ pub record IsHome (number : Node → ℕ) (slots : Slots) (body : Block) (home :
   pub of_test : rule.node ≡ TestAt l at e
   pub sure : IsLiteralTrue e
   pub asked : rule.asked ≡ Rested home
-  -- it leads to the node at which the body begins, which has a greater number
+  -- the place leads to the node at which the body begins, which has a greater number
   pub first : Node
   pub so : rule.so ≡ ClearsCounter home.counter ∷ SetsFlag first ∷ []
   pub enters : entry_flag number body (number first) ≡ true
