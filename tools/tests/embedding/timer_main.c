@@ -10,6 +10,7 @@ static int32_t written;
 bool read_demand(void) { return true; }
 int32_t read_flow(void) { return 7; }
 void write_total(int32_t total) { written = total; }
+void outputs_to_safe_state(void) { written = -1; }
 
 int main(void) {
     pump_reset();

@@ -1,17 +1,24 @@
-/* Runs the pump into a trap, comes back by docs/EMBEDDING.md's trap_back.c, and begins anew. */
+/* Runs the pump into a trap by docs/EMBEDDING.md's trap_back.c, while the blinker goes on; then the pump begins anew. */
+#include "blinker_unit.h"
 #include "pump_unit.h"
 #include <stdio.h>
 
-bool pump_step_or_trap(bool demand, int32_t flow);
+static void step(int32_t flow) {
+    int pump = (int)pump_step(true, flow);
+    int blinker = (int)blinker_step(true);
+    printf("%d%d ", pump, blinker);
+}
 
 int main(void) {
     pump_reset();
-    printf("%d", pump_step_or_trap(true, 0));
-    printf("%d", pump_step_or_trap(true, INT32_MAX));
-    printf("%d", pump_step_or_trap(true, 1));
+    blinker_reset();
+    step(0);
+    step(INT32_MAX);
+    step(1);
+    step(1);
     pump_reset();
-    printf("%d", pump_step_or_trap(true, 1));
-    printf("%d", pump_step_or_trap(true, 5));
+    printf("%d", (int)pump_step(true, 1));
+    printf("%d", (int)pump_step(true, 5));
     printf(" %ld\n", (long)pump_total());
     return 0;
 }

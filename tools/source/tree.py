@@ -224,3 +224,19 @@ class Unit:
     result: Any
     variables: list
     body: list
+
+
+@node
+class Act:
+    """What acts by itself: a statement less the statements in it, or the test of an `elseif`.
+
+    It has the kind and the name of its unit, the place where `blechc` says that it stands, the places of its pieces (a loop has
+    one where it begins and one where it is tested), and the statement, where none stands in it.
+    """
+
+    kind: str
+    unit_kind: str
+    unit: str
+    start: int
+    pieces: list
+    statement: Any

@@ -1,7 +1,9 @@
-"""Reads the text of a program that `check` has accepted: tokens, and from these its tree.
+"""Reads the text of a program that `check` has accepted: tokens, from these its tree, and where what acts in it stands.
 
-No rule is looked at here: where the text is no program, this fails somehow.
+No rule is looked at here: where the text is no program, this fails somehow. Where each byte of a source is one character of
+the text, places are those that `blechc` tells.
 """
+import collections
 import re
 
 import tree
@@ -13,6 +15,7 @@ KEYWORDS = BASIC | set(
     "function activity returns return struct var let const if then elseif else end await run cobegin weak with when abort reset"
     " repeat until while prev as not and or true false".split()
 )
+Token = collections.namedtuple("Token", "text line start end")
 TOKEN = re.compile(r"(?P<feed>\n)|[ \t\r]+|//[^\n]*|/\*(?P<comment>.*?)\*/|(?P<token>\w+|==|!=|<=|>=|<<|>>|.)", re.S)
 # the operators with two operands, those that bind least first
 LEVELS = [it.split() for it in ("or", "and", "== != < <= > >=", "|", "^", "&", "<< >>", "+ -", "* / %")]
@@ -24,13 +27,13 @@ VALUE_BEGINS = ("(", "-", "~", "not", "true", "false", "prev")
 
 
 def tokens_of(text):
-    """The tokens of a text, each with the number of its line, and an empty one at the end."""
+    """The tokens of a text, each with the number of its line and its place, and an empty one at the end."""
     found, line = [], 0
     for it in TOKEN.finditer(text):
         if it.group("token"):
-            found.append((it.group("token"), line))
+            found.append(Token(it.group("token"), line, *it.span()))
         line += bool(it.group("feed")) + (it.group("comment") or "").count("\n")
-    return found + [("", line)]
+    return found + [Token("", line, len(text), len(text))]
 
 
 def number_of(text):
@@ -45,7 +48,7 @@ class Tokens:
         self.tokens, self.at = tokens_of(text), 0
 
     def next(self, ahead=0):
-        return self.tokens[self.at + ahead][0]
+        return self.tokens[self.at + ahead].text
 
     def eat(self, wanted=None):
         """Goes over a token: its text."""
@@ -73,9 +76,28 @@ class Tokens:
 
     def begins_value(self):
         """Whether a value stands behind `return`: only what stands on the line of it is one."""
-        text, line = self.tokens[self.at]
+        text, line = self.tokens[self.at][:2]
         name = text and text not in KEYWORDS and (text[0].isalnum() or text[0] == "_")
-        return line == self.tokens[self.at - 1][1] and (name or text in VALUE_BEGINS)
+        return line == self.tokens[self.at - 1].line and (name or text in VALUE_BEGINS)
+
+    def place_from(self, first):
+        """The place from a token to the last one that was gone over."""
+        return self.tokens[first].start, self.tokens[self.at - 1].end
+
+    def inner(self, first):
+        """Where what begins with a token and was just gone over begins, less the parentheses around the whole of it."""
+        last = self.at - 1
+        while self.next(first - self.at) == "(" and self.closing(first) == last:
+            first, last = first + 1, last - 1
+        return self.tokens[first].start
+
+    def closing(self, first):
+        """The token that closes the parenthesis that a token opens."""
+        depth, at = 1, first
+        while depth:
+            at += 1
+            depth += (self.tokens[at].text == "(") - (self.tokens[at].text == ")")
+        return at
 
 
 class Names(Tokens):
@@ -188,7 +210,17 @@ class Expressions(Names):
 
 
 class Reader(Expressions):
-    """Reads statements, units and the whole program."""
+    """Reads statements, units and the whole program. `acts` is what acts in it, in source order."""
+
+    def __init__(self, text):
+        super().__init__(text)
+        self.acts, self.head = [], None
+
+    def act(self, kind, first, start=None):
+        """Tells that what was gone over from a token on acts by itself."""
+        place = self.place_from(first)
+        self.acts.append(tree.Act(kind, *self.head, place[0] if start is None else start, [place], None))
+        return self.acts[-1]
 
     def program(self):
         """The entry of the program."""
@@ -226,8 +258,9 @@ class Reader(Expressions):
 
     def unit(self):
         # (`function` or `activity`)
-        self.eat()
+        kind = self.eat()
         name, self.variables = self.eat(), []
+        self.head = kind, name
         self.scopes.append({})
         inputs = self.parameters()
         outputs = self.parameters() if self.next() == "(" else []
@@ -255,17 +288,26 @@ class Reader(Expressions):
         return found
 
     def statement(self):
-        readers = {"var": self.variable, "let": self.variable, "await": self.awaiting, "run": self.run, "cobegin": self.cobegin}
-        readers.update({"when": self.when, "repeat": self.repeat, "while": self.whiles, "if": self.ifs, "return": self.returns})
+        """A statement. One in which statements stand tells by itself what acts in it."""
+        first = self.at
+        around = {"cobegin": self.cobegin, "when": self.when, "repeat": self.repeat, "while": self.whiles, "if": self.ifs}
+        if self.next() in around:
+            return around[self.eat()](first)
+        kind, found = self.plain()
+        self.act(kind, first).statement = found
+        return found
+
+    def plain(self):
+        """A statement in which no statement stands, and what it is called."""
+        readers = {"var": self.variable, "let": self.variable, "await": self.awaiting, "run": self.run, "return": self.returns}
         if self.next() in readers:
-            reader = readers[self.next()]
-            self.eat()
-            return reader()
+            kind = self.eat()
+            return kind, readers[kind]()
         if self.next(1) == "(":
-            return tree.CallStatement(self.units[self.eat()], *self.arguments())
+            return "call", tree.CallStatement(self.units[self.eat()], *self.arguments())
         place = self.place()
         self.eat("=")
-        return tree.Assign(place, self.expression())
+        return "=", tree.Assign(place, self.expression())
 
     def arguments(self):
         """What inputs get, and the places that outputs stand for."""
@@ -288,7 +330,8 @@ class Reader(Expressions):
             self.eat("=")
         return tree.Run(target, self.units[self.eat()], *self.arguments())
 
-    def cobegin(self):
+    def cobegin(self, first):
+        self.act("cobegin", first)
         branches = []
         while not branches or self.eats("with"):
             weak = self.eats("weak")
@@ -300,24 +343,34 @@ class Reader(Expressions):
         self.eat("end")
         return statement
 
-    def when(self):
+    def when(self, first):
         condition, keyword = self.expression(), self.eat()
+        self.act("when", first)
         return self.ended(tree.When(keyword, condition, self.block()))
 
-    def repeat(self):
-        body = self.block()
-        return self.ended(tree.Until(self.expression(), body) if self.eats("until") else tree.Repeat(body))
+    def repeat(self, first):
+        act, body, last = self.act("repeat", first), self.block(), self.at
+        if not self.eats("until"):
+            return self.ended(tree.Repeat(body))
+        condition = self.expression()
+        act.pieces.append(self.place_from(last))
+        return self.ended(tree.Until(condition, body))
 
-    def whiles(self):
+    def whiles(self, first):
         condition = self.expression()
         self.eat("repeat")
+        self.act("while", first)
         return self.ended(tree.While(condition, self.block()))
 
-    def ifs(self):
+    def ifs(self, first):
         arms = []
         while not arms or self.eats("elseif"):
+            keyword = self.at - 1
             condition = self.expression()
+            # (the test of an `elseif` stands where its condition does)
+            start = self.inner(keyword + 1) if arms else None
             self.eat("then")
+            self.act("elseif" if arms else "if", keyword, start)
             arms.append((condition, self.block()))
         return self.ended(tree.If(arms, self.block() if self.eats("else") else []))
 

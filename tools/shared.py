@@ -1,0 +1,251 @@
+"""What the tools beside the compiler share: the program that they call, sources, rows and traces, and the structs of a C text."""
+import bisect
+import collections
+import csv
+import os
+import re
+import shutil
+import subprocess
+import sys
+
+# (no folder of compiled modules is left behind)
+sys.dont_write_bytecode = True
+
+TOOLS = os.path.dirname(os.path.realpath(__file__))
+TOP = os.path.dirname(TOOLS)
+sys.path.append(f"{TOOLS}/source")
+# (the greatest depth of a source takes about 3,000 calls of its reader)
+sys.setrecursionlimit(20000)
+
+from reader import Reader
+
+TRAPPED = 6
+# which word of a command, counted from its front or its end, is the file that a line speaks of
+ROWS_AT = {"run": 2, "walk": 2, "exec": 2, "count": 2, "save": -1, "resume": 3}
+
+
+class Fault(Exception):
+    """What is told in place of a result, and the status that goes with it."""
+
+    def __init__(self, text, status=2):
+        super().__init__(text)
+        self.status = status
+
+
+def main(work, words):
+    """The status of a tool that does its work on words: that of a fault where there is one, which is told on standard error."""
+    try:
+        return work(words) or 0
+    except Fault as fault:
+        print(fault, file=sys.stderr)
+        return fault.status
+    except BrokenPipeError:
+        # (whoever reads has enough; nothing more is written when the tool ends)
+        os.dup2(os.open(os.devnull, os.O_WRONLY), sys.stdout.fileno())
+        return 0
+
+
+def read(path):
+    """The bytes of a file."""
+    try:
+        with open(path, "rb") as it:
+            return it.read()
+    except OSError as fault:
+        raise Fault(f"{path}: {fault.strerror}") from fault
+
+
+# ---- calls of the program
+
+
+def program():
+    """The program that is called: the one that BLECHC_PROGRAM names, or that of the path, or the one that the gate left here."""
+    built, named = f"{TOP}/crates/blechc/out/blechc", os.environ.get("BLECHC_PROGRAM")
+    found = shutil.which(named) if named else shutil.which("blechc") or shutil.which(built)
+    if not found:
+        raise Fault(f"{named}: no program" if named else "no blechc: name it by BLECHC_PROGRAM=.., or put it on the path")
+    return found
+
+
+def call(words):
+    """Calls the program: its status, its standard output, and the lines of its standard error."""
+    ran = subprocess.run([program(), *words], stdin=subprocess.DEVNULL, capture_output=True, check=False)
+    lines = ran.stderr.decode(errors="replace").split("\n")
+    return ran.returncode, ran.stdout.decode(errors="replace"), [it for it in lines if it]
+
+
+def file_of(words, line):
+    """The file of a call that a line on standard error speaks of."""
+    at = 1
+    if line.startswith("rows:"):
+        at = ROWS_AT.get(words[0], 1)
+    elif line.startswith("bad state:"):
+        at = 2
+    return words[at] if -len(words) <= at < len(words) else words[-1]
+
+
+def explained(path, line, status):
+    """The fault that a line about a file tells, as tools/explain explains it."""
+    told = subprocess.run([f"{TOOLS}/explain", path, line], capture_output=True, text=True, check=False)
+    return Fault(told.stdout.rstrip("\n") if told.returncode == 0 else f"{path}: {line}", status)
+
+
+def answer(words):
+    """What a call of the program that ends well, or with a trap, has on standard output and error; any other end is a fault."""
+    status, out, lines = call(words)
+    if status not in (0, TRAPPED):
+        line = lines[-1] if lines else f"status {status}"
+        raise explained(file_of(words, line), line, status)
+    return out, lines
+
+
+# ---- sources
+
+
+class Source:
+    """A source that the program accepts: its bytes, its entry, its units by name, and what acts in it by the place that `walk` tells."""
+
+    def __init__(self, path):
+        self.path, self.data = path, read(path)
+        # (so places are bytes; what isn't ASCII stands in comments alone)
+        reader = Reader(self.data.decode("latin-1"))
+        try:
+            self.entry = reader.program()
+        except (AssertionError, AttributeError, LookupError, RecursionError, StopIteration, TypeError, ValueError):
+            self.entry = None
+        if not self.entry:
+            raise Fault(f"{path}: no source that `blechc check` accepts")
+        self.acts, self.units = {it.start: it for it in reader.acts}, reader.units
+        self.feeds = [at for at, it in enumerate(self.data) if it == 10]
+
+    def line(self, offset):
+        """The number of the line in which a byte stands, and where it begins and ends."""
+        at = bisect.bisect_left(self.feeds, offset)
+        return at + 1, self.feeds[at - 1] + 1 if at else 0, self.feeds[at] if at < len(self.feeds) else len(self.data)
+
+    def column(self, offset):
+        """The column of a byte: how many characters of its line end with it."""
+        return len(shown(self.data[self.line(offset)[1]:offset])) + 1
+
+
+def shown(data):
+    """Bytes as they are shown: one sign for each character."""
+    text = data.decode(errors="replace")
+    return "".join(it if it.isprintable() or it == "\t" else "\N{REPLACEMENT CHARACTER}" for it in text.rstrip("\r"))
+
+
+# ---- rows and traces
+
+
+class Table:
+    """Rows or a trace: the names of its columns, the values of each tick (numbers and bools), and how it ends."""
+
+    def __init__(self, names, ticks, end=""):
+        self.names, self.ticks, self.end = names, ticks, end
+
+    def column(self, at):
+        """The values of a column."""
+        return [it[at] for it in self.ticks]
+
+
+def value_of(field):
+    """The value that a field is."""
+    if field in ("true", "false"):
+        return field == "true"
+    if not re.fullmatch(r"-?[0-9]{1,39}", field):
+        raise ValueError(field)
+    return int(field)
+
+
+def fields_of(line):
+    """The fields of a line."""
+    try:
+        return next(csv.reader([line]))
+    except csv.Error:
+        return [line]
+
+
+def records_of(text):
+    """The records of a file of rows or of a trace, each with the number of its line (docs/FORMATS.md, "Rows")."""
+    for number, line in enumerate(text.split("\n"), 1):
+        line = line.removeprefix("\N{BYTE ORDER MARK}").removesuffix("\r")
+        if line:
+            yield number, fields_of(line)
+
+
+def values_of(number, fields, tick, count):
+    """The values of a record, which has to have a number of its tick and a count of values. Else a fault tells what doesn't fit."""
+    if len(fields) != count + 1:
+        raise Fault(f"{number}: it has {len(fields)} fields, and the header {count + 1}")
+    try:
+        found, *values = map(value_of, fields)
+    except ValueError as fault:
+        raise Fault(f"{number}: `{fault}` is no whole number, `true` or `false`") from fault
+    if isinstance(found, bool) or found != tick:
+        raise Fault(f"{number}: its tick has to be {tick}, and is `{fields[0]}`")
+    return values
+
+
+def table_of(path, text, most=None):
+    """The table that a text is, with so many ticks at most. A fault tells the first line that doesn't fit."""
+    records = records_of(text)
+    number, names = next(records, (1, [""]))
+    if names[0] != "tick":
+        raise Fault(f"{path}:{number}: this is no header, which is `tick` and names")
+    ticks, end = [], ""
+    for number, fields in records:
+        if len(ticks) == most:
+            break
+        if end:
+            raise Fault(f"{path}:{number}: a line stands behind `{end}`")
+        if fields in (["trap"], ["ended"]):
+            end = fields[0]
+            continue
+        try:
+            ticks.append(values_of(number, fields, len(ticks) + 1, len(names) - 1))
+        except Fault as fault:
+            raise Fault(f"{path}:{fault}") from fault
+    return Table(names[1:], ticks, end)
+
+
+def table(path, most=None):
+    """The table of a file of rows, or of a trace. What stands behind the rows of a run doesn't matter, so a run tells how many are read."""
+    return table_of(path, read(path).decode(errors="replace"), most)
+
+
+def run_of(trace_path, rows_path=None):
+    """The run that a trace and its rows show: the inputs, none without the rows, up to the last tick, a trapping one included, and the trace."""
+    trace = table(trace_path)
+    if rows_path is None:
+        return Table([], []), trace
+    count = len(trace.ticks) + (trace.end == "trap")
+    rows = table(rows_path, count)
+    if len(rows.ticks) < count or rows.end:
+        raise Fault(f"{rows_path}: no rows of {trace_path}, which has {count} ticks: here are {rows.end or len(rows.ticks)}")
+    return rows, trace
+
+
+def steps_of(lines):
+    """The steps of each tick that `walk` tells: the offsets of their places, in order."""
+    return [[int(it) for it in line.split(":")[1].split()] for line in lines if line.startswith("tick ")]
+
+
+# ---- the structs of a C text
+
+Member = collections.namedtuple("Member", "type name length")
+
+
+def structs_of(path, text):
+    """The structs of a C text that `build` wrote, by name, each with its members; the length of what is no array is 0."""
+    found = {}
+    for name, body in re.findall(r"^struct (\w+) \{\n(.*?)^\};", text, re.S | re.M):
+        members = re.findall(r"^ *(?:struct )?(\w+) (\w+)(?:\[(\d+)\])?;$", body, re.M)
+        found[name] = [Member(kind, member, int(length or 0)) for kind, member, length in members]
+    for it in ("bl_state", "bl_in", "bl_out"):
+        if it not in found:
+            raise Fault(f"{path}: no C text of blechc, for it has no struct {it}")
+    return found
+
+
+def ports_of(structs, name):
+    """The inputs (of `bl_in`) or outputs (of `bl_out`) of a C text, each by its name and its C type."""
+    return [(it.name[2:], it.type) for it in structs[name][1:]]
