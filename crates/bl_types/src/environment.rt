@@ -1,9 +1,13 @@
 //! What the names before a place of the text stand for.
 
+ghost use Rattle.std.specs.Prelude.{◌≡◌, IfOk};
+ghost use Rattle.bl_types.specs.Programs.{fresh, known_before};
+
 use crate::failure::Notes;
 use crate::structs::Structs;
 use bl_tree::tree::{Role, StructDef, Ty, Unit, UnitKind};
-use bl_tree::{List, Place, Scalar, Text};
+use bl_tree::{List, NoMemory, Place, Scalar, Text};
+use std::alloc::Global;
 
 /// What a `const` stands for.
 #[derive(Clone, Copy, PartialEq, Eq, Debug)]
@@ -39,11 +43,64 @@ pub struct Environment {
     pub result: Option<Scalar>,
 }
 
+impl Environment {
+    /// Before a program that stands alone.
+    pub fn new(alloc: Global) -> Environment
+        ensures { result ≡ fresh }
+    {
+        Environment {
+            structs: Structs::new(alloc),
+            constants: List::new(alloc),
+            units: List::new(alloc),
+            vars: List::new(alloc),
+            kind: UnitKind::Function,
+            result: None,
+        }
+    }
+
+    /// Before a program that stands behind these. Of a unit its head alone is used. Fails only for want of memory.
+    pub fn behind(
+        alloc: Global,
+        structs: List<StructDef>,
+        constants: List<Constant>,
+        units: List<Unit>,
+    ) -> Result<Environment, NoMemory>
+        ensures { IfOk result (λ env. env ≡ known_before structs constants units) }
+    {
+        let structs = Structs::of(alloc, structs)?;
+        Ok(Environment {
+            structs,
+            constants,
+            units,
+            vars: List::new(alloc),
+            kind: UnitKind::Function,
+            result: None,
+        })
+    }
+
+    /// A copy of the constants. Fails only for want of memory.
+    pub fn copied_constants(&self, alloc: Global) -> Result<List<Constant>, NoMemory>
+        ensures { IfOk result (λ constants. constants ≡ self.now.constants) }
+    {
+        let copied = Vec::from_slice(alloc, self.constants.as_slice())?;
+        Ok(List::from_vec(copied))
+    }
+}
+
 /// What is known on the way through a program.
 #[derive(Drop)]
 pub struct State {
     pub env: Environment,
     pub notes: Notes,
+}
+
+/// What is known at the end of a program, with what was known before it.
+#[derive(Drop)]
+pub struct Known {
+    pub structs: List<StructDef>,
+    /// The constants that stand among the items, and so in no body of a unit.
+    pub globals: List<Constant>,
+    pub units: List<Unit>,
 }
 
 /// The structs and units of a program with their types.

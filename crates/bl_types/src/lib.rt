@@ -4,6 +4,11 @@
 //! `FailsFirst`); want of memory aside. All failures of a tree are listed by `failures_of`, and the Ok is
 //! `typed_program` (`specs/Programs.antt`). An open expression takes the type that is wanted of it
 //! (`specs/Settled.antt`), and a constant becomes a literal (`specs/Folded.antt`).
+//!
+//! `judge_behind` judges a program behind a start: the structs, constants and units that are known before it
+//! (`Environment::behind`, `failures_behind`). Only what stands in the program is judged. Of several programs the last has the
+//! entry, and the others are to have none. The Ok is all that is known at the end (`known_behind`). `judge` is the case without
+//! a start.
 #![tactic(auto)]
 
 mod call;
@@ -24,5 +29,5 @@ mod target;
 mod types;
 mod unit;
 
-pub use environment::Typed;
-pub use program::judge;
+pub use environment::{Constant, Environment, Known, Typed};
+pub use program::{judge, judge_behind};

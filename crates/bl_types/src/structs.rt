@@ -23,18 +23,18 @@ pub struct FieldAt<'a> {
 
 /// A struct, with the positions of its fields by their names.
 #[derive(Drop)]
-struct Known {
+struct Indexed {
     def: StructDef,
     by_name: HashMap<String, usize>,
     ghost tells: { IndexesFields by_name def.fields },
 }
 
-impl Known {
-    fn new(alloc: Global, def: StructDef) -> Result<Known, NoMemory>
+impl Indexed {
+    fn new(alloc: Global, def: StructDef) -> Result<Indexed, NoMemory>
         ensures { IfOk result (λ known. known.def ≡ def) }
     {
         let by_name = positions(alloc, &def.fields)?;
-        Ok(Known { def, by_name })
+        Ok(Indexed { def, by_name })
     }
 
     fn field(&self, name: &str) -> Option<FieldAt<'_>>
@@ -75,7 +75,7 @@ fn put(by_name: &mut HashMap<String, usize>, name: String, position: usize) -> R
 /// The structs of a program, which contracts see as a list.
 #[derive(Drop)]
 pub struct Structs {
-    all: List<Known>,
+    all: List<Indexed>,
 }
 
 impl Model for Structs {
@@ -100,6 +100,17 @@ impl Structs {
         }
     }
 
+    /// Fails only for want of memory.
+    pub fn of(alloc: Global, list: List<StructDef>) -> Result<Structs, NoMemory>
+        ensures { IfOk result (λ structs. structs ≡ list) }
+    {
+        let mut structs = Structs::new(alloc);
+        for def in list.into_vec() {
+            structs.push(alloc, def)?;
+        }
+        Ok(structs)
+    }
+
     pub fn len(&self) -> usize
         ensures { result ≡ length self.now }
     {
@@ -110,7 +121,7 @@ impl Structs {
     pub fn push(&mut self, alloc: Global, def: StructDef) -> Result<(), NoMemory>
         ensures { OnOk result (self.new ≡ self.old ++ def ∷ []) }
     {
-        let known = Known::new(alloc, def)?;
+        let known = Indexed::new(alloc, def)?;
         self.all.push(known)?;
         Ok(())
     }

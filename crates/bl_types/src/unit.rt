@@ -1,7 +1,7 @@
 //! Units, the entry, and the items of a program in source order.
 #![tactic(auto, using(crate::proofs::NoteLemmas::notes, crate::proofs::StateLemmas::states))]
 
-ghost use Rattle.std.specs.Prelude.{◌≡◌, IfOk, OnOk, false, is_some};
+ghost use Rattle.std.specs.Prelude.{◌≡◌, IfOk, OnOk, is_some};
 ghost use Rattle.std.specs.List.{list_all};
 ghost use Rattle.bl_tree.specs.declared.rule.Rule.TheVariants as rule;
 ghost use Rattle.bl_tree.specs.Types.{scalar_in};
@@ -199,11 +199,11 @@ fn drives(unit: &NamedUnit) -> bool
         && all_can_be_driven(&unit.vars)
 }
 
-/// There is one entry, which the environment can drive.
-pub fn entries(end: Place, units: &[NamedUnit], notes: &mut Notes)
-    ensures { notes.new ≡ noted notes.old (entries false end units.now) }
+/// There is one entry, which the environment can drive. Where it is elsewhere, there is none among these units.
+pub fn entries(elsewhere: bool, end: Place, units: &[NamedUnit], notes: &mut Notes)
+    ensures { notes.new ≡ noted notes.old (entries elsewhere end units.now) }
 {
-    let mut seen = false;
+    let mut seen = elsewhere;
     for unit in units {
         if unit.entry {
             if seen || !drives(unit) {

@@ -1,7 +1,7 @@
 use Rattle.std.proofs.Common.{ap, ◌∙◌}
 use Rattle.std.specs.Prelude.{slice_get}
 use Rattle.bl_types.proofs.FieldLemmas.{missing, past, there}
-use Rattle.bl_types.proofs.structs.Known.field.Goals as goal
+use Rattle.bl_types.proofs.structs.Indexed.field.Goals as goal
 
 pub returns-in_err-position : goal.returns-in_err-position
 returns-in_err-position c =
