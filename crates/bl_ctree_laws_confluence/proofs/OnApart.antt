@@ -7,6 +7,7 @@ pub mod Named
 pub mod Outputs
 pub mod Owned
 pub mod Parted
+pub mod Placed
 pub mod Returns
 pub mod Running
 pub mod Seen

@@ -35,11 +35,12 @@ use Rattle.bl_tree.specs.Reduce.{total, greatest}
 use Rattle.bl_limits_measures.specs.Calls.{calls_of}
 use Rattle.bl_limits_measures.specs.InOrder.{answers}
 use Rattle.bl_limits_measures.specs.Laws.{CellsAdd, InstancesAdd, LimitsAreTold, MissingIsNothing, NoChainIsLonger, SomeChainIsAsLong}
-use Rattle.bl_limits_measures.specs.Runs.{runs_of}
+use Rattle.bl_limits_measures.specs.Runs.{activities_by_place, activities_run}
 use Rattle.bl_limits_measures.specs.Statements.{cell_statements_of}
 use Rattle.bl_limits_measures.specs.Types.{struct_sizes}
 use Rattle.bl_limits_measures.specs.Units.{all_cells, all_chains, all_instances, cells_by, cells_with, chain_at, chain_by, greatest_at, instances_by, variables_of}
 use Rattle.bl_limits_measures.specs.Uses.{IsChain, Uses, UsesEarlierOnly}
+use Rattle.bl_limits_measures.proofs.RunLemmas.{placed_all}
 use Rattle.bl_limits_measures.proofs.TableLemmas.{answer_at, known_before, length_answers}
 
 pub limits_told : LimitsAreTold
@@ -57,13 +58,14 @@ missing structs units k over = (past instances_by units k over, past chain_by un
 pub instances_add : InstancesAdd
 instances_add units k unit earlier there =
     let its : UsesEarlierOnly k unit = earlier k unit there in
-    answer_at instances_by units k unit 0 there ∙ ap (λ numbers. 1 + total numbers) (known_before (all_instances units) k (runs_of unit) its.runs)
+    answer_at instances_by units k unit 0 there ∙ ap (λ numbers. 1 + total numbers) (known_before (all_instances units) k (activities_by_place unit)
+    (placed_all (λ j. j < k) unit its.runs))
 
 pub cells_add : CellsAdd
 cells_add structs units k unit earlier there =
     let its : UsesEarlierOnly k unit = earlier k unit there in
     let table = all_cells structs units in
-    let runs = known_before table k (runs_of unit) its.runs in
+    let runs = known_before table k (activities_by_place unit) (placed_all (λ j. j < k) unit its.runs) in
     let calls = known_before table k (calls_of unit) its.calls in
     answer_at (cells_by (struct_sizes structs)) units k unit 0 there
     ∙ (λ i. cells_with unit.kind (variables_of structs unit) (cell_statements_of unit) (total (runs i)) (greatest (calls i)))
@@ -103,7 +105,7 @@ greatest_attained f (x ∷ xs) = inr (attained f x xs)
 
 -- the chains behind a unit, as far as they are known
 abbrev behind : List UnitDef → ℕ → UnitDef → ℕ
-behind units k unit = max (greatest_at (take k (all_chains units)) (calls_of unit)) (greatest_at (take k (all_chains units)) (runs_of unit))
+behind units k unit = max (greatest_at (take k (all_chains units)) (calls_of unit)) (greatest_at (take k (all_chains units)) (activities_run unit))
 
 chain_is : (units : List UnitDef) (k : ℕ) (unit : UnitDef) → slice_get units k ≡ Some unit → chain_at units k ≡ 1 + behind units k unit
 chain_is units k unit there = answer_at chain_by units k unit 0 there
@@ -115,7 +117,7 @@ behind_has units k j uses =
     let same : slice_index known j ≡ chain_at units j = get_or-take k (all_chains units) j 0 uses.earlier in
     ⊎_elim
     (λ (called : Contains (calls_of uses.unit) j). let most = greatest_has (slice_index known) (calls_of uses.unit) j called in omega arith)
-    (λ (run : Contains (runs_of uses.unit) j). let most = greatest_has (slice_index known) (runs_of uses.unit) j run in omega arith)
+    (λ (run : Contains (activities_run uses.unit) j). let most = greatest_has (slice_index known) (activities_run uses.unit) j run in omega arith)
     uses.used
 
 pub no_longer : NoChainIsLonger
@@ -167,7 +169,7 @@ next_of units k unit there =
     let is = chain_is units k unit there in
     ⊎_elim
     (λ (none : behind units k unit ≡ 0). inl (omega arith))
-    (λ (at : Best (slice_index known) (calls_of unit) (runs_of unit)).
+    (λ (at : Best (slice_index known) (calls_of unit) (activities_run unit)).
     let most : slice_index known at.position ≡ behind units k unit = at.most in
     ⊎_elim
     (λ (before : at.position < k). inr (record {
@@ -177,7 +179,7 @@ next_of units k unit there =
     }))
     (λ (past : k ≤ at.position). let none = unknown (all_chains units) k at.position past in inl (omega arith))
     (cases_lt at.position k))
-    (best (slice_index known) (calls_of unit) (runs_of unit))
+    (best (slice_index known) (calls_of unit) (activities_run unit))
 
 as_long_below : (n : ℕ) (units : List UnitDef) (k : ℕ) → k < n → k < length units →
     (rest : List ℕ) × (IsChain units (k ∷ rest)) × (length (k ∷ rest) ≡ chain_at units k)

@@ -1,6 +1,8 @@
 pub mod LawLemmas
 pub mod Numbers
 pub mod Orders
+pub mod RunLemmas
+pub mod SeenLemmas
 pub mod StatementLemmas
 pub mod TableLemmas
 pub mod TypeLemmas

@@ -27,7 +27,7 @@ use Rattle.bl_tree.specs.declared.tree.UnitKind.{UnitKind}
 use Rattle.bl_tree.specs.declared.tree.UnitKind.TheVariants.{Function, Activity}
 use Rattle.bl_limits_measures.specs.declared.measures.Measures.{Measures}
 use Rattle.bl_limits_measures.specs.Calls.{calls_of}
-use Rattle.bl_limits_measures.specs.Runs.{runs_of}
+use Rattle.bl_limits_measures.specs.Runs.{activities_by_place, activities_run}
 use Rattle.bl_limits_measures.specs.Saturated.{saturated}
 use Rattle.bl_limits_measures.specs.Statements.{cell_statements_of}
 use Rattle.bl_limits_measures.specs.Tells.{MeasuresTell}
@@ -48,10 +48,10 @@ variables_alike sizes unit = total_alike (λ var. size_by (map saturated sizes) 
     (λ var. size_alike sizes var.ty) unit.vars
 
 pub instances_respects : Respects instances_by
-instances_respects known unit = sum_alike 1 1 _ _ refl (total_at_alike known (runs_of unit))
+instances_respects known unit = sum_alike 1 1 _ _ refl (total_at_alike known (activities_by_place unit))
 
 pub chain_respects : Respects chain_by
-chain_respects known unit = sum_alike 1 1 _ _ refl (max_alike _ _ _ _ (greatest_at_alike known (calls_of unit)) (greatest_at_alike known (runs_of unit)))
+chain_respects known unit = sum_alike 1 1 _ _ refl (max_alike _ _ _ _ (greatest_at_alike known (calls_of unit)) (greatest_at_alike known (activities_run unit)))
 
 -- cells go by their parts as far as 64 bits tell them
 pub cells_alike : (kind : UnitKind) (a b c d e f g : ℕ) → saturated a ≡ saturated e → saturated c ≡ saturated f → saturated d ≡ saturated g
@@ -65,7 +65,7 @@ cells_sizes sizes known unit = cells_alike unit.kind _ _ _ _ _ _ _ (variables_al
 
 -- and by such cells
 cells_respects : (sizes : List ℕ) → Respects (cells_by sizes)
-cells_respects sizes known unit = cells_alike unit.kind _ _ _ _ _ _ _ refl (total_at_alike known (runs_of unit)) (greatest_at_alike known (calls_of unit))
+cells_respects sizes known unit = cells_alike unit.kind _ _ _ _ _ _ _ refl (total_at_alike known (activities_by_place unit)) (greatest_at_alike known (calls_of unit))
 
 -- one element more of a list that goes by each element alone
 mapped_push : {X : Type 0} (f : X → ℕ) (held then : List ℕ) (xs : List X) (x : X) (n : ℕ) → held ≡ map f xs →

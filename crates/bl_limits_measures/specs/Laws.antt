@@ -1,10 +1,12 @@
 -- What measures are, in terms of each other.
-use Rattle.std.specs.Prelude.{◌≡◌, ℕ, ◌+◌, ◌-◌, ◌^◌, ◌<◌, ◌≤◌, ◌↔◌, List, ◌∷◌, map, length, slice_get, Some}
+use Rattle.std.specs.Prelude.{◌≡◌, ℕ, ◌+◌, ◌-◌, ◌^◌, ◌<◌, ◌≤◌, ◌↔◌, false, List, ◌∷◌, map, length, slice_get, Some, AllPairs}
 use Rattle.bl_tree.specs.declared.tree.StructDef.{StructDef}
 use Rattle.bl_tree.specs.declared.tree.Unit.{Unit as UnitDef}
-use Rattle.bl_tree.specs.Reduce.{total, greatest}
+use Rattle.bl_tree.specs.Reduce.{joined, total, greatest}
+use Rattle.bl_tree.specs.Rules.{same_place}
 use Rattle.bl_limits_measures.specs.Calls.{calls_of}
-use Rattle.bl_limits_measures.specs.Runs.{runs_of}
+use Rattle.bl_limits_measures.specs.Runs.{activities_by_place, activities_run, runs_in}
+use Rattle.bl_limits_measures.specs.declared.runs.PlacedRun.{PlacedRun}
 use Rattle.bl_limits_measures.specs.Saturated.{saturated}
 use Rattle.bl_limits_measures.specs.Statements.{cell_statements_of}
 use Rattle.bl_limits_measures.specs.Units.{cells_at, cells_with, chain_at, instances_at, variables_of}
@@ -20,19 +22,25 @@ MissingIsNothing =
     (structs : List StructDef) (units : List UnitDef) (k : ℕ) → length units ≤ k →
     (instances_at units k ≡ 0) × (chain_at units k ≡ 0) × (cells_at structs units k ≡ 0)
 
--- a unit expands to itself and to what the activity of each of its `run` statements expands to
+-- a unit expands to itself and to what the activity of each place of its `run` statements expands to
 abbrev pub InstancesAdd : Type 0
 InstancesAdd =
     (units : List UnitDef) (k : ℕ) (unit : UnitDef) → UsesEarlier units → slice_get units k ≡ Some unit
-    → instances_at units k ≡ 1 + total (map (instances_at units) (runs_of unit))
+    → instances_at units k ≡ 1 + total (map (instances_at units) (activities_by_place unit))
 
 -- the cells of a unit by those of the activities that it runs and of the functions that it calls
 abbrev pub CellsAdd : Type 0
 CellsAdd =
     (structs : List StructDef) (units : List UnitDef) (k : ℕ) (unit : UnitDef) → UsesEarlier units → slice_get units k ≡ Some unit
     → cells_at structs units k
-    ≡ cells_with unit.kind (variables_of structs unit) (cell_statements_of unit) (total (map (cells_at structs units) (runs_of unit)))
+    ≡ cells_with unit.kind (variables_of structs unit) (cell_statements_of unit) (total (map (cells_at structs units) (activities_by_place unit)))
     (greatest (map (cells_at structs units) (calls_of unit)))
+
+-- a unit whose `run` statements stand at places of their own has as many places of `run` statements as it has statements
+abbrev pub ApartRunsCountEach : Type 0
+ApartRunsCountEach =
+    (unit : UnitDef) → AllPairs (λ (one : PlacedRun) (other : PlacedRun). same_place one.place other.place ≡ false) (joined (map runs_in unit.body))
+    → activities_by_place unit ≡ activities_run unit
 
 -- no chain that begins with a unit has more units than the number says
 abbrev pub NoChainIsLonger : Type 0

@@ -8,3 +8,4 @@ pub mod Tells
 pub mod Types
 pub mod Units
 pub mod Uses
+pub mod inner

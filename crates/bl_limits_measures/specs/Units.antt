@@ -7,7 +7,7 @@ use Rattle.bl_tree.specs.declared.tree.UnitKind.TheVariants.{Function, Activity}
 use Rattle.bl_tree.specs.Reduce.{total, greatest}
 use Rattle.bl_limits_measures.specs.Calls.{calls_of}
 use Rattle.bl_limits_measures.specs.InOrder.{answers}
-use Rattle.bl_limits_measures.specs.Runs.{runs_of}
+use Rattle.bl_limits_measures.specs.Runs.{activities_by_place, activities_run}
 use Rattle.bl_limits_measures.specs.Statements.{cell_statements_of}
 use Rattle.bl_limits_measures.specs.Types.{size_by, struct_sizes}
 
@@ -31,9 +31,9 @@ variables_of structs unit = variables_by (struct_sizes structs) unit
 
 -- ---- instances
 
--- a unit itself, and for each of its `run` statements the instances of its activity
+-- a unit itself, and for each place of its `run` statements the instances of the activity
 abbrev pub instances_by : List ℕ → UnitDef → ℕ
-instances_by known unit = 1 + total_at known (runs_of unit)
+instances_by known unit = 1 + total_at known (activities_by_place unit)
 
 -- how many activity instances each unit expands to
 abbrev pub all_instances : List UnitDef → List ℕ
@@ -47,7 +47,7 @@ instances_at units k = slice_index (all_instances units) k
 
 -- a unit itself, and behind it the longest chain of those that it calls or runs
 abbrev pub chain_by : List ℕ → UnitDef → ℕ
-chain_by known unit = 1 + max (greatest_at known (calls_of unit)) (greatest_at known (runs_of unit))
+chain_by known unit = 1 + max (greatest_at known (calls_of unit)) (greatest_at known (activities_run unit))
 
 -- how many units the longest chain has that each unit heads
 abbrev pub all_chains : List UnitDef → List ℕ
@@ -67,7 +67,7 @@ cells_with Activity variables statements running calling = 4 * variables + 4 * s
 -- the cells of a unit, where the sizes of the structs and the cells of the earlier units are known
 abbrev pub cells_by : List ℕ → List ℕ → UnitDef → ℕ
 cells_by sizes known unit =
-    cells_with unit.kind (variables_by sizes unit) (cell_statements_of unit) (total_at known (runs_of unit)) (greatest_at known (calls_of unit))
+    cells_with unit.kind (variables_by sizes unit) (cell_statements_of unit) (total_at known (activities_by_place unit)) (greatest_at known (calls_of unit))
 
 -- the cells of each unit
 abbrev pub all_cells : List StructDef → List UnitDef → List ℕ

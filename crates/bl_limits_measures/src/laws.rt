@@ -1,6 +1,6 @@
 //! Laws of measures, each the contract of a function that does nothing.
 
-ghost use Rattle.bl_limits_measures.specs.Laws.{CellsAdd, InstancesAdd, LimitsAreTold, MissingIsNothing, NoChainIsLonger, SomeChainIsAsLong};
+ghost use Rattle.bl_limits_measures.specs.Laws.{ApartRunsCountEach, CellsAdd, InstancesAdd, LimitsAreTold, MissingIsNothing, NoChainIsLonger, SomeChainIsAsLong};
 
 /// Where a number counts as the greatest that 64 bits hold, every lower limit is told all the same.
 pub fn limits_are_told()
@@ -23,4 +23,9 @@ pub fn units_add_up()
 pub fn chains_are_longest()
     ensures longer { NoChainIsLonger }
     ensures as_long { SomeChainIsAsLong }
+{}
+
+/// Where no two `run` statements of a unit have one place, each of them counts.
+pub fn apart_runs_count_each()
+    ensures { ApartRunsCountEach }
 {}

@@ -16,4 +16,4 @@ mod types;
 
 pub use calls::calls_of;
 pub use measures::Measures;
-pub use runs::runs_of;
+pub use runs::{PlacedRun, activities_by_place, activities_run};

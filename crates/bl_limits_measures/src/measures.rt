@@ -10,7 +10,7 @@ ghost use Rattle.bl_limits_measures.specs.Types.{nesting, size};
 ghost use Rattle.bl_limits_measures.specs.Units.{cells_at, cells_by, cells_with, chain_at, chain_by, greatest_at, instances_at, instances_by, total_at, variables_by};
 
 use crate::calls::calls_of;
-use crate::runs::runs_of;
+use crate::runs::{activities_by_place, activities_run};
 use crate::statements::in_block;
 use crate::tables::{at, greatest_at, total_at};
 use crate::types::{nesting_by, size_by, struct_nestings, struct_sizes};
@@ -130,13 +130,14 @@ impl Measures {
         ensures cells { OnOk result (self.new.cells ≡ self.old.cells ++ saturated (cells_by self.old.struct_sizes self.old.cells unit.now) ∷ []) }
     {
         let calls = calls_of(alloc, unit)?;
-        let runs = runs_of(alloc, unit)?;
+        let runs = activities_run(alloc, unit)?;
+        let places = activities_by_place(alloc, unit)?;
         let variables = variables_by(&self.struct_sizes, unit);
         let statements = in_block(&unit.body);
-        let running = total_at(&self.cells, &runs);
+        let running = total_at(&self.cells, &places);
         let calling = greatest_at(&self.cells, &calls);
         let cells = cells_with(unit.kind, variables, statements, running, calling);
-        let instances = instances_by(&self.instances, &runs);
+        let instances = instances_by(&self.instances, &places);
         let chain = chain_by(&self.chains, &calls, &runs);
         self.variables.push(variables)?;
         self.statements.push(statements)?;

@@ -24,7 +24,6 @@ use Rattle.std.proofs.Common.{
   Option,
   Some,
   None,
-  ap,
   refl,
   sym,
   subst,
@@ -119,7 +118,17 @@ use Rattle.bl_limits_measures.specs.Calls.{
   stmt_layer_calls,
   target_calls,
 }
-use Rattle.bl_limits_measures.specs.Runs.{arm_runs, branch_runs, kind_runs, runs_in, runs_in_arm, runs_in_branch, runs_of, stmt_layer_runs}
+use Rattle.bl_limits_measures.specs.Runs.{activities_run}
+use Rattle.bl_limits_measures.proofs.RunLemmas.{
+  activities_are,
+  activities_in as runs_in,
+  activities_in_arm as runs_in_arm,
+  activities_in_branch as runs_in_branch,
+  arm_activities as arm_runs,
+  branch_activities as branch_runs,
+  kind_activities as kind_runs,
+  stmt_activities as stmt_layer_runs,
+}
 use Rattle.bl_limits_measures_laws.specs.Laws.{UnitsUseEarlierOnes}
 
 -- ---- tests
@@ -569,9 +578,10 @@ pub units_use_earlier : UnitsUseEarlierOnes
 units_use_earlier structs units stand k unit there =
     let before = take k units in
     let long : length before ≡ k = (let within = slice_get_within units k unit there in length-take-le k units (omega arith)) in
-    let names : Names (length before) (calls_of unit) (runs_of unit) =
-    body_names (site_of structs before unit) unit.body (fitting structs before unit (unit_at structs [] units k unit stand there)) in
+    let names : Names (length before) (calls_of unit) (activities_run unit) =
+    subst (λ runs. Names (length before) (calls_of unit) runs) (sym (activities_are unit))
+    (body_names (site_of structs before unit) unit.body (fitting structs before unit (unit_at structs [] units k unit stand there))) in
     record {
       calls = subst (λ n. Below n (calls_of unit)) long names.calls;
-      runs = subst (λ n. Below n (runs_of unit)) long names.runs;
+      runs = subst (λ n. Below n (activities_run unit)) long names.runs;
     }

@@ -26,11 +26,10 @@ use Rattle.std.proofs.Common.{
   ap,
   refl,
   sym,
-  subst,
   ◌∙◌,
   arith,
 }
-use Rattle.std.specs.Prelude.{All, AllPairs, Option, filter, option_map, slice_get, unwrap_or}
+use Rattle.std.specs.Prelude.{All, Option, filter, option_map, slice_get, unwrap_or}
 use Rattle.std.proofs.lemmas.List.{length-append, length-map, map-append}
 use Rattle.std.proofs.lemmas.List.Elements.{All-head, All-tail}
 use Rattle.std.proofs.lemmas.Option.{none-some, slice_get_cases}
@@ -60,25 +59,23 @@ use Rattle.bl_ctree.specs.Instances.{
   runs_of,
   stmt_layer_runs,
 }
-use Rattle.bl_limits_measures.specs.Runs.{
-  arm_runs as arm_activities,
-  branch_runs as branch_activities,
-  kind_runs as kind_activities,
-  runs_in as activities_in,
-  runs_in_arm as activities_in_arm,
-  runs_in_branch as activities_in_branch,
-  runs_of as activities_of,
-  stmt_layer_runs as stmt_activities,
-}
+use Rattle.bl_limits_measures.specs.declared.runs.PlacedRun.{PlacedRun}
+use Rattle.bl_limits_measures.specs.Runs as placed
+use Rattle.bl_limits_measures.specs.Runs.{activities_by_place, activities_run}
+use Rattle.bl_limits_measures.proofs.RunLemmas.{placed_all}
 use Rattle.bl_limits_measures.specs.Laws.{InstancesAdd, MissingIsNothing}
 use Rattle.bl_limits_measures.specs.Units.{instances_at}
 use Rattle.bl_limits_measures.specs.Uses.{UsesEarlier, UsesEarlierOnly}
-use Rattle.bl_limits_measures_laws.specs.Laws.{InstancesAreCounted, RunsStandApart}
+use Rattle.bl_limits_measures_laws.specs.Laws.{InstancesAreCounted}
 
--- ---- the activities of `run` statements
+-- ---- `run` statements with their places and activities
 
-abbrev units_of : List Run → List ℕ
-units_of runs = map (λ (run : Run). run.unit) runs
+-- a `run` statement without its outputs
+abbrev pub placed_run : Run → PlacedRun
+placed_run run = record { place = run.place; unit = run.unit }
+
+abbrev pub placed_runs : List Run → List PlacedRun
+placed_runs runs = map placed_run runs
 
 abbrev found_of_kind : StmtKind → Place → List Run
 found_of_kind = fold-StmtKind (Place → List Run) (List Run) (List Run) (List Run) kind_runs arm_runs branch_runs stmt_layer_runs
@@ -89,60 +86,60 @@ found_parts = map-StmtKind StmtKind Arm Branch Stmt (Place → List Run) (List R
 found_at : (place : Place) (layer : StmtKind-F StmtKind Arm Branch Stmt) → runs_in (stmt place layer) ≡ kind_runs (found_parts layer) place
 found_at place layer = rw (fold-roll-Stmt, fold-roll-StmtKind) refl
 
-abbrev named_of_kind : StmtKind → List ℕ
-named_of_kind = fold-StmtKind (List ℕ) (List ℕ) (List ℕ) (List ℕ) kind_activities arm_activities branch_activities stmt_activities
+abbrev named_of_kind : StmtKind → Place → List PlacedRun
+named_of_kind = fold-StmtKind (Place → List PlacedRun) (List PlacedRun) (List PlacedRun) (List PlacedRun) placed.kind_runs placed.arm_runs placed.branch_runs placed.stmt_layer_runs
 
-abbrev named_parts : StmtKind-F StmtKind Arm Branch Stmt → StmtKind-F (List ℕ) (List ℕ) (List ℕ) (List ℕ)
-named_parts = map-StmtKind StmtKind Arm Branch Stmt (List ℕ) (List ℕ) (List ℕ)
-    (List ℕ) named_of_kind activities_in_arm activities_in_branch activities_in
+abbrev named_parts : StmtKind-F StmtKind Arm Branch Stmt → StmtKind-F (Place → List PlacedRun) (List PlacedRun) (List PlacedRun) (List PlacedRun)
+named_parts = map-StmtKind StmtKind Arm Branch Stmt (Place → List PlacedRun) (List PlacedRun) (List PlacedRun)
+    (List PlacedRun) named_of_kind placed.runs_in_arm placed.runs_in_branch placed.runs_in
 
-named_at : (place : Place) (layer : StmtKind-F StmtKind Arm Branch Stmt) → activities_in (stmt place layer) ≡ kind_activities (named_parts layer)
+named_at : (place : Place) (layer : StmtKind-F StmtKind Arm Branch Stmt) → placed.runs_in (stmt place layer) ≡ placed.kind_runs (named_parts layer) place
 named_at place layer = rw (fold-roll-Stmt, fold-roll-StmtKind) refl
 
 abbrev Agrees : Stmt → Type 0
-Agrees s = units_of (runs_in s) ≡ activities_in s
+Agrees s = placed_runs (runs_in s) ≡ placed.runs_in s
 
 -- parts one after another
-in_order : {A : Type 0} (f : A → List Run) (g : A → List ℕ) (xs : List A) → All (λ x. units_of (f x) ≡ g x) xs →
-    units_of (joined (map f xs)) ≡ joined (map g xs)
+in_order : {A : Type 0} (f : A → List Run) (g : A → List PlacedRun) (xs : List A) → All (λ x. placed_runs (f x) ≡ g x) xs →
+    placed_runs (joined (map f xs)) ≡ joined (map g xs)
 in_order f g [] all = refl
 in_order f g (x ∷ xs) all =
-    map-append (λ (run : Run). run.unit) (f x) (joined (map f xs))
-    ∙ (λ i. All-head (λ x. units_of (f x) ≡ g x) x xs all i ++ in_order f g xs (All-tail (λ x. units_of (f x) ≡ g x) x xs all) i)
+    map-append placed_run (f x) (joined (map f xs))
+    ∙ (λ i. All-head (λ x. placed_runs (f x) ≡ g x) x xs all i ++ in_order f g xs (All-tail (λ x. placed_runs (f x) ≡ g x) x xs all) i)
 
-block : (body : List Stmt) → Each Agrees body → units_of (joined (map runs_in body)) ≡ joined (map activities_in body)
-block body each = in_order runs_in activities_in body each
+block : (body : List Stmt) → Each Agrees body → placed_runs (joined (map runs_in body)) ≡ joined (map placed.runs_in body)
+block body each = in_order runs_in placed.runs_in body each
 
-in_arm : (arm : Arm) → Each Agrees (out-Arm arm).body → units_of (runs_in_arm arm) ≡ activities_in_arm arm
+in_arm : (arm : Arm) → Each Agrees (out-Arm arm).body → placed_runs (runs_in_arm arm) ≡ placed.runs_in_arm arm
 in_arm arm each =
-    ap units_of (fold_out-Arm (Place → List Run) (List Run) (List Run) (List Run) kind_runs arm_runs branch_runs stmt_layer_runs arm)
+    ap placed_runs (fold_out-Arm (Place → List Run) (List Run) (List Run) (List Run) kind_runs arm_runs branch_runs stmt_layer_runs arm)
     ∙ block (out-Arm arm).body each
-    ∙ sym (fold_out-Arm (List ℕ) (List ℕ) (List ℕ) (List ℕ) kind_activities arm_activities branch_activities stmt_activities arm)
+    ∙ sym (fold_out-Arm (Place → List PlacedRun) (List PlacedRun) (List PlacedRun) (List PlacedRun) placed.kind_runs placed.arm_runs placed.branch_runs placed.stmt_layer_runs arm)
 
-in_branch : (branch : Branch) → Each Agrees (out-Branch branch).body → units_of (runs_in_branch branch) ≡ activities_in_branch branch
+in_branch : (branch : Branch) → Each Agrees (out-Branch branch).body → placed_runs (runs_in_branch branch) ≡ placed.runs_in_branch branch
 in_branch branch each =
-    ap units_of (fold_out-Branch (Place → List Run) (List Run) (List Run) (List Run) kind_runs arm_runs branch_runs stmt_layer_runs branch)
+    ap placed_runs (fold_out-Branch (Place → List Run) (List Run) (List Run) (List Run) kind_runs arm_runs branch_runs stmt_layer_runs branch)
     ∙ block (out-Branch branch).body each
-    ∙ sym (fold_out-Branch (List ℕ) (List ℕ) (List ℕ) (List ℕ) kind_activities arm_activities branch_activities stmt_activities branch)
+    ∙ sym (fold_out-Branch (Place → List PlacedRun) (List PlacedRun) (List PlacedRun) (List PlacedRun) placed.kind_runs placed.arm_runs placed.branch_runs placed.stmt_layer_runs branch)
 
 -- from each element what is shown of it
 shown : {A : Type 0} (P Q : A → Type 0) → ((x : A) → P x → Q x) → (xs : List A) → All P xs → All Q xs
 shown P Q gives xs all = λ k d within. gives _ (all k d within)
 
-arms_agree : (arms : List Arm) → EachArm Agrees arms → units_of (joined (map runs_in_arm arms)) ≡ joined (map activities_in_arm arms)
-arms_agree arms each = in_order runs_in_arm activities_in_arm arms
-    (shown (λ arm. Each Agrees (out-Arm arm).body) (λ arm. units_of (runs_in_arm arm) ≡ activities_in_arm arm) in_arm arms each)
+arms_agree : (arms : List Arm) → EachArm Agrees arms → placed_runs (joined (map runs_in_arm arms)) ≡ joined (map placed.runs_in_arm arms)
+arms_agree arms each = in_order runs_in_arm placed.runs_in_arm arms
+    (shown (λ arm. Each Agrees (out-Arm arm).body) (λ arm. placed_runs (runs_in_arm arm) ≡ placed.runs_in_arm arm) in_arm arms each)
 
 branches_agree : (branches : List Branch) → EachBranch Agrees branches →
-    units_of (joined (map runs_in_branch branches)) ≡ joined (map activities_in_branch branches)
+    placed_runs (joined (map runs_in_branch branches)) ≡ joined (map placed.runs_in_branch branches)
 branches_agree branches each =
-    in_order runs_in_branch activities_in_branch branches
+    in_order runs_in_branch placed.runs_in_branch branches
     (shown (λ branch. Each Agrees (out-Branch branch).body)
-    (λ branch. units_of (runs_in_branch branch) ≡ activities_in_branch branch) in_branch branches each)
+    (λ branch. placed_runs (runs_in_branch branch) ≡ placed.runs_in_branch branch) in_branch branches each)
 
 same : (place : Place) (layer : StmtKind-F StmtKind Arm Branch Stmt) →
-    units_of (kind_runs (found_parts layer) place) ≡ kind_activities (named_parts layer) → Agrees (stmt place layer)
-same place layer is = ap units_of (found_at place layer) ∙ is ∙ sym (named_at place layer)
+    placed_runs (kind_runs (found_parts layer) place) ≡ placed.kind_runs (named_parts layer) place → Agrees (stmt place layer)
+same place layer is = ap placed_runs (found_at place layer) ∙ is ∙ sym (named_at place layer)
 
 agree : (s : Stmt) → Agrees s
 agree = induct Agrees (record {
@@ -152,7 +149,7 @@ agree = induct Agrees (record {
   await = λ place e. same place (StmtKind-F.Await e) refl;
   run = λ place target a inputs outputs. same place (StmtKind-F.Run target a inputs outputs) refl;
   branching = λ place arms other in_arms in_other. same place (StmtKind-F.If arms other)
-      (map-append (λ (run : Run). run.unit) (joined (map runs_in_arm arms)) (joined (map runs_in other))
+      (map-append placed_run (joined (map runs_in_arm arms)) (joined (map runs_in other))
       ∙ (λ i. arms_agree arms in_arms i ++ block other in_other i));
   cobegin = λ place branches each. same place (StmtKind-F.Cobegin branches) (branches_agree branches each);
   guarded = λ place guard e body each. same place (StmtKind-F.When guard e body) (block body each);
@@ -162,30 +159,46 @@ agree = induct Agrees (record {
   returns = λ place e. same place (StmtKind-F.Return e) refl;
 })
 
-all_agree : (body : List Stmt) → units_of (joined (map runs_in body)) ≡ joined (map activities_in body)
+pub all_agree : (body : List Stmt) → placed_runs (joined (map runs_in body)) ≡ joined (map placed.runs_in body)
 all_agree body = block body (λ k d within. agree (get_or body k d))
 
 -- ---- one for each place
 
-filter_all : {A : Type 0} (p : A → Bool) (xs : List A) → All (λ x. p x ≡ true) xs → filter p xs ≡ xs
-filter_all p [] all = refl
-filter_all p (x ∷ xs) all =
-    ap (λ b. cond b (x ∷ filter p xs) (filter p xs)) (All-head (λ x. p x ≡ true) x xs all)
-    ∙ ap (λ rest. x ∷ rest) (filter_all p xs (All-tail (λ x. p x ≡ true) x xs all))
+filtered : (place : Place) (b : Bool) (run : Run) (rest : List Run) →
+    placed_runs (cond b (run ∷ rest) rest) ≡ cond b (placed_run run ∷ placed_runs rest) (placed_runs rest)
+filtered place true run rest = refl
+filtered place false run rest = refl
 
-abbrev Apart : Run → Run → Type 0
-Apart one other = same_place one.place other.place ≡ false
+filter_placed : (place : Place) (runs : List Run) → placed_runs (filter (λ (other : Run). not (same_place place other.place)) runs)
+    ≡ filter (λ (other : PlacedRun). not (same_place place other.place)) (placed_runs runs)
+filter_placed place [] = refl
+filter_placed place (run ∷ rest) =
+    filtered place (not (same_place place run.place)) run (filter (λ (other : Run). not (same_place place other.place)) rest)
+    ∙ ap (λ more. cond (not (same_place place run.place)) (placed_run run ∷ more) more) (filter_placed place rest)
 
-each_once : (runs : List Run) → AllPairs Apart runs → one_a_place runs ≡ runs
-each_once [] apart = refl
-each_once (run ∷ rest) apart =
-    ap (λ found. run ∷ filter (λ (other : Run). not (same_place run.place other.place)) found)
-    (each_once rest (λ i j d less within. apart (suc i) (suc j) d (omega arith) (omega arith)))
-    ∙ ap (λ found. run ∷ found)
-    (filter_all (λ (other : Run). not (same_place run.place other.place)) rest (λ k d within. ap not (apart 0 (suc k) d (omega arith) (omega arith))))
+once_placed : (runs : List Run) → placed_runs (one_a_place runs) ≡ placed.one_a_place (placed_runs runs)
+once_placed [] = refl
+once_placed (run ∷ rest) =
+    ap (λ more. placed_run run ∷ more) (filter_placed run.place (one_a_place rest)
+    ∙ ap (filter (λ (other : PlacedRun). not (same_place run.place other.place))) (once_placed rest))
 
-named : (unit : UnitDef) → RunsStandApart unit → units_of (runs_of unit) ≡ activities_of unit
-named unit apart = ap units_of (each_once (joined (map runs_in unit.body)) apart) ∙ all_agree unit.body
+-- the activities of the `run` statements of which one counts at each place
+abbrev pub units_of : List Run → List ℕ
+units_of runs = map (λ (run : Run). run.unit) runs
+
+pub units_placed : (runs : List Run) → units_of runs ≡ placed.units_of (placed_runs runs)
+units_placed [] = refl
+units_placed (run ∷ rest) = ap (λ units. run.unit ∷ units) (units_placed rest)
+
+-- all `run` statements of a unit run its activities
+pub all_named : (unit : UnitDef) → units_of (joined (map runs_in unit.body)) ≡ activities_run unit
+all_named unit = units_placed (joined (map runs_in unit.body)) ∙ ap placed.units_of (all_agree unit.body)
+
+-- the `run` statements of which one counts at each place run the activities by place
+pub named : (unit : UnitDef) → units_of (runs_of unit) ≡ activities_by_place unit
+named unit =
+    units_placed (runs_of unit)
+    ∙ ap placed.units_of (once_placed (joined (map runs_in unit.body)) ∙ ap placed.one_a_place (all_agree unit.body))
 
 -- ---- instances
 
@@ -207,8 +220,7 @@ each_is : (f g : ℕ → ℕ) (xs : List ℕ) → All (λ x. f x ≡ g x) xs →
 each_is f g [] all = refl
 each_is f g (x ∷ xs) all = λ i. All-head (λ x. f x ≡ g x) x xs all i + each_is f g xs (All-tail (λ x. f x ≡ g x) x xs all) i
 
-module _ (adds : InstancesAdd) (none : MissingIsNothing) (units : List UnitDef) (earlier : UsesEarlier units)
-    (apart : (j : ℕ) (unit : UnitDef) → slice_get units j ≡ Some unit → RunsStandApart unit) where
+module _ (adds : InstancesAdd) (none : MissingIsNothing) (units : List UnitDef) (earlier : UsesEarlier units) where
   -- a unit's own instance, and those below it
   abbrev opened : ℕ → ℕ → UnitDef → List Instance
   opened n k unit = record { unit = k; depth = 0; origin = None } ∷ instances_below (expanded units n) 1 (runs_of unit)
@@ -239,14 +251,14 @@ module _ (adds : InstancesAdd) (none : MissingIsNothing) (units : List UnitDef) 
   count (suc n) k None below is = none_there n k is ∙ sym (missing k is)
   count (suc n) k (Some unit) below is =
       let its : UsesEarlierOnly k unit = earlier k unit is in
-      let each : All (λ j. length (expanded units n j) ≡ instances_at units j) (activities_of unit) =
+      let each : All (λ j. length (expanded units n j) ≡ instances_at units j) (activities_by_place unit) =
       shown (λ j. j < k) (λ j. length (expanded units n j) ≡ instances_at units j)
-      (λ j before. count n j (slice_get units j) (omega arith) refl) (activities_of unit) its.runs in
+      (λ j before. count n j (slice_get units j) (omega arith) refl) (activities_by_place unit) (placed_all (λ j. j < k) unit its.runs) in
       expanded_at n k unit is
-      ∙ ap (λ runs. 1 + total (map (λ j. length (expanded units n j)) runs)) (named unit (apart k unit is))
-      ∙ ap (λ n. 1 + n) (each_is (λ j. length (expanded units n j)) (instances_at units) (activities_of unit) each)
+      ∙ ap (λ runs. 1 + total (map (λ j. length (expanded units n j)) runs)) (named unit)
+      ∙ ap (λ n. 1 + n) (each_is (λ j. length (expanded units n j)) (instances_at units) (activities_by_place unit) each)
       ∙ sym (adds units k unit earlier is)
 
 -- the list of instances has as many as the number says
 pub counted : InstancesAdd → MissingIsNothing → InstancesAreCounted
-counted adds none units k earlier apart = count adds none units earlier apart (k + 1) k (slice_get units k) (omega arith) refl
+counted adds none units k earlier = count adds none units earlier (k + 1) k (slice_get units k) (omega arith) refl

@@ -28,9 +28,7 @@ RunsStandApart unit = AllPairs (λ (one : Run) (other : Run). same_place one.pla
 
 -- the number of instances to which a unit expands is how many the list of them has
 abbrev pub InstancesAreCounted : Type 0
-InstancesAreCounted =
-    (units : List UnitDef) (k : ℕ) → UsesEarlier units → ((j : ℕ) (unit : UnitDef) → slice_get units j ≡ Some unit → RunsStandApart unit)
-    → length (instances_of units k) ≡ instances_at units k
+InstancesAreCounted = (units : List UnitDef) (k : ℕ) → UsesEarlier units → length (instances_of units k) ≡ instances_at units k
 
 -- where statements and the conditions of loops begin one after another, the `run` statements of each unit stand at places of their own
 abbrev pub OrderedRunsStandApart : Type 0

@@ -4,15 +4,13 @@ ghost use Rattle.bl_limits_measures_laws.specs.Laws.{InstancesAreCounted, Ordere
 
 use bl_limits_measures::laws::{missing_units_count_nothing, units_add_up};
 use bl_types_laws::kept::what_is_typed_keeps;
-use bl_types_laws::order::statements_begin_in_order;
 
 /// The units of a typed program call and run earlier ones alone.
 pub fn units_use_earlier_ones()
     ensures { UnitsUseEarlierOnes }
 {}
 
-/// The number of instances is how many the list of them has, where the `run` statements of each unit stand at places of their
-/// own.
+/// The number of instances is how many the list of them has.
 pub fn instances_are_counted()
     ensures { InstancesAreCounted }
 {
@@ -25,14 +23,11 @@ pub fn ordered_runs_stand_apart()
     ensures { OrderedRunsStandApart }
 {}
 
-/// The number of instances of a typed program that a raw tree has is how many the list of them has: its units use earlier ones, and its
-/// statements and the conditions of its loops begin one after another.
+/// The number of instances of a typed program that a raw tree has is how many the list of them has: its units use earlier ones.
 pub fn typed_instances_are_counted()
     ensures { TypedInstancesAreCounted }
 {
     what_is_typed_keeps();
-    statements_begin_in_order();
     units_use_earlier_ones();
-    ordered_runs_stand_apart();
     instances_are_counted();
 }

@@ -8,6 +8,10 @@ use std::process::Abort;
 
 const NOWHERE: Place = Place { start: 0, end: 0 };
 
+const FIRST: Place = Place { start: 0, end: 1 };
+
+const SECOND: Place = Place { start: 1, end: 2 };
+
 fn stmt(what: StmtKind) -> Stmt {
     Stmt {
         place: NOWHERE,
@@ -23,9 +27,12 @@ fn waiting() -> Stmt {
     }))
 }
 
-/// A `run` of the activity, without arguments.
-fn running(alloc: Global, activity: u32) -> Stmt {
-    stmt(StmtKind::Run(None, activity, List::new(alloc), List::new(alloc)))
+/// A `run` of the activity at the place, without arguments.
+fn running(alloc: Global, activity: u32, place: Place) -> Stmt {
+    Stmt {
+        place,
+        what: StmtKind::Run(None, activity, List::new(alloc), List::new(alloc)),
+    }
 }
 
 fn activity(alloc: Global, vars: List<Var>, body: List<Stmt>) -> Result<Unit, NoMemory> {
@@ -49,8 +56,8 @@ fn doubling(alloc: Global, last: u32) -> Result<List<Unit>, NoMemory> {
     units.push(activity(alloc, List::new(alloc), first)?)?;
     for before in 0..last {
         let mut body = List::new(alloc);
-        body.push(running(alloc, before))?;
-        body.push(running(alloc, before))?;
+        body.push(running(alloc, before, FIRST))?;
+        body.push(running(alloc, before, SECOND))?;
         units.push(activity(alloc, List::new(alloc), body)?)?;
     }
     Ok(units)
@@ -61,11 +68,11 @@ fn instances_double(rt: HostRuntime) -> Result<(), NoMemory> {
     let alloc = rt.alloc();
     let mut units = doubling(alloc, 11)?;
     let mut entry = List::new(alloc);
-    entry.push(running(alloc, 11))?;
+    entry.push(running(alloc, 11, FIRST))?;
     units.push(activity(alloc, List::new(alloc), entry)?)?;
     let mut larger = List::new(alloc);
-    larger.push(running(alloc, 11))?;
-    larger.push(running(alloc, 0))?;
+    larger.push(running(alloc, 11, FIRST))?;
+    larger.push(running(alloc, 0, SECOND))?;
     units.push(activity(alloc, List::new(alloc), larger)?)?;
     let measures = Measures::of_parts(alloc, &[], &units)?;
     assert_eq!(&rt; measures.instances(12), 4_096);
@@ -73,6 +80,20 @@ fn instances_double(rt: HostRuntime) -> Result<(), NoMemory> {
     assert_eq!(&rt; measures.chain(12), 13);
     assert_eq!(&rt; measures.cells(1), 40);
     assert_eq!(&rt; measures.instances(14), 0);
+    Ok(())
+}
+
+/// Two `run` statements of one place are one instance.
+#[test]
+fn runs_of_one_place_count_once(rt: HostRuntime) -> Result<(), NoMemory> {
+    let alloc = rt.alloc();
+    let mut units = doubling(alloc, 0)?;
+    let mut body = List::new(alloc);
+    body.push(running(alloc, 0, FIRST))?;
+    body.push(running(alloc, 0, FIRST))?;
+    units.push(activity(alloc, List::new(alloc), body)?)?;
+    let measures = Measures::of_parts(alloc, &[], &units)?;
+    assert_eq!(&rt; measures.instances(1), 2);
     Ok(())
 }
 

@@ -1,6 +1,5 @@
-//! The law of `prev` behind declarations and of `run`s that stand alone (`FromText` of `bl_machine_prevs`), as the contract of a function that does
-//! nothing: where none of the rules 6 to 17 fails, a body asks what a variable was only behind its declaration, and no two of its `run`
-//! statements stand at one place.
+//! The law of `prev` behind declarations (`FromText` of `bl_machine_prevs`), as the contract of a function that does nothing: where none of
+//! the rules 6 to 17 fails, a body asks what a variable was only behind its declaration.
 
 ghost use Rattle.std.specs.Prelude.{ℕ, List};
 ghost use Rattle.bl_parse_tree.specs.declared.item.RawItem.{RawItem};
@@ -14,7 +13,6 @@ ghost use Rattle.bl_machine_prevs.specs.Declared.{FromText};
 use crate::types::what_is_typed_is_declared;
 use bl_graph_nodes::plain_statements;
 use bl_types_laws::kept::what_is_typed_keeps;
-use bl_types_laws::order::statements_begin_in_order;
 
 /// Where no rule on names or types fails, the units with their types keep what programs of texts keep.
 pub fn typed_texts_declare()
@@ -23,6 +21,5 @@ pub fn typed_texts_declare()
 {
     plain_statements();
     what_is_typed_keeps();
-    statements_begin_in_order();
     what_is_typed_is_declared();
 }

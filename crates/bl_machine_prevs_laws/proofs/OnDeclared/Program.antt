@@ -30,20 +30,15 @@ use Rattle.bl_tree.proofs.FirstLemmas.{In, contains_in}
 use Rattle.bl_eval.proofs.PassLemmas.{and_left, and_right}
 use Rattle.bl_parse_tree.specs.declared.item.RawItem.{RawItem}
 use Rattle.bl_parse_tree.specs.WellFormed.{RawIsWellFormed}
-use Rattle.bl_parse_tree.specs.Starts.{ascends}
 use Rattle.bl_names_scopes.specs.Rules.{Passes as NamesPass}
 use Rattle.bl_names.specs.Named.{named_program}
 use Rattle.bl_machine_prevs_laws.specs.Names.Scoped.{first_ones, is_known}
 use Rattle.bl_graph_nodes.specs.Laws.{PlainStatements}
-use Rattle.bl_graph_nodes.specs.Nodes.{EnterAt, nodes_in}
-use Rattle.bl_graph_nodes.specs.Plain.{plain_body}
 use Rattle.bl_types.specs.Programs.{typed_program}
 use Rattle.bl_types.specs.Rules.{Passes as TypesPass}
-use Rattle.bl_types_laws.specs.Starts.{all_starts, unit_starts}
 use Rattle.bl_types_laws.proofs.Blocks.{all_mapped}
-use Rattle.bl_types_laws.proofs.Starts.{part_ascends}
 use Rattle.bl_machine_prevs_laws.specs.Types.Declared.{unit_declared}
-use Rattle.bl_machine_prevs.specs.Declared.{FromText, RunsStandAlone, prevs_are_declared}
+use Rattle.bl_machine_prevs.specs.Declared.{FromText, prevs_are_declared}
 use Rattle.bl_machine_prevs_laws.proofs.OnDeclared.Expressions.{Related, is_var}
 use Rattle.bl_machine_prevs_laws.proofs.OnDeclared.Statements.{body_turned}
 
@@ -144,14 +139,9 @@ one_in test (y ∷ xs) x all there =
     ⊎_elim (λ is. subst (λ x. test x ≡ true) (sym is) (and_left (test y) (list_all test xs) all))
     (λ later. one_in test xs x (and_right (test y) (list_all test xs) all) later) there
 
--- what holds of one unit
-record Kept (unit : UnitDef) : Type 0 where
-  pub declared : prevs_are_declared unit ≡ true
-  pub alone : RunsStandAlone (plain_body unit.body)
-
 unit_kept : PlainStatements → (structs : List StructDef) (before : List UnitDef) (unit : UnitDef) → unit_stands structs before unit ≡ true →
-    unit_declared unit ≡ true → ascends (unit_starts unit) ≡ true → Kept unit
-unit_kept plains structs before unit stands declared up =
+    unit_declared unit ≡ true → prevs_are_declared unit ≡ true
+unit_kept plains structs before unit stands declared =
     let site : TypingContext = site_of structs before unit in
     let names = list_all is_name (names_of unit.vars) && are_distinct (names_of (parameters_of unit)) in
     let types = list_all (λ (var : Var). type_stands (length structs) var.ty) unit.vars in
@@ -159,25 +149,16 @@ unit_kept plains structs before unit stands declared up =
     let shape = unit_returns unit && (is_shallow 200 unit.body && list_all is_apart unit.body) in
     let body = and_right types (fit && shape) (and_right (roles_stand unit && names) (types && (fit && shape)) stands) in
     let turned = body_turned plains site unit.body (all_mapped (fits site) unit.body (and_left fit shape body)) [] in
-    record {
-      declared = turned.stands (first_ones (unit.inputs + unit.outputs)) []
-          (parameters_unrelated structs before unit (and_left (roles_stand unit) names (and_left (roles_stand unit && names)
-          (types && (fit && shape)) stands)))
-          declared;
-      alone = record {
-        alone = λ l m at x y one two.
-            turned.covers.alone up l m at x y (contains_in (EnterAt l at x) (nodes_in (plain_body unit.body)) one)
-            (contains_in (EnterAt m at y) (nodes_in (plain_body unit.body)) two);
-      };
-    }
+    turned.stands (first_ones (unit.inputs + unit.outputs)) []
+    (parameters_unrelated structs before unit (and_left (roles_stand unit) names (and_left (roles_stand unit && names)
+    (types && (fit && shape)) stands))) declared
 
 units_kept : PlainStatements → (structs : List StructDef) (units : List UnitDef) → units_stand_after structs [] units ≡ true →
-    list_all unit_declared units ≡ true → ascends (all_starts units) ≡ true → (unit : UnitDef) → Contains units unit → Kept unit
-units_kept plains structs units stand declared up unit there =
+    list_all unit_declared units ≡ true → (unit : UnitDef) → Contains units unit → prevs_are_declared unit ≡ true
+units_kept plains structs units stand declared unit there =
     let inside = contains_in unit units there in
     let one = standing structs [] units unit stand inside in
     unit_kept plains structs one.before unit one.stands (one_in unit_declared units unit declared inside)
-    (part_ascends unit_starts units unit up inside)
 
 -- what the laws of the crates below say, of a program
 pub typed_from_text : PlainStatements →
@@ -185,13 +166,11 @@ pub typed_from_text : PlainStatements →
     IsWellTyped (typed_program (named_program items bytes)).structs (typed_program (named_program items bytes)).units
     (typed_program (named_program items bytes)).entry) →
     ((items : List RawItem) (bytes : ℕ) → RawIsWellFormed items → NamesPass items → TypesPass (named_program items bytes) →
-    IsTrue (ascends (all_starts (typed_program (named_program items bytes)).units))) →
-    ((items : List RawItem) (bytes : ℕ) → RawIsWellFormed items → NamesPass items → TypesPass (named_program items bytes) →
     IsTrue (list_all unit_declared (typed_program (named_program items bytes)).units)) →
     (items : List RawItem) (bytes : ℕ) → RawIsWellFormed items → NamesPass items → TypesPass (named_program items bytes) →
     FromText (typed_program (named_program items bytes)).units
-typed_from_text plains keeps starts declared items bytes raw names types =
+typed_from_text plains keeps declared items bytes raw names types =
     let typed = typed_program (named_program items bytes) in
-    let each = units_kept plains typed.structs typed.units (keeps items bytes raw names types).units_stand (declared items bytes raw names types)
-    (starts items bytes raw names types) in
-    record { declared = λ unit there. (each unit there).declared; alone = λ unit there. (each unit there).alone }
+    record {
+      declared = units_kept plains typed.structs typed.units (keeps items bytes raw names types).units_stand (declared items bytes raw names types);
+    }

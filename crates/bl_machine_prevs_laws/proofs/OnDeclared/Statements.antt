@@ -2,7 +2,6 @@
 -- where statements begin one after another.
 use Rattle.std.proofs.Common.{◌≡◌, ℕ, suc, Bool, true, false, ◌&&◌, ◌||◌, List, [], ◌∷◌, ◌++◌, map, Option, Some, None}
 use Rattle.std.proofs.Common.{refl, sym, ap, subst, ◌∙◌}
-use Rattle.std.proofs.lemmas.List.{append-nil, append_assoc}
 use Rattle.std.proofs.lemmas.List.Elements.{All-head, All-tail}
 use Rattle.std.proofs.lemmas.List.Folds.{list_all-append}
 use Rattle.std.specs.Prelude.{nat_eq, slice_get}
@@ -30,8 +29,14 @@ use Rattle.bl_tree.specs.Typing.{return_fits, run_fits, stmt_fits, target_fits, 
 use Rattle.bl_tree.proofs.StmtInduction.{Cases, Each, EachArm, EachBranch, induct, stmt}
 use Rattle.bl_eval.proofs.PassLemmas.{and_left, and_right, both}
 use Rattle.bl_graph_nodes.specs.Laws.{PlainStatements, plain_arm, plain_branch}
-use Rattle.bl_graph_nodes.specs.Nodes.{ActAt, CheckAt, DepthEndAt, DepthJoinAt, ForkAt, HeadAt, PauseAt, StartAt, SurfaceEndAt, SurfaceJoinAt, TestAt}
-use Rattle.bl_graph_nodes.specs.Nodes.{are_instant, arguments_of, is_instant, nodes_in, nodes_in_each, nodes_of}
+use Rattle.bl_graph_nodes.specs.Nodes.{
+  DepthJoinAt,
+}
+use Rattle.bl_graph_nodes.specs.Nodes.{
+  is_instant,
+  nodes_in,
+  nodes_in_each,
+}
 use Rattle.bl_graph_nodes.specs.Plain.{Act, Await, Block, Bodies, Cobegin, If, Label, Plain, Position, Repeat, Run as RunOf, Until, When, While, block_from}
 use Rattle.bl_graph_nodes.specs.Plain.{bodies_from, else_at, inside, label_at, passed_one, plain, plain_block}
 use Rattle.bl_machine_prevs_laws.specs.Names.Scoped.{Scoped, are_known, beside, every, in_turn, is_known}
@@ -48,11 +53,8 @@ use Rattle.bl_machine_prevs.specs.Prevs.{
   stmt_kind_prevs,
   stmt_layer_prevs,
 }
-use Rattle.bl_types_laws.specs.Starts.{StatementOffsets, arm_layer_starts, branch_layer_starts, start_of, starts_of, stmt_kind_starts, stmt_layer_starts}
-use Rattle.bl_types_laws.specs.inner.Starts.{starts_of_arm, starts_of_branch}
 use Rattle.bl_machine_prevs_laws.specs.Types.Declared.{arm_scoped, branch_scoped, scoped_of, stmt_kind_scoped, stmt_layer_scoped}
 use Rattle.bl_machine_prevs_laws.specs.Types.inner.Declared.{scoped_of_arm, scoped_of_branch}
-use Rattle.bl_machine_prevs_laws.proofs.OnDeclared.Alone.{Covers, covers_append, covers_front, covers_more, covers_none, covers_run, covers_skip, covers_where}
 use Rattle.bl_machine_prevs_laws.proofs.OnDeclared.Expressions.{Related, expr_stands, exprs_stand, path_stands, paths_stand}
 
 -- ---- expressions that must have a type
@@ -80,31 +82,27 @@ related_more site [] known mine related = related
 related_more site (d ∷ ks) known mine related = λ k var is.
     or_still (nat_eq k d) (is_known (ks ++ known) k) (is_known (ks ++ mine) k) (related_more site ks known mine related k var) is
 
--- what holds of a plain statement, of what the statement declares and names, and of where it and those in it begin
-record Turned (site : TypingContext) (p : Plain) (of : Scoped) (starts : List ℕ) : Type 0 where
-  pub covers : Covers (nodes_of p) starts
+-- what holds of a plain statement, of what the statement declares and names
+record Turned (site : TypingContext) (p : Plain) (of : Scoped) : Type 0 where
   pub declared : declared_by p ≡ of.declared
   pub stands : (known mine : Roots) → Related site known mine → of.stands known ≡ true → prevs_stand mine p ≡ true
 
 -- of a block
-pub record BlockTurned (site : TypingContext) (b : Block) (of : List Scoped) (starts : List ℕ) : Type 0 where
-  pub covers : Covers (nodes_in b) starts
+pub record BlockTurned (site : TypingContext) (b : Block) (of : List Scoped) : Type 0 where
   pub stands : (known mine : Roots) → Related site known mine → in_turn of known ≡ true → prevs_stand_in mine b ≡ true
 
 -- of the further arms and the `else` part
-record ElseTurned (site : TypingContext) (b : Block) (arms other : List Scoped) (starts : List ℕ) : Type 0 where
-  pub covers : Covers (nodes_in b) starts
+record ElseTurned (site : TypingContext) (b : Block) (arms other : List Scoped) : Type 0 where
   pub stands : (known mine : Roots) → Related site known mine → every arms known ≡ true → in_turn other known ≡ true →
       prevs_stand_in mine b ≡ true
 
 -- and of branches
-record EachTurned (site : TypingContext) (b : Bodies) (of : List Scoped) (starts : List ℕ) : Type 0 where
-  pub covers : Covers (nodes_in_each b) starts
+record EachTurned (site : TypingContext) (b : Bodies) (of : List Scoped) : Type 0 where
   pub stands : (known mine : Roots) → Related site known mine → every of known ≡ true → prevs_stand_in_each mine b ≡ true
 
 module _ (plains : PlainStatements) (site : TypingContext) where
   abbrev P : Stmt → Type 0
-  P s = fits site s ≡ true → (p : Position) → Turned site (plain s p) (scoped_of s) (starts_of s)
+  P s = fits site s ≡ true → (p : Position) → Turned site (plain s p) (scoped_of s)
 
   abbrev good_arm : Arm → Bool
   good_arm = fold-Arm Bool Bool Bool Bool (kind_fits site) (arm_fits site) branch_fits stmt_fits
@@ -127,12 +125,6 @@ module _ (plains : PlainStatements) (site : TypingContext) where
       (fold-StmtKind Scoped Scoped Scoped Scoped stmt_kind_scoped arm_scoped branch_scoped stmt_layer_scoped)
       scoped_of_arm scoped_of_branch scoped_of layer)
 
-  abbrev starts_layer : Layer → StatementOffsets
-  starts_layer layer = stmt_kind_starts
-      (map-StmtKind StmtKind Arm Branch Stmt StatementOffsets StatementOffsets StatementOffsets StatementOffsets
-      (fold-StmtKind StatementOffsets StatementOffsets StatementOffsets StatementOffsets stmt_kind_starts arm_layer_starts branch_layer_starts stmt_layer_starts)
-      starts_of_arm starts_of_branch starts_of layer)
-
   abbrev prevs_layer : Layer → List ℕ
   prevs_layer layer = stmt_kind_prevs
       (map-StmtKind StmtKind Arm Branch Stmt (List ℕ) (List ℕ) (List ℕ) (List ℕ)
@@ -140,32 +132,25 @@ module _ (plains : PlainStatements) (site : TypingContext) where
       prevs_in_arm prevs_in_branch prevs_in layer)
 
   by_kind : (place : Place) (layer : Layer) (q : Position → Plain) → ((p : Position) → plain (stmt place layer) p ≡ q p) →
-      (fits_layer layer ≡ true → (p : Position) → Turned site (q p) (scoped_layer layer) (place.start ∷ starts_layer layer)) →
+      (fits_layer layer ≡ true → (p : Position) → Turned site (q p) (scoped_layer layer)) →
       P (stmt place layer)
   by_kind place layer q is gives fit p =
       let fits_is : fits site (stmt place layer) ≡ fits_layer layer = rw (fold-roll-Stmt, fold-roll-StmtKind) refl in
       let scoped_is : scoped_of (stmt place layer) ≡ scoped_layer layer = rw (fold-roll-Stmt, fold-roll-StmtKind) refl in
-      let starts_are : starts_of (stmt place layer) ≡ place.start ∷ starts_layer layer = rw (fold-roll-Stmt, fold-roll-StmtKind) refl in
-      subst (λ plain. Turned site plain (scoped_of (stmt place layer)) (starts_of (stmt place layer))) (sym (is p))
-      (subst (λ of. Turned site (q p) of (starts_of (stmt place layer))) (sym scoped_is)
-      (subst (Turned site (q p) (scoped_layer layer)) (sym starts_are) (gives (sym fits_is ∙ fit) p)))
+      subst (λ plain. Turned site plain (scoped_of (stmt place layer))) (sym (is p))
+      (subst (λ of. Turned site (q p) of) (sym scoped_is) (gives (sym fits_is ∙ fit) p))
 
   -- ---- acts
 
-  act_covers : (l : Label) (s : Stmt) (start : ℕ) → Covers (ActAt l s ∷ []) (start ∷ [])
-  act_covers l s start = covers_more (ActAt l s ∷ []) start [] (covers_skip (ActAt l s) [] [] refl covers_none)
-
   by_act : (place : Place) (layer : Layer) → ((p : Position) → plain (stmt place layer) p ≡ Act (label_at p) (stmt place layer)) →
-      starts_layer layer ≡ [] → declared_in (stmt place layer) ≡ (scoped_layer layer).declared →
+      declared_in (stmt place layer) ≡ (scoped_layer layer).declared →
       (fits_layer layer ≡ true → (known mine : Roots) → Related site known mine → (scoped_layer layer).stands known ≡ true →
       are_known mine (prevs_layer layer) ≡ true) → P (stmt place layer)
-  by_act place layer is none declares gives =
+  by_act place layer is declares gives =
       by_kind place layer (λ p. Act (label_at p) (stmt place layer)) is
       (λ fit p.
       let prevs_are : prevs_in (stmt place layer) ≡ prevs_layer layer = rw (fold-roll-Stmt, fold-roll-StmtKind) refl in
       record {
-        covers = subst (λ rest. Covers (ActAt (label_at p) (stmt place layer) ∷ []) (place.start ∷ rest)) (sym none)
-            (act_covers (label_at p) (stmt place layer) place.start);
         declared = declares;
         stands = λ known mine related stands. ap (are_known mine) prevs_are ∙ gives fit known mine related stands;
       })
@@ -254,15 +239,14 @@ module _ (plains : PlainStatements) (site : TypingContext) where
   -- ---- blocks
 
   block_turned : (body : List Stmt) → Each P body → all_of (map (fits site) body) ≡ true → (k : ℕ) (p : Position) →
-      BlockTurned site (block_from (map plain body) k p) (map scoped_of body) (joined (map starts_of body))
-  block_turned [] each fit k p = record { covers = covers_none; stands = λ known mine related stands. refl }
+      BlockTurned site (block_from (map plain body) k p) (map scoped_of body)
+  block_turned [] each fit k p = record { stands = λ known mine related stands. refl }
   block_turned (s ∷ rest) each fit k p =
       let here : Plain = plain s (p ++ k ∷ []) in
       let behind : Block = block_from (map plain rest) (suc k) p in
       let first = All-head P s rest each (and_left (fits site s) (all_of (map (fits site) rest)) fit) (p ++ k ∷ []) in
       let more = block_turned rest (All-tail P s rest each) (and_right (fits site s) (all_of (map (fits site) rest)) fit) (suc k) p in
       record {
-        covers = covers_append (nodes_of here) (nodes_in behind) (starts_of s) (joined (map starts_of rest)) first.covers more.covers;
         stands = λ known mine related stands.
             let of : Scoped = scoped_of s in
             let next = and_right (of.stands known) (in_turn (map scoped_of rest) (of.declared ++ known)) stands in
@@ -281,11 +265,9 @@ module _ (plains : PlainStatements) (site : TypingContext) where
 
   abbrev ElseArms : List Arm → List Stmt → Label → Type 0
   ElseArms arms other l = ElseTurned site (else_at l (map plain_arm arms) (plain_block other)) (map scoped_of_arm arms) (map scoped_of other)
-      (joined (map starts_of_arm arms) ++ joined (map starts_of other))
 
   -- one condition, its block, and what else
-  record IfTurned (e : Expr) (body other : Block) (arm : Scoped) (arms others : List Scoped) (starts : List ℕ) : Type 0 where
-    pub covers : Covers (nodes_in body ++ nodes_in other) starts
+  record IfTurned (e : Expr) (body other : Block) (arm : Scoped) (arms others : List Scoped) : Type 0 where
     pub stands : (known mine : Roots) → Related site known mine → arm.stands known ≡ true → every arms known ≡ true →
         in_turn others known ≡ true →
         (are_known mine (prevs_in_expr e) && (prevs_stand_in mine body && prevs_stand_in mine other)) ≡ true
@@ -294,7 +276,7 @@ module _ (plains : PlainStatements) (site : TypingContext) where
       (p : Position) (l : Label) →
       ElseArms arms other l →
       IfTurned (out-Arm arm).test (plain_block (out-Arm arm).body p) (else_at l (map plain_arm arms) (plain_block other)) (scoped_of_arm arm)
-      (map scoped_of_arm arms) (map scoped_of other) (joined (map starts_of_arm (arm ∷ arms)) ++ joined (map starts_of other))
+      (map scoped_of_arm arms) (map scoped_of other)
   arm_turned arm arms other each good p l rest =
       let e : Expr = (out-Arm arm).test in
       let body : List Stmt = (out-Arm arm).body in
@@ -302,17 +284,10 @@ module _ (plains : PlainStatements) (site : TypingContext) where
       fold_out-Arm Bool Bool Bool Bool (kind_fits site) (arm_fits site) branch_fits stmt_fits arm in
       let scoped_is : scoped_of_arm arm ≡ beside (roots_in e) (map scoped_of body) =
       fold_out-Arm Scoped Scoped Scoped Scoped stmt_kind_scoped arm_scoped branch_scoped stmt_layer_scoped arm in
-      let starts_are : starts_of_arm arm ≡ joined (map starts_of body) =
-      fold_out-Arm StatementOffsets StatementOffsets StatementOffsets StatementOffsets stmt_kind_starts arm_layer_starts branch_layer_starts stmt_layer_starts arm in
       let fit : (is_truth (type_of site e) && all_of (map (fits site) body)) ≡ true = sym good_is ∙ good in
       let block = block_turned body each (and_right (is_truth (type_of site e)) (all_of (map (fits site) body)) fit) 0 p in
       let behind : Block = else_at l (map plain_arm arms) (plain_block other) in
-      let starts = joined (map starts_of_arm arms) in
       record {
-        covers = subst (Covers (nodes_in (plain_block body p) ++ nodes_in behind))
-            (sym (append_assoc (starts_of_arm arm) starts (joined (map starts_of other))))
-            (covers_append (nodes_in (plain_block body p)) (nodes_in behind) (starts_of_arm arm) (starts ++ joined (map starts_of other))
-            (subst (Covers (nodes_in (plain_block body p))) (sym starts_are) block.covers) rest.covers);
         stands = λ known mine related here arms_stand other_stands.
             let mine_stands : (are_known known (roots_in e) && in_turn (map scoped_of body) known) ≡ true =
             ap (λ (scoped : Scoped). scoped.stands known) (sym scoped_is) ∙ here in
@@ -328,7 +303,7 @@ module _ (plains : PlainStatements) (site : TypingContext) where
       all_of (map (fits site) other) ≡ true → (l : Label) → ElseArms arms other l
   else_turned [] other each rest fit fit_other l =
       let block = block_turned other rest fit_other 0 (inside l l.passed) in
-      record { covers = block.covers; stands = λ known mine related arms_stand. block.stands known mine related }
+      record { stands = λ known mine related arms_stand. block.stands known mine related }
   else_turned (arm ∷ arms) other each rest fit fit_other l =
       let p : Position = inside l l.passed in
       let e : Expr = (out-Arm arm).test in
@@ -341,10 +316,7 @@ module _ (plains : PlainStatements) (site : TypingContext) where
       let one = arm_turned arm arms other (All-head (λ arm. Each P (out-Arm arm).body) arm arms each)
       (and_left (good_arm arm) (all_of (map good_arm arms)) fit) p (passed_one l) more in
       let nodes = nodes_in body ++ nodes_in behind in
-      let starts = joined (map starts_of_arm (arm ∷ arms)) ++ joined (map starts_of other) in
       record {
-        covers = subst (λ nodes. Covers nodes starts) (sym (append-nil (TestAt l at e ∷ nodes))) (covers_skip
-            (TestAt l at e) nodes starts refl one.covers);
         stands = λ known mine related arms_stand other_stands.
             both (are_known mine (prevs_in_expr e) && (prevs_stand_in mine body && prevs_stand_in mine behind)) true
             (one.stands known mine related (and_left ((scoped_of_arm arm).stands known) (every (map scoped_of_arm arms) known) arms_stand)
@@ -375,10 +347,7 @@ module _ (plains : PlainStatements) (site : TypingContext) where
       let one = arm_turned arm arms other (All-head (λ arm. Each P (out-Arm arm).body) arm arms each) (and_left (good_arm arm) good arms_fit)
       (inside (label_at p) 0) l more in
       let nodes = nodes_in body ++ nodes_in behind in
-      let starts = joined (map starts_of_arm (arm ∷ arms)) ++ joined (map starts_of other) in
       record {
-        covers = covers_more (TestAt (label_at p) place (out-Arm arm).test ∷ nodes) place.start starts
-            (covers_skip (TestAt (label_at p) place (out-Arm arm).test) nodes starts refl one.covers);
         declared = refl;
         stands = λ known mine related stands.
             let all = (scoped_of_arm arm).stands known in
@@ -391,8 +360,8 @@ module _ (plains : PlainStatements) (site : TypingContext) where
   -- ---- branches
 
   branches_turned : (branches : List Branch) → EachBranch P branches → all_of (map good_branch branches) ≡ true → (k : ℕ) (l : Label) →
-      EachTurned site (bodies_from (map plain_branch branches) k l) (map scoped_of_branch branches) (joined (map starts_of_branch branches))
-  branches_turned [] each fit k l = record { covers = covers_none; stands = λ known mine related stands. refl }
+      EachTurned site (bodies_from (map plain_branch branches) k l) (map scoped_of_branch branches)
+  branches_turned [] each fit k l = record { stands = λ known mine related stands. refl }
   branches_turned (branch ∷ branches) each fit k l =
       let body : List Stmt = (out-Branch branch).body in
       let p : Position = inside l k in
@@ -401,16 +370,12 @@ module _ (plains : PlainStatements) (site : TypingContext) where
       let scoped_is : (scoped_of_branch branch).stands ≡ in_turn (map scoped_of body) =
       ap (λ (scoped : Scoped). scoped.stands)
       (fold_out-Branch Scoped Scoped Scoped Scoped stmt_kind_scoped arm_scoped branch_scoped stmt_layer_scoped branch) in
-      let starts_are : starts_of_branch branch ≡ joined (map starts_of body) =
-      fold_out-Branch StatementOffsets StatementOffsets StatementOffsets StatementOffsets stmt_kind_starts arm_layer_starts branch_layer_starts stmt_layer_starts branch in
       let first = block_turned body (All-head (λ branch. Each P (out-Branch branch).body) branch branches each)
       (sym good_is ∙ and_left (good_branch branch) (all_of (map good_branch branches)) fit) 0 p in
       let more = branches_turned branches (All-tail (λ branch. Each P (out-Branch branch).body) branch branches each)
       (and_right (good_branch branch) (all_of (map good_branch branches)) fit) (suc k) l in
       let rest : Bodies = bodies_from (map plain_branch branches) (suc k) l in
       record {
-        covers = covers_append (nodes_in (plain_block body p)) (nodes_in_each rest) (starts_of_branch branch) (joined (map starts_of_branch branches))
-            (subst (Covers (nodes_in (plain_block body p))) (sym starts_are) first.covers) more.covers;
         stands = λ known mine related stands.
             let here = (scoped_of_branch branch).stands known in
             let others = every (map scoped_of_branch branches) known in
@@ -430,14 +395,9 @@ module _ (plains : PlainStatements) (site : TypingContext) where
       let all = branches_turned branches each
       (and_right (is_inhabited (map good_branch branches)) good (and_right (is_activity site.kind) (is_inhabited (map good_branch branches) && good)
       fit)) 0 l in
-      let starts = joined (map starts_of_branch branches) in
       let test = is_instant (Cobegin l place bodies) in
       let nodes = DepthJoinAt l place ∷ nodes_in_each bodies in
       record {
-        covers = covers_more (nodes_of (Cobegin l place bodies)) place.start starts
-            (covers_skip (ForkAt l place) _ starts refl
-            (covers_where test (SurfaceJoinAt l place) nodes starts refl (covers_skip (DepthJoinAt l place)
-            (nodes_in_each bodies) starts refl all.covers)));
         declared = refl;
         stands = λ known mine related stands. all.stands known mine related stands;
       })
@@ -445,14 +405,14 @@ module _ (plains : PlainStatements) (site : TypingContext) where
   -- ---- loops and `when`
 
   block_here : (body : List Stmt) → Each P body → all_of (map (fits site) body) ≡ true → (p : Position) →
-      BlockTurned site (plain_block body p) (map scoped_of body) (joined (map starts_of body))
+      BlockTurned site (plain_block body p) (map scoped_of body)
   block_here body each fit p = block_turned body each fit 0 p
 
-  tested_stands : (e : Expr) (b : Block) (of : List Scoped) (starts : List ℕ) → is_truth (type_of site e) ≡ true →
-      BlockTurned site b of starts →
+  tested_stands : (e : Expr) (b : Block) (of : List Scoped) → is_truth (type_of site e) ≡ true →
+      BlockTurned site b of →
       (known mine : Roots) → Related site known mine → (are_known known (roots_in e) && in_turn of known) ≡ true →
       (are_known mine (prevs_in_expr e) && prevs_stand_in mine b) ≡ true
-  tested_stands e b of starts truth block known mine related stands =
+  tested_stands e b of truth block known mine related stands =
       both (are_known mine (prevs_in_expr e)) (prevs_stand_in mine b)
       (truth_stands e truth known mine related (and_left (are_known known (roots_in e)) (in_turn of known) stands))
       (block.stands known mine related (and_right (are_known known (roots_in e)) (in_turn of known) stands))
@@ -464,18 +424,12 @@ module _ (plains : PlainStatements) (site : TypingContext) where
       (λ fit p.
       let l : Label = label_at p in
       let b : Block = plain_block body (inside l 0) in
-      let starts = joined (map starts_of body) in
       let truth = is_truth (type_of site e) in
       let rest = and_right (is_activity site.kind) (truth && all_of (map (fits site) body)) fit in
       let block = block_here body each (and_right truth (all_of (map (fits site) body)) rest) (inside l 0) in
-      let end = covers_skip (CheckAt l place e) (DepthEndAt l place ∷ nodes_in b) starts refl
-      (covers_skip (DepthEndAt l place) (nodes_in b) starts refl block.covers) in
       record {
-        covers = covers_more (nodes_of (When l place guard e b)) place.start starts
-            (covers_skip (StartAt l place) _ starts refl
-            (covers_where (are_instant b) (SurfaceEndAt l place) (CheckAt l place e ∷ DepthEndAt l place ∷ nodes_in b) starts refl end));
         declared = refl;
-        stands = tested_stands e b (map scoped_of body) starts (and_left truth (all_of (map (fits site) body)) rest) block;
+        stands = tested_stands e b (map scoped_of body) (and_left truth (all_of (map (fits site) body)) rest) block;
       })
 
   repeat_turned : (place : Place) (body : List Stmt) → Each P body → P (stmt place (StmtKind-F.Repeat body))
@@ -485,10 +439,8 @@ module _ (plains : PlainStatements) (site : TypingContext) where
       (λ fit p.
       let l : Label = label_at p in
       let b : Block = plain_block body (inside l 0) in
-      let starts = joined (map starts_of body) in
       let block = block_here body each fit (inside l 0) in
       record {
-        covers = covers_more (HeadAt l place ∷ nodes_in b) place.start starts (covers_skip (HeadAt l place) (nodes_in b) starts refl block.covers);
         declared = refl;
         stands = block.stands;
       })
@@ -500,15 +452,10 @@ module _ (plains : PlainStatements) (site : TypingContext) where
       (λ fit p.
       let l : Label = label_at p in
       let b : Block = plain_block body (inside l 0) in
-      let starts = joined (map starts_of body) in
-      let all = starts ++ start_of e ∷ [] in
       let block = block_here body each (and_left (all_of (map (fits site) body)) (is_truth (type_of site e)) fit) (inside l 0) in
       record {
-        covers = covers_more (HeadAt l place ∷ TestAt l place e ∷ nodes_in b) place.start all
-            (covers_skip (HeadAt l place) (TestAt l place e ∷ nodes_in b) all refl
-            (covers_skip (TestAt l place e) (nodes_in b) all refl (covers_front (nodes_in b) starts (start_of e ∷ []) block.covers)));
         declared = refl;
-        stands = tested_stands e b (map scoped_of body) starts (and_right (all_of (map (fits site) body)) (is_truth (type_of site e)) fit) block;
+        stands = tested_stands e b (map scoped_of body) (and_right (all_of (map (fits site) body)) (is_truth (type_of site e)) fit) block;
       })
 
   while_turned : (place : Place) (e : Expr) (body : List Stmt) → Each P body → P (stmt place (StmtKind-F.While e body))
@@ -518,13 +465,10 @@ module _ (plains : PlainStatements) (site : TypingContext) where
       (λ fit p.
       let l : Label = label_at p in
       let b : Block = plain_block body (inside l 0) in
-      let starts = joined (map starts_of body) in
       let block = block_here body each (and_right (is_truth (type_of site e)) (all_of (map (fits site) body)) fit) (inside l 0) in
       record {
-        covers = covers_more (TestAt l place e ∷ nodes_in b) place.start (start_of e ∷ starts) (covers_skip (TestAt l place e)
-            (nodes_in b) (start_of e ∷ starts) refl (covers_more (nodes_in b) (start_of e) starts block.covers));
         declared = refl;
-        stands = tested_stands e b (map scoped_of body) starts (and_left (is_truth (type_of site e)) (all_of (map (fits site) body)) fit) block;
+        stands = tested_stands e b (map scoped_of body) (and_left (is_truth (type_of site e)) (all_of (map (fits site) body)) fit) block;
       })
 
   -- ---- pauses and `run`s
@@ -535,8 +479,6 @@ module _ (plains : PlainStatements) (site : TypingContext) where
       (λ fit p.
       let l : Label = label_at p in
       record {
-        covers = covers_more (PauseAt l place ∷ TestAt l place e ∷ []) place.start []
-            (covers_skip (PauseAt l place) (TestAt l place e ∷ []) [] refl (covers_skip (TestAt l place e) [] [] refl covers_none));
         declared = refl;
         stands = truth_stands e (and_right (is_activity site.kind) (is_truth (type_of site e)) fit);
       })
@@ -548,7 +490,6 @@ module _ (plains : PlainStatements) (site : TypingContext) where
       (λ p. plains.run place p target a inputs outputs)
       (λ fit p.
       record {
-        covers = covers_run (label_at p) place (arguments_of target inputs outputs);
         declared = refl;
         stands = λ known mine related stands.
             run_stands target inputs outputs (slice_get site.earlier a) fit known mine related
@@ -557,16 +498,16 @@ module _ (plains : PlainStatements) (site : TypingContext) where
 
   cases : Cases P
   cases = record {
-    declare = λ place k initial. by_act place (StmtKind-F.Declare k initial) (λ p. plains.declaration place p k initial) refl
+    declare = λ place k initial. by_act place (StmtKind-F.Declare k initial) (λ p. plains.declaration place p k initial)
         (declares_of place (StmtKind-F.Declare k initial) (k ∷ []) refl)
         (λ fit known mine related stands. initial_stands initial (var_at site k) fit known mine related stands);
-    assign = λ place path e. by_act place (StmtKind-F.Assign path e) (λ p. plains.assignment place p path e) refl
+    assign = λ place path e. by_act place (StmtKind-F.Assign path e) (λ p. plains.assignment place p path e)
         (declares_of place (StmtKind-F.Assign path e) [] refl)
         (λ fit known mine related stands. assign_stands path e fit known mine related stands);
-    call = λ place f inputs outputs. by_act place (StmtKind-F.Call f inputs outputs) (λ p. plains.call place p f inputs outputs) refl
+    call = λ place f inputs outputs. by_act place (StmtKind-F.Call f inputs outputs) (λ p. plains.call place p f inputs outputs)
         (declares_of place (StmtKind-F.Call f inputs outputs) [] refl)
         (λ fit known mine related stands. call_stands inputs outputs (slice_get site.earlier f) fit known mine related stands);
-    returns = λ place e. by_act place (StmtKind-F.Return e) (λ p. plains.returns place p e) refl
+    returns = λ place e. by_act place (StmtKind-F.Return e) (λ p. plains.returns place p e)
         (declares_of place (StmtKind-F.Return e) [] refl)
         (λ fit known mine related stands. return_stands e site.result fit known mine related stands);
     await = await_turned;
@@ -581,5 +522,5 @@ module _ (plains : PlainStatements) (site : TypingContext) where
 
   -- the statements of a body that fit
   pub body_turned : (body : List Stmt) → all_of (map (fits site) body) ≡ true → (p : Position) →
-      BlockTurned site (plain_block body p) (map scoped_of body) (joined (map starts_of body))
+      BlockTurned site (plain_block body p) (map scoped_of body)
   body_turned body fit p = block_turned body (λ k d within. induct P cases _) fit 0 p

@@ -7,4 +7,3 @@ returns c = λ items bytes raw names types k.
     let typed = typed_program (named_program items bytes) in
     c.instances_are_counted.ensures typed.units k
     (c.units_use_earlier_ones.ensures typed.structs typed.units (c.what_is_typed_keeps.ensures.keeps items bytes raw names types).units_stand)
-    (c.ordered_runs_stand_apart.ensures typed.units (c.statements_begin_in_order.ensures items bytes raw names types))
