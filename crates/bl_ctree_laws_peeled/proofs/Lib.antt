@@ -1,0 +1,9 @@
+mod Answering
+mod Blocks
+mod Lining
+mod Moving
+mod Relating
+mod Running
+mod Stepping
+mod Stilling
+mod Waking

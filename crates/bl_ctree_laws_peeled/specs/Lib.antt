@@ -1,0 +1,6 @@
+pub mod Answers
+pub mod Lines
+pub mod Runs
+pub mod Settings
+pub mod Steps
+pub mod Unrolls
