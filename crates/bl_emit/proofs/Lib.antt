@@ -1,4 +1,5 @@
 mod MemberLemmas
 mod PartLemmas
 mod RuleLemmas
+mod SeenLemmas
 mod ViewLemmas

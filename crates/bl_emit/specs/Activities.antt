@@ -21,6 +21,7 @@ use Rattle.bl_emit_acts.specs.Expressions.{scalar_at}
 use Rattle.bl_emit_acts.specs.Trees.{c_read, c_two, nowhere}
 use Rattle.bl_emit_acts.specs.Types.{c_scalar, copy_name, unit_name}
 use Rattle.bl_emit_functions.specs.Functions.{members_of, memory_name, params_from, struct_of}
+use Rattle.bl_machine_transitions.specs.Runs.{run_number}
 use Rattle.bl_machine_transitions.specs.Told.{NumberedTransition}
 use Rattle.bl_emit_spec.specs.Blocks.{ActivityView, Sizes, counter_value, name_in}
 use Rattle.bl_emit_spec.specs.Names.{callee_name, counter_place, ended_name, flag_place, frame_name}
@@ -41,12 +42,13 @@ pub record ActivityInput : Type 0 where
   -- whether each of the earlier units remembers variables
   pub remember : List Bool
 
--- the view that blocks have of the activity, without numbers of nodes
+-- the view that blocks have of the activity, without numbers of nodes, but with those of `run`s
 abbrev pub view_told : ActivityInput → ActivityView
 view_told a = record {
   site = site_of a.structs a.earlier a.unit;
   copies = copies_of a.unit;
   number = λ n. 0;
+  run = run_number a.rules;
   sizes = a.sizes;
   is_read = read_told a.rules;
   remembers = λ k. unwrap_or (slice_get a.remember k) false;
@@ -133,7 +135,7 @@ locals_by earlier unit sizes rules counters copied runs =
 abbrev pub locals_told : ActivityInput → List CLocal
 locals_told a = locals_by a.earlier a.unit a.sizes a.rules (counters_told a.sizes a.rules) (copied_told a.unit) (runs_told a.rules)
 
--- the node with the number waits where the first counter holds 0: the instance is begun, or rests where it goes home
+-- the node with the number waits where the first counter holds 0: the body begins
 abbrev pub entry_at : Sizes → ℕ → CStmt
 entry_at sizes number = c_set (flag_place number) (c_two Eq (c_read (counter_place 0)) (counter_value sizes 0 0))
 

@@ -4,16 +4,14 @@ use Rattle.bl_emit_spec.specs.Programs.{ProgramParts, Written}
 use Rattle.bl_emit.specs.declared.runs.RunAt.{RunAt as Kept}
 use Rattle.bl_emit.specs.declared.activity.Parts.{Parts as KeptParts}
 use Rattle.bl_emit.specs.declared.activity.ActivityInput.{ActivityInput as KeptTold}
-use Rattle.bl_emit.specs.declared.shared.Shared.{Shared as KeptShared}
 use Rattle.bl_emit.specs.Activities.{ActivityInput}
-use Rattle.bl_emit.specs.Programs.{SharedRules}
 use Rattle.bl_machine_transitions.specs.Told.{rule_in}
 use Rattle.std.specs.Prelude.{map}
 use Rattle.bl_emit.specs.declared.program.Written.{Written as KeptFile}
 
 -- a `run`
 abbrev pub run_in : Kept → RunAt
-run_in run = record { number = run.number; unit = run.unit }
+run_in run = record { place = run.place; number = run.number; unit = run.unit }
 
 -- parts of units
 abbrev pub parts_in : KeptParts → ProgramParts
@@ -34,7 +32,3 @@ told_in told = record {
   sizes = told.sizes.now;
   remember = told.remember.now;
 }
-
--- the rules of an activity by the numbers in C
-abbrev pub shared_in : KeptShared → SharedRules
-shared_in made = record { rules = map rule_in made.rules; sizes = made.sizes }

@@ -1,16 +1,14 @@
 -- The C file of a program, from the machine that its activities make, by the lists of their rules.
-use Rattle.std.specs.Prelude.{ℕ, ◌-◌, Bool, List, [], ◌∷◌, ◌++◌, drop, map, slice_get, if◌then◌else◌}
+use Rattle.std.specs.Prelude.{Bool, List, [], ◌∷◌, ◌++◌, drop, slice_get, if◌then◌else◌}
 use Rattle.bl_tree.specs.declared.program.Program.{Program}
 use Rattle.bl_tree.specs.declared.tree.StructDef.{StructDef}
 use Rattle.bl_tree.specs.declared.tree.Unit.{Unit as UnitDef}
 use Rattle.bl_tree.specs.Reduce.{joined}
 use Rattle.bl_tree.specs.Typing.{is_activity}
-use Rattle.bl_graph_nodes.specs.Plain.{Block, plain_body}
+use Rattle.bl_graph_nodes.specs.Plain.{plain_body}
 use Rattle.bl_machine.specs.declared.machine.Activity.{Activity as InMachine}
-use Rattle.bl_machine.specs.declared.slots.Slot.{Slot}
+use Rattle.bl_machine_pass.specs.Numbered.{sizes_of}
 use Rattle.bl_machine_transitions.specs.Listed.{layout_of, listed}
-use Rattle.bl_machine_transitions.specs.Shared.{last_value, shared, shared_sizes, shared_slot}
-use Rattle.bl_machine_transitions.specs.Told.{NumberedTransition}
 use Rattle.bl_emit_spec.specs.Programs.{ProgramParts, Written, file_at, needed_units, no_parts, parts_of_function, parts_then, where_needed}
 use Rattle.bl_emit.specs.Activities.{ActivityInput, frame_told, function_told, remembered_struct_told, remembers_told}
 
@@ -19,23 +17,6 @@ abbrev pub parts_told : ActivityInput → ProgramParts
 parts_told a =
     record { structs = frame_told a ∷ remembered_struct_told a; funcs = function_told a ∷ []; remember = remembers_told a ∷ [] }
 
--- the rules of an activity, and how many values each of its counters has
-pub record SharedRules : Type 0 where
-  pub rules : List NumberedTransition
-  pub sizes : List ℕ
-
--- the rules and sizes of an activity whose last resting place shares the number 0 with the beginning, from how many values each counter has before
-abbrev pub home_told : List ℕ → Block → List Slot → List ℕ → SharedRules
-home_told order body slots sizes =
-    record { rules = listed (layout_of order (map (shared_slot (last_value sizes)) slots)) body; sizes = (last_value sizes - 1) ∷ [] }
-
--- the rules and sizes of an activity of a machine, whose last resting place shares the number 0 with the beginning where it goes home
-abbrev pub shared_told : UnitDef → InMachine → SharedRules
-shared_told unit one = record {
-  rules = listed (layout_of (joined one.blocks) (shared (joined one.blocks) (plain_body unit.body) one.slots)) (plain_body unit.body);
-  sizes = shared_sizes (joined one.blocks) (plain_body unit.body) one.slots;
-}
-
 -- an activity of a machine
 abbrev pub told_of : List StructDef → List UnitDef → List Bool → UnitDef → InMachine → ActivityInput
 told_of structs earlier remember unit one = record {
@@ -43,8 +24,8 @@ told_of structs earlier remember unit one = record {
   earlier = earlier;
   unit = unit;
   blocks = one.blocks;
-  rules = (shared_told unit one).rules;
-  sizes = (shared_told unit one).sizes;
+  rules = listed (layout_of (joined one.blocks) one.slots) (plain_body unit.body);
+  sizes = sizes_of one.slots;
   remember = remember;
 }
 

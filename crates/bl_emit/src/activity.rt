@@ -6,6 +6,8 @@ ghost use Rattle.bl_emit_blocks.specs.Views.{view_in};
 ghost use Rattle.bl_emit_functions.specs.Functions.{struct_of};
 ghost use Rattle.bl_emit_spec.specs.Programs.{where_needed};
 ghost use Rattle.bl_emit_tables.specs.Told.{runs_told};
+ghost use Rattle.bl_machine_transitions.specs.Runs.{kept_number, run_number};
+ghost use Rattle.bl_tree.specs.declared.place.Place.{Place};
 ghost use Rattle.bl_tree.specs.Typing.{site_of};
 ghost use Rattle.bl_emit.specs.Activities.{frame_by, function_by, function_told, function_viewed, remembers_told};
 ghost use Rattle.bl_emit.specs.Kept.{parts_in, run_in, told_in};
@@ -21,7 +23,7 @@ use bl_emit_acts::UnitSite;
 use bl_emit_acts::parts::{NOWHERE, joined, prefixed, single};
 use bl_emit_blocks::ActivityView;
 use bl_emit_tables::{copies_of, read_by};
-use bl_machine_transitions::Transition;
+use bl_machine_transitions::{RunNumbers, Transition};
 use bl_tree::c::{CFunc, CLocal, CMember, CStmt, CStruct};
 use bl_tree::tree::{StructDef, Unit};
 use bl_tree::{List, NoMemory};
@@ -116,14 +118,16 @@ fn viewed(
     made(alloc, told, remembers, locals, body)
 }
 
-/// The C function of the activity, with these `run`s, and where it is told whether it remembers anything.
+/// The C function of the activity, with these `run`s and their numbers, and where it is told whether it remembers anything.
 fn function(
     alloc: Global,
     told: &ActivityInput,
+    numbers: &RunNumbers,
     runs: &[RunAt],
     remembers: bool,
 ) -> Result<CFunc, NoMemory>
-    ensures { map run_in runs.now ≡ runs_told (told_in told.entry.now).rules → remembers ≡ remembers_told (told_in told.entry.now) →
+    ensures { ((at : Place) → kept_number numbers.now at ≡ run_number (told_in told.entry.now).rules at) →
+        map run_in runs.now ≡ runs_told (told_in told.entry.now).rules → remembers ≡ remembers_told (told_in told.entry.now) →
         IfOk result (λ made. made ≡ function_told (told_in told.entry.now)) }
 {
     let copies = copies_of(alloc, told.unit)?;
@@ -135,6 +139,7 @@ fn function(
     let view = ActivityView {
         site: site(told),
         copies: &copies,
+        runs: numbers,
         sizes: told.sizes,
         read: &read,
         remembers: told.remember,
@@ -174,7 +179,8 @@ pub fn activity_parts(alloc: Global, told: &ActivityInput, needed: bool) -> Resu
     let remembers = is_any(&members);
     let remember = single(alloc, remembers)?;
     if needed {
-        let func = function(alloc, told, &runs, remembers)?;
+        let numbers = RunNumbers::of(alloc, told.rules)?;
+        let func = function(alloc, told, &numbers, &runs, remembers)?;
         Ok(Parts {
             structs: structs(alloc, told, &runs, members)?,
             funcs: single(alloc, func)?,

@@ -15,7 +15,6 @@ mod parts;
 mod program;
 mod registers;
 mod runs;
-mod shared;
 mod ticks;
 mod units;
 

@@ -50,10 +50,10 @@ fn all_funcs(
     unit: &Unit,
     remembers: bool,
 ) -> Result<List<CFunc>, NoMemory>
-    ensures { IfOk result (λ made. made ≡ funcs ++ (init_function unit.now.name ∷ tick_function unit.now remembers ∷ [])) }
+    ensures { IfOk result (λ made. made ≡ funcs ++ (init_function ∷ tick_function unit.now remembers ∷ [])) }
 {
     let mut made = funcs;
-    made.push(init(alloc, unit.name.as_str())?)?;
+    made.push(init(alloc)?)?;
     made.push(tick(alloc, unit, remembers)?)?;
     Ok(made)
 }

@@ -27,13 +27,13 @@ fn state_param(alloc: Global) -> Result<CParam, NoMemory>
     pointer(alloc, "s", Text::copy_of(alloc, "bl_state")?)
 }
 
-/// The program begins. Fails only for want of memory.
-pub fn init(alloc: Global, name: &str) -> Result<CFunc, NoMemory>
-    ensures { IfOk result (λ made. made ≡ programs.init_function name.now) }
+/// The function with which a program begins. Fails only for want of memory.
+pub fn init(alloc: Global) -> Result<CFunc, NoMemory>
+    ensures { IfOk result (λ made. made ≡ programs.init_function) }
 {
     let params = single(alloc, state_param(alloc)?)?;
-    let at = member_at(alloc, "s", Text::copy_of(alloc, "f")?)?;
-    let body = single(alloc, clear(alloc, at, prefixed(alloc, "f_", name)?)?)?;
+    let at = whole(alloc, true, Text::copy_of(alloc, "s")?);
+    let body = single(alloc, clear(alloc, at, Text::copy_of(alloc, "bl_state")?)?)?;
     Ok(CFunc {
         place: NOWHERE,
         fixed: false,

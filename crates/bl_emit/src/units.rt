@@ -7,10 +7,12 @@ ghost use Rattle.bl_emit.specs.Kept.{parts_in};
 ghost use Rattle.bl_emit.specs.Programs.{next_told, parts_told, told_of, unit_told, units_told};
 
 use crate::activity::{ActivityInput, Parts, activity_parts};
-use crate::shared::shared_rules;
+use bl_block::nodes_of;
 use bl_emit_acts::parts::joined;
 use bl_emit_functions::{function, memory};
+use bl_emit_tables::sizes_of;
 use bl_machine::Activity;
+use bl_machine_transitions::rules;
 use bl_tree::slices::element;
 use bl_tree::tree::{StructDef, Unit, UnitKind};
 use bl_tree::{List, NoMemory};
@@ -38,14 +40,16 @@ fn machine_parts(
     ensures { IfOk result (λ made. parts_in made
         ≡ where_needed needed (parts_told (told_of structs.now earlier.now remember.now unit.now one.now))) }
 {
-    let shared = shared_rules(alloc, unit, one)?;
+    let order = nodes_of(alloc, &one.blocks)?;
+    let rules = rules(alloc, &unit.body, &order, &one.slots)?;
+    let sizes = sizes_of(alloc, &one.slots)?;
     let told = ActivityInput {
         structs,
         earlier,
         unit,
         blocks: &one.blocks,
-        rules: &shared.rules,
-        sizes: &shared.sizes,
+        rules: &rules,
+        sizes: &sizes,
         remember,
     };
     activity_parts(alloc, &told, needed)

@@ -4,6 +4,7 @@ use Rattle.std.proofs.Common.{map, slice_get, refl, ap, if◌then◌else◌}
 use Rattle.bl_tree.specs.declared.c.CArg.TheVariants.{Address}
 use Rattle.bl_tree.specs.declared.c.CExpr.{CExpr}
 use Rattle.bl_tree.specs.declared.c.CStmt.{CStmt}
+use Rattle.bl_tree.specs.declared.place.Place.{Place}
 use Rattle.bl_tree.specs.declared.tree.Path.{Path}
 use Rattle.bl_tree.specs.declared.tree.Stmt.{Stmt, out-Stmt}
 use Rattle.bl_tree.specs.declared.tree.StmtKind.{out-StmtKind}
@@ -13,7 +14,6 @@ use Rattle.bl_graph_nodes.specs.Nodes.{Arguments, Node}
 use Rattle.bl_machine.specs.declared.slots.Slot.{Slot}
 use Rattle.bl_emit_acts.specs.Acts.{c_calling, c_clear, c_set, call_args, code_made, name_of_callee}
 use Rattle.bl_emit_acts.specs.Trees.{c_call, c_read}
-use Rattle.bl_emit_functions.specs.Statements.{else_code}
 use Rattle.bl_emit_functions.specs.Trees.{c_if, c_truth}
 use Rattle.bl_machine_transitions.specs.declared.transition.Asked.{Asked}
 use Rattle.bl_machine_transitions.specs.declared.transition.Asked.TheVariants as asked
@@ -21,19 +21,19 @@ use Rattle.bl_machine_transitions.specs.declared.transition.Change.{Change}
 use Rattle.bl_machine_transitions.specs.declared.transition.Change.TheVariants as change
 use Rattle.bl_machine_transitions.specs.Told.{Acts, Enters, Nothing, NumberedTransition, Resumes, Task, Tests}
 use Rattle.bl_emit_spec.specs.Blocks.{ActivityView, NodeCode, Sizes, acted, all_tests, arg_where, at_slot, forgotten, has_result}
-use Rattle.bl_emit_spec.specs.Blocks.{layer_acted, name_in, rested_in, run_code, some_test, target_code}
+use Rattle.bl_emit_spec.specs.Blocks.{choice_code, layer_acted, name_in, rested_in, run_code, some_test, spelled_truth, target_code}
 use Rattle.bl_emit_spec.specs.Names.{callee_frame, callee_memory, ended_place, frame_name, given_place}
 use Rattle.bl_emit_blocks.specs.Laws.{BlocksAlike}
 use Rattle.bl_emit_blocks.specs.Numbered.{numbered_aged, numbered_begun, numbered_change, numbered_changes}
 use Rattle.bl_emit_blocks.specs.Numbered.{numbered_guard, numbered_resumed, numbered_task, numbered_tested, numbered_turn}
 
-module _ (site : TypingContext) (copies : List Bool) (sizes : Sizes) (number other : Node → ℕ) (read seen held kept : ℕ → Bool)
-    (reads : (k : ℕ) → read k ≡ seen k) (keeps : (k : ℕ) → held k ≡ kept k) where
+module _ (site : TypingContext) (copies : List Bool) (sizes : Sizes) (number other : Node → ℕ) (run same : Place → ℕ) (read seen held kept : ℕ → Bool)
+    (runs : (at : Place) → run at ≡ same at) (reads : (k : ℕ) → read k ≡ seen k) (keeps : (k : ℕ) → held k ≡ kept k) where
   abbrev v : ActivityView
-  v = record { site = site; copies = copies; number = number; sizes = sizes; is_read = read; remembers = held }
+  v = record { site = site; copies = copies; number = number; run = run; sizes = sizes; is_read = read; remembers = held }
 
   abbrev w : ActivityView
-  w = record { site = site; copies = copies; number = other; sizes = sizes; is_read = seen; remembers = kept }
+  w = record { site = site; copies = copies; number = other; run = same; sizes = sizes; is_read = seen; remembers = kept }
 
   -- ---- guards
 
@@ -133,15 +133,17 @@ module _ (site : TypingContext) (copies : List Bool) (sizes : Sizes) (number oth
 
   tested_same : (test : CExpr) (rule : NumberedTransition) → numbered_tested v test rule ≡ numbered_tested w test rule
   tested_same test rule =
-      ap (λ so. c_if test so (else_code (numbered_changes v rule.otherwise)) ∷ []) (changes_same rule.so)
-      ∙ ap (λ other. c_if test (numbered_changes w rule.so) (else_code other) ∷ []) (changes_same rule.otherwise)
+      ap (λ so. choice_code test (spelled_truth test) so (numbered_changes v rule.otherwise)) (changes_same rule.so)
+      ∙ ap (λ other. choice_code test (spelled_truth test) (numbered_changes w rule.so) other) (changes_same rule.otherwise)
 
   task_same : (rule : NumberedTransition) (task : Task) → numbered_task v rule task ≡ numbered_task w rule task
   task_same rule Nothing = changes_same rule.so
   task_same rule (Acts s) = ap (λ code. code ++ numbered_changes v rule.so) (acted_same s) ∙ ap (λ code. acted w s ++ code) (changes_same rule.so)
   task_same rule (Tests e) = tested_same (code_made site e) rule
-  task_same rule (Enters k a arguments) = begun_same k a arguments rule.so
-  task_same rule (Resumes k a arguments) = resumed_same k a arguments rule.so
+  task_same rule (Enters at a arguments) =
+      begun_same (run at) a arguments rule.so ∙ ap (λ k. numbered_begun w k a arguments rule.so) (runs at)
+  task_same rule (Resumes at a arguments) =
+      resumed_same (run at) a arguments rule.so ∙ ap (λ k. numbered_resumed w k a arguments rule.so) (runs at)
 
   abbrev turn : CExpr → List CStmt → NodeCode
   turn test code = record { test = test; code = code }
@@ -154,10 +156,11 @@ module _ (site : TypingContext) (copies : List Bool) (sizes : Sizes) (number oth
 -- the same of any two such views
 pub blocks_alike : BlocksAlike
 blocks_alike v w alike rule =
-    turn_same v.site v.copies v.sizes v.number w.number v.is_read w.is_read v.remembers w.remembers alike.is_read alike.remembers rule
+    turn_same v.site v.copies v.sizes v.number w.number v.run w.run v.is_read w.is_read v.remembers w.remembers alike.run alike.is_read
+    alike.remembers rule
     ∙ (ap (λ (site : TypingContext). numbered_turn (viewed site v.copies v.sizes) rule) alike.site
     ∙ (ap (λ (copies : List Bool). numbered_turn (viewed w.site copies v.sizes) rule) alike.copies
     ∙ ap (λ (sizes : Sizes). numbered_turn (viewed w.site w.copies sizes) rule) alike.sizes)) where
       viewed : TypingContext → List Bool → Sizes → ActivityView
       viewed site copies sizes =
-          record { site = site; copies = copies; number = w.number; sizes = sizes; is_read = w.is_read; remembers = w.remembers }
+          record { site = site; copies = copies; number = w.number; run = w.run; sizes = sizes; is_read = w.is_read; remembers = w.remembers }

@@ -1,5 +1,6 @@
 -- Laws of the C of a block by numbers.
 use Rattle.std.specs.Prelude.{◌≡◌, ℕ}
+use Rattle.bl_tree.specs.declared.place.Place.{Place}
 use Rattle.bl_machine_transitions.specs.Told.{NumberedTransition}
 use Rattle.bl_emit_spec.specs.Blocks.{ActivityView}
 use Rattle.bl_emit_blocks.specs.Numbered.{numbered_turn}
@@ -8,6 +9,7 @@ use Rattle.bl_emit_blocks.specs.Numbered.{numbered_turn}
 pub record Alike (v w : ActivityView) : Type 0 where
   pub site : v.site ≡ w.site
   pub copies : v.copies ≡ w.copies
+  pub run : (at : Place) → v.run at ≡ w.run at
   pub sizes : v.sizes ≡ w.sizes
   pub is_read : (k : ℕ) → v.is_read k ≡ w.is_read k
   pub remembers : (k : ℕ) → v.remembers k ≡ w.remembers k

@@ -6,7 +6,6 @@ use Rattle.bl_tree.specs.declared.scalar.Op.TheVariants.{And}
 use Rattle.bl_graph_nodes.specs.Nodes.{Arguments}
 use Rattle.bl_emit_acts.specs.Acts.{c_clear, c_set, code_made}
 use Rattle.bl_emit_acts.specs.Trees.{c_not, c_read, c_two}
-use Rattle.bl_emit_functions.specs.Statements.{else_code}
 use Rattle.bl_emit_functions.specs.Trees.{c_if, c_truth}
 use Rattle.bl_machine_transitions.specs.declared.transition.Age.{Age}
 use Rattle.bl_machine_transitions.specs.declared.transition.Age.TheVariants as age
@@ -16,8 +15,8 @@ use Rattle.bl_machine_transitions.specs.declared.transition.Change.{Change}
 use Rattle.bl_machine_transitions.specs.declared.transition.Change.TheVariants as change
 use Rattle.bl_machine_transitions.specs.declared.transition.Needed.{Needed}
 use Rattle.bl_machine_transitions.specs.Told.{Acts, Enters, Nothing, NumberedTransition, Resumes, Task, Tests}
-use Rattle.bl_emit_spec.specs.Blocks.{ActivityView, NodeCode, acted, all_tests, at_slot, counter_value, forgotten, freed, name_in}
-use Rattle.bl_emit_spec.specs.Blocks.{rested_at, rested_in, run_code, some_test, target_code, turn_code}
+use Rattle.bl_emit_spec.specs.Blocks.{ActivityView, NodeCode, acted, all_tests, at_slot, choice_code, counter_value, forgotten, freed, name_in}
+use Rattle.bl_emit_spec.specs.Blocks.{rested_at, rested_in, run_code, some_test, spelled_truth, target_code, turn_code}
 use Rattle.bl_emit_spec.specs.Names.{callee_frame, counter_place, ended_place, flag_place, frame_name, mark_place, over_place}
 
 -- ---- guards
@@ -67,15 +66,16 @@ numbered_changes view (change ∷ rest) = numbered_change view change ++ numbere
 
 -- a test: changes where it is true, and others where it is false
 abbrev pub numbered_tested : ActivityView → CExpr → NumberedTransition → List CStmt
-numbered_tested view test rule = c_if test (numbered_changes view rule.so) (else_code (numbered_changes view rule.otherwise)) ∷ []
+numbered_tested view test rule =
+    choice_code test (spelled_truth test) (numbered_changes view rule.so) (numbered_changes view rule.otherwise)
 
--- the C of a `run` that begins, by the number of its first node and the position of the activity that it calls
+-- the C of a `run` that begins, by the number of its place and the position of the activity that it calls
 abbrev pub numbered_begun : ActivityView → ℕ → ℕ → Arguments → List Change → List CStmt
 numbered_begun view k a arguments so =
     c_clear (callee_frame k) (frame_name (name_in (slice_get view.site.earlier a)))
     ∷ (run_code view k a arguments ++ numbered_changes view so)
 
--- the C of a `run` that goes on, by the number of its first node and the position of the activity that it calls
+-- the C of a `run` that goes on, by the number of its place and the position of the activity that it calls
 abbrev pub numbered_resumed : ActivityView → ℕ → ℕ → Arguments → List Change → List CStmt
 numbered_resumed view k a arguments so =
     run_code view k a arguments
@@ -86,8 +86,8 @@ abbrev pub numbered_task : ActivityView → NumberedTransition → Task → List
 numbered_task view rule Nothing = numbered_changes view rule.so
 numbered_task view rule (Acts s) = acted view s ++ numbered_changes view rule.so
 numbered_task view rule (Tests e) = numbered_tested view (code_made view.site e) rule
-numbered_task view rule (Enters k a arguments) = numbered_begun view k a arguments rule.so
-numbered_task view rule (Resumes k a arguments) = numbered_resumed view k a arguments rule.so
+numbered_task view rule (Enters at a arguments) = numbered_begun view (view.run at) a arguments rule.so
+numbered_task view rule (Resumes at a arguments) = numbered_resumed view (view.run at) a arguments rule.so
 
 -- the turn of a rule: what is asked before its node, and what that does then
 abbrev pub numbered_turn : ActivityView → NumberedTransition → NodeCode

@@ -1,6 +1,7 @@
 -- What blocks see of an activity, and turns, as the code has them.
 use Rattle.std.specs.Prelude.{false, slice_get, unwrap_or}
 use Rattle.bl_emit_acts.specs.Sites.{site_in}
+use Rattle.bl_machine_transitions.specs.Runs.{kept_number}
 use Rattle.bl_emit_spec.specs.Blocks.{ActivityView, NodeCode}
 use Rattle.bl_emit_blocks.specs.declared.turn.NodeCode.{NodeCode as KeptTurn}
 use Rattle.bl_emit_blocks.specs.declared.view.ActivityView.{ActivityView as Kept}
@@ -11,6 +12,7 @@ view_in view = record {
   site = site_in view.site;
   copies = view.copies.now;
   number = λ n. 0;
+  run = kept_number view.runs.now;
   sizes = view.sizes.now;
   is_read = λ k. unwrap_or (slice_get view.read.now k) false;
   remembers = λ k. unwrap_or (slice_get view.remembers.now k) false;

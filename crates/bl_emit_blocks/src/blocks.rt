@@ -4,6 +4,7 @@ ghost use Rattle.std.specs.Prelude.{◌≡◌, ◌∷◌, [], IfOk};
 ghost use Rattle.bl_emit_acts.specs.Acts.{c_set, code_made};
 ghost use Rattle.bl_emit_blocks.specs.Numbered as numbered;
 ghost use Rattle.bl_emit_blocks.specs.Views.{turn_in, view_in};
+ghost use Rattle.bl_emit_spec.specs.Blocks as blocks;
 ghost use Rattle.bl_emit_spec.specs.Blocks.{acted, turn_code};
 ghost use Rattle.bl_emit_spec.specs.Names.{result_place};
 ghost use Rattle.bl_machine_transitions.specs.Told.{rule_in, task_in};
@@ -19,9 +20,9 @@ use bl_emit_acts::act;
 use bl_emit_acts::parts::{joined, set, single};
 use bl_emit_functions::parts::choice;
 use bl_machine_transitions::{Task, Transition};
-use bl_tree::c::CStmt;
+use bl_tree::c::{CExpr, CExprKind, CStmt};
 use bl_tree::tree::{Expr, Stmt, StmtKind};
-use bl_tree::{List, NoMemory};
+use bl_tree::{List, NoMemory, Scalar};
 use std::alloc::Global;
 
 /// A `return` sets the result, where it has one.
@@ -43,6 +44,32 @@ fn acted(alloc: Global, view: &ActivityView, s: &Stmt) -> Result<List<CStmt>, No
     }
 }
 
+/// The truth that an expression spells, where it is a literal of type bool.
+fn spelled_truth(e: &CExpr) -> Option<bool>
+    ensures { result ≡ blocks.spelled_truth e.now }
+{
+    match &e.what {
+        CExprKind::Literal(Scalar::Bool, n) => Some(*n == 1),
+        _ => None,
+    }
+}
+
+/// The side that a test takes, where its truth is spelled, and else an `if`.
+fn chosen(
+    alloc: Global,
+    test: CExpr,
+    so: List<CStmt>,
+    other: List<CStmt>,
+) -> Result<List<CStmt>, NoMemory>
+    ensures { IfOk result (λ code. code ≡ blocks.choice_code test (blocks.spelled_truth test) so other) }
+{
+    match spelled_truth(&test) {
+        Some(true) => Ok(so),
+        Some(false) => Ok(other),
+        None => single(alloc, choice(alloc, test, so, otherwise(other))?),
+    }
+}
+
 /// A test: changes where it is true, and others where it is false.
 fn tested(
     alloc: Global,
@@ -55,8 +82,8 @@ fn tested(
 {
     let test = value(alloc, &view.site, e)?;
     let so = changes(alloc, view, &rule.so)?;
-    let other = otherwise(changes(alloc, view, &rule.otherwise)?);
-    single(alloc, choice(alloc, test, so, other)?)
+    let other = changes(alloc, view, &rule.otherwise)?;
+    chosen(alloc, test, so, other)
 }
 
 /// What a node does in its turn.

@@ -62,21 +62,33 @@ pub fn at_slot(alloc: Global, view: &ActivityView, slot: Slot) -> Result<CExpr, 
     two(alloc, Op::Eq, at, value_of(view, slot.counter, slot.value))
 }
 
-/// Whether the value is the only one beside 0 that its counter has.
-fn is_only(view: &ActivityView, slot: Slot) -> bool
-    ensures { result ≡ blocks.is_only (view_in view.entry.now).sizes slot }
+/// Whether the counter can hold no value above this one.
+fn is_greatest(view: &ActivityView, k: u32, v: u32) -> bool
+    ensures { result ≡ blocks.is_greatest (view_in view.entry.now).sizes k v }
 {
-    slot.value == 1 && greatest_value(view, slot.counter) <= 1
+    greatest_value(view, k) <= v
 }
 
-/// Whether it rested at the number when the tick began: a counter with one value had that where it wasn't 0.
+/// Whether the counter held the value or one above it when the tick began; of 1, whether it didn't hold 0.
+fn rested_since(alloc: Global, view: &ActivityView, k: u32, least: u32) -> Result<CExpr, NoMemory>
+    ensures { IfOk result (λ e. e ≡ blocks.rested_since (view_in view.entry.now) k least) }
+{
+    let at = read(rested(alloc, k)?);
+    if least == 1 {
+        two(alloc, Op::Ne, at, value_of(view, k, 0))
+    } else {
+        two(alloc, Op::Ge, at, value_of(view, k, least))
+    }
+}
+
+/// Whether the instance rested at the number when the tick began.
 pub fn rested_at(alloc: Global, view: &ActivityView, slot: Slot) -> Result<CExpr, NoMemory>
     ensures { IfOk result (λ e. e ≡ blocks.rested_at (view_in view.entry.now) slot) }
 {
-    let at = read(rested(alloc, slot.counter)?);
-    if is_only(view, slot) {
-        two(alloc, Op::Ne, at, value_of(view, slot.counter, 0))
+    if is_greatest(view, slot.counter, slot.value) {
+        rested_since(alloc, view, slot.counter, slot.value)
     } else {
+        let at = read(rested(alloc, slot.counter)?);
         two(alloc, Op::Eq, at, value_of(view, slot.counter, slot.value))
     }
 }
@@ -126,6 +138,23 @@ fn rested_between(
     two(alloc, Op::And, from, to)
 }
 
+/// Whether the counter held one of the values from the first to the last, by one comparison where it can hold none above the last.
+fn rested_within(
+    alloc: Global,
+    view: &ActivityView,
+    k: u32,
+    least: u32,
+    greatest: u32,
+) -> Result<CExpr, NoMemory>
+    ensures { IfOk result (λ e. e ≡ blocks.rested_within (view_in view.entry.now) k least greatest) }
+{
+    if is_greatest(view, k, greatest) {
+        rested_since(alloc, view, k, least)
+    } else {
+        rested_between(alloc, view, k, least, greatest)
+    }
+}
+
 /// The last of some values.
 fn last_value(v: u32, slots: &[Slot]) -> u32
     ensures { result ≡ blocks.last_value v slots.now }
@@ -146,7 +175,7 @@ pub fn rested_in(alloc: Global, view: &ActivityView, slots: &[Slot]) -> Result<C
         [slot] => rested_at(alloc, view, *slot),
         [slot, ..] => {
             let last = last_value(slot.value, slots);
-            rested_between(alloc, view, slot.counter, slot.value, last)
+            rested_within(alloc, view, slot.counter, slot.value, last)
         }
     }
 }

@@ -50,7 +50,7 @@ pub fn returned(alloc: Global) -> Result<CPlace, NoMemory>
     Ok(whole(alloc, true, Text::copy_of(alloc, "r")?))
 }
 
-/// Whether the body of the activity that a `run` calls has ended, by the number of the node at which the `run` begins.
+/// Whether the body of the activity that a `run` calls has ended, by the number of the place of the `run`.
 pub fn ended(alloc: Global, k: u32) -> Result<CPlace, NoMemory>
     ensures { IfOk result (λ place. place ≡ names.ended_place k) }
 {

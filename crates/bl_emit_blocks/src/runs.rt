@@ -112,50 +112,50 @@ fn with_outputs(
     Ok(all)
 }
 
-/// Where the activity rests, and what it remembers.
-fn first_args(alloc: Global, view: &ActivityView, run: &Run) -> Result<List<CArg>, NoMemory>
-    ensures { IfOk result (λ args. args ≡ Address (names.callee_frame run.entry.now.begins)
-        ∷ blocks.arg_where ((view_in view.entry.now).remembers run.entry.now.unit) (Address (names.callee_memory run.entry.now.begins))) }
+/// Where the activity rests, and what it remembers, by the number of the `run`.
+fn first_args(alloc: Global, view: &ActivityView, k: u32, run: &Run) -> Result<List<CArg>, NoMemory>
+    ensures { IfOk result (λ args. args ≡ Address (names.callee_frame k)
+        ∷ blocks.arg_where ((view_in view.entry.now).remembers run.entry.now.unit) (Address (names.callee_memory k))) }
 {
     let mut args = List::new(alloc);
-    args.push(CArg::Address(callee_frame(alloc, run.begins)?))?;
-    let memory = callee_memory(alloc, run.begins)?;
+    args.push(CArg::Address(callee_frame(alloc, k)?))?;
+    let memory = callee_memory(alloc, k)?;
     with_address(args, remembers(view, run.unit), memory)
 }
 
 /// The arguments of the call of an activity.
-fn run_args(alloc: Global, view: &ActivityView, run: &Run) -> Result<List<CArg>, NoMemory>
+fn run_args(alloc: Global, view: &ActivityView, k: u32, run: &Run) -> Result<List<CArg>, NoMemory>
     ensures { IfOk result (λ args. args
-        ≡ blocks.run_args (view_in view.entry.now) run.entry.now.begins run.entry.now.unit (arguments_in run.entry.now)) }
+        ≡ blocks.run_args (view_in view.entry.now) k run.entry.now.unit (arguments_in run.entry.now)) }
 {
-    let args = first_args(alloc, view, run)?;
+    let args = first_args(alloc, view, k, run)?;
     let args = with_inputs(alloc, args, &view.site, run.inputs)?;
     let args = with_outputs(alloc, args, &view.site, run.outputs)?;
-    let result = given(alloc, run.begins)?;
+    let result = given(alloc, k)?;
     let args = with_address(args, has_result(view, run.unit), result)?;
-    with_address(args, true, ended(alloc, run.begins)?)
+    with_address(args, true, ended(alloc, k)?)
 }
 
 // ---- calls
 
 /// The call of an activity.
-fn called(alloc: Global, view: &ActivityView, run: &Run) -> Result<CStmt, NoMemory>
+fn called(alloc: Global, view: &ActivityView, k: u32, run: &Run) -> Result<CStmt, NoMemory>
     ensures { IfOk result (λ s. s ≡ c_calling (c_call (name_of_callee (slice_get (view_in view.entry.now).site.earlier run.entry.now.unit))
-        (blocks.run_args (view_in view.entry.now) run.entry.now.begins run.entry.now.unit (arguments_in run.entry.now)))) }
+        (blocks.run_args (view_in view.entry.now) k run.entry.now.unit (arguments_in run.entry.now)))) }
 {
     let name = callee(alloc, view, run.unit)?;
-    let args = run_args(alloc, view, run)?;
+    let args = run_args(alloc, view, k, run)?;
     Ok(statement(CStmtKind::Call(CCall { name, args })))
 }
 
 /// The call, before which the activity hasn't ended.
-fn run_code(alloc: Global, view: &ActivityView, run: &Run) -> Result<List<CStmt>, NoMemory>
+fn run_code(alloc: Global, view: &ActivityView, k: u32, run: &Run) -> Result<List<CStmt>, NoMemory>
     ensures { IfOk result (λ code. code
-        ≡ blocks.run_code (view_in view.entry.now) run.entry.now.begins run.entry.now.unit (arguments_in run.entry.now)) }
+        ≡ blocks.run_code (view_in view.entry.now) k run.entry.now.unit (arguments_in run.entry.now)) }
 {
-    let going = set(alloc, ended(alloc, run.begins)?, truth(false))?;
+    let going = set(alloc, ended(alloc, k)?, truth(false))?;
     let mut code = single(alloc, going)?;
-    code.push(called(alloc, view, run)?)?;
+    code.push(called(alloc, view, k, run)?)?;
     Ok(code)
 }
 
@@ -186,11 +186,12 @@ pub fn begun(
     so: &[Change],
 ) -> Result<List<CStmt>, NoMemory>
     ensures { IfOk result (λ code. code
-        ≡ numbered.numbered_begun (view_in view.entry.now) run.entry.now.begins run.entry.now.unit (arguments_in run.entry.now) so.now) }
+        ≡ numbered.numbered_begun (view_in view.entry.now) ((view_in view.entry.now).run run.entry.now.place) run.entry.now.unit (arguments_in run.entry.now) so.now) }
 {
-    let at = callee_frame(alloc, run.begins)?;
+    let k = view.runs.find(run.place);
+    let at = callee_frame(alloc, k)?;
     let start = single(alloc, clear(alloc, at, frame(alloc, view, run.unit)?)?)?;
-    let rest = joined(run_code(alloc, view, run)?, changes(alloc, view, so)?)?;
+    let rest = joined(run_code(alloc, view, k, run)?, changes(alloc, view, so)?)?;
     joined(start, rest)
 }
 
@@ -202,11 +203,12 @@ pub fn resumed(
     so: &[Change],
 ) -> Result<List<CStmt>, NoMemory>
     ensures { IfOk result (λ code. code
-        ≡ numbered.numbered_resumed (view_in view.entry.now) run.entry.now.begins run.entry.now.unit (arguments_in run.entry.now) so.now) }
+        ≡ numbered.numbered_resumed (view_in view.entry.now) ((view_in view.entry.now).run run.entry.now.place) run.entry.now.unit (arguments_in run.entry.now) so.now) }
 {
-    let call = run_code(alloc, view, run)?;
-    let target = target_code(alloc, view, run.begins, run.target)?;
+    let k = view.runs.find(run.place);
+    let call = run_code(alloc, view, k, run)?;
+    let target = target_code(alloc, view, k, run.target)?;
     let then = joined(target, changes(alloc, view, so)?)?;
-    let test = read(ended(alloc, run.begins)?);
+    let test = read(ended(alloc, k)?);
     joined(call, single(alloc, choice(alloc, test, then, None)?)?)
 }

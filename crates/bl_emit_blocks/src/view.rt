@@ -1,6 +1,7 @@
 //! What blocks see of an activity.
 
 use bl_emit_acts::UnitSite;
+use bl_machine_transitions::RunNumbers;
 
 /// An activity as its blocks see it.
 #[derive(Clone, Copy)]
@@ -9,6 +10,8 @@ pub struct ActivityView<'a> {
     pub site: UnitSite<'a>,
     /// Which of its variables have a copy of what they were when the tick began.
     pub copies: &'a [bool],
+    /// The numbers of its `run`s.
+    pub runs: &'a RunNumbers,
     /// How many values its counters have.
     pub sizes: &'a [u32],
     /// Which counters have a copy of what they held when the tick began.

@@ -24,7 +24,6 @@ use Rattle.bl_graph_nodes.specs.Nodes.{
 use Rattle.bl_graph_nodes.specs.Plain.{plain_body}
 use Rattle.bl_emit_acts.specs.Acts.{c_clear, code_made}
 use Rattle.bl_emit_acts.specs.Trees.{c_read}
-use Rattle.bl_emit_functions.specs.Statements.{else_code}
 use Rattle.bl_emit_functions.specs.Trees.{c_if}
 use Rattle.bl_machine_pass.specs.Transitions as nodes
 use Rattle.bl_machine_pass.specs.Transitions.{ClearsBoth, ClearsCounter, Ended, EndsWhen, Finishes, Flagged, IsAny, IsNew, IsOld, Rested, RestedIn, SetsCounter, SetsFlag, SetsMark}
@@ -32,8 +31,8 @@ use Rattle.bl_machine_pass.specs.Numbered.{slots_of}
 use Rattle.bl_machine_transitions.specs.Callees.{callees_in}
 use Rattle.bl_machine_transitions_laws.specs.Laws.{RulesAreListed}
 use Rattle.bl_machine_transitions.specs.Told.{all_told, task_at, told, told_asked, told_change}
-use Rattle.bl_emit_spec.specs.Blocks.{ActivityView, NodeCode, acted, change_code, changes_code, guard_of, name_in, node_code, run_code}
-use Rattle.bl_emit_spec.specs.Blocks.{target_code, turn_of, turns_of}
+use Rattle.bl_emit_spec.specs.Blocks.{ActivityView, NodeCode, acted, change_code, changes_code, choice_code, guard_of, name_in, node_code, run_code}
+use Rattle.bl_emit_spec.specs.Blocks.{spelled_truth, target_code, turn_of, turns_of}
 use Rattle.bl_emit_spec.specs.Names.{callee_frame, ended_place, frame_name}
 use Rattle.bl_emit_blocks.specs.Numbered.{numbered_change, numbered_changes, numbered_guard, numbered_task, numbered_turn}
 use Rattle.bl_emit_blocks_laws.specs.Laws.{BlocksAreNumbered, BodiesAreNumbered}
@@ -64,7 +63,7 @@ module _ (view : ActivityView) where
 
   -- a test, by what changes where it is true and where it is false
   abbrev test_with : CExpr → List CStmt → List CStmt → List CStmt
-  test_with test so otherwise = c_if test so (else_code otherwise) ∷ []
+  test_with test so otherwise = choice_code test (spelled_truth test) so otherwise
 
   test_is : (e : Expr) (so to otherwise other : List CStmt) → so ≡ to → otherwise ≡ other →
       test_with (code_made view.site e) so otherwise ≡ test_with (code_made view.site e) to other
@@ -85,8 +84,8 @@ module _ (view : ActivityView) where
   node_is unit rule (ActAt l s) = ap (λ xs. acted view s ++ xs) (changes_are rule.so)
   node_is unit rule (TestAt l at e) = test_is e _ _ _ _ (changes_are rule.so) (changes_are rule.otherwise)
   node_is unit rule (CheckAt l at e) = test_is e _ _ _ _ (changes_are rule.so) (changes_are rule.otherwise)
-  node_is unit rule (EnterAt l at arguments) = ap (begun_with unit (view.number (EnterAt l at arguments)) arguments) (changes_are rule.so)
-  node_is unit rule (ResumeAt l at arguments) = ap (resumed_with unit (view.number (EnterAt l at arguments)) arguments) (changes_are rule.so)
+  node_is unit rule (EnterAt l at arguments) = ap (begun_with unit (view.run at) arguments) (changes_are rule.so)
+  node_is unit rule (ResumeAt l at arguments) = ap (resumed_with unit (view.run at) arguments) (changes_are rule.so)
   node_is unit rule (PauseAt l at) = changes_are rule.so
   node_is unit rule (HeadAt l at) = changes_are rule.so
   node_is unit rule (StartAt l at) = changes_are rule.so

@@ -8,9 +8,8 @@ use Rattle.bl_block.specs.Merged.{AreMergedFrom, EachThree, IsMergedFrom}
 use Rattle.bl_cause.specs.Accepted.{AcceptedProgram, IsAccepted}
 use Rattle.bl_cause.specs.Activities.{EachTwo, activities}
 use Rattle.bl_ctext_semantics.specs.Parts.{parts_from}
-use Rattle.bl_emit_spec.specs.Shared.{IsShared, IsSharedActivityOf}
 use Rattle.bl_machine.specs.declared.machine.Activity.{Activity}
-use Rattle.bl_machine.specs.Machines.{AreActivitiesOf, IsMachine, IsPlainActivityOf, IsPlainMachine, SeenMachine}
+use Rattle.bl_machine.specs.Machines.{AreActivitiesOf, IsMachine, SeenMachine}
 use Rattle.bl_ctext.specs.Spellable.{is_spellable}
 use Rattle.bl_emit.specs.Programs.{written_told}
 use Rattle.bl_emit_laws.specs.Told.{WrittenIsComputed}
@@ -20,21 +19,6 @@ use Rattle.bl_emit_laws.specs.Spelled.{ProgramsSpelled}
 use Rattle.bl_emit_file.specs.Laws.{Known}
 use Rattle.bl_emit_file.specs.Merged.{AreMerged, IsMerged, IsOfMerged}
 
-each_shared : (units : List UnitDef) (from to : List Activity) → EachTwo IsPlainActivityOf units from → EachThree IsMergedFrom units from to →
-    EachTwo IsSharedActivityOf units to
-each_shared [] [] [] plain merged = tt
-each_shared [] [] (b ∷ to) plain merged = absurd merged
-each_shared [] (a ∷ from) to plain merged = absurd plain
-each_shared (unit ∷ units) [] to plain merged = absurd plain
-each_shared (unit ∷ units) (a ∷ from) [] plain merged = absurd merged
-each_shared (unit ∷ units) (a ∷ from) (b ∷ to) plain merged =
-    (record { slots = merged.0.slots ∙ plain.0.slots }, each_shared units from to plain.1 merged.1)
-
--- a machine that is merged from a plain one shares counters
-pub merged_shares : (units : List UnitDef) (from to : List Activity) → EachTwo IsPlainActivityOf (activities units) from → AreMergedFrom units from to →
-    IsShared units to
-merged_shares units from to plain merged = each_shared (activities units) from to plain merged
-
 each_merged : (units : List UnitDef) (from to : List Activity) → EachThree IsMergedFrom units from to → EachTwo IsMerged units to
 each_merged [] [] [] merged = tt
 each_merged [] [] (b ∷ to) merged = absurd merged
@@ -43,7 +27,7 @@ each_merged (unit ∷ units) [] to merged = absurd merged
 each_merged (unit ∷ units) (a ∷ from) [] merged = absurd merged
 each_merged (unit ∷ units) (a ∷ from) (b ∷ to) merged = (merged.0.none_left, each_merged units from to merged.1)
 
--- and its blocks are merged
+-- the blocks of a machine that is merged from another are merged
 pub merged_is : (units : List UnitDef) (from to : List Activity) → AreMergedFrom units from to → AreMerged units to
 merged_is units from to merged = each_merged (activities units) from to merged
 
@@ -53,10 +37,10 @@ pub record IsMadeOf (tree : Program) (machine : List Activity) (made : Written) 
   pub is : made ≡ written tree machine
 
 pub made_known : (accepted : AcceptedProgram) (plain merged : SeenMachine) (made : Written) → IsAccepted accepted → FromText accepted.tree.units →
-    AreCountable accepted.tree.units → plain.program ≡ accepted.tree → IsPlainMachine plain → merged.program ≡ plain.program →
+    AreCountable accepted.tree.units → plain.program ≡ accepted.tree → merged.program ≡ plain.program →
     AreMergedFrom plain.program.units plain.activities merged.activities → IsMachine merged → WrittenIsComputed →
     made ≡ written_told merged.program merged.activities → IsMadeOf accepted.tree merged.activities made
-made_known accepted plain merged made is_accepted text countable one are_plain two are_merged is_machine told same =
+made_known accepted plain merged made is_accepted text countable one two are_merged is_machine told same =
     let tree = accepted.tree in
     let from : List Activity = plain.activities in
     let to : List Activity = merged.activities in
@@ -67,8 +51,6 @@ made_known accepted plain merged made is_accepted text countable one are_plain t
         limits = subst (λ (of : Program). KeepsLimits of.structs of.units of.entry) (sym is_accepted.is_tree) is_accepted.limits;
         text = text;
         agrees = subst (λ (of : Program). AreActivitiesOf of.units to) (two ∙ one) is_machine;
-        shared =
-            merged_shares tree.units from to (subst (λ (of : Program). EachTwo IsPlainActivityOf (activities of.units) from) one are_plain) of_tree;
         merged = merged_is tree.units from to of_tree;
         countable = countable;
       };
@@ -80,7 +62,7 @@ pub made_spelled : (program : Program) (machine : List Activity) (made : Written
     is_spellable made.structs made.funcs ≡ true
 made_spelled program machine made spelled it =
     subst (λ (it : Written). is_spellable it.structs it.funcs ≡ true) (sym it.is)
-    (spelled machine it.known.keeps it.known.passes it.known.limits it.known.agrees it.known.shared)
+    (spelled machine it.known.keeps it.known.passes it.known.limits it.known.agrees)
 
 -- and it is of a machine whose blocks are merged
 pub made_of_merged : (program : Program) (machine : List Activity) (made : Written) → IsMadeOf program machine made →

@@ -45,7 +45,7 @@ use Rattle.bl_emit_spec_laws_files.specs.Entry.{EntryRuns}
 use Rattle.bl_emit_spec_laws_files.specs.Files.{FileShows, RowsSuffice}
 use Rattle.bl_emit_spec_laws.specs.Tables.Laws.{ActivitiesBuilt}
 use Rattle.bl_emit_laws.specs.Accepted.{ProgramsWellFormed}
-use Rattle.bl_emit_laws.specs.Cells.{FilesSmall}
+use Rattle.bl_emit_laws.specs.Cells.{FilesCount, FilesSmall}
 use Rattle.bl_emit_laws.specs.Counters.Laws.{FilesHaveIfs, FilesOwn}
 use Rattle.bl_emit_laws.specs.Kept.{activities_in, written_file}
 use Rattle.bl_emit_laws.specs.Shows.{WrittenShows}
@@ -84,6 +84,7 @@ pub record Laws (program : Program) : Type 0 where
   pub runs : EntryRuns
   pub shows : WrittenShows program
   pub formed : ProgramsWellFormed program
+  pub count : FilesCount program
   pub small : FilesSmall program
   pub own : FilesOwn program
   pub ifs : FilesHaveIfs program
@@ -110,7 +111,7 @@ module _ (program : Program) (machine : List InMachine) (laws : Laws program) (k
 
   compiled : CompilationContext structs units entry machine activities
   compiled =
-      laws.compile machine activities known.keeps known.passes known.text known.agrees known.shared (laws.built structs units machine known.agrees)
+      laws.compile machine activities known.keeps known.passes known.text known.agrees (laws.built structs units machine known.agrees)
       known.countable
 
   none_overlap : NoneOverlaps units
@@ -118,7 +119,7 @@ module _ (program : Program) (machine : List InMachine) (laws : Laws program) (k
 
   module _ (unit : UnitDef) (there : slice_get units entry ≡ Some unit) where
     formed : WellFormed file
-    formed = laws.formed machine known.keeps known.passes known.limits known.agrees known.shared
+    formed = laws.formed machine known.keeps known.passes known.limits known.agrees
 
     shows : FileShows W activities unit file
     shows = laws.shows machine unit compiled there none_overlap (laws.come machine activities known.limits compiled) formed
@@ -126,8 +127,8 @@ module _ (program : Program) (machine : List InMachine) (laws : Laws program) (k
     by_rules : (rows : List (List ℤ)) → RowsFit (input_columns unit) rows →
         RunByRules structs units entry (rank_by W activities) (slots_by W activities) (cleared W) unit rows (λ i c. 0)
     by_rules rows fit =
-        laws.runs structs units entry machine activities unit rows compiled (entry_is structs units entry unit there)
-        (laws.rows structs units entry unit rows known.keeps there fit)
+        laws.runs structs units entry machine activities unit rows (λ i c. 0) compiled (entry_is structs units entry unit there)
+        (laws.rows structs units entry unit rows known.keeps there fit) refl
 
     traced : (rows : List (List ℤ)) (seen : ShownTrace) → RowsFit (input_columns unit) rows →
         Means structs units entry rows seen ↔ (seen ≡ shown_trace (c_trace file rows))
@@ -143,11 +144,12 @@ module _ (program : Program) (machine : List InMachine) (laws : Laws program) (k
       unit = unit;
       is_entry = there;
       well_formed = formed;
-      small = laws.small machine known.keeps known.passes known.limits known.agrees known.shared unit there;
+      counted = laws.count machine unit known.keeps known.limits known.agrees there;
+      small = laws.small machine known.keeps known.passes known.limits known.agrees unit there;
       inputs = shows.inputs;
       outputs = shows.outputs;
       functions = laws.own machine unit known.keeps known.passes known.agrees there formed;
-      frames = laws.wide machine compiled known.shared;
+      frames = laws.wide machine compiled;
       blocks = record {
         machine = machine;
         agrees = known.agrees;

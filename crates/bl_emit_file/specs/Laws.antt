@@ -8,12 +8,11 @@ use Rattle.bl_machine_prevs.specs.Declared.{FromText}
 use Rattle.bl_machine.specs.declared.machine.Activity.{Activity as InMachine}
 use Rattle.bl_machine.specs.Machines.{AreActivitiesOf}
 use Rattle.bl_emit_laws.specs.Kept.{written_file}
-use Rattle.bl_emit_spec.specs.Shared.{IsShared}
 use Rattle.bl_emit_spec_laws_simulation.specs.Compiled.{AreCountable}
 use Rattle.bl_emit_file.specs.Merged.{AreMerged}
 use Rattle.bl_emit_file.specs.Shows.{ShowsProgram}
 
--- the program is made of a text, and no rule fails for it. Its machine shares counters and has merged blocks, and 64 bits count the variables and statements of
+-- the program is made of a text, and no rule fails for it. Its machine has merged blocks, and 64 bits count the variables and statements of
 -- its units
 pub record Known (program : Program) (machine : List InMachine) : Type 0 where
   pub keeps : IsWellTyped program.structs program.units program.entry
@@ -21,7 +20,6 @@ pub record Known (program : Program) (machine : List InMachine) : Type 0 where
   pub limits : KeepsLimits program.structs program.units program.entry
   pub text : FromText program.units
   pub agrees : AreActivitiesOf program.units machine
-  pub shared : IsShared program.units machine
   pub merged : AreMerged program.units machine
   pub countable : AreCountable program.units
 

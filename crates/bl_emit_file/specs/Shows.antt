@@ -9,6 +9,7 @@ use Rattle.bl_ctext_semantics.specs.Faults.{WellFormed}
 use Rattle.bl_ctext_semantics.specs.Parts.{Parts}
 use Rattle.bl_ctext_semantics.specs.Sizes.{cells_needed}
 use Rattle.bl_ctext_semantics.specs.Trace.{c_trace}
+use Rattle.bl_limits_measures.specs.Units.{cells_at}
 use Rattle.bl_emit_laws.specs.Counters.Own.{FunctionsOwn}
 use Rattle.bl_emit_laws.specs.Width.{EachFrameHasWidth}
 use Rattle.bl_emit_file.specs.Merged.{HasMergedBlocks}
@@ -19,6 +20,8 @@ pub record ShowsProgram (structs : List StructDef) (units : List UnitDef) (entry
   pub is_entry : slice_get units entry ≡ Some unit
   -- the file is well formed
   pub well_formed : WellFormed file
+  -- the file needs no more cells than rule Cells counts for the entry
+  pub counted : cells_needed file ≤ cells_at structs units entry
   -- the file needs no more cells than can be loaded, and its inputs and outputs are those of the entry
   pub small : cells_needed file ≤ 1000000
   pub inputs : inputs_of file ≡ input_columns unit

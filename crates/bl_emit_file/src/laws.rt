@@ -3,7 +3,7 @@
 ghost use Rattle.bl_emit_file.specs.Laws.{ProgramsShow};
 
 use bl_emit_laws::accepted::programs_well_formed;
-use bl_emit_laws::cells::files_small;
+use bl_emit_laws::cells::{files_count, files_small};
 use bl_emit_laws::counters::{files_have_ifs, files_own};
 use bl_emit_laws::shows::written_shows;
 use bl_emit_laws::width::frames_have_width;
@@ -25,6 +25,7 @@ pub fn programs_show(program: &Program)
     entry_runs();
     written_shows(program);
     programs_well_formed(program);
+    files_count(program);
     files_small(program);
     files_own(program);
     files_have_ifs(program);

@@ -17,8 +17,8 @@ entry_there (Some unit) is = (unit, refl)
 
 pub formed : (program : Program) → UnitsMeetConditions program.structs program.units program.entry → FilesDeclare program → FilesWellFormed program →
     ProgramsWellFormed program
-formed program forms declares files machine keeps passes limits agrees plain =
+formed program forms declares files machine keeps passes limits agrees =
     let entry = entry_there (slice_get program.units program.entry) keeps.entry_stands in
-    let structs = declares machine entry.0 keeps limits agrees plain entry.1 in
-    files machine entry.0 keeps limits entry.1 (forms machine keeps passes limits agrees plain)
+    let structs = declares machine entry.0 keeps limits agrees entry.1 in
+    files machine entry.0 keeps limits entry.1 (forms machine keeps passes limits agrees)
     (record { formed = structs.sound; types = structs.types; parts = structs.parts; interface = structs.interface })

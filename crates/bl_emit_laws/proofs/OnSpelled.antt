@@ -8,22 +8,18 @@ use Rattle.bl_tree.specs.declared.program.Program.{Program}
 use Rattle.bl_tree.specs.declared.tree.StructDef.{StructDef}
 use Rattle.bl_tree.specs.declared.tree.Unit.{Unit as UnitDef}
 use Rattle.bl_tree.specs.Program.{IsWellTyped}
-use Rattle.bl_tree.specs.Reduce.{joined}
 use Rattle.bl_tree.specs.Typing.{is_activity}
 use Rattle.bl_cause.specs.Activities.{EachTwo, activities}
 use Rattle.bl_ctext.specs.Spellable.{has_any}
 use Rattle.bl_effects.specs.Rules.{Passes}
 use Rattle.bl_limits.specs.Rules.{Passes as KeepsLimits}
-use Rattle.bl_graph_nodes.specs.Plain.{plain_body}
 use Rattle.bl_machine.specs.declared.machine.Activity.{Activity as InMachine}
 use Rattle.bl_machine.specs.Blocks.{up_to}
 use Rattle.bl_machine.specs.Machines.{IsActivityOf}
 use Rattle.bl_machine_laws.specs.Rests.{ActivitiesCount}
 use Rattle.bl_emit_functions_laws_wellformed.specs.Formed.{IsNumbered}
-use Rattle.bl_machine_transitions_laws.proofs.Shared.{shared_many}
 use Rattle.bl_emit_spec.specs.Activities.{Activity, counter_member, frame_member, frame_struct, runs_in_body}
 use Rattle.bl_emit_spec.specs.Programs.{activity_of, needed_units, parts_of_function, parts_of_next}
-use Rattle.bl_emit_spec.specs.Shared.{IsSharedActivityOf}
 use Rattle.bl_emit_spec_laws_wellformed.specs.Machines.{IsModest, MachinesSpell}
 use Rattle.bl_emit_spec_laws_wellformed.specs.Needed.{NeededNumbered, NeededSmall}
 use Rattle.bl_emit_spec_laws_wellformed.specs.Spelled.{CanSpell}
@@ -94,16 +90,15 @@ module _ (structs : List StructDef) (units : List UnitDef) (entry : ℕ) (keeps 
       before = ap (take (length earlier)) (sym whole) ∙ take_front earlier (unit ∷ rest)
 
       activity_writes : (one : InMachine) → is_activity unit.kind ≡ true → slice_get (needed_units units entry) k ≡ Some true →
-          IsActivityOf unit one → IsSharedActivityOf unit one → ActivityIsSpellable structs units k (activity_of structs earlier remember unit one)
-      activity_writes one active needed own plain =
+          IsActivityOf unit one → ActivityIsSpellable structs units k (activity_of structs earlier remember unit one)
+      activity_writes one active needed own =
           let modest : IsModest structs units k unit one =
-          record { there = there; of_unit = own; shared = plain; cells = small k keeps limits needed } in
+          record { there = there; of_unit = own; cells = small k keeps limits needed } in
           record {
             can = subst (λ before. CanSpell structs units k (activity_of structs before remember unit one)) before
                 (spell k unit one remember keeps modest);
             rests = frame_some (activity_of structs earlier remember unit one)
-                (subst (λ many. 0 < many) (sym (shared_many (joined one.blocks) (plain_body unit.body) one.slots))
-                (counted structs units entry unit one keeps passes (index_there units k unit there) active own));
+                (counted structs units entry unit one keeps passes (index_there units k unit there) active own);
           }
 
       -- what is listed of a unit and those behind it, an activity or a function
@@ -117,7 +112,7 @@ module _ (structs : List StructDef) (units : List UnitDef) (entry : ℕ) (keeps 
       -- those behind it are
       abbrev Behind : Type 0
       Behind = (remember : List Bool) (needed : List Bool) (machine : List InMachine) → Told (suc k) needed →
-          EachTwo IsActivityOf (activities rest) machine → EachTwo IsSharedActivityOf (activities rest) machine →
+          EachTwo IsActivityOf (activities rest) machine →
           AllWrite structs units (earlier ++ unit ∷ []) remember rest needed machine
 
       where_writes : (test : Bool) (A : Type 0) → (test ≡ true → A) → Where test A
@@ -130,18 +125,18 @@ module _ (structs : List StructDef) (units : List UnitDef) (entry : ℕ) (keeps 
 
       listed : (active test : Bool) (needed : List Bool) (machine : List InMachine) → is_activity unit.kind ≡ active → Told k (test ∷ needed) →
           EachTwo IsActivityOf (cond active (unit ∷ activities rest) (activities rest)) machine →
-          EachTwo IsSharedActivityOf (cond active (unit ∷ activities rest) (activities rest)) machine → Behind → Listed active test needed machine
-      listed true test needed [] is told own plain behind = absurd own
-      listed true test needed (one ∷ machine) is told own plain behind = (
+          Behind → Listed active test needed machine
+      listed true test needed [] is told own behind = absurd own
+      listed true test needed (one ∷ machine) is told own behind = (
         where_writes test (ActivityIsSpellable structs units k (activity_of structs earlier remember unit one))
-            (λ yes. activity_writes one is (own_needed test needed told yes) own.0 plain.0),
-        behind _ needed machine (told_rest k test needed told) own.1 plain.1,
+            (λ yes. activity_writes one is (own_needed test needed told yes) own.0),
+        behind _ needed machine (told_rest k test needed told) own.1,
       )
-      listed false test needed machine is told own plain behind = (
+      listed false test needed machine is told own behind = (
         where_writes test (IsNumbered structs earlier unit)
             (λ yes. subst (λ before. IsNumbered structs before unit) before
             (numbered k unit keeps limits there (own_needed test needed told yes))),
-        behind _ needed machine (told_rest k test needed told) own plain,
+        behind _ needed machine (told_rest k test needed told) own,
       )
 
     length_one : (earlier : List UnitDef) (unit : UnitDef) → length (earlier ++ unit ∷ []) ≡ suc (length earlier)
@@ -149,14 +144,14 @@ module _ (structs : List StructDef) (units : List UnitDef) (entry : ℕ) (keeps 
 
     all_write : (earlier : List UnitDef) (remember : List Bool) (rest : List UnitDef) (needed : List Bool) (machine : List InMachine) →
         earlier ++ rest ≡ units → Told (length earlier) needed → EachTwo IsActivityOf (activities rest) machine →
-        EachTwo IsSharedActivityOf (activities rest) machine → AllWrite structs units earlier remember rest needed machine
-    all_write earlier remember [] needed machine whole told own plain = tt
-    all_write earlier remember (unit ∷ rest) [] machine whole told own plain = tt
-    all_write earlier remember (unit ∷ rest) (test ∷ needed) machine whole told own plain =
-        listed earlier unit rest whole remember (is_activity unit.kind) test needed machine refl told own plain
-        (λ remember needed machine told own plain.
+        AllWrite structs units earlier remember rest needed machine
+    all_write earlier remember [] needed machine whole told own = tt
+    all_write earlier remember (unit ∷ rest) [] machine whole told own = tt
+    all_write earlier remember (unit ∷ rest) (test ∷ needed) machine whole told own =
+        listed earlier unit rest whole remember (is_activity unit.kind) test needed machine refl told own
+        (λ remember needed machine told own.
         all_write (earlier ++ unit ∷ []) remember rest needed machine (append_assoc earlier (unit ∷ []) rest ∙ whole)
-        (subst (λ n. Told n needed) (sym (length_one earlier unit)) told) own plain)
+        (subst (λ n. Told n needed) (sym (length_one earlier unit)) told) own)
 
 behind_none : (needed : List Bool) (n j : ℕ) → n ≡ 0 → slice_get needed j ≡ Some true → slice_get needed (n + j) ≡ Some true
 behind_none needed n j none is = subst (λ m. slice_get needed m ≡ Some true) (omega (arith, none)) is
@@ -164,8 +159,8 @@ behind_none needed n j none is = subst (λ m. slice_get needed m ≡ Some true) 
 pub programs_spelled : (program : Program) → ActivitiesCount → MachinesSpell program.structs program.units program.entry →
     NeededSmall program.structs program.units program.entry → NeededNumbered program.structs program.units program.entry → FilesSpelled program →
     ProgramsSpelled program
-programs_spelled program counted spell small numbered files machine keeps passes limits agrees plain =
+programs_spelled program counted spell small numbered files machine keeps passes limits agrees =
     let needed : List Bool = needed_units program.units program.entry in
     files machine keeps
     (all_write program.structs program.units program.entry keeps passes limits counted spell small numbered [] [] program.units needed machine refl
-    (λ j is. behind_none needed (length {A = UnitDef} []) j refl is) agrees plain)
+    (λ j is. behind_none needed (length {A = UnitDef} []) j refl is) agrees)

@@ -50,7 +50,7 @@ pub record IsWritten (program : Program) (machine : List InMachine) (unit : Unit
 -- the start and the tick of the file run over this table of functions
 pub record Enters (file : Parts) (known : Table Meaning) (unit : UnitDef) (activities : Activities) (entry : ℕ) : Type 0 where
   pub init : (passed : List ArgumentValue) (memory : Memory) →
-      entered file (codes "bl_init") passed memory ≡ function_c known (init_function unit.name) 0 passed memory
+      entered file (codes "bl_init") passed memory ≡ function_c known init_function 0 passed memory
   pub tick : (passed : List ArgumentValue) (memory : Memory) →
       entered file (codes "bl_tick") passed memory ≡ function_c known (tick_function unit (remembers_any (activities entry))) 0 passed memory
 

@@ -5,13 +5,11 @@ use Rattle.bl_tree.specs.declared.c.CStruct.{CStruct}
 use Rattle.bl_tree.specs.declared.program.Program.{Program}
 use Rattle.bl_tree.specs.declared.tree.StructDef.{StructDef}
 use Rattle.bl_tree.specs.declared.tree.Unit.{Unit as UnitDef}
-use Rattle.bl_cause.specs.Activities.{EachTwo, activities}
 use Rattle.bl_effects.specs.Surface.{width}
 use Rattle.bl_ctree.specs.Instances.{setting_of, unit_at}
 use Rattle.bl_ctext_semantics.specs.Parts.{Parts}
 use Rattle.bl_machine.specs.declared.machine.Activity.{Activity as InMachine}
 use Rattle.bl_emit_spec.specs.Names.{frame_name}
-use Rattle.bl_emit_spec.specs.Shared.{IsSharedActivityOf}
 use Rattle.bl_emit_spec_laws.specs.Calls.Laws.{CompilationContext}
 use Rattle.bl_emit_laws.specs.Kept.{activities_in, written_file}
 use Rattle.bl_emit_laws.specs.Counters.Own.{is_counter_name}
@@ -32,9 +30,8 @@ abbrev pub EachFrameHasWidth : List StructDef → List UnitDef → ℕ → Parts
 EachFrameHasWidth structs units entry file =
     (i : ℕ) (unit : UnitDef) → unit_at (setting_of structs units entry) i ≡ Some unit → FrameHasWidth file unit
 
--- the file of a compiled program has as many counters as the unit's width, for each instance's unit. The machine shares counters
+-- the file of a compiled program has as many counters as the unit's width, for each instance's unit
 abbrev pub FramesHaveWidth : Program → Type 0
 FramesHaveWidth program =
     (machine : List InMachine) → CompilationContext program.structs program.units program.entry machine (activities_in program machine) →
-    EachTwo IsSharedActivityOf (activities program.units) machine →
     EachFrameHasWidth program.structs program.units program.entry (written_file program machine)

@@ -1,5 +1,5 @@
 //! The C file of an accepted program is well formed. One lemma: where no rule fails, no clause fails in the file of a
-//! program with a machine that shares counters (`specs/Accepted.antt`, `ProgramsWellFormed`).
+//! program with a machine of it (`specs/Accepted.antt`, `ProgramsWellFormed`).
 
 ghost use Rattle.bl_emit_laws.specs.Accepted.{ProgramsWellFormed};
 
@@ -8,7 +8,7 @@ use crate::forms::all_form;
 use bl_emit_spec_laws_wellformed_bodies::structs::files_declare;
 use bl_tree::Program;
 
-/// No clause fails in the C file that is written of an accepted program with a machine that shares counters.
+/// No clause fails in the C file that is written of an accepted program with a machine of it.
 pub fn programs_well_formed(program: &Program)
     ensures { ProgramsWellFormed program.now }
 {

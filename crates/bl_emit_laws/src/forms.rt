@@ -1,5 +1,5 @@
 //! The conditions of the C file of an accepted program on its units. One lemma: where no rule fails, each unit that the
-//! entry needs meets them, with a machine that shares counters (`specs/Forms.antt`, `UnitsMeetConditions`).
+//! entry needs meets them, with any machine of the program (`specs/Forms.antt`, `UnitsMeetConditions`).
 
 ghost use Rattle.bl_emit_laws.specs.Forms.{UnitsMeetConditions};
 
@@ -13,7 +13,6 @@ use bl_machine_laws::rests::activities_count;
 use bl_machine_pass_laws::numbers::trees_stay_placed;
 use bl_machine_pass_laws::spots::spots_differ;
 use bl_machine_prevs_laws::scalar::prevs_are_scalar;
-use bl_machine_transitions_laws::rules_are_listed;
 use bl_tree::Program;
 
 /// All is so that is asked of the units that the entry of an accepted program needs.
@@ -29,7 +28,6 @@ pub fn all_form(program: &Program)
     needed_small(program);
     needed_numbered(program);
     spots_differ();
-    rules_are_listed();
     trees_stay_placed();
     nodes_copied();
     runs_copied();

@@ -1,5 +1,5 @@
 //! The C file of an accepted program has a spelling. One lemma: where no rule fails, the file of a program with a
-//! machine that shares counters can be spelled (`specs/Spelled.antt`, `ProgramsSpelled`).
+//! machine of it can be spelled (`specs/Spelled.antt`, `ProgramsSpelled`).
 
 ghost use Rattle.bl_emit_laws.specs.Spelled.{ProgramsSpelled};
 
@@ -9,7 +9,7 @@ use bl_emit_spec_laws_wellformed::texts::files_spelled;
 use bl_machine_laws::rests::activities_count;
 use bl_tree::Program;
 
-/// The C file that is written of an accepted program with a machine that shares counters has a spelling.
+/// The C file that is written of an accepted program with a machine of it has a spelling.
 pub fn programs_spelled(program: &Program)
     ensures { ProgramsSpelled program.now }
 {

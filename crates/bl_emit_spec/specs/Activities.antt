@@ -1,6 +1,6 @@
 -- The C of an activity: its structs, and its function, one pass over it.
 use Rattle.std.specs.Prelude.{ℕ, Bool, true, false, List, [], ◌∷◌, ◌++◌, map, Option, Some, None, if◌then◌else◌}
-use Rattle.std.specs.Prelude.{codes, length, nat_eq, nat_lt, filter, option_and_then, option_to_list, slice_get, unwrap_or}
+use Rattle.std.specs.Prelude.{codes, length, nat_eq, nat_lt, not, filter, option_and_then, option_to_list, slice_get, unwrap_or}
 use Rattle.std.specs.List.{list_any}
 use Rattle.bl_tree.specs.declared.text.Text.{Text}
 use Rattle.bl_tree.specs.declared.c.CFunc.{CFunc}
@@ -10,6 +10,7 @@ use Rattle.bl_tree.specs.declared.c.CParam.{CParam}
 use Rattle.bl_tree.specs.declared.c.CStmt.{CStmt}
 use Rattle.bl_tree.specs.declared.c.CStruct.{CStruct}
 use Rattle.bl_tree.specs.declared.c.CType.TheVariants.{Scalar as OfScalar, Struct as OfStruct}
+use Rattle.bl_tree.specs.declared.place.Place.{Place}
 use Rattle.bl_tree.specs.declared.scalar.Op.TheVariants.{Eq}
 use Rattle.bl_tree.specs.declared.scalar.Scalar.{Scalar}
 use Rattle.bl_tree.specs.declared.scalar.Scalar.TheVariants.{Bool as OfBool}
@@ -22,6 +23,7 @@ use Rattle.bl_graph_nodes.specs.Plain.{Block, Done, Then, plain_body}
 use Rattle.bl_machine.specs.Blocks.{up_to}
 use Rattle.bl_machine.specs.Uses.{Slots}
 use Rattle.bl_tree.specs.Reduce.{joined}
+use Rattle.bl_tree.specs.Rules.{same_place}
 use Rattle.bl_emit_acts.specs.Acts.{c_copied, c_set, is_copied}
 use Rattle.bl_emit_acts.specs.Trees.{c_read, c_two, nowhere}
 use Rattle.bl_emit_acts.specs.Types.{c_scalar, copy_name, unit_name}
@@ -37,10 +39,21 @@ use Rattle.bl_machine_prevs.specs.Prevs.{prevs_of}
 
 -- ---- runs
 
--- a `run` of an activity: the number of the node at which it begins, and the activity's position
+-- a `run` of an activity: its place, the number of the node at which it begins, and the activity's position
 pub record RunAt : Type 0 where
+  pub place : Place
   pub number : ℕ
   pub unit : ℕ
+
+-- whether a `run` at the place begins at the node
+abbrev pub enters_at : Place → Node → Bool
+enters_at at (EnterAt l place arguments) = same_place place at
+enters_at at n = false
+
+-- the number of the first node at which a `run` at the place begins, in source order; 0 where there is none
+abbrev pub run_number_in : (Node → ℕ) → List Transition → Place → ℕ
+run_number_in number [] at = 0
+run_number_in number (rule ∷ rest) at = if enters_at at rule.node then number rule.node else run_number_in number rest at
 
 -- ---- an activity
 
@@ -93,6 +106,7 @@ view_of a = record {
   site = site_of a.structs a.earlier a.unit;
   copies = copies_of a.unit;
   number = number_in a.order (body_of a);
+  run = run_number_in (number_in a.order (body_of a)) (rules_at a);
   sizes = a.sizes;
   is_read = is_read_by (rules_at a);
   remembers = λ k. unwrap_or (slice_get a.remember k) false;
@@ -102,7 +116,7 @@ view_of a = record {
 
 -- a `run`, where a node begins one of the activity
 abbrev pub run_at : (Node → ℕ) → ℕ → Node → List RunAt
-run_at number unit (EnterAt l at arguments) = record { number = number (EnterAt l at arguments); unit = unit } ∷ []
+run_at number unit (EnterAt l at arguments) = record { place = at; number = number (EnterAt l at arguments); unit = unit } ∷ []
 run_at number unit n = []
 
 -- the `run`s of nodes, each with the activity that it calls
@@ -111,9 +125,14 @@ runs_at number [] rules = []
 runs_at number callees [] = []
 runs_at number (unit ∷ callees) (rule ∷ rules) = run_at number unit rule.node ++ runs_at number callees rules
 
--- the `run`s of an activity, in source order
+-- the first `run` of each place
+abbrev pub one_a_place : List RunAt → List RunAt
+one_a_place [] = []
+one_a_place (run ∷ rest) = run ∷ filter (λ other. not (same_place run.place other.place)) (one_a_place rest)
+
+-- the first `run` of each place of an activity, in source order
 abbrev pub runs_in_body : Activity → List RunAt
-runs_in_body a = runs_at (view_of a).number (callees_in (body_of a)) (rules_at a)
+runs_in_body a = one_a_place (runs_at (view_of a).number (callees_in (body_of a)) (rules_at a))
 
 -- ---- structs
 
@@ -238,7 +257,7 @@ activity_locals a =
 abbrev pub rested_code : ℕ → CStmt
 rested_code k = c_set (rested_place k) (c_read (counter_place k))
 
--- the entry waits where the first counter holds 0: the instance is begun, or rests where it goes home
+-- the entry waits where the first counter holds 0: the body begins
 abbrev pub entry_code : ActivityView → Block → List CStmt
 entry_code view Done = []
 entry_code view (Then s rest) =

@@ -4,18 +4,21 @@ use Rattle.std.specs.Prelude.{◌&&◌, length, is_some, nat_eq, nat_le, slice_g
 use Rattle.bl_tree.specs.declared.text.Text.{Text}
 use Rattle.bl_tree.specs.declared.c.CArg.{CArg}
 use Rattle.bl_tree.specs.declared.c.CArg.TheVariants.{Address}
-use Rattle.bl_tree.specs.declared.c.CExpr.{CExpr}
+use Rattle.bl_tree.specs.declared.c.CExpr.{CExpr, out-CExpr}
+use Rattle.bl_tree.specs.declared.c.CExprKind.{CExprKind-F, out-CExprKind}
 use Rattle.bl_tree.specs.declared.c.CStmt.{CStmt}
 use Rattle.bl_tree.specs.declared.scalar.Op.{Op}
 use Rattle.bl_tree.specs.declared.scalar.Op.TheVariants.{And, Eq, Ge, Le, Ne, Or}
 use Rattle.bl_tree.specs.declared.scalar.Scalar.{Scalar}
-use Rattle.bl_tree.specs.declared.scalar.Scalar.TheVariants.{Nat}
+use Rattle.bl_tree.specs.declared.scalar.Scalar.TheVariants.{Bool as OfBool, Nat}
 use Rattle.bl_tree.specs.declared.scalar.Width.TheVariants.{W8, W16, W32}
+use Rattle.bl_tree.specs.declared.place.Place.{Place}
 use Rattle.bl_tree.specs.declared.tree.Path.{Path}
 use Rattle.bl_tree.specs.declared.tree.Stmt.{Stmt, out-Stmt}
 use Rattle.bl_tree.specs.declared.tree.StmtKind.{out-StmtKind}
 use Rattle.bl_tree.specs.declared.tree.StmtKind.TheOpen.{StmtKind-F}
 use Rattle.bl_tree.specs.declared.tree.Unit.{Unit as UnitDef}
+use Rattle.bl_tree.specs.Numbers.{is_one}
 use Rattle.bl_tree.specs.Typing.{TypingContext}
 use Rattle.bl_graph_nodes.specs.Nodes.{ActAt, Arguments, CheckAt, EnterAt, Node, ResumeAt, TestAt}
 use Rattle.bl_machine.specs.declared.slots.Slot.{Slot}
@@ -57,6 +60,8 @@ pub record ActivityView : Type 0 where
   pub copies : List Bool
   -- the numbers of the activity's nodes in C names
   pub number : Node → ℕ
+  -- the numbers of its `run`s in C names, by their places
+  pub run : Place → ℕ
   -- how many values each counter has
   pub sizes : Sizes
   -- whether a counter has a copy of its value at the start of the tick
@@ -94,19 +99,28 @@ at_slot view slot = c_two Eq (c_read (counter_place slot.counter)) (counter_valu
 abbrev pub greatest_value : Sizes → ℕ → ℕ
 greatest_value sizes k = unwrap_or (slice_get sizes k) 0
 
--- whether the value is the only one beside 0 that its counter has
-abbrev pub is_only : Sizes → Slot → Bool
-is_only sizes slot = nat_eq slot.value 1 && nat_le (greatest_value sizes slot.counter) 1
+-- whether the counter can hold no value above this one
+abbrev pub is_greatest : Sizes → ℕ → ℕ → Bool
+is_greatest sizes k v = nat_le (greatest_value sizes k) v
 
--- whether what the counter held when the tick began isn't 0, where only that is to be asked, and else whether it was the value
+-- whether what the counter held when the tick began isn't 0, where the test is true, and else whether it was the value or one above it
+abbrev pub rested_from : ActivityView → ℕ → ℕ → Bool → CExpr
+rested_from view k least true = c_two Ne (c_read (rested_place k)) (counter_value view.sizes k 0)
+rested_from view k least false = c_two Ge (c_read (rested_place k)) (counter_value view.sizes k least)
+
+-- whether the counter held the value or one above it when the tick began. Of the value 1 it is asked whether the counter didn't hold 0
+abbrev pub rested_since : ActivityView → ℕ → ℕ → CExpr
+rested_since view k least = rested_from view k least (nat_eq least 1)
+
+-- whether the counter held the value of the slot or one above it, where the test is true, and else whether it held just the value
 abbrev pub rested_by : ActivityView → Slot → Bool → CExpr
-rested_by view slot true = c_two Ne (c_read (rested_place slot.counter)) (counter_value view.sizes slot.counter 0)
+rested_by view slot true = rested_since view slot.counter slot.value
 rested_by view slot false = c_two Eq (c_read (rested_place slot.counter)) (counter_value view.sizes slot.counter slot.value)
 
--- the test whether the instance rested at the number when the tick began. A counter with one value beside 0 is compared with 0: C compilers see then that no
--- third case exists
+-- the test whether the instance rested at the number when the tick began. At the greatest value of a counter it leaves no greater one out: C compilers see
+-- then that no further case exists
 abbrev pub rested_at : ActivityView → Slot → CExpr
-rested_at view slot = rested_by view slot (is_only view.sizes slot)
+rested_at view slot = rested_by view slot (is_greatest view.sizes slot.counter slot.value)
 
 -- whether the counter held one of the values from the first to the last
 abbrev pub rested_between : ActivityView → ℕ → ℕ → ℕ → CExpr
@@ -114,6 +128,15 @@ rested_between view k least greatest =
     let s = counter_type view.sizes k in
     c_two And (c_compare Ge s (c_read (rested_place k)) (counter_value view.sizes k least))
     (c_compare Le s (c_read (rested_place k)) (counter_value view.sizes k greatest))
+
+-- whether the counter held the least value or one above it, where the test is true, and else whether it held one from the least to the greatest
+abbrev pub rested_to : ActivityView → ℕ → ℕ → ℕ → Bool → CExpr
+rested_to view k least greatest true = rested_since view k least
+rested_to view k least greatest false = rested_between view k least greatest
+
+-- whether the counter held one of the values from the least to the greatest. Where it can hold none above the greatest, one comparison asks for this
+abbrev pub rested_within : ActivityView → ℕ → ℕ → ℕ → CExpr
+rested_within view k least greatest = rested_to view k least greatest (is_greatest view.sizes k greatest)
 
 -- the last of some values
 abbrev pub last_value : ℕ → List Slot → ℕ
@@ -124,7 +147,7 @@ last_value v (slot ∷ rest) = last_value slot.value rest
 abbrev pub rested_in : ActivityView → List Slot → CExpr
 rested_in view [] = c_truth false
 rested_in view (slot ∷ []) = rested_at view slot
-rested_in view (slot ∷ more ∷ rest) = rested_between view slot.counter slot.value (last_value more.value rest)
+rested_in view (slot ∷ more ∷ rest) = rested_within view slot.counter slot.value (last_value more.value rest)
 
 -- whether as many branches have ended as are needed
 abbrev pub ends_test : ActivityView → Needed → CExpr
@@ -222,11 +245,26 @@ layer_acted view s _ = act_code view.site view.copies s
 abbrev pub acted : ActivityView → Stmt → List CStmt
 acted view s = layer_acted view s (out-StmtKind (out-Stmt s).what)
 
--- a test: changes where it is true, and others where it is false
-abbrev pub tested : ActivityView → CExpr → Transition → List CStmt
-tested view test rule = c_if test (changes_code view rule.so) (else_code (changes_code view rule.otherwise)) ∷ []
+-- the truth of a kind of expression, where it is a literal of type bool
+abbrev pub spelled_in_kind : {A B C D E F G : Type 0} → CExprKind-F A B C D E F G → Option Bool
+spelled_in_kind (CExprKind-F.Literal OfBool n) = Some (is_one n)
+spelled_in_kind _ = None
 
--- what a `run` at a node does where it begins, and where it goes on; the number is that of the node at which it begins
+-- the truth that an expression spells, where it is a literal of type bool
+abbrev pub spelled_truth : CExpr → Option Bool
+spelled_truth e = spelled_in_kind (out-CExprKind (out-CExpr e).what)
+
+-- the side that a test takes, where its truth is spelled, and else an `if`
+abbrev pub choice_code : CExpr → Option Bool → List CStmt → List CStmt → List CStmt
+choice_code test None so other = c_if test so (else_code other) ∷ []
+choice_code test (Some true) so other = so
+choice_code test (Some false) so other = other
+
+-- a test: changes where it is true, and others where it is false. A literal takes its side without an `if`
+abbrev pub tested : ActivityView → CExpr → Transition → List CStmt
+tested view test rule = choice_code test (spelled_truth test) (changes_code view rule.so) (changes_code view rule.otherwise)
+
+-- what a `run` at a node does where it begins, and where it goes on; the number is that of its place
 abbrev pub begun_code : ActivityView → ℕ → ℕ → Arguments → Transition → List CStmt
 begun_code view k a arguments rule =
     c_clear (callee_frame k) (frame_name (name_in (slice_get view.site.earlier a)))
@@ -242,8 +280,8 @@ abbrev pub node_code : ActivityView → ℕ → Transition → Node → List CSt
 node_code view a rule (ActAt l s) = acted view s ++ changes_code view rule.so
 node_code view a rule (TestAt l at e) = tested view (code_made view.site e) rule
 node_code view a rule (CheckAt l at e) = tested view (code_made view.site e) rule
-node_code view a rule (EnterAt l at arguments) = begun_code view (view.number (EnterAt l at arguments)) a arguments rule
-node_code view a rule (ResumeAt l at arguments) = resumed_code view (view.number (EnterAt l at arguments)) a arguments rule
+node_code view a rule (EnterAt l at arguments) = begun_code view (view.run at) a arguments rule
+node_code view a rule (ResumeAt l at arguments) = resumed_code view (view.run at) a arguments rule
 node_code view a rule n = changes_code view rule.so
 
 -- the turn of a node in C: what is asked before it, and what it does then

@@ -2,4 +2,3 @@ pub mod Activities
 pub mod Blocks
 pub mod Names
 pub mod Programs
-pub mod Shared

@@ -15,7 +15,7 @@ frame_name name = codes "f_" ++ name
 abbrev pub counter_name : ℕ → Text
 counter_name k = codes "c" ++ decimal k
 
--- the member for what a `run` keeps, by the number of the node at which it begins: in the struct of counters its callee's counters, in the
+-- the member for what the `run`s of one place keep, by the number of the place: in the struct of counters its callee's counters, in the
 -- struct of variables its callee's variables
 abbrev pub callee_name : ℕ → Text
 callee_name k = codes "x" ++ decimal k
@@ -34,11 +34,11 @@ flag_name k = codes "g" ++ decimal k
 abbrev pub mark_name : ℕ → Text
 mark_name k = codes "u" ++ decimal k
 
--- whether the body of the activity that a `run` calls has ended, by the number of the node at which the `run` begins
+-- whether the body of the activity that a `run` calls has ended, by the number of the place of the `run`
 abbrev pub ended_name : ℕ → Text
 ended_name k = codes "e" ++ decimal k
 
--- the name of the result of the activity that a `run` calls, by the number of the node at which the `run` begins
+-- the name of the result of the activity that a `run` calls, by the number of the place of the `run`
 abbrev pub given_name : ℕ → Text
 given_name k = codes "r" ++ decimal k
 
@@ -68,11 +68,11 @@ over_place = c_place true (codes "e") []
 abbrev pub result_place : CPlace
 result_place = c_place true (codes "r") []
 
--- whether the body of the activity that a `run` calls has ended, by the number of the node at which the `run` begins
+-- whether the body of the activity that a `run` calls has ended, by the number of the place of the `run`
 abbrev pub ended_place : ℕ → CPlace
 ended_place k = c_place false (ended_name k) []
 
--- the place of the result of the activity that a `run` calls, by the number of the node at which the `run` begins
+-- the place of the result of the activity that a `run` calls, by the number of the place of the `run`
 abbrev pub given_place : ℕ → CPlace
 given_place k = c_place false (given_name k) []
 

@@ -20,7 +20,7 @@ use Rattle.bl_tree.specs.declared.tree.Var.{Var}
 use Rattle.bl_tree.specs.Reduce.{joined}
 use Rattle.bl_tree.specs.Typing.{inputs_of, is_activity, outputs_of}
 use Rattle.bl_limits_measures.specs.Calls.{calls_of}
-use Rattle.bl_limits_measures.specs.Runs.{runs_of}
+use Rattle.bl_limits_measures.specs.Runs.{activities_run}
 use Rattle.bl_emit_acts.specs.Acts.{c_calling, c_clear}
 use Rattle.bl_emit_acts.specs.Trees.{c_call, c_literal, c_place, c_read, c_step, nowhere}
 use Rattle.bl_emit_acts.specs.Types.{c_type, unit_name}
@@ -30,8 +30,7 @@ use Rattle.bl_emit_structs.specs.Structs.{structs_of}
 use Rattle.bl_graph_nodes.specs.Plain.{plain_body}
 use Rattle.bl_machine.specs.declared.machine.Activity.{Activity as InMachine}
 use Rattle.bl_machine.specs.Blocks.{up_to}
-use Rattle.bl_machine_pass.specs.Numbered.{slots_of}
-use Rattle.bl_machine_transitions.specs.Shared.{shared, shared_sizes}
+use Rattle.bl_machine_pass.specs.Numbered.{sizes_of, slots_of}
 use Rattle.bl_emit_spec.specs.Activities.{Activity, activity_function, frame_struct, pointer_param, remembered_struct, remembers_any, scalar_local}
 use Rattle.bl_emit_spec.specs.Activities.{struct_member}
 use Rattle.bl_emit_spec.specs.Names.{frame_name}
@@ -40,7 +39,7 @@ use Rattle.bl_emit_spec.specs.Names.{frame_name}
 
 -- the units that a unit calls and runs
 abbrev pub needs_of : UnitDef → List ℕ
-needs_of unit = calls_of unit ++ runs_of unit
+needs_of unit = calls_of unit ++ activities_run unit
 
 -- tests from the one with this number on, set at the given positions
 abbrev pub set_from : List ℕ → ℕ → List Bool → List Bool
@@ -92,7 +91,7 @@ abbrev pub parts_of_activity : Activity → ProgramParts
 parts_of_activity a =
     record { structs = frame_struct a ∷ remembered_struct a; funcs = activity_function a ∷ []; remember = remembers_any a ∷ [] }
 
--- an activity of a machine, of which a last resting place may share the number 0 with the beginning
+-- an activity of a machine
 abbrev pub activity_of : List StructDef → List UnitDef → List Bool → UnitDef → InMachine → Activity
 activity_of structs earlier remember unit one = record {
   structs = structs;
@@ -100,8 +99,8 @@ activity_of structs earlier remember unit one = record {
   unit = unit;
   order = joined one.blocks;
   blocks = one.blocks;
-  slots = slots_of (plain_body unit.body) (shared (joined one.blocks) (plain_body unit.body) one.slots);
-  sizes = shared_sizes (joined one.blocks) (plain_body unit.body) one.slots;
+  slots = slots_of (plain_body unit.body) one.slots;
+  sizes = sizes_of one.slots;
   remember = remember;
 }
 
@@ -148,16 +147,16 @@ state_struct name remembers = record {
       ∷ (if remembers then struct_member (codes "m") (memory_name name) ∷ [] else []);
 }
 
--- the program begins
-abbrev pub init_function : Text → CFunc
-init_function name = record {
+-- the function with which a program begins: it sets the whole state to 0
+abbrev pub init_function : CFunc
+init_function = record {
   place = nowhere;
   fixed = false;
   result = None;
   name = codes "bl_init";
   params = pointer_param (codes "s") (codes "bl_state") ∷ [];
   locals = [];
-  body = c_clear (c_place true (codes "s") (c_step (codes "f") ∷ [])) (frame_name name) ∷ [];
+  body = c_clear (c_place true (codes "s") []) (codes "bl_state") ∷ [];
 }
 
 -- the value of an input, and the place of an output
@@ -211,7 +210,7 @@ abbrev pub file_of : Program → ProgramParts → UnitDef → Written
 file_of program parts unit =
     let remembers = unwrap_or (slice_get parts.remember program.entry) false in record {
       structs = structs_of program ++ (parts.structs ++ interface_structs program.structs unit remembers);
-      funcs = parts.funcs ++ (init_function unit.name ∷ tick_function unit remembers ∷ []);
+      funcs = parts.funcs ++ (init_function ∷ tick_function unit remembers ∷ []);
     }
 
 -- the structs and functions written of a program with these parts, where the entry may be absent

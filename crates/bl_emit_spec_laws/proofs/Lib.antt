@@ -6,5 +6,6 @@ pub mod OnPasses
 pub mod OnPlaced
 pub mod OnRegisters
 pub mod OnRemember
+pub mod OnRunPlaces
 pub mod OnTables
 pub mod OnWithin

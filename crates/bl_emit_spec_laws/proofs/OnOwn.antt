@@ -1,9 +1,7 @@
 pub mod Counting
 pub mod Few
 pub mod Fitting
-pub mod Homes
 pub mod InRow
-pub mod Listing
 pub mod Members
 pub mod Owning
 pub mod Programs

@@ -25,9 +25,10 @@ pub record BuiltAt (structs : List StructDef) (units : List UnitDef) (machine : 
   pub is_there : slice_get units k ≡ Some unit
   pub activity : is_activity unit.kind ≡ true
 
--- a number is one of a counter, whose values go up to its greatest one
+-- a number is a value of one of the counters, from 1 up to the greatest one
 pub record PlaceCounts (sizes : Sizes) (slot : Slot) : Type 0 where
   pub counter : slot.counter < length sizes
+  pub low : 0 < slot.value
   pub high : slot.value ≤ unwrap_or (slice_get sizes slot.counter) 0
 
 -- the number of each resting place is one of a counter, within its greatest value

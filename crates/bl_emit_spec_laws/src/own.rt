@@ -8,14 +8,12 @@ ghost use Rattle.bl_emit_spec_laws.specs.Own.{AskedAreOwn, ChangesAreOwn, Copies
 
 use bl_machine_pass_laws::numbers::trees_stay_placed;
 use bl_machine_pass_laws::spots::spots_differ;
-use bl_machine_transitions_laws::rules_are_listed;
 
 /// The number of each resting place is a value of one of the counters.
 pub fn places_count()
     ensures { PlacesCount }
 {
     spots_differ();
-    rules_are_listed();
 }
 
 /// Counters that are copied are counters.
@@ -23,7 +21,6 @@ pub fn copies_are_counters()
     ensures { CopiesAreCounters }
 {
     spots_differ();
-    rules_are_listed();
 }
 
 /// The registers have copies of the counters that C copies.
@@ -36,7 +33,6 @@ pub fn changes_are_own()
     ensures { ChangesAreOwn }
 {
     spots_differ();
-    rules_are_listed();
 }
 
 /// All that a rule asks is told by registers.
@@ -44,7 +40,6 @@ pub fn asked_are_own()
     ensures { AskedAreOwn }
 {
     spots_differ();
-    rules_are_listed();
 }
 
 /// The numbers of registers are small.
@@ -52,6 +47,5 @@ pub fn registers_are_few()
     ensures { RegistersAreFew }
 {
     spots_differ();
-    rules_are_listed();
     trees_stay_placed();
 }

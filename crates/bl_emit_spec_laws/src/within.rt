@@ -6,7 +6,6 @@ ghost use Rattle.bl_emit_spec_laws.specs.Within.{AllStayWithin};
 
 use bl_ctree_laws_confluence::deeds::accepted_programs_are_orderly;
 use bl_machine_pass_laws::spots::spots_differ;
-use bl_machine_transitions_laws::rules_are_listed;
 
 /// Passes leave counters within their greatest values.
 pub fn passes_stay_within()
@@ -14,5 +13,4 @@ pub fn passes_stay_within()
 {
     accepted_programs_are_orderly();
     spots_differ();
-    rules_are_listed();
 }

@@ -2,5 +2,4 @@ pub mod OnBegins
 pub mod OnCounters
 pub mod OnEntry
 pub mod OnFiles
-pub mod OnHomes
 pub mod OnStates

@@ -2,14 +2,11 @@
 use Rattle.std.proofs.Common.{◌≡◌, ℕ, zero, suc, ◌<◌, arith, List, [], ◌∷◌, Contains, length, Some, sym, ◌∙◌, subst}
 use Rattle.std.proofs.lemmas.Option.{same_Some}
 use Rattle.std.specs.Prelude.{slice_get}
-use Rattle.bl_tree.specs.Reduce.{joined}
 use Rattle.bl_tree.specs.Typing.{is_activity}
-use Rattle.bl_graph_nodes.specs.Plain.{plain_body}
 use Rattle.bl_cause.specs.Activities.{activities as activities_of, graph_position}
 use Rattle.bl_cause.proofs.PairLemmas.{each_at, filtered_at}
 use Rattle.bl_machine.specs.Machines.{IsActivityOf}
 use Rattle.bl_machine_laws.specs.Rests.{ActivitiesCount}
-use Rattle.bl_machine_transitions_laws.proofs.Shared.{shared_many}
 use Rattle.bl_emit_spec_laws.specs.Own.{CopiesAreCounters}
 use Rattle.bl_emit_spec_laws_files.specs.Counters.{AllSuffice}
 
@@ -29,8 +26,7 @@ counters_suffice counted copies structs units entry machine activities keeps pas
     let same : own.0 ≡ parts.one = same_Some own.0 parts.one (sym own.1 ∙ parts.is) in
     record {
       some = subst (λ sizes. 0 < length sizes) (sym parts.sizes)
-          (subst (λ many. 0 < many) (sym (shared_many (joined parts.one.blocks) (plain_body unit.body) parts.one.slots))
-          (counted structs units entry unit parts.one keeps passes (index_there units k unit there) active (subst (IsActivityOf unit) same own.2)));
+          (counted structs units entry unit parts.one keeps passes (index_there units k unit there) active (subst (IsActivityOf unit) same own.2));
       asked = λ c reads.
           copies structs units machine activities k unit c
           (record { agrees = agrees; built = built; is_there = there; activity = active }) reads;

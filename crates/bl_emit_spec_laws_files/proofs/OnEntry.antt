@@ -1,5 +1,5 @@
 -- The numbers that are in C are those of the machine.
-use Rattle.std.proofs.Common.{◌≡◌, ℕ, ℤ, zero, suc, ◌+◌, List, [], ◌∷◌, length, nat_eq, Option, Some, None, refl, sym, ap, ap₂, subst, ◌∙◌, arith}
+use Rattle.std.proofs.Common.{◌≡◌, ℕ, zero, suc, ◌+◌, List, [], ◌∷◌, length, nat_eq, Some, sym, ap, subst, ◌∙◌, arith}
 use Rattle.std.specs.Prelude.{IsPermutation, option_and_then, option_map, slice_get, unwrap_or}
 use Rattle.bl_tree.specs.declared.tree.StructDef.{StructDef}
 use Rattle.bl_tree.specs.declared.tree.Unit.{Unit as UnitDef}
@@ -11,36 +11,26 @@ use Rattle.bl_graph_nodes.specs.Nodes.{Node, nodes_in}
 use Rattle.bl_graph_nodes.specs.Plain.{plain_body}
 use Rattle.bl_ctree.specs.declared.instance.Instance.{Instance}
 use Rattle.bl_ctree.specs.Instances.{Setting, setting_of, unit_at, unit_of}
-use Rattle.bl_ctree.specs.Store.{first_store}
 use Rattle.bl_ctree_laws_confluence.specs.Deeds.Orderly.{AcceptedIsOrderly}
 use Rattle.bl_machine.specs.declared.machine.Activity.{Activity as InMachine}
-use Rattle.bl_machine.specs.declared.slots.Slot.{Slot}
 use Rattle.bl_machine.specs.Blocks.{up_to}
 use Rattle.bl_machine.specs.Machines.{IsActivityOf}
-use Rattle.bl_machine.specs.Slots.{Counters}
-use Rattle.bl_machine.specs.Uses.{Slots}
 use Rattle.bl_machine_laws.specs.Traces.Positions.{GoBy}
 use Rattle.bl_machine_pass.specs.Numbered.{position_where, slots_of}
 use Rattle.bl_machine_pass_laws.specs.Keys.{NodesHaveKeys}
-use Rattle.bl_machine_pass_laws_execution.specs.Machines.{HasActivity, MachinesGiveContexts, activity_of}
-use Rattle.bl_machine_pass_laws_execution.specs.Performs.{AllInContext}
-use Rattle.bl_machine_pass_laws_execution.specs.Runs.{RowsFit, RuleRun, RunByRules, RunsGoByRules}
-use Rattle.bl_machine_pass_laws_execution.specs.Shared.Homes.{IsHome, home_slots}
-use Rattle.bl_machine_pass_laws_execution.specs.Shared.Laws.{HaveHomes, SharedRunsGo}
+use Rattle.bl_machine_pass_laws_execution.specs.Machines.{MachinesGiveContexts}
+use Rattle.bl_machine_pass_laws_execution.specs.Runs.{RunsGoByRules}
 use Rattle.bl_machine_pass_laws_turns.specs.Turns.{TurnContext}
 use Rattle.bl_machine_transitions.specs.Callees.{number_in}
 use Rattle.bl_machine_transitions.specs.Listed.{layout_of}
-use Rattle.bl_machine_transitions.specs.Shared.{shared}
 use Rattle.bl_machine_transitions_laws.proofs.Agreeing.{Agrees}
 use Rattle.bl_machine_transitions_laws.proofs.Standing.{nodes_stand}
-use Rattle.bl_machine_transitions_laws.specs.Laws.{RulesAreListed}
 use Rattle.bl_emit_spec.specs.Activities.{view_of}
-use Rattle.bl_emit_spec_laws.specs.Calls.Built.{Activities, MadeOf, cleared, rank_by, slots_by, unit_number}
+use Rattle.bl_emit_spec_laws.specs.Calls.Built.{Activities, MadeOf, rank_by, slots_by, unit_number}
 use Rattle.bl_emit_spec_laws.specs.Calls.Laws.{CompilationContext}
 use Rattle.bl_emit_spec_laws.specs.Cleared.{ClearingIsInside}
 use Rattle.bl_emit_spec_laws.proofs.OnPlaced.Lists.{found_at, number_once, number_there, some_is, within_at}
 use Rattle.bl_emit_spec_laws_files.specs.Entry.{EntryRuns}
-use Rattle.bl_emit_spec_laws_files.proofs.OnHomes.{cleared_whole, home_is, home_numbers, home_of}
 
 agrees_at : {X Y : Type 0} (f : X → Y) (at : ℕ → Y) (xs : List X) (first k : ℕ) (x : X) → Agrees f at first xs → slice_get xs k
     ≡ Some x →
@@ -52,7 +42,7 @@ agrees_at f at (y ∷ xs) first (suc k) x agrees is =
     let same : suc first + k ≡ first + suc k = omega arith in agrees_at f at xs (suc first) k x agrees.1 is ∙ ap at same
 
 module _ (orderly : AcceptedIsOrderly) (clearing : ClearingIsInside) (keys : NodesHaveKeys) (machines : MachinesGiveContexts) (runs : RunsGoByRules)
-    (listed_so : RulesAreListed) (structs : List StructDef) (units : List UnitDef) (entry : ℕ) (machine : List InMachine) (activities : Activities)
+    (structs : List StructDef) (units : List UnitDef) (entry : ℕ) (machine : List InMachine) (activities : Activities)
     (compiled : CompilationContext structs units entry machine activities)
   where
     abbrev W : Setting
@@ -104,107 +94,22 @@ module _ (orderly : AcceptedIsOrderly) (clearing : ClearingIsInside) (keys : Nod
         ∙ ap (λ (u : UnitDef). number_in (joined activity.blocks) (plain_body u.body) n) (compiled.built.unit instance.unit unit is) in
         ap (slice_get (joined activity.blocks)) rank ∙ stands (joined activity.blocks) activity unit n k permutes at
 
-    -- ---- the numbers of places that the machine has, and homes
-
-    -- what the machine has for an instance
-    abbrev part : ℕ → Option InMachine
-    part i = activity_of units machine (slice_get W.instances i)
-
-    -- the numbers that it has, of an instance of a unit
-    abbrev numbers : ℕ → Option UnitDef → Option InMachine → Slots
-    numbers i (Some unit) (Some one) = slots_of (plain_body unit.body) one.slots
-    numbers i (Some unit) None = slots_by W activities i
-    numbers i None found = slots_by W activities i
-
-    abbrev own_slots : ℕ → Slots
-    own_slots i = numbers i (unit_at W i) (part i)
-
-    -- the home, where the last place goes home
-    abbrev home_in : Option UnitDef → Option InMachine → Option Slot
-    home_in (Some unit) (Some one) = home_of (joined one.blocks) (plain_body unit.body) one.slots
-    home_in (Some unit) None = None
-    home_in None found = None
-
-    abbrev homes : ℕ → Option Slot
-    homes i = home_in (unit_at W i) (part i)
-
-    has : (i : ℕ) (unit : UnitDef) → unit_at W i ≡ Some unit → HasActivity W machine i unit
-    has i unit is = machines.has structs units entry machine i unit compiled.keeps compiled.passes compiled.agrees is
-
-    part_is : (i : ℕ) (unit : UnitDef) (is : unit_at W i ≡ Some unit) → part i ≡ Some (has i unit is).activity
-    part_is i unit is = ap (activity_of units machine) (has i unit is).there ∙ (has i unit is).is_activity
-
-    own_are : (i : ℕ) (unit : UnitDef) (is : unit_at W i ≡ Some unit) → own_slots i ≡ slots_of (plain_body unit.body) (has i unit is).activity.slots
-    own_are i unit is = ap₂ (numbers i) is (part_is i unit is)
-
-    -- the numbers that are in C are these with the value 0 for the home
-    slots_are : (i : ℕ) → home_slots (homes i) (own_slots i) ≡ slots_by W activities i
-    slots_are i = by (unit_at W i) refl (part i) refl
-      where
-        by : (o : Option UnitDef) → unit_at W i ≡ o → (found : Option InMachine) → part i ≡ found →
-            home_slots (home_in o found) (numbers i o found) ≡ slots_by W activities i
-        by None is found at = refl
-        by (Some unit) is None at = refl
-        by (Some unit) is (Some one) at =
-            let it = has i unit is in
-            let parts = made i it.instance unit it.there it.is_unit in
-            let same : one ≡ parts.one =
-            some_is one parts.one (sym at ∙ (part_is i unit is ∙ (sym it.is_activity ∙ parts.is))) in
-            home_numbers (joined one.blocks) (plain_body unit.body) one.slots
-            ∙ (ap (λ (one : InMachine). slots_of (plain_body unit.body) (shared (joined one.blocks) (plain_body unit.body) one.slots)) same
-            ∙ (sym parts.slots ∙ sym (ap (λ (u : ℕ). (activities u).slots) (number_is i it.instance it.there))))
-
-    -- the numbers of nodes in C are those by the order of the machine
-    rank_is : (i : ℕ) (unit : UnitDef) (is : unit_at W i ≡ Some unit) →
-        rank_by W activities i ≡ number_in (joined (has i unit is).activity.blocks) (plain_body unit.body)
-    rank_is i unit is =
-        let it = has i unit is in
-        let parts = made i it.instance unit it.there it.is_unit in
-        let same : parts.one ≡ it.activity = some_is parts.one it.activity (sym parts.is ∙ it.is_activity) in
-        let order : (activities it.instance.unit).order ≡ joined it.activity.blocks = parts.order ∙ ap (λ (one : InMachine). joined one.blocks) same in
-        ap (λ (u : ℕ). (view_of (activities u)).number) (number_is i it.instance it.there)
-        ∙ (ap (λ (o : List ℕ). number_in o (plain_body (activities it.instance.unit).unit.body)) order
-        ∙ ap (λ (u : UnitDef). number_in (joined it.activity.blocks) (plain_body u.body)) (compiled.built.unit it.instance.unit unit it.is_unit))
-
-    counters : (i : ℕ) (unit : UnitDef) (is : unit_at W i ≡ Some unit) → Counters (plain_body unit.body) (has i unit is).activity.slots
-    counters i unit is =
-        let it = has i unit is in
-        let own = each_at IsActivityOf (activities_among units) machine (graph_position units it.instance.unit) unit compiled.agrees
-        (filtered_at (λ it. is_activity it.kind) units it.instance.unit unit it.is_unit
-        ((orderly structs units entry compiled.keeps compiled.passes).each i unit is).activity) in
-        subst (λ (one : InMachine). Counters (plain_body unit.body) one.slots) (some_is own.0 it.activity (sym own.1 ∙ it.is_activity)) own.2.counters
-
-    have_homes : HaveHomes W (rank_by W activities) own_slots homes
-    have_homes i unit home is at =
-        let it = has i unit is in
-        let found : home_of (joined it.activity.blocks) (plain_body unit.body) it.activity.slots ≡ Some home =
-        sym (ap₂ home_in is (part_is i unit is)) ∙ at in
-        subst (λ slots. IsHome (rank_by W activities i) slots (plain_body unit.body) home) (sym (own_are i unit is))
-        (subst (λ number. IsHome number (slots_of (plain_body unit.body) it.activity.slots) (plain_body unit.body) home) (sym (rank_is i unit is))
-        (home_is listed_so (joined it.activity.blocks) unit.body it.activity.slots home (counters i unit is) found))
-
-    given : AllInContext W (rank_by W activities) own_slots
+    given : (i : ℕ) (unit : UnitDef) → unit_at W i ≡ Some unit → TurnContext W (rank_by W activities) i (slots_by W activities i) unit
     given i unit is =
-        let it = has i unit is in
-        subst (λ slots. TurnContext W (rank_by W activities) i slots unit) (sym (own_are i unit is))
-        (machines.given structs units entry machine (rank_by W activities) i it.instance unit it.activity compiled.keeps compiled.passes
-        compiled.agrees go_by it.there it.is_unit it.is_activity)
+        let has = machines.has structs units entry machine i unit compiled.keeps compiled.passes compiled.agrees is in
+        let parts = made i has.instance unit has.there has.is_unit in
+        let same : parts.one ≡ has.activity = some_is parts.one has.activity (sym parts.is ∙ has.is_activity) in
+        let slots : slots_by W activities i ≡ slots_of (plain_body unit.body) has.activity.slots =
+        ap (λ (u : ℕ). (activities u).slots) (number_is i has.instance has.there) ∙ parts.slots
+        ∙ ap (λ (one : InMachine). slots_of (plain_body unit.body) one.slots) same in
+        subst (λ slots. TurnContext W (rank_by W activities) i slots unit) (sym slots)
+        (machines.given structs units entry machine (rank_by W activities) i has.instance unit has.activity compiled.keeps compiled.passes
+        compiled.agrees go_by has.there has.is_unit has.is_activity)
 
-    -- ---- runs
-
-    run_in_c : SharedRunsGo → (unit : UnitDef) (rows : List (List ℤ)) → unit_at W 0 ≡ Some unit → RowsFit unit rows →
-        RunByRules structs units entry (rank_by W activities) (slots_by W activities) (cleared W) unit rows (λ i c. 0)
-    run_in_c go unit rows is fit =
-        let own = runs.runs structs units entry (rank_by W activities) own_slots (cleared W) unit rows (λ i c. 0) compiled.keeps compiled.passes
-        compiled.text given (clearing.inside structs units entry) is fit (λ c. refl) in
-        let all : (λ (i : ℕ). home_slots (homes i) (own_slots i)) ≡ slots_by W activities = λ j i. slots_are i j in
-        record {
-          one = own.one;
-          run = subst (λ slots. RuleRun W (rank_by W activities) slots (cleared W) unit rows (λ i c. 0) (first_store W) own.one.trace) all
-              (go W (rank_by W activities) own_slots homes (cleared W) unit rows (first_store W) own.one.trace given have_homes (cleared_whole W) is
-              own.run);
-        }
-
-pub entry_runs : AcceptedIsOrderly → ClearingIsInside → NodesHaveKeys → MachinesGiveContexts → RunsGoByRules → RulesAreListed → SharedRunsGo → EntryRuns
-entry_runs orderly clearing keys machines runs listed_so go structs units entry machine activities unit rows compiled is fit =
-    run_in_c orderly clearing keys machines runs listed_so structs units entry machine activities compiled go unit rows is fit
+pub entry_runs : AcceptedIsOrderly → ClearingIsInside → NodesHaveKeys → MachinesGiveContexts → RunsGoByRules → EntryRuns
+entry_runs orderly clearing keys machines runs structs units entry machine activities unit rows frames compiled is fit first =
+    runs.runs structs units entry (rank_by W activities) (slots_by W activities) _ unit rows frames compiled.keeps compiled.passes compiled.text
+    (given orderly clearing keys machines runs structs units entry machine activities compiled) (clearing.inside structs units entry) is fit first
+  where
+    W : Setting
+    W = setting_of structs units entry

@@ -38,7 +38,7 @@ pub record FileStands (structs : List StructDef) (unit : UnitDef) (remembers : B
   pub outputs : ports_of (codes "bl_out") file ≡ map (port_member structs (codes "o_")) (outputs_of unit)
   -- any table over which the start runs, as it calls nothing
   pub before : Table Meaning
-  pub starts : found (codes "bl_init") (meanings file.funcs) ≡ Some (function_c before (init_function unit.name))
+  pub starts : found (codes "bl_init") (meanings file.funcs) ≡ Some (function_c before init_function)
   pub ticks : found (codes "bl_tick") (meanings file.funcs) ≡ Some (function_c known (tick_function unit remembers))
 
 -- ---- traces
@@ -69,12 +69,12 @@ RowsSuffice =
 -- a file of these structs and functions, followed by those of the interface
 abbrev pub file_with : List StructDef → UnitDef → Bool → List CStruct → List CFunc → Parts
 file_with structs unit remembers before functions =
-    parts_from (before ++ interface_structs structs unit remembers) (functions ++ (init_function unit.name ∷ tick_function unit remembers ∷ []))
+    parts_from (before ++ interface_structs structs unit remembers) (functions ++ (init_function ∷ tick_function unit remembers ∷ []))
 
 -- what is known where the function of a tick stands
 abbrev pub known_at_tick : UnitDef → List CFunc → Table Meaning
 known_at_tick unit functions =
-    with_entry (known_after no_entries functions) (codes "bl_init") (function_c (known_after no_entries functions) (init_function unit.name))
+    with_entry (known_after no_entries functions) (codes "bl_init") (function_c (known_after no_entries functions) init_function)
 
 -- no struct has a name of the interface, and each function has the name of a unit
 pub record NoneOfInterface (before : List CStruct) (functions : List CFunc) : Type 0 where

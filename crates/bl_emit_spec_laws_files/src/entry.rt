@@ -1,7 +1,6 @@
 //! Runs of the entry by the numbers that are in C. One lemma (`specs/Entry.antt`): over all rows that fit there is a
 //! run each tick of which is one pass by rules over the entry, where nodes and resting places have the numbers that
-//! their C has, the value 0 where a last place goes home; it shows the only trace that the semantics of the program
-//! allows (`EntryRuns`).
+//! the machine lists; it shows the only trace that the semantics of the program allows (`EntryRuns`).
 
 ghost use Rattle.bl_emit_spec_laws_files.specs.Entry.{EntryRuns};
 
@@ -10,8 +9,6 @@ use bl_emit_spec_laws::cleared::clearing_is_inside;
 use bl_machine_pass_laws::keys::nodes_have_keys;
 use bl_machine_pass_laws_execution::machines::machines_give_contexts;
 use bl_machine_pass_laws_execution::runs::runs_go_by_rules;
-use bl_machine_pass_laws_execution::shared::shared_runs_go;
-use bl_machine_transitions_laws::rules_are_listed;
 
 /// Over rows that fit there is a run by rules, with the numbers that are in C.
 pub fn entry_runs()
@@ -22,6 +19,4 @@ pub fn entry_runs()
     nodes_have_keys();
     machines_give_contexts();
     runs_go_by_rules();
-    rules_are_listed();
-    shared_runs_go();
 }

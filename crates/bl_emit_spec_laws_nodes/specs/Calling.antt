@@ -36,7 +36,7 @@ use Rattle.bl_machine_laws.specs.Passes.Follows.{DeedYields}
 use Rattle.bl_machine_pass.specs.Registers.{Registers, with_at}
 use Rattle.bl_machine_pass_laws_execution.specs.Executes.{CopiesMatch, Executes, IsPoint}
 use Rattle.bl_machine_pass_laws_execution.specs.Frames.{Frames}
-use Rattle.bl_emit_spec_laws.specs.Calls.Built.{Activities, activity_at, cleared, rank_by, site_at, slots_by, unit_number}
+use Rattle.bl_emit_spec_laws.specs.Calls.Built.{Activities, activity_at, cleared, rank_by, run_by, site_at, slots_by, unit_number}
 use Rattle.bl_emit_spec_laws.specs.Calls.Calls.{CallAddresses, CallBegins, CallLeaves, MayGive, PassStarts, passed_to}
 use Rattle.bl_emit_spec_laws.specs.Calls.Laws.{BlocksSimulate, CompilationContext, Midway, PassKeepsFrame}
 use Rattle.bl_emit_spec_laws.specs.Calls.Memories.{Nests, inner}
@@ -54,10 +54,6 @@ pub record RunOf (w : Setting) (activities : Activities) (i : ℕ) (unit : UnitD
   pub active : is_activity other.kind ≡ true
   -- the called unit stands before the caller's
   pub earlier : unit_number w j < unit_number w i
-
--- the number of the node at which a `run` begins
-abbrev pub run_number : Setting → Activities → ℕ → Label → Place → Arguments → ℕ
-run_number w activities i l at arguments = rank_by w activities i (EnterAt l at arguments)
 
 -- what is asked of the arguments of each `run`: what they name under a `prev` is copied
 pub record RunsStand (units : List UnitDef) : Type 0 where
@@ -122,14 +118,14 @@ pub record RunsEstablish (structs : List StructDef) (units : List UnitDef) (entr
   pub gives : (i : ℕ) (unit : UnitDef) (scope : Scope) (frames : Frames) (store : Store) (copies : List Value) (r : Registers) (here : Memory)
       (l : Label) (at : Place) (arguments : Arguments) (j : ℕ) (other : UnitDef) (given : Store) → let w = setting_of structs units entry in
       Midway structs units entry machine activities i unit scope frames store copies r here → RunOf w activities i unit l at arguments j other →
-      NotEnded scope (run_number w activities i l at arguments) here → CopiesMatch w i (EnterAt l at arguments) store copies →
+      NotEnded scope (run_by w activities i at) here → CopiesMatch w i (EnterAt l at arguments) store copies →
       DeedYields w (deed i at (Copies j arguments.inputs)) store true given →
-      RunEstablishes w activities i scope (run_number w activities i l at arguments) arguments j other frames given here
+      RunEstablishes w activities i scope (run_by w activities i at) arguments j other frames given here
   pub stops : (i : ℕ) (unit : UnitDef) (scope : Scope) (frames : Frames) (store : Store) (copies : List Value) (r : Registers) (here : Memory)
       (l : Label) (at : Place) (arguments : Arguments) (j : ℕ) (other : UnitDef) → let w = setting_of structs units entry in
       Midway structs units entry machine activities i unit scope frames store copies r here → RunOf w activities i unit l at arguments j other →
       CopiesMatch w i (EnterAt l at arguments) store copies → done_by w (deed i at (Copies j arguments.inputs)) store ≡ None →
-      (call_written w activities i (run_number w activities i l at arguments) (unit_number w j) arguments scope here).result ≡ None
+      (call_written w activities i (run_by w activities i at) (unit_number w j) arguments scope here).result ≡ None
 
 -- ---- what it leaves
 
@@ -148,7 +144,7 @@ RunsLeave structs units entry machine activities =
     (i : ℕ) (unit : UnitDef) (scope : Scope) (frames : Frames) (store : Store) (copies : List Value) (r : Registers) (here : Memory) (l : Label)
     (at : Place) (arguments : Arguments) (j : ℕ) (other : UnitDef) (given : Store) (begun : Registers) (frames' : Frames) (left : Store)
     (r' : Registers) → let w = setting_of structs units entry in
-    let n = run_number w activities i l at arguments in
+    let n = run_by w activities i at in
     Midway structs units entry machine activities i unit scope frames store copies r here → RunOf w activities i unit l at arguments j other →
     DeedYields w (deed i at (Copies j arguments.inputs)) store true given →
     (gives : RunEstablishes w activities i scope n arguments j other frames given here) → PassStarts w activities j other frames begun →

@@ -2,7 +2,6 @@ pub mod Asking
 pub mod Blocks
 pub mod Calls
 pub mod Clearing
-pub mod Entered
 pub mod Inner
 pub mod Numbering
 pub mod Placing

@@ -13,7 +13,6 @@ use Rattle.bl_machine.specs.Machines.{AreActivitiesOf}
 use Rattle.bl_emit_spec_laws.specs.Calls.Built.{Activities, AreBuilt}
 use Rattle.bl_emit_spec_laws.specs.Calls.Laws.{CompilationContext}
 use Rattle.bl_emit_spec_laws_nodes.specs.Points.Laws.{RulesOwn}
-use Rattle.bl_emit_spec.specs.Shared.{IsShared}
 
 -- 64 bits count the variables of a unit, and what stands at its statements
 pub record IsCountable (unit : UnitDef) : Type 0 where
@@ -24,11 +23,11 @@ pub record IsCountable (unit : UnitDef) : Type 0 where
 abbrev pub AreCountable : List UnitDef → Type 0
 AreCountable units = (k : ℕ) (unit : UnitDef) → slice_get units k ≡ Some unit → IsCountable unit
 
--- a program that is made of a text and passes the rules has, with a machine that shares counters, all that the laws of passes ask
+-- a program that is made of a text and passes the rules has, with any machine of it, all that the laws of passes ask
 abbrev pub ProgramsCompile : List StructDef → List UnitDef → ℕ → Type 0
 ProgramsCompile structs units entry =
     (machine : List InMachine) (activities : Activities) → IsWellTyped structs units entry → Passes units → FromText units →
-    AreActivitiesOf units machine → IsShared units machine → AreBuilt structs units machine activities → AreCountable units →
+    AreActivitiesOf units machine → AreBuilt structs units machine activities → AreCountable units →
     CompilationContext structs units entry machine activities
 
 -- all that the rules of its instances ask and change are registers of their functions, where neither rule Frames nor Cells fails

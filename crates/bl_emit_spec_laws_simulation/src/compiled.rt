@@ -1,5 +1,5 @@
 //! The premises of the laws of passes hold for a compiled program. Lemmas only (`specs/Compiled.antt`). They hold for a
-//! typed program of a source text that passes the rules, with a machine that shares counters (`ProgramsCompile`). 64
+//! typed program of a source text that passes the rules, with a machine of it (`ProgramsCompile`). 64
 //! bits must count the variables and statements of its units. All that the rules of an instance ask for and change are
 //! registers of its function, where rule Cells holds (`RulesAreOwn`).
 
@@ -15,7 +15,7 @@ use bl_limits_measures::laws::units_add_up;
 use bl_limits_measures_laws::laws::units_use_earlier_ones;
 use bl_tree::Program;
 
-/// A program of a source text that passes the rules, with a machine that shares counters, is compiled as the laws of passes ask.
+/// A program of a source text that passes the rules, with a machine of it, is compiled as the laws of passes ask.
 pub fn programs_compile(program: &Program)
     ensures { ProgramsCompile program.now.structs program.now.units program.now.entry }
 {

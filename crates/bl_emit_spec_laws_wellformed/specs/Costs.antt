@@ -3,7 +3,7 @@ use Rattle.std.specs.Prelude.{◌≡◌, ℕ, zero, suc, ◌+◌, ◌*◌, ◌�
 use Rattle.bl_tree.specs.declared.tree.StructDef.{StructDef}
 use Rattle.bl_tree.specs.declared.tree.Unit.{Unit as UnitDef}
 use Rattle.bl_tree.specs.Program.{IsWellTyped}
-use Rattle.bl_limits_measures.specs.Runs.{runs_of}
+use Rattle.bl_limits_measures.specs.Runs.{activities_run}
 use Rattle.bl_limits_measures.specs.Statements.{cell_statements_of}
 use Rattle.bl_graph_nodes.specs.Plain.{plain_body}
 use Rattle.bl_machine.specs.Layout.{width_in}
@@ -30,4 +30,4 @@ extras (rule ∷ rest) = rule_extras rule + extras rest
 abbrev pub BodiesCost : List StructDef → List UnitDef → ℕ → Type 0
 BodiesCost structs units entry =
     (k : ℕ) (unit : UnitDef) (slots : Slots) → IsWellTyped structs units entry → slice_get units k ≡ Some unit →
-    2 * width_in (plain_body unit.body) + extras (rules slots (plain_body unit.body)) + length (runs_of unit) ≤ 4 * cell_statements_of unit
+    2 * width_in (plain_body unit.body) + extras (rules slots (plain_body unit.body)) + length (activities_run unit) ≤ 4 * cell_statements_of unit

@@ -7,24 +7,22 @@ use Rattle.bl_machine.specs.declared.machine.Activity.{Activity as InMachine}
 use Rattle.bl_machine.specs.Machines.{IsActivityOf}
 use Rattle.bl_limits_measures.specs.Units.{cells_at}
 use Rattle.bl_emit_spec.specs.Programs.{activity_of}
-use Rattle.bl_emit_spec.specs.Shared.{IsSharedActivityOf}
 use Rattle.bl_emit_spec_laws_wellformed.specs.Names.{NumbersDiffer}
 use Rattle.bl_emit_spec_laws_wellformed.specs.Spelled.{CanSpell}
 
--- an activity in a machine that shares counters of a typed program's unit which has at most a million cells
+-- an activity in a machine of a typed program's unit which has at most a million cells
 pub record IsModest (structs : List StructDef) (units : List UnitDef) (k : ℕ) (unit : UnitDef) (one : InMachine) : Type 0 where
   pub there : slice_get units k ≡ Some unit
   pub of_unit : IsActivityOf unit one
-  pub shared : IsSharedActivityOf unit one
   pub cells : cells_at structs units k ≤ 1_000_000
 
--- the C of an activity has a spelling, in a machine that shares counters, where its unit has at most a million cells
+-- the C of an activity of a machine has a spelling, where its unit has at most a million cells
 abbrev pub MachinesSpell : List StructDef → List UnitDef → ℕ → Type 0
 MachinesSpell structs units entry =
     (k : ℕ) (unit : UnitDef) (one : InMachine) (remember : List Bool) → IsWellTyped structs units entry → IsModest structs units k unit one →
     CanSpell structs units k (activity_of structs (take k units) remember unit one)
 
--- the numbers in the names of an activity's C differ, in a machine that shares counters, where its unit has at most a million cells
+-- the numbers in the names of the C of an activity of a machine differ, where its unit has at most a million cells
 abbrev pub MachinesDiffer : List StructDef → List UnitDef → ℕ → Type 0
 MachinesDiffer structs units entry =
     (k : ℕ) (unit : UnitDef) (one : InMachine) (remember : List Bool) → IsWellTyped structs units entry → IsModest structs units k unit one →

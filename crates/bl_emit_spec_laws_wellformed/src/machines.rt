@@ -1,5 +1,5 @@
 //! The C of a machine's activities. The C of an activity has a spelling (`specs/Machines.antt`, `MachinesSpell`), and
-//! the numbers in its names differ (`MachinesDiffer`). The machine shares counters, and the activity's unit has at most
+//! the numbers in its names differ (`MachinesDiffer`). The activity's unit has at most
 //! a million cells.
 
 ghost use Rattle.bl_emit_spec_laws_wellformed.specs.Machines.{MachinesDiffer, MachinesSpell};

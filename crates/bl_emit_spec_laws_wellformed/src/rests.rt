@@ -1,18 +1,16 @@
 //! Laws of the resting places in the rules of an activity. In the rules of a typed program's activity each number of a
-//! resting place, as C has it, has a value of its counter's type, and those that the body of a `when` may rest at are
-//! of one counter (`specs/Rests.antt`, `RulesStand`).
+//! resting place has a value of its counter's type, and those that the body of a `when` may rest at are of one
+//! counter (`specs/Rests.antt`, `RulesStand`).
 
 ghost use Rattle.bl_emit_spec_laws_wellformed.specs.Rests.{RulesStand};
 
 use bl_machine_pass_laws::slots::{numbers_are_laid, typed_have_branches};
-use bl_machine_pass_laws::spots::spots_differ;
 use bl_tree::Program;
 
 /// The numbers in the rules of a typed program's activities fit their counters' types.
 pub fn rules_stand(_program: &Program)
     ensures { RulesStand _program.now.structs _program.now.units _program.now.entry }
 {
-    spots_differ();
     numbers_are_laid();
     typed_have_branches();
 }

@@ -1,5 +1,4 @@
 pub mod Callees
-pub mod Entering
 pub mod Held
 pub mod Locals
 pub mod Running

@@ -6,7 +6,7 @@ use Rattle.bl_tree.specs.Program.{IsWellTyped, parameters_of}
 use Rattle.bl_tree.specs.Reduce.{greatest, total}
 use Rattle.bl_tree.specs.Typing.{is_activity}
 use Rattle.bl_limits_measures.specs.Calls.{calls_of}
-use Rattle.bl_limits_measures.specs.Runs.{runs_of}
+use Rattle.bl_limits_measures.specs.Runs.{activities_by_place}
 use Rattle.bl_limits_measures.specs.Types.{size}
 use Rattle.bl_limits_measures.specs.Units.{cells_at}
 use Rattle.bl_graph_nodes.specs.Plain.{plain_body}
@@ -24,7 +24,7 @@ use Rattle.bl_emit_spec_laws_wellformed.specs.Chains.{IsOfUnit}
 abbrev pub BodiesRun : List StructDef → List UnitDef → ℕ → Type 0
 BodiesRun structs units entry =
     (k : ℕ) (unit : UnitDef) (a : Activity) → IsWellTyped structs units entry → IsOfUnit units k unit a →
-    map (λ run. run.unit) (runs_in_body a) ≡ runs_of unit
+    map (λ run. run.unit) (runs_in_body a) ≡ activities_by_place unit
 
 -- Give each unit a number of cells, enough for the chains of calls that its C function heads. What an activity rests at and remembers, and that
 -- number, have at least four cells less than rule Cells counts for the activity
@@ -55,7 +55,7 @@ pub record Sized (structs : List StructDef) (units : List UnitDef) (k : ℕ) (un
   pub counters : length a.sizes ≤ width_in (plain_body unit.body)
   pub sizes : SizesKnown structs units known
   pub calls : (f : ℕ) → Contains (calls_of unit) f → reach f ≤ cells_at structs units f
-  pub runs : (u : ℕ) (callee : UnitDef) → Contains (runs_of unit) u → slice_get units u ≡ Some callee → IsSized structs units known reach u callee
+  pub runs : (u : ℕ) (callee : UnitDef) → Contains (activities_by_place unit) u → slice_get units u ≡ Some callee → IsSized structs units known reach u callee
 
 -- an activity has at least four fewer cells than rule Cells counts. Without a result, its parameters and six more fit too
 pub record ActivityCells (structs : List StructDef) (units : List UnitDef) (entry : ℕ) : Type 0 where

@@ -9,7 +9,7 @@ use Rattle.bl_machine_transitions.specs.declared.transition.Asked.TheVariants.{E
 use Rattle.bl_machine_transitions.specs.declared.transition.Change.{Change}
 use Rattle.bl_machine_transitions.specs.declared.transition.Change.TheVariants.{ClearBoth, ClearCounter, EndWhen, Finish, SetCounter, SetFlag, SetMark}
 use Rattle.bl_machine_transitions.specs.Told.{Acts, Enters, Nothing, NumberedTransition, Resumes, Task, Tests}
-use Rattle.bl_emit_spec.specs.Activities.{RunAt, scalar_local}
+use Rattle.bl_emit_spec.specs.Activities.{RunAt, one_a_place, scalar_local}
 use Rattle.bl_emit_spec.specs.Names.{flag_name, mark_name}
 
 -- ---- counters
@@ -27,17 +27,21 @@ read_told rules k = list_any (λ rule. asks_counter k rule.asked) rules
 
 -- ---- runs
 
--- a `run`, where one begins
-abbrev pub run_told : Task → List RunAt
-run_told Nothing = []
-run_told (Acts s) = []
-run_told (Tests e) = []
-run_told (Enters k a arguments) = record { number = k; unit = a } ∷ []
-run_told (Resumes k a arguments) = []
+-- a `run`, where one begins at the node with the number
+abbrev pub run_told : ℕ → Task → List RunAt
+run_told number Nothing = []
+run_told number (Acts s) = []
+run_told number (Tests e) = []
+run_told number (Enters at a arguments) = record { place = at; number = number; unit = a } ∷ []
+run_told number (Resumes at a arguments) = []
 
 -- the `run`s of an activity, in source order
+abbrev pub all_runs_told : List NumberedTransition → List RunAt
+all_runs_told rules = joined (map (λ rule. run_told rule.number rule.task) rules)
+
+-- the first `run` of each place of an activity, in source order
 abbrev pub runs_told : List NumberedTransition → List RunAt
-runs_told rules = joined (map (λ rule. run_told rule.task) rules)
+runs_told rules = one_a_place (all_runs_told rules)
 
 -- ---- flags and marks
 

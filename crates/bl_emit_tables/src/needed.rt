@@ -6,7 +6,7 @@ ghost use Rattle.bl_emit_spec.specs.Programs as programs;
 ghost use Rattle.bl_emit_tables.specs.Needed.{needed_step};
 
 use crate::bools::set_all;
-use bl_limits_measures::{calls_of, runs_of};
+use bl_limits_measures::{activities_run, calls_of};
 use bl_tree::slices::element;
 use bl_tree::tree::Unit;
 use bl_tree::{List, NoMemory};
@@ -28,7 +28,7 @@ fn need_by(alloc: Global, unit: &Unit, needed: &mut List<bool>) -> Result<(), No
     ensures { OnOk result (needed.new ≡ programs.set_from (programs.needs_of unit.now) 0 needed.old) }
 {
     let mut needs = calls_of(alloc, unit)?;
-    for run in runs_of(alloc, unit)?.into_vec() {
+    for run in activities_run(alloc, unit)?.into_vec() {
         needs.push(run)?;
     }
     set_all(needed, &needs);

@@ -15,10 +15,12 @@ pub record SeenMachine : Type 0 where
   pub program : Program
   pub activities : List Activity
 
--- the blocks are an order of the body's nodes, and the slots distinguish its resting places
+-- the blocks are an order of the body's nodes, and the slots distinguish its resting places. Counters are laid out from 0 on: parts that rest one after
+-- another, or instead of one another, share counters
 pub record IsActivityOf (unit : UnitDef) (activity : Activity) : Type 0 where
   pub order : Ordered (plain_body unit.body) activity.blocks
   pub counters : Counters (plain_body unit.body) activity.slots
+  pub slots : activity.slots ≡ numbered (counters_in (plain_body unit.body) 0)
 
 -- the list has one activity for each activity among the units, in their order
 abbrev pub AreActivitiesOf : List UnitDef → List Activity → Type 0
@@ -28,11 +30,10 @@ AreActivitiesOf units machine = EachTwo IsActivityOf (activities units) machine
 abbrev pub IsMachine : SeenMachine → Type 0
 IsMachine machine = AreActivitiesOf machine.program.units machine.activities
 
--- each node is a block of its own, and counters are laid out from 0 on
+-- each node is a block of its own
 pub record IsPlainActivityOf (unit : UnitDef) (activity : Activity) : Type 0 where
   pub single : (block : List ℕ) → Contains activity.blocks block → length block ≡ 1
-  pub slots : activity.slots ≡ numbered (counters_in (plain_body unit.body) 0)
 
--- every activity of the machine is plain: each node is a block of its own, and counters are laid out from 0 on
+-- every activity of the machine is plain: each node is a block of its own
 abbrev pub IsPlainMachine : SeenMachine → Type 0
 IsPlainMachine machine = EachTwo IsPlainActivityOf (activities machine.program.units) machine.activities

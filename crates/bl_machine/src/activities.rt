@@ -7,7 +7,7 @@ ghost use Rattle.std.specs.Prelude.{◌<◌, IfOk, length};
 
 use crate::layout::in_block;
 use crate::machine::Activity;
-use crate::order::{by_rank, single};
+use crate::order::{in_order, single};
 use crate::slots::numbered;
 use bl_cause::Order;
 use bl_cause::laws::graphs_are_found;
@@ -28,7 +28,7 @@ fn activity(alloc: Global, unit: &Unit, graph: &Graph, order: &Order) -> Result<
     let mut counters = List::new(alloc);
     let width = in_block(&unit.body, 0, &mut counters)?;
     let slots = numbered(alloc, width, &counters)?;
-    let nodes = by_rank(alloc, graph.nodes.len(), order)?;
+    let nodes = in_order(alloc, graph, order)?;
     let blocks = single(alloc, &nodes)?;
     Ok(Activity { blocks, slots })
 }

@@ -15,6 +15,7 @@ mod layout;
 mod machine;
 mod order;
 mod slots;
+mod sweep;
 
 pub use machine::{Activity, Machine};
 pub use slots::Slot;

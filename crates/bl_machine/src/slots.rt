@@ -12,7 +12,7 @@ use std::alloc::Global;
 pub struct Slot {
     /// The counter of the instance's frame.
     pub counter: u32,
-    /// What it is while the instance rests there: from 1 on in a machine. In C one may be 0 too.
+    /// What it is while the instance rests there: from 1 on.
     pub value: u32,
 }
 

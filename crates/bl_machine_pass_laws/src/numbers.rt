@@ -1,8 +1,8 @@
 //! How the counters of an instance follow the turns of a pass by registers. Lemmas only, each stated in
 //! `specs/Turns/Laws.antt`. The rules of a body are those of its nodes, and trees stay placed in their body, with its
 //! rules and counters (`StaysPlaced`). A turn's rule keeps the counters those of the tree, and the flag that tells
-//! whether the body has ended (`TurnsChangeNumbers`). Between ticks the first counter, by the numbers of a machine,
-//! holds 0 only where the instance isn't running (`FirstCounterTells`).
+//! whether the body has ended (`TurnsChangeNumbers`). Between ticks the first counter holds 0 only where the instance
+//! isn't running (`FirstCounterTells`).
 
 ghost use Rattle.bl_machine_pass_laws.specs.Turns.Laws.{FirstCounterTells, StaysPlaced, TurnsChangeNumbers};
 

@@ -5,5 +5,4 @@ pub mod OnMachines
 pub mod OnPasses
 pub mod OnPerforms
 pub mod OnRuns
-pub mod OnShared
 pub mod OnTicks

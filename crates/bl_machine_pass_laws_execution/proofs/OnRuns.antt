@@ -30,12 +30,12 @@ use Rattle.bl_machine_pass_laws_execution.specs.Frames.{Frames}
 use Rattle.bl_machine_pass_laws_execution.specs.Fresh.Asks.{InputsFit}
 use Rattle.bl_machine_pass_laws_execution.specs.Fresh.Fresh.{Framed, Fresh}
 use Rattle.bl_machine_pass_laws_execution.specs.Fresh.Laws.{StoresAreFresh}
-use Rattle.bl_machine_pass_laws_execution.specs.Executes.{ClearsInside, PassStart, PassTraps, begun_registers, resumed_registers}
+use Rattle.bl_machine_pass_laws_execution.specs.Executes.{ClearsInside, PassTraps, begun_registers, resumed_registers}
 use Rattle.bl_machine_pass_laws_execution.specs.Performs.{AllInContext}
 use Rattle.bl_machine_pass_laws_execution.specs.Machines.{MachinesGiveContexts, slots_at}
 use Rattle.bl_machine_pass_laws_execution.specs.Ticks.{Resting, TickExecuted, TicksExecute}
 use Rattle.bl_machine_pass_laws_execution.specs.Runs as rules_run
-use Rattle.bl_machine_pass_laws_execution.specs.Runs.{RowsFit, RuleRun, RunByRules, RunsGoByRules}
+use Rattle.bl_machine_pass_laws_execution.specs.Runs.{RowsFit, RuleRun, RunByRules, RunsGoByRules, TickStarts}
 
 some_is : {X : Type 0} (x y : X) → Some x ≡ Some y → x ≡ y
 some_is x y e = cc
@@ -52,17 +52,17 @@ module _ (plain : StatementsArePlain) (begin_live : BodiesFitGraph) (callable : 
   -- a tree between ticks with frames from which the next tick can be made by rules
   record Ready (c : Tree) (frames : Frames) : Type 0 where
     start : Registers
-    starts : PassStart rank 0 unit frames start
+    starts : TickStarts rank unit frames start
     pass : (store : Store) → PassOrTrap W rank 0 0 (woken c) store
     made : (store : Store) (c' : Tree) (left : Store) → Framed W store → ((j : ℕ) → Fresh W store j) →
         Follows W rank 0 0 (woken c) store c' left → TickExecuted W rank slots clear 0 unit frames store start c' left
     cut : (store : Store) → Framed W store → ((j : ℕ) → Fresh W store j) → Fails W rank 0 0 (woken c) store →
         PassTraps W rank slots clear 0 0 frames store (view_at W store 0).now start
 
-  first_ready : (frames : Frames) → ((c : ℕ) → frames 0 c ≡ 0) → Ready (Idle (plain_body unit.body)) frames
+  first_ready : (frames : Frames) → frames 0 0 ≡ 0 → Ready (Idle (plain_body unit.body)) frames
   first_ready frames zero = record {
     start = begun_registers rank 0 unit;
-    starts = PassStart.begins zero;
+    starts = rules_run.begins zero;
     pass = λ store.
         have structs units entry rank 0 0 unit false (do_block (plain_body unit.body)) store (given 0 unit is).paces
         (callable structs units entry keeps) (given 0 unit is).orders is (begin_live W 0 unit (callable structs units entry keeps) is)
@@ -76,7 +76,7 @@ module _ (plain : StatementsArePlain) (begin_live : BodiesFitGraph) (callable : 
   later_ready : (c : Tree) (frames : Frames) → Resting W slots 0 unit frames c → Ready c frames
   later_ready c frames resting = record {
     start = resumed_registers frames 0;
-    starts = PassStart.goes_on (λ zero. ticks.counts structs units entry rank slots 0 unit frames c given is resting zero);
+    starts = rules_run.goes_on (λ zero. ticks.counts structs units entry rank slots 0 unit frames c given is resting zero);
     pass = λ store.
         have structs units entry rank 0 0 unit true (woken c) store (given 0 unit is).paces (callable structs units entry keeps)
         (given 0 unit is).orders is
@@ -99,7 +99,7 @@ module _ (plain : StatementsArePlain) (begin_live : BodiesFitGraph) (callable : 
   FromAll rows = (c : Tree) (frames : Frames) (store : Store) → Ready c frames → Framed W store → Both rows c frames store
 
   by_end : (row : List ℤ) (rows : List (List ℤ)) → FromAll rows → (c : Tree) (frames : Frames) (store : Store) (start : Registers) →
-      PassStart rank 0 unit frames start → (pass : WholePass W rank 0 0 (woken c) (woken_store row store)) →
+      TickStarts rank unit frames start → (pass : WholePass W rank 0 0 (woken c) (woken_store row store)) →
       TickExecuted W rank slots clear 0 unit frames (woken_store row store) start pass.tree pass.left → (nil : Bool) →
       is_nil pass.tree ≡ nil → Both (row ∷ rows) c frames store
   by_end row rows further c frames store start starts pass tick true e = record {
@@ -113,7 +113,8 @@ module _ (plain : StatementsArePlain) (begin_live : BodiesFitGraph) (callable : 
       record {
         trace = row_before (outputs_row W pass.left) more.trace;
         passed = passes_run.goes_on pass e more.passed;
-        ruled = rules_run.lasts starts tick.executes (tick.over ∙ e) more.ruled;
+        ruled = rules_run.lasts starts tick.executes (tick.over ∙ e)
+            (λ zero. ticks.counts structs units entry rank slots 0 unit next pass.tree given is (tick.rests e) zero) more.ruled;
       }
 
   by_pass : (row : List ℤ) (rows : List (List ℤ)) → FromAll rows → (c : Tree) (frames : Frames) (store : Store) → Ready c frames →
@@ -144,7 +145,7 @@ module _ (plain : StatementsArePlain) (begin_live : BodiesFitGraph) (callable : 
       plain.blocks unit.body []
       ∙ sym (ap (λ (found : Option UnitDef). plain_items (unwrap_or (option_map (λ it. body_items it.body) found) [])) is)
 
-  pub by_rules : (rows : List (List ℤ)) (frames : Frames) → RowsFit unit rows → ((c : ℕ) → frames 0 c ≡ 0) →
+  pub by_rules : (rows : List (List ℤ)) (frames : Frames) → RowsFit unit rows → frames 0 0 ≡ 0 →
       RunByRules structs units entry rank slots clear unit rows frames
   by_rules rows frames fit zero =
       let all = both rows fit (Idle (plain_body unit.body)) frames (first_store W) (first_ready frames zero) (stores.first W) in

@@ -74,11 +74,6 @@ begun_registers rank i unit = started (λ k. 0) (entry_flag (rank i) (plain_body
 abbrev pub resumed_registers : Frames → ℕ → Registers
 resumed_registers frames i = started (frames i) (λ k. false)
 
--- the registers with which a pass starts: the body begins where all counters of the instance hold 0, and goes on where the first one doesn't
-pub data PassStart (rank : ℕ → Node → ℕ) (i : ℕ) (unit : UnitDef) (frames : Frames) : Registers → Type 0 where
-  begins : ((c : ℕ) → frames i c ≡ 0) → PassStart rank i unit frames (begun_registers rank i unit)
-  goes_on : (frames i 0 ≡ 0 → ⊥) → PassStart rank i unit frames (resumed_registers frames i)
-
 -- ---- copies
 
 -- the copies hold the earlier values of the variables for which the node asks
@@ -142,17 +137,17 @@ mutual
         Executes w rank slots clear callee 0 (clear callee frames) given (view_at w given callee).now (begun_registers rank callee unit) frames' left
         r' → r'.over ≡ false →
         Performs w rank slots clear i (EnterAt l at arguments) frames store true (with_at callee r'.counters frames') left
-    -- a `run` goes on: the callee goes on or begins anew, as its counters tell. The answer says whether the callee's body has ended
+    -- a `run` goes on if the first counter of the callee isn't 0. The answer says whether the callee's body has ended
     resumes : {i : ℕ} {l : Label} {at : Place} {arguments : Arguments} {frames : Frames} {store given : Store} {frames' : Frames} {left : Store}
-        {r r' : Registers} {callee : ℕ} {unit : UnitDef} → callee_of w i at ≡ Some callee → unit_at w callee ≡ Some unit →
-        PassStart rank callee unit frames r → DeedYields w (deed i at (Copies callee arguments.inputs)) store true given →
-        Executes w rank slots clear callee 0 frames given (view_at w given callee).now r frames' left r' →
+        {r' : Registers} {callee : ℕ} → callee_of w i at ≡ Some callee → (frames callee 0 ≡ 0 → ⊥) →
+        DeedYields w (deed i at (Copies callee arguments.inputs)) store true given →
+        Executes w rank slots clear callee 0 frames given (view_at w given callee).now (resumed_registers frames callee) frames' left r' →
         r'.over ≡ false → Performs w rank slots clear i (ResumeAt l at arguments) frames store false (with_at callee r'.counters frames') left
     -- a `run` goes on, the callee's body ends, and the target gets the result
     returns : {i : ℕ} {l : Label} {at : Place} {arguments : Arguments} {frames : Frames} {store given : Store} {frames' : Frames}
-        {ended left : Store} {r r' : Registers} {callee : ℕ} {unit : UnitDef} → callee_of w i at ≡ Some callee → unit_at w callee ≡ Some unit →
-        PassStart rank callee unit frames r → DeedYields w (deed i at (Copies callee arguments.inputs)) store true given →
-        Executes w rank slots clear callee 0 frames given (view_at w given callee).now r frames' ended r' →
+        {ended left : Store} {r' : Registers} {callee : ℕ} → callee_of w i at ≡ Some callee → (frames callee 0 ≡ 0 → ⊥) →
+        DeedYields w (deed i at (Copies callee arguments.inputs)) store true given →
+        Executes w rank slots clear callee 0 frames given (view_at w given callee).now (resumed_registers frames callee) frames' ended r' →
         r'.over ≡ true → DeedYields w (deed i at (Gives callee arguments.target)) ended true left →
         Performs w rank slots clear i (ResumeAt l at arguments) frames store true (with_at callee r'.counters frames') left
 
@@ -189,8 +184,7 @@ mutual
         callee_of w i at ≡ Some callee → unit_at w callee ≡ Some unit → DeedYields w (deed i at (Copies callee arguments.inputs)) store true given →
         PassTraps w rank slots clear callee 0 (clear callee frames) given (view_at w given callee).now (begun_registers rank callee unit) →
         NodeTraps w rank slots clear i (EnterAt l at arguments) frames store
-    resumed_stops : {i : ℕ} {l : Label} {at : Place} {arguments : Arguments} {frames : Frames} {store given : Store} {r : Registers} {callee : ℕ}
-        {unit : UnitDef} → callee_of w i at ≡ Some callee → unit_at w callee ≡ Some unit → PassStart rank callee unit frames r →
-        DeedYields w (deed i at (Copies callee arguments.inputs)) store true given →
-        PassTraps w rank slots clear callee 0 frames given (view_at w given callee).now r →
+    resumed_stops : {i : ℕ} {l : Label} {at : Place} {arguments : Arguments} {frames : Frames} {store given : Store} {callee : ℕ} →
+        callee_of w i at ≡ Some callee → (frames callee 0 ≡ 0 → ⊥) → DeedYields w (deed i at (Copies callee arguments.inputs)) store true given →
+        PassTraps w rank slots clear callee 0 frames given (view_at w given callee).now (resumed_registers frames callee) →
         NodeTraps w rank slots clear i (ResumeAt l at arguments) frames store

@@ -1,7 +1,7 @@
 //! Ticks of an instance of an accepted program that is made of a source text, made by rules. One lemma
 //! (`specs/Ticks.antt`). Each pass by rules, the first and later ones from the frames of the tick before, leaves the
 //! store that turns lead to. Its frames match the tree that is left. It traps where turns lead to a trap. An instance
-//! goes on iff its first counter isn't 0, by the numbers of a machine (`TicksExecute`).
+//! goes on iff its first counter isn't 0 (`TicksExecute`).
 
 ghost use Rattle.bl_machine_pass_laws_execution.specs.Ticks.{TicksExecute};
 

@@ -1,5 +1,5 @@
 pub mod Callees
 pub mod Listed
-pub mod Shared
+pub mod Runs
 pub mod Told
 pub mod inner

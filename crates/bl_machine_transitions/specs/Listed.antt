@@ -233,8 +233,8 @@ abbrev mutual
       flagged layout k Nothing (SetCounter (layout.slot p) ∷ []) ∷ woken layout (k + 1) (layout.slot p) (Tests e) next ∷ []
   rules_of layout k p (RunOf l at target a inputs outputs) next =
       let arguments = arguments_of target inputs outputs in
-      flagged layout k (Enters (layout.number k) a arguments) (SetCounter (layout.slot p) ∷ [])
-      ∷ woken layout (k + 1) (layout.slot p) (Resumes (layout.number k) a arguments) next
+      flagged layout k (Enters at a arguments) (SetCounter (layout.slot p) ∷ [])
+      ∷ woken layout (k + 1) (layout.slot p) (Resumes at a arguments) next
       ∷ []
   rules_of layout k p (If l at e body other) next =
       let after = k + 1 + node_count body in

@@ -1,5 +1,6 @@
 -- Rules of a pass by numbers, and what of them tells the rules of nodes.
 use Rattle.std.specs.Prelude.{ℕ, List, [], ◌∷◌, map, option_map}
+use Rattle.bl_tree.specs.declared.place.Place.{Place}
 use Rattle.bl_tree.specs.declared.tree.Expr.{Expr}
 use Rattle.bl_tree.specs.declared.tree.Stmt.{Stmt}
 use Rattle.bl_graph_nodes.specs.Nodes.{ActAt, Arguments, CheckAt, EnterAt, Node, ResumeAt, TestAt}
@@ -19,13 +20,13 @@ use Rattle.bl_machine_transitions.specs.declared.transition.Task.TheVariants as 
 
 -- ---- rules
 
--- what is done at a node: of a `run` with the number of the node at which it begins, and the position of the activity that it calls
+-- what is done at a node: of a `run` with its place, and the position of the activity that it calls
 pub data Task : Type 0 where
   Nothing : Task
   Acts : Stmt → Task
   Tests : Expr → Task
-  Enters : ℕ → ℕ → Arguments → Task
-  Resumes : ℕ → ℕ → Arguments → Task
+  Enters : Place → ℕ → Arguments → Task
+  Resumes : Place → ℕ → Arguments → Task
 
 -- the rule of a node, by numbers
 pub record NumberedTransition : Type 0 where
@@ -46,8 +47,8 @@ abbrev pub task_in : KeptTask → Task
 task_in task.Nothing = Nothing
 task_in (task.Act s) = Acts s.now
 task_in (task.Test e) = Tests e.now
-task_in (task.Enter run) = Enters run.begins run.unit (arguments_in run)
-task_in (task.Resume run) = Resumes run.begins run.unit (arguments_in run)
+task_in (task.Enter run) = Enters run.place run.unit (arguments_in run)
+task_in (task.Resume run) = Resumes run.place run.unit (arguments_in run)
 
 -- the rule
 abbrev pub rule_in : Kept → NumberedTransition
@@ -87,8 +88,8 @@ abbrev pub task_at : (Node → ℕ) → ℕ → Node → Task
 task_at number unit (ActAt l s) = Acts s
 task_at number unit (TestAt l at e) = Tests e
 task_at number unit (CheckAt l at e) = Tests e
-task_at number unit (EnterAt l at arguments) = Enters (number (EnterAt l at arguments)) unit arguments
-task_at number unit (ResumeAt l at arguments) = Resumes (number (EnterAt l at arguments)) unit arguments
+task_at number unit (EnterAt l at arguments) = Enters at unit arguments
+task_at number unit (ResumeAt l at arguments) = Resumes at unit arguments
 task_at number unit n = Nothing
 
 -- the rule of a node

@@ -12,7 +12,7 @@ use crate::table::Table;
 use crate::transition::{Asked, Change, Run, Task, Transition};
 use bl_machine::Slot;
 use bl_tree::tree::{Expr, Guard, Path, Stmt};
-use bl_tree::{List, NoMemory};
+use bl_tree::{List, NoMemory, Place};
 use std::alloc::Global;
 
 /// Appends a rule.
@@ -156,6 +156,7 @@ pub fn put_await<'a>(
 pub fn put_run<'a>(
     alloc: Global,
     t: &Table<'_>,
+    place: Place,
     target: &'a Option<Path>,
     unit: u32,
     inputs: &'a [Expr],
@@ -165,11 +166,11 @@ pub fn put_run<'a>(
     next: Change,
     into: &mut List<Transition<'a>>,
 ) -> Result<(), NoMemory>
-    ensures { OnOk result (let arguments = arguments_of target.now inputs.now outputs.now in let n = (layout_in t.now).number k in
-        map rule_in into.new ≡ map rule_in into.old ++ paused (layout_in t.now) k p (Enters n unit arguments) (Resumes n unit arguments) next) }
+    ensures { OnOk result (let arguments = arguments_of target.now inputs.now outputs.now in
+        map rule_in into.new ≡ map rule_in into.old ++ paused (layout_in t.now) k p (Enters place unit arguments) (Resumes place unit arguments) next) }
 {
     let run = Run {
-        begins: t.number(k),
+        place,
         unit,
         target: target.as_ref(),
         inputs,

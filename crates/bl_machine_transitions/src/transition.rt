@@ -1,8 +1,8 @@
 //! Rules of a pass. A node is told by its number: where its block stands in the order of blocks.
 
 use bl_machine::Slot;
-use bl_tree::List;
 use bl_tree::tree::{Expr, Path, Stmt};
+use bl_tree::{List, Place};
 
 /// One change of what a pass keeps of where its instance stands.
 #[derive(Clone, Copy, PartialEq, Eq, Debug)]
@@ -57,8 +57,8 @@ pub enum Asked {
 /// A `run` at a node.
 #[derive(Clone, Copy)]
 pub struct Run<'a> {
-    /// The number of the node at which it begins.
-    pub begins: u32,
+    /// Where it stands.
+    pub place: Place,
     /// The position of the activity that it calls.
     pub unit: u32,
     pub target: Option<&'a Path>,

@@ -72,7 +72,9 @@ fn in_statement<'a>(
         StmtKind::Return(_) => put_act(alloc, t, s, k, next, into),
         StmtKind::Await(e) => put_await(alloc, t, e, k, p, next, into),
         StmtKind::Run(target, unit, inputs, outputs) => {
-            put_run(alloc, t, target, *unit, inputs, outputs, k, p, next, into)
+            put_run(
+                alloc, t, s.place, target, *unit, inputs, outputs, k, p, next, into,
+            )
         }
         StmtKind::If(arms, other) => {
             // No `if` of a program is without an arm.

@@ -1,7 +1,6 @@
 pub mod Agreeing
 pub mod Places
 pub mod Parts
-pub mod Shared
 pub mod Standing
 pub mod Walked
 pub mod Written

@@ -158,12 +158,11 @@ module _ (number : Node → ℕ) (slots : Slots) (layout : Layout) where
         let last : Node = ResumeAt l at (arguments_of target inputs outputs) in
         let second = after number layout.number first (last ∷ []) k (k + 1) one agrees in (
           flagged_told number slots layout a first k (SetsCounter (slots.rest l) ∷ []) (change.SetCounter (layout.slot p) ∷ [])
-              (Enters (layout.number k) a (arguments_of target inputs outputs)) agrees.0
-              (ap (λ n. Enters n a (arguments_of target inputs outputs)) agrees.0)
+              (Enters at a (arguments_of target inputs outputs)) agrees.0 refl
               (single_is (change.SetCounter (slots.rest l)) (change.SetCounter (layout.slot p)) (ap change.SetCounter placed.0)),
           (
-            woken_told a last (k + 1) (slots.rest l) (layout.slot p) (Resumes (layout.number k) a (arguments_of target inputs outputs)) next goes
-                second.0 (ap (λ n. Resumes n a (arguments_of target inputs outputs)) agrees.0) placed.0 is,
+            woken_told a last (k + 1) (slots.rest l) (layout.slot p) (Resumes at a (arguments_of target inputs outputs)) next goes
+                second.0 refl placed.0 is,
             tt,
           ),
         )

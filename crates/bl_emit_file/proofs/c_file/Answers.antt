@@ -19,7 +19,7 @@ invariant_of-result c =
     let made = written_in c.in_ok-made.made in
     let it = made_known c.args.accepted.now c.in_ok-machine.machine machine made c.is_accepted.ensures c.requires
     (subst (λ (of : Program). AreCountable of.units) c.tree-program.ensures c.in_ok-counted.ensures) c.in_ok-machine.ensures.program
-    c.in_ok-machine.ensures.plain c.in_ok-merged.ensures.program c.in_ok-merged.ensures.merged c.is_machine.ensures c.written_is_told.ensures
+    c.in_ok-merged.ensures.program c.in_ok-merged.ensures.merged c.is_machine.ensures c.written_is_told.ensures
     c.in_ok-made.ensures in
     record { spellable = made_spelled tree machine.activities made (subst ProgramsSpelled c.tree-program.ensures c.programs_spelled.ensures) it }
 
@@ -30,7 +30,7 @@ returns-clause-shows c =
     let made = written_in c.in_ok-made.made in
     let it = made_known c.args.accepted.now c.in_ok-machine.machine machine made c.is_accepted.ensures c.requires
     (subst (λ (of : Program). AreCountable of.units) c.tree-program.ensures c.in_ok-counted.ensures) c.in_ok-machine.ensures.program
-    c.in_ok-machine.ensures.plain c.in_ok-merged.ensures.program c.in_ok-merged.ensures.merged c.is_machine.ensures c.written_is_told.ensures
+    c.in_ok-merged.ensures.program c.in_ok-merged.ensures.merged c.is_machine.ensures c.written_is_told.ensures
     c.in_ok-made.ensures in
     file_shows tree machine.activities made (subst ProgramsShow c.tree-program.ensures c.programs_show.ensures) it.known it.is
 
@@ -40,6 +40,6 @@ returns-clause-merged c =
     let made = written_in c.in_ok-made.made in
     let it = made_known c.args.accepted.now c.in_ok-machine.machine machine made c.is_accepted.ensures c.requires
     (subst (λ (of : Program). AreCountable of.units) c.tree-program.ensures c.in_ok-counted.ensures) c.in_ok-machine.ensures.program
-    c.in_ok-machine.ensures.plain c.in_ok-merged.ensures.program c.in_ok-merged.ensures.merged c.is_machine.ensures c.written_is_told.ensures
+    c.in_ok-merged.ensures.program c.in_ok-merged.ensures.merged c.is_machine.ensures c.written_is_told.ensures
     c.in_ok-made.ensures in
     made_of_merged c.args.accepted.now.tree machine.activities made it

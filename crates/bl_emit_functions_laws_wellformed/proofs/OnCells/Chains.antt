@@ -19,7 +19,7 @@ use Rattle.bl_tree.specs.Types.{scalar_in, type_stands}
 use Rattle.bl_tree.specs.Typing.{TypingContext, inputs_of, is_activity, site_of}
 use Rattle.bl_eval.proofs.PassLemmas.{and_left, and_right, both}
 use Rattle.bl_limits_measures.specs.Calls.{calls_of}
-use Rattle.bl_limits_measures.specs.Runs.{runs_of}
+use Rattle.bl_limits_measures.specs.Runs.{activities_by_place}
 use Rattle.bl_limits_measures.specs.Statements.{cell_statements_of}
 use Rattle.bl_limits_measures.specs.Types.{size, size_by, struct_sizes}
 use Rattle.bl_limits_measures.specs.Units.{all_cells, cells_at, cells_by, cells_with, total_at, variables_of}
@@ -221,7 +221,7 @@ module _ (structs : List StructDef) (units : List UnitDef) (entry : ℕ) (keeps 
           let counts : cells_by (struct_sizes structs) (take k (all_cells structs units)) unit
           ≡ 2 * variables_of structs unit + cell_statements_of unit + 1 + n =
           of_function unit.kind function (variables_of structs unit) (cell_statements_of unit)
-          (total_at (take k (all_cells structs units)) (runs_of unit)) n in
+          (total_at (take k (all_cells structs units)) (activities_by_place unit)) n in
           omega (arith, own-less, all, is, counts)
         where
           of_function : (kind : UnitKind) → is_activity kind ≡ false → (variables statements running calling : ℕ) →

@@ -11,7 +11,7 @@ use Rattle.bl_tree.specs.declared.tree.Var.{Var}
 use Rattle.bl_tree.specs.Reduce.{greatest}
 use Rattle.bl_tree.specs.Typing.{TypingContext, inputs_of, site_of}
 use Rattle.bl_limits_measures.specs.Calls.{calls_of}
-use Rattle.bl_limits_measures.specs.Runs.{runs_of}
+use Rattle.bl_limits_measures.specs.Runs.{activities_run}
 use Rattle.bl_limits_measures.specs.Units.{all_chains, chain_at, chain_by, greatest_at}
 use Rattle.bl_limits_measures.proofs.TableLemmas.{answer_at}
 use Rattle.bl_ctext_semantics.specs.Calls.{calls_in_block, most}
@@ -126,7 +126,7 @@ module _ (structs : List StructDef) (units : List UnitDef) (k : ℕ) (depths : T
       let n : ℕ = greatest (map by (calls_of unit)) in
       let all : most depths (calls_in_block (whole_code (site_of structs (take k units) unit) unit)) ≤ n =
       code_few weight prelude_none (site_of structs (take k units) unit) by (callees_by unit) n unit (omega arith) in
-      let is : chain_at units k ≡ 1 + max n (greatest_at (take k (all_chains units)) (runs_of unit)) = chain_is units k unit there in
+      let is : chain_at units k ≡ 1 + max n (greatest_at (take k (all_chains units)) (activities_run unit)) = chain_is units k unit there in
       omega (arith, all, is)
 
 pub follow : (structs : List StructDef) (units : List UnitDef) → ChainsFollow structs units

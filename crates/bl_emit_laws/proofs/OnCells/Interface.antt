@@ -134,15 +134,14 @@ returned_silent n = return-calls (Some (c_literal (Nat W32) (pos n))) ∙ litera
 
 module _ (unit : UnitDef) (remembers : Bool) where
   abbrev init : CFunc
-  init = init_function unit.name
+  init = init_function
 
   init_calls : calls_in_block init.body ≡ []
   init_calls =
-      (λ i. clear-calls (c_place true (codes "s") (c_step (codes "f") ∷ [])) (frame_name unit.name) i ++ [])
-      ∙ (λ i. step_calls_none true (codes "s") (codes "f") i ++ [])
+      (λ i. clear-calls (c_place true (codes "s") []) (codes "bl_state") i ++ []) ∙ (λ i. root_calls_none true (codes "s") i ++ [])
 
   init_turns : turns_in_block init.body ≡ []
-  init_turns = one-turns (c_clear (c_place true (codes "s") (c_step (codes "f") ∷ [])) (frame_name unit.name)) [] (clear-turns _ _)
+  init_turns = one-turns (c_clear (c_place true (codes "s") []) (codes "bl_state")) [] (clear-turns _ _)
 
   pub init_cells : (known : Sizes) (chains : Table ℕ) → chain_cells known chains init ≤ 1
   init_cells known chains =

@@ -33,7 +33,7 @@ use Rattle.bl_tree.specs.Program.{IsWellTyped}
 use Rattle.bl_tree.specs.Reduce.{greatest, total}
 use Rattle.bl_tree.specs.Typing.{is_activity}
 use Rattle.bl_tree.specs.Words.{are_distinct}
-use Rattle.bl_limits_measures.specs.Runs.{runs_of}
+use Rattle.bl_limits_measures.specs.Runs.{activities_by_place}
 use Rattle.bl_limits_measures.specs.Units.{cells_at}
 use Rattle.bl_machine.specs.declared.machine.Activity.{Activity as InMachine}
 use Rattle.bl_machine.specs.Layout.{width_in}
@@ -192,7 +192,7 @@ module _ (structs : List StructDef) (units : List UnitDef) (entry : ℕ) (keeps 
     module _ (list : List ℕ) (chains : Table ℕ) (k : ℕ) (unit : UnitDef) (remember : List Bool) (one : InMachine)
         (there : slice_get units k ≡ Some unit) (active : is_activity unit.kind ≡ true) (st : Reached list chains k)
         (counters : length (activity_of structs (take k units) remember unit one).sizes ≤ width_in (plain_body unit.body))
-        (callees : (u : ℕ) (callee : UnitDef) → Contains (runs_of unit) u → slice_get units u ≡ Some callee →
+        (callees : (u : ℕ) (callee : UnitDef) → Contains (activities_by_place unit) u → slice_get units u ≡ Some callee →
         (u < k) × (is_activity callee.kind ≡ true) × Needed u)
         (frame : entry_or 0 K (frame_name unit.name)
         ≤ total (map (size_of_member K) (frame_struct (activity_of structs (take k units) remember unit one)).members))

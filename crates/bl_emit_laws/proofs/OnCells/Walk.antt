@@ -14,18 +14,18 @@ use Rattle.bl_tree.specs.declared.text.Text.{Text}
 use Rattle.bl_tree.specs.declared.tree.StructDef.{StructDef}
 use Rattle.bl_tree.specs.declared.tree.Unit.{Unit as UnitDef}
 use Rattle.bl_tree.specs.Program.{IsWellTyped}
-use Rattle.bl_tree.specs.Reduce.{greatest, joined, total}
+use Rattle.bl_tree.specs.Reduce.{greatest, total}
 use Rattle.bl_tree.specs.Typing.{is_activity}
 use Rattle.bl_tree.specs.Words.{are_distinct, is_among}
 use Rattle.bl_eval.proofs.PassLemmas.{and_left}
 use Rattle.bl_cause.specs.Activities.{EachTwo, activities}
-use Rattle.bl_limits_measures.specs.Runs.{runs_of}
+use Rattle.bl_limits_measures.specs.Runs.{activities_by_place}
 use Rattle.bl_limits_measures.specs.Units.{cells_at}
 use Rattle.bl_machine.specs.declared.machine.Activity.{Activity as InMachine}
 use Rattle.bl_machine.specs.Layout.{width_in}
 use Rattle.bl_machine.specs.Machines.{IsActivityOf}
 use Rattle.bl_graph_nodes.specs.Plain.{plain_body}
-use Rattle.bl_machine_transitions.specs.Shared.{shared_sizes}
+use Rattle.bl_machine_pass.specs.Numbered.{sizes_of}
 use Rattle.bl_ctext_semantics.specs.Sizes.{Sizes, chain_cells, chains_after, size_of_member, size_of_struct, sizes_after}
 use Rattle.bl_ctext_semantics.specs.Tables.{Table, entry_or, with_entry}
 use Rattle.bl_emit_structs_laws_wellformed.specs.Names.{names_of}
@@ -35,7 +35,6 @@ use Rattle.bl_emit_functions_laws_wellformed.proofs.OnFiles.Growing.{distinct_be
 use Rattle.bl_emit_spec.specs.Activities.{Activity, frame_struct, remembered, remembered_struct, remembers_any}
 use Rattle.bl_emit_spec.specs.Names.{frame_name}
 use Rattle.bl_emit_spec.specs.Programs.{ProgramParts, activity_of, needed_units, needs_of, parts_from, parts_of_function, parts_of_next, parts_then, where_needed}
-use Rattle.bl_emit_spec.specs.Shared.{IsSharedActivityOf}
 use Rattle.bl_emit_spec_laws_wellformed.specs.Chains.{ActivitiesCallFew}
 use Rattle.bl_emit_spec_laws_wellformed_bodies.specs.Cells.{ActivityCells}
 use Rattle.bl_emit_spec_laws_wellformed_bodies.proofs.OnStructs.Lists.{first_or, get_behind, none_has, take_front}
@@ -105,11 +104,10 @@ module _ (structs : List StructDef) (units : List UnitDef) (entry : ℕ) (keeps 
     (down : (k j : ℕ) (unit : UnitDef) → slice_get units k ≡ Some unit → list_any (nat_eq j) (needs_of unit) ≡ true →
     cells_at structs units j ≤ cells_at structs units k)
     (last : List CStruct) (last_named : (s : CStruct) → Contains last s → first_byte s.name ≡ 98)
-    (counters : (unit : UnitDef) (one : InMachine) → IsSharedActivityOf unit one →
-    length (shared_sizes (joined one.blocks) (plain_body unit.body) one.slots) ≤ width_in (plain_body unit.body))
+    (counters : (unit : UnitDef) (one : InMachine) → IsActivityOf unit one → length (sizes_of one.slots) ≤ width_in (plain_body unit.body))
     (callees : (k : ℕ) (unit : UnitDef) (one : InMachine) (remember : List Bool) → slice_get units k ≡ Some unit → is_activity unit.kind ≡ true →
-    slice_get (needed_units units entry) k ≡ Some true → IsActivityOf unit one → IsSharedActivityOf unit one → (u : ℕ) (callee : UnitDef) →
-    Contains (runs_of unit) u → slice_get units u ≡ Some callee →
+    slice_get (needed_units units entry) k ≡ Some true → IsActivityOf unit one → (u : ℕ) (callee : UnitDef) →
+    Contains (activities_by_place unit) u → slice_get units u ≡ Some callee →
     (u < k) × (is_activity callee.kind ≡ true) × (slice_get (needed_units units entry) u ≡ Some true))
   where
     abbrev pub Needs : ℕ → Type 0
@@ -245,16 +243,16 @@ module _ (structs : List StructDef) (units : List UnitDef) (entry : ℕ) (keeps 
 
       abbrev Behind : Type 0
       Behind = (remember' : List Bool) (machine : List InMachine) (list' : List ℕ) (chains' : Table ℕ) (T' : Sizes) →
-          EachTwo IsActivityOf (activities rest) machine → EachTwo IsSharedActivityOf (activities rest) machine → Knows list' chains' (suc k) →
+          EachTwo IsActivityOf (activities rest) machine → Knows list' chains' (suc k) →
           Fresh T' (suc k) → Goal list' chains' T' (parts_from structs (earlier ++ unit ∷ []) remember' rest needed machine)
 
       step_by : (active test : Bool) (machine : List InMachine) → is_activity unit.kind ≡ active →
           slice_get (needed_units units entry) k ≡ Some test →
           EachTwo IsActivityOf (cond active (unit ∷ activities rest) (activities rest)) machine →
-          EachTwo IsSharedActivityOf (cond active (unit ∷ activities rest) (activities rest)) machine → Knows list chains k → Fresh T k → Behind →
+          Knows list chains k → Fresh T k → Behind →
           Goal list chains T (All active test (take k units) machine)
-      step_by true test [] act need own plain st fresh behind is = absurd own
-      step_by true true (one ∷ machine) act need own plain st fresh behind is =
+      step_by true test [] act need own st fresh behind is = absurd own
+      step_by true true (one ∷ machine) act need own st fresh behind is =
           let a : Activity = activity_of structs (take k units) remember unit one in
           let remember' : List Bool = remember ++ remembers_any a ∷ [] in
           let later : ProgramParts = parts_from structs (earlier ++ unit ∷ []) remember' rest needed machine in
@@ -262,44 +260,44 @@ module _ (structs : List StructDef) (units : List UnitDef) (entry : ℕ) (keeps 
           let at = fresh k unit (omega arith) there in
           let frame = own_frame T a later.structs at.0 other is in
           let memory = own_memory T a later.structs at.1 other is in
-          let runs = callees k unit one remember there act need own.0 plain.0 in
+          let runs = callees k unit one remember there act need own.0 in
           let r : ℕ = reached structs units entry keeps differ K sizes cells follow grow few before down list chains k unit remember one there act st
-          (counters unit one plain.0) runs frame memory in
+          (counters unit one own.0) runs frame memory in
           let less = chain_less structs units entry keeps differ K sizes cells follow grow few before down list chains k unit remember one there act st
-          (counters unit one plain.0) runs frame memory in
+          (counters unit one own.0) runs frame memory in
           let next = activity_step structs units entry keeps differ K sizes cells follow grow few before down list chains k unit remember one there act
-          st (counters unit one plain.0) runs frame memory in
+          st (counters unit one own.0) runs frame memory in
           then_walked list chains k r _ later.funcs need st.long less
-          (behind remember' machine (list ++ r ∷ []) _ (sizes_after T (frame_struct a ∷ remembered_struct a)) own.1 plain.1 next
+          (behind remember' machine (list ++ r ∷ []) _ (sizes_after T (frame_struct a ∷ remembered_struct a)) own.1 next
           (still_fresh T k unit (frame_struct a ∷ remembered_struct a) there
           (λ s has. ⊎_elim (λ first. inl (ap (λ (s : CStruct). s.name) (sym first))) (λ held. inr (struct_named unit.name (remembered a) s held))
           (first_or (frame_struct a) (remembered_struct a) s has)) fresh)
           (regrouped T (frame_struct a ∷ remembered_struct a) later.structs is))
-      step_by true false (one ∷ machine) act need own plain st fresh behind is =
+      step_by true false (one ∷ machine) act need own st fresh behind is =
           skip_walked list chains (cells_at structs units k) _
-          (behind _ machine (list ++ cells_at structs units k ∷ []) chains T own.1 plain.1
+          (behind _ machine (list ++ cells_at structs units k ∷ []) chains T own.1
           (none_step structs units entry keeps differ K sizes cells follow grow few before down list chains k unit there need st)
           (λ j other above. fresh j other (omega (arith, above))) is)
-      step_by false true machine act need own plain st fresh behind is =
+      step_by false true machine act need own st fresh behind is =
           let members : List CMember = members_of structs (take k units) unit in
           let less = function_less structs units entry keeps differ K sizes cells follow grow few before down list chains k unit there act st in
           let next = function_step structs units entry keeps differ K sizes cells follow grow few before down list chains k unit there act st in
           then_walked list chains k (cells_at structs units k) _ _ need st.long less
-          (behind _ machine (list ++ cells_at structs units k ∷ []) _ (sizes_after T (memory_struct structs (take k units) unit)) own plain next
+          (behind _ machine (list ++ cells_at structs units k ∷ []) _ (sizes_after T (memory_struct structs (take k units) unit)) own next
           (still_fresh T k unit (memory_struct structs (take k units) unit) there (λ s has. inr (struct_named unit.name members s has)) fresh)
           (regrouped T (memory_struct structs (take k units) unit) _ is))
-      step_by false false machine act need own plain st fresh behind is =
+      step_by false false machine act need own st fresh behind is =
           skip_walked list chains (cells_at structs units k) _
-          (behind _ machine (list ++ cells_at structs units k ∷ []) chains T own plain
+          (behind _ machine (list ++ cells_at structs units k ∷ []) chains T own
           (none_step structs units entry keeps differ K sizes cells follow grow few before down list chains k unit there need st)
           (λ j other above. fresh j other (omega (arith, above))) is)
 
       step : (test : Bool) (machine : List InMachine) → slice_get (needed_units units entry) k ≡ Some test →
-          EachTwo IsActivityOf (activities (unit ∷ rest)) machine → EachTwo IsSharedActivityOf (activities (unit ∷ rest)) machine →
+          EachTwo IsActivityOf (activities (unit ∷ rest)) machine →
           Knows list chains k → Fresh T k → Behind → Goal list chains T (All (is_activity unit.kind) test earlier machine)
-      step test machine need own plain st fresh behind =
+      step test machine need own st fresh behind =
           subst (λ earlier'. Goal list chains T (All (is_activity unit.kind) test earlier' machine)) front
-          (step_by (is_activity unit.kind) test machine refl need own plain st fresh behind)
+          (step_by (is_activity unit.kind) test machine refl need own st fresh behind)
 
     length_one : (earlier : List UnitDef) (unit : UnitDef) → length (earlier ++ unit ∷ []) ≡ suc (length earlier)
     length_one earlier unit = let all = length-append earlier (unit ∷ []) in omega arith
@@ -310,18 +308,18 @@ module _ (structs : List StructDef) (units : List UnitDef) (entry : ℕ) (keeps 
 
     pub walk : (earlier : List UnitDef) (remember : List Bool) (rest : List UnitDef) (needed : List Bool) (machine : List InMachine)
         (list : List ℕ) (chains : Table ℕ) (T : Sizes) → earlier ++ rest ≡ units → Told (length earlier) needed rest →
-        EachTwo IsActivityOf (activities rest) machine → EachTwo IsSharedActivityOf (activities rest) machine →
+        EachTwo IsActivityOf (activities rest) machine →
         Knows list chains (length earlier) → Fresh T (length earlier) →
         Goal list chains T (parts_from structs earlier remember rest needed machine)
-    walk earlier remember [] needed machine list chains T whole told own plain st fresh is = record {
+    walk earlier remember [] needed machine list chains T whole told own st fresh is = record {
       final = list;
       knows = subst (λ units'. Knows list chains (length units')) (sym (append-nil earlier) ∙ whole) st;
       more = λ j. omega arith;
       under = λ m all. omega arith;
     }
-    walk earlier remember (unit ∷ rest) [] machine list chains T whole told own plain st fresh is =
+    walk earlier remember (unit ∷ rest) [] machine list chains T whole told own st fresh is =
         absurd (let no : 0 ≡ suc (length rest) = told.1 in omega (arith, no))
-    walk earlier remember (unit ∷ rest) (test ∷ needed) machine list chains T whole told own plain st fresh is =
+    walk earlier remember (unit ∷ rest) (test ∷ needed) machine list chains T whole told own st fresh is =
         let k : ℕ = length earlier in
         let there : slice_get units k ≡ Some unit = ap (λ units. slice_get units (length earlier)) (sym whole) ∙ get_behind earlier unit rest in
         let front : take k units ≡ earlier = ap (take (length earlier)) (sym whole) ∙ take_front earlier (unit ∷ rest) in
@@ -331,12 +329,12 @@ module _ (structs : List StructDef) (units : List UnitDef) (entry : ℕ) (keeps 
         (distinct_behind (names earlier) (names (unit ∷ rest)) (ap are_distinct (sym (map-append (λ (u : UnitDef). u.name) earlier (unit ∷ rest)))
         ∙ ap (λ units. are_distinct (names units)) whole ∙ differ)) in
         step k earlier unit rest needed list chains T remember there front alone test machine
-        (sym (told.0 0 ∙ ap (slice_get (needed_units units entry)) none)) own plain st fresh
-        (λ remember' machine list' chains' T' own plain st fresh.
+        (sym (told.0 0 ∙ ap (slice_get (needed_units units entry)) none)) own st fresh
+        (λ remember' machine list' chains' T' own st fresh.
         walk (earlier ++ unit ∷ []) remember' rest needed machine list' chains' T' (append_assoc earlier (unit ∷ []) rest ∙ whole) (
           (λ i. told.0 (suc i) ∙ ap (slice_get (needed_units units entry)) (shifted earlier unit i)),
           (let all : suc (length needed) ≡ suc (length rest) = told.1 in omega (arith, all)),
-        ) own plain
+        ) own
         (subst (λ n. Knows list' chains' n) (sym (length_one earlier unit)) st)
         (subst (λ n. Fresh T' n) (sym (length_one earlier unit)) fresh)) is
       where

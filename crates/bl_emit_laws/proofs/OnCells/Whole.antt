@@ -35,12 +35,11 @@ use Rattle.bl_tree.specs.declared.tree.StructDef.{StructDef}
 use Rattle.bl_tree.specs.declared.tree.Unit.{Unit as UnitDef}
 use Rattle.bl_tree.specs.declared.tree.Var.{Var}
 use Rattle.bl_tree.specs.Program.{IsWellTyped, is_entry, parameters_of}
-use Rattle.bl_tree.specs.Reduce.{greatest, joined}
+use Rattle.bl_tree.specs.Reduce.{greatest}
 use Rattle.bl_tree.specs.Types.{scalar_in}
 use Rattle.bl_tree.specs.Typing.{inputs_of, is_activity, outputs_of}
 use Rattle.bl_tree.specs.Words.{are_distinct}
 use Rattle.bl_eval.proofs.PassLemmas.{and_left, and_right}
-use Rattle.bl_cause.specs.Activities.{EachTwo, activities}
 use Rattle.bl_limits.specs.Rules.{Passes as KeepsLimits}
 use Rattle.bl_graph_nodes.specs.Nodes.{nodes_in}
 use Rattle.bl_graph_nodes.specs.Plain.{Block, plain_body}
@@ -50,11 +49,10 @@ use Rattle.bl_machine.specs.Machines.{AreActivitiesOf, IsActivityOf}
 use Rattle.bl_machine.specs.Uses.{Slots}
 use Rattle.bl_limits_measures.specs.Calls.{calls_of}
 use Rattle.bl_limits_measures.specs.Laws.{CellsAdd}
-use Rattle.bl_limits_measures.specs.Runs.{runs_of}
+use Rattle.bl_limits_measures.specs.Runs.{activities_by_place, activities_run}
 use Rattle.bl_limits_measures.specs.Units.{cells_at}
 use Rattle.bl_limits_measures_laws.specs.Laws.{UnitsUseEarlierOnes}
-use Rattle.bl_machine_transitions.specs.Shared.{shared_sizes}
-use Rattle.bl_machine_transitions_laws.proofs.Shared.{shared_many}
+use Rattle.bl_machine_pass.specs.Numbered.{sizes_of}
 use Rattle.bl_machine_pass.specs.Transitions.{Transition, rules}
 use Rattle.bl_ctext_semantics.specs.Parts.{parts_from as file_from}
 use Rattle.bl_ctext_semantics.specs.Sizes.{Sizes, cells_needed, chain_cells, chains_after, deepest_chain, size_of_struct, sizes_after}
@@ -71,7 +69,6 @@ use Rattle.bl_emit_spec.specs.Activities.{Activity, RunAt, runs_in_body}
 use Rattle.bl_emit_spec.specs.Names.{frame_name}
 use Rattle.bl_emit_spec.specs.Programs.{ProgramParts, activity_of, file_at, init_function, interface_structs}
 use Rattle.bl_emit_spec.specs.Programs.{needed_units, needs_of, port_struct, state_struct, tick_function}
-use Rattle.bl_emit_spec.specs.Shared.{IsSharedActivityOf}
 use Rattle.bl_emit_spec_laws_wellformed_bodies.specs.Cells.{ActivityCells, BodiesRun, ports_of}
 use Rattle.bl_emit_spec_laws_wellformed.specs.Chains.{ActivitiesCallFew}
 use Rattle.bl_emit_spec_laws_wellformed.specs.Closed.{NeededClosed}
@@ -156,7 +153,7 @@ module _ (program : Program)
     (spell : MachinesSpell program.structs program.units program.entry) (sound : PartsAreSound program.structs program.units program.entry)
     (cells : ActivityCells program.structs program.units program.entry) (machine : List InMachine) (unit : UnitDef)
     (keeps : IsWellTyped program.structs program.units program.entry) (limits : KeepsLimits program.structs program.units program.entry)
-    (agrees : AreActivitiesOf program.units machine) (plain : EachTwo IsSharedActivityOf (activities program.units) machine)
+    (agrees : AreActivitiesOf program.units machine)
     (there : slice_get program.units program.entry ≡ Some unit) where
   abbrev structs : List StructDef
   structs = program.structs
@@ -192,7 +189,7 @@ module _ (program : Program)
   file = types ++ (parts.structs ++ last)
 
   abbrev init : CFunc
-  init = init_function unit.name
+  init = init_function
 
   abbrev tick : CFunc
   tick = tick_function unit remembers
@@ -210,7 +207,7 @@ module _ (program : Program)
   nested = nests structs units entry limits
 
   stands : PartsStand structs units entry parts
-  stands = sound machine keeps limits agrees plain
+  stands = sound machine keeps limits agrees
 
   -- ---- names
 
@@ -306,28 +303,25 @@ module _ (program : Program)
   uses_before : (k j : ℕ) (u : UnitDef) → slice_get units k ≡ Some u → list_any (nat_eq j) (needs_of u) ≡ true → j < k
   uses_before k j u at among =
       let so = earlier structs units keeps.units_stand k u at in
-      ⊎_elim (λ call. All-contains (λ j. j < k) (calls_of u) j so.calls call) (λ run. All-contains (λ j. j < k) (runs_of u) j so.runs run)
-      (Contains-append_cases (calls_of u) (runs_of u) j (any_at (needs_of u) j among))
+      ⊎_elim (λ call. All-contains (λ j. j < k) (calls_of u) j so.calls call) (λ run. All-contains (λ j. j < k) (activities_run u) j so.runs run)
+      (Contains-append_cases (calls_of u) (activities_run u) j (any_at (needs_of u) j among))
 
   cells_down : (k j : ℕ) (u : UnitDef) → slice_get units k ≡ Some u → list_any (nat_eq j) (needs_of u) ≡ true →
       cells_at structs units j ≤ cells_at structs units k
   cells_down k j u at among = less_calls structs units entry k j u keeps earlier add at among
 
-  few_counters : (u : UnitDef) (one : InMachine) → IsSharedActivityOf u one →
-      length (shared_sizes (joined one.blocks) (plain_body u.body) one.slots) ≤ width_in (plain_body u.body)
-  few_counters u one single =
-      subst (λ many. many ≤ width_in (plain_body u.body)) (sym (shared_many (joined one.blocks) (plain_body u.body) one.slots))
-      (sizes_few (plain_body u.body) one.slots single.slots)
+  few_counters : (u : UnitDef) (one : InMachine) → IsActivityOf u one → length (sizes_of one.slots) ≤ width_in (plain_body u.body)
+  few_counters u one own = sizes_few (plain_body u.body) one.slots own.slots
 
   callees : (k : ℕ) (u : UnitDef) (one : InMachine) (remember : List Bool) → slice_get units k ≡ Some u → is_activity u.kind ≡ true →
-      slice_get (needed_units units entry) k ≡ Some true → IsActivityOf u one → IsSharedActivityOf u one → (c : ℕ) (callee : UnitDef) →
-      Contains (runs_of u) c → slice_get units c ≡ Some callee →
+      slice_get (needed_units units entry) k ≡ Some true → IsActivityOf u one → (c : ℕ) (callee : UnitDef) →
+      Contains (activities_by_place u) c → slice_get units c ≡ Some callee →
       (c < k) × (is_activity callee.kind ≡ true) × (slice_get (needed_units units entry) c ≡ Some true)
-  callees k u one remember at active need own single c callee has found =
+  callees k u one remember at active need own c callee has found =
       let a : Activity = activity_of structs (take k units) remember u one in
-      let same : map (λ (run : RunAt). run.unit) (runs_in_body a) ≡ runs_of u =
+      let same : map (λ (run : RunAt). run.unit) (runs_in_body a) ≡ activities_by_place u =
       bodies k u a keeps (record { there = at; is = refl; before = refl }) in
-      let modest : IsModest structs units k u one = record { there = at; of_unit = own; shared = single; cells = small k keeps limits need } in
+      let modest : IsModest structs units k u one = record { there = at; of_unit = own; cells = small k keeps limits need } in
       let run = from_map (λ (run : RunAt). run.unit) (runs_in_body a) c (subst (λ us. Contains us c) (sym same) has) in
       let fits = runs_fit nodes structs units entry k a keeps closed (spell k u one remember keeps modest) run.0 run.1 in
       let is : fits.callee ≡ callee = same_Some fits.callee callee (sym fits.is_there ∙ ap (slice_get units) run.2 ∙ found) in (
@@ -344,7 +338,7 @@ module _ (program : Program)
   walked =
       walk structs units entry keeps differ K sizes cells follow grow few uses_before cells_down last last_named few_counters callees [] [] units
       (needed_units units entry) machine [] no_entries T refl
-      ((λ i. ap (slice_get (needed_units units entry)) (none_behind i (length {A = UnitDef} []) refl)), needed_length units entry) agrees plain
+      ((λ i. ap (slice_get (needed_units units entry)) (none_behind i (length {A = UnitDef} []) refl)), needed_length units entry) agrees
       (record {
         long = refl;
         known = record { prelude = λ word s. refl; unnamed = refl; of_units = λ f u at. omega arith };
@@ -400,17 +394,17 @@ pub counted : (program : Program) → ((slots : Slots) (body : Block) → map (�
     BodiesRun program.structs program.units program.entry → NeededSmall program.structs program.units program.entry →
     NeededClosed program.structs program.units program.entry → MachinesSpell program.structs program.units program.entry →
     PartsAreSound program.structs program.units program.entry → ActivityCells program.structs program.units program.entry → FilesCount program
-counted program nodes earlier add stand follow grow few bodies small closed spell sound cells machine unit keeps limits agrees plain there =
+counted program nodes earlier add stand follow grow few bodies small closed spell sound cells machine unit keeps limits agrees there =
     let parts : ProgramParts = parts_of program.structs program.units program.entry machine in
     subst
     (λ o. cells_needed (file_from (file_at program parts o).structs (file_at program parts o).funcs)
     ≤ cells_at program.structs program.units program.entry) (sym there)
-    (all_cells program nodes earlier add stand follow grow few bodies small closed spell sound cells machine unit keeps limits agrees plain there)
+    (all_cells program nodes earlier add stand follow grow few bodies small closed spell sound cells machine unit keeps limits agrees there)
 
 pub small : (program : Program) → NeededSmall program.structs program.units program.entry →
     NeededClosed program.structs program.units program.entry → FilesCount program → FilesSmall program
-small program few closed count machine keeps passes limits agrees plain unit there =
+small program few closed count machine keeps passes limits agrees unit there =
     let one : cells_needed (file_of program machine) ≤ cells_at program.structs program.units program.entry =
-    count machine unit keeps limits agrees plain there in
+    count machine unit keeps limits agrees there in
     let two : cells_at program.structs program.units program.entry ≤ 1_000_000 = few program.entry keeps limits (closed.entry_is keeps) in
     omega (arith, one, two)

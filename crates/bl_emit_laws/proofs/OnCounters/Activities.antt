@@ -71,6 +71,8 @@ use Rattle.bl_emit_spec.specs.Blocks.{
   run_args,
   run_code,
   target_code,
+  choice_code,
+  spelled_truth,
   tested,
   turn_code,
   turns_of,
@@ -149,10 +151,17 @@ module _ (P : CPath → Type 0) (plain : (place : CPath) → names_counter place
   acted_fine s = acted_by s (out-StmtKind (out-Stmt s).what) refl
 
   tested_fine : (e : Expr) (rule : Transition) → CodeFine P plain (tested view (code_made view.site e) rule)
-  tested_fine e rule =
-      one_stmt P plain (c_if (code_made view.site e) (changes_code view rule.so) (else_code (changes_code view rule.otherwise)))
-      (if-fine P plain (code_made view.site e) (changes_code view rule.so) (else_code (changes_code view rule.otherwise)) (code_fine e)
-      (changes_fine P plain own view rule.so) (else-fine P plain (changes_code view rule.otherwise) (changes_fine P plain own view rule.otherwise)))
+  tested_fine e rule = by (spelled_truth (code_made view.site e))
+    where
+      by : (truth : Option Bool) →
+          CodeFine P plain (choice_code (code_made view.site e) truth (changes_code view rule.so) (changes_code view rule.otherwise))
+      by None =
+          one_stmt P plain (c_if (code_made view.site e) (changes_code view rule.so) (else_code (changes_code view rule.otherwise)))
+          (if-fine P plain (code_made view.site e) (changes_code view rule.so) (else_code (changes_code view rule.otherwise)) (code_fine e)
+          (changes_fine P plain own view rule.so)
+          (else-fine P plain (changes_code view rule.otherwise) (changes_fine P plain own view rule.otherwise)))
+      by (Some true) = changes_fine P plain own view rule.so
+      by (Some false) = changes_fine P plain own view rule.otherwise
 
   -- ---- runs
 
@@ -214,8 +223,8 @@ module _ (P : CPath → Type 0) (plain : (place : CPath) → names_counter place
   node_fine a rule (ActAt l s) = then_code P plain (acted view s) (changes_code view rule.so) (acted_fine s) (changes_fine P plain own view rule.so)
   node_fine a rule (TestAt l at e) = tested_fine e rule
   node_fine a rule (CheckAt l at e) = tested_fine e rule
-  node_fine a rule (EnterAt l at arguments) = begun_fine (view.number (EnterAt l at arguments)) a arguments rule
-  node_fine a rule (ResumeAt l at arguments) = resumed_fine (view.number (EnterAt l at arguments)) a arguments rule
+  node_fine a rule (EnterAt l at arguments) = begun_fine (view.run at) a arguments rule
+  node_fine a rule (ResumeAt l at arguments) = resumed_fine (view.run at) a arguments rule
   node_fine a rule (PauseAt l at) = changes_fine P plain own view rule.so
   node_fine a rule (HeadAt l at) = changes_fine P plain own view rule.so
   node_fine a rule (StartAt l at) = changes_fine P plain own view rule.so

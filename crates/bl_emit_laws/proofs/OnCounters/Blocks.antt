@@ -41,8 +41,6 @@ use Rattle.bl_emit_laws.specs.Counters.Laws.{FilesHaveIfs}
 use Rattle.bl_emit_laws.specs.Counters.Own.{functions_named}
 use Rattle.bl_emit_laws.proofs.OnCounters.Ifs.{blocks_many, body_has}
 use Rattle.bl_emit_laws.proofs.OnCounters.Once.{function_alone}
-use Rattle.bl_machine.specs.declared.slots.Slot.{Slot}
-use Rattle.bl_machine_transitions.specs.Shared.{shared}
 use Rattle.bl_emit_laws.proofs.OnCounters.Whole.{function_there}
 
 -- ---- turns
@@ -55,7 +53,7 @@ turns_many view (c ∷ callees) (r ∷ rs) is = ap suc (turns_many view callees 
 
 -- an activity has one turn for each node of its body
 module _ (placed : StaysPlaced) (listed : RulesAreListed) (a : Activity) (unit : UnitDef) (one : InMachine) (unit_is : a.unit ≡ unit)
-    (list : List Slot) (slots_are : a.slots ≡ slots_of (plain_body unit.body) list)
+    (slots_are : a.slots ≡ slots_of (plain_body unit.body) one.slots)
   where
     abbrev body : Block
     body = plain_body unit.body
@@ -67,7 +65,7 @@ module _ (placed : StaysPlaced) (listed : RulesAreListed) (a : Activity) (unit :
     many_rules = sym (mapped_many (λ (rule : Transition). rule.node) rs) ∙ ap (λ (xs : List Node). length xs) (placed.nodes a.slots body)
 
     many_callees : length (callees_in body) ≡ length rs
-    many_callees = listed.each unit.body list ∙ ap (λ slots. length (rules slots body)) (sym slots_are)
+    many_callees = listed.each unit.body one.slots ∙ ap (λ slots. length (rules slots body)) (sym slots_are)
 
     turns_are : turns_in_source a ≡ turns_of (view_of a) (callees_in body) rs
     turns_are = ap (λ (u : UnitDef). turns_of (view_of a) (callees_in (plain_body u.body)) (rules a.slots (plain_body u.body))) unit_is
@@ -151,8 +149,7 @@ module _ (program : Program) (machine : List InMachine) (unit : UnitDef) (ends :
       functions = alone;
       body =
           body_has (activities k) made.one.blocks
-          (many_ifs placed listed (activities k) activity made.one same
-          (shared (joined made.one.blocks) (plain_body activity.body) made.one.slots) made.slots made.blocks part.order);
+          (many_ifs placed listed (activities k) activity made.one same made.slots made.blocks part.order);
     }
 
 pub files_have_ifs : (program : Program) → AcceptedIsOrderly → ActivitiesBuilt → StaysPlaced → RulesAreListed →

@@ -23,7 +23,6 @@ use Rattle.bl_emit_functions.specs.Functions.{returns_last}
 use Rattle.bl_emit_functions.specs.Functions.{c_set_again, first_held, read_code}
 use Rattle.bl_emit_functions.specs.Trees.{c_if, c_return_zero}
 use Rattle.bl_emit_functions.specs.Reads.{reads_in_block}
-use Rattle.bl_emit_spec.specs.Names.{frame_name}
 use Rattle.bl_emit_spec.specs.Programs.{c_returned, init_function, input_arg, output_arg, tick_args, tick_function}
 use Rattle.bl_emit_laws.specs.Counters.Own.{is_counter_name, names_counter}
 use Rattle.bl_emit_laws.specs.Counters.Places.{CPath, places_in_arg, places_named}
@@ -84,10 +83,10 @@ module _ (P : CPath → Type 0) (plain : (place : CPath) → names_counter place
   pub under-fine : (name member : Text) → is_counter_name member ≡ false → PlaceFine P plain (c_place true name (c_step member ∷ []))
   under-fine name member other = place-fine P plain true name (c_step member ∷ []) (member-fine P plain member other, tt)
 
-  pub init-fine : (name : Text) → Fine P (places_named (init_function name))
-  init-fine name =
-      one_stmt P plain (c_clear (c_place true (codes "s") (c_step (codes "f") ∷ [])) (frame_name name))
-      (clear-fine P plain (c_place true (codes "s") (c_step (codes "f") ∷ [])) (frame_name name) (under-fine (codes "s") (codes "f") refl))
+  pub init-fine : Fine P (places_named init_function)
+  init-fine =
+      one_stmt P plain (c_clear (c_place true (codes "s") []) (codes "bl_state"))
+      (clear-fine P plain (c_place true (codes "s") []) (codes "bl_state") (place-fine P plain true (codes "s") [] tt))
 
   inputs_given : (vars : List Var) → ArgsFine P plain (map input_arg vars)
   inputs_given [] = tt

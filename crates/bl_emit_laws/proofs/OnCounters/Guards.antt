@@ -1,7 +1,7 @@
 -- What stands before the nodes of an activity's C, and what changes at them, names its own counters alone.
 use Rattle.std.proofs.Common.{◌≡◌, ℕ, zero, suc, pos, Bool, true, false, List, [], ◌∷◌, ◌++◌, map, Some}
 use Rattle.std.proofs.Common.{length, ap, ◌∙◌, codes}
-use Rattle.std.specs.Prelude.{if◌then◌else◌}
+use Rattle.std.specs.Prelude.{if◌then◌else◌, nat_eq}
 use Rattle.bl_tree.specs.declared.c.CExpr.{CExpr}
 use Rattle.bl_tree.specs.declared.scalar.Op.{Op}
 use Rattle.bl_tree.specs.declared.scalar.Op.TheVariants.{And, Eq, Ge, Le, Ne, Or}
@@ -15,7 +15,6 @@ use Rattle.bl_emit_functions.specs.Trees.{c_if, c_truth}
 use Rattle.bl_machine_pass.specs.Transitions.{Age, Asked, Change, Needed}
 use Rattle.bl_machine_pass.specs.Transitions.{ClearsBoth, ClearsCounter, Ended, EndsWhen, Finishes, Flagged, IsAny, IsNew, IsOld, Rested, RestedIn, SetsCounter, SetsFlag, SetsMark}
 use Rattle.bl_emit_spec.specs.Blocks.{
-  is_only,
   ActivityView,
   aged_test,
   all_tests,
@@ -31,11 +30,16 @@ use Rattle.bl_emit_spec.specs.Blocks.{
   guard_of,
   in_pairs,
   in_tree,
+  is_greatest,
   last_value,
   rested_at,
   rested_by,
   rested_between,
+  rested_from,
   rested_in,
+  rested_since,
+  rested_to,
+  rested_within,
   some_test,
 }
 use Rattle.bl_emit_spec.specs.Names.{counter_name, counter_place, flag_name, flag_place, mark_name, mark_place, over_place, rested_name, rested_place}
@@ -104,13 +108,18 @@ module _ (P : CPath → Type 0) (plain : (place : CPath) → names_counter place
   slots_fine view [] = tt
   slots_fine view (slot ∷ rest) = (slot_fine view slot, slots_fine view rest)
 
-  rested_fine : (view : ActivityView) (slot : Slot) → ExprFine P plain (rested_at view slot)
-  rested_fine view slot = by (is_only view.sizes slot)
+  since_fine : (view : ActivityView) (k least : ℕ) → ExprFine P plain (rested_since view k least)
+  since_fine view k least = by (nat_eq least 1)
     where
-      by : (only : Bool) → ExprFine P plain (rested_by view slot only)
-      by true =
-          two-fine P plain Ne (c_read (rested_place slot.counter)) (counter_value view.sizes slot.counter 0)
-          (local_read (rested_name slot.counter)) (value_fine view slot.counter 0)
+      by : (one : Bool) → ExprFine P plain (rested_from view k least one)
+      by true = two-fine P plain Ne (c_read (rested_place k)) (counter_value view.sizes k 0) (local_read (rested_name k)) (value_fine view k 0)
+      by false = two-fine P plain Ge (c_read (rested_place k)) (counter_value view.sizes k least) (local_read (rested_name k)) (value_fine view k least)
+
+  rested_fine : (view : ActivityView) (slot : Slot) → ExprFine P plain (rested_at view slot)
+  rested_fine view slot = by (is_greatest view.sizes slot.counter slot.value)
+    where
+      by : (last : Bool) → ExprFine P plain (rested_by view slot last)
+      by true = since_fine view slot.counter slot.value
       by false =
           two-fine P plain Eq (c_read (rested_place slot.counter)) (counter_value view.sizes slot.counter slot.value)
           (local_read (rested_name slot.counter)) (value_fine view slot.counter slot.value)
@@ -124,10 +133,17 @@ module _ (P : CPath → Type 0) (plain : (place : CPath) → names_counter place
       (compare-fine P plain Ge s (c_read (rested_place k)) (counter_value view.sizes k least) here (value_fine view k least))
       (compare-fine P plain Le s (c_read (rested_place k)) (counter_value view.sizes k most) here (value_fine view k most))
 
+  within_fine : (view : ActivityView) (k least most : ℕ) → ExprFine P plain (rested_within view k least most)
+  within_fine view k least most = by (is_greatest view.sizes k most)
+    where
+      by : (top : Bool) → ExprFine P plain (rested_to view k least most top)
+      by true = since_fine view k least
+      by false = between_fine view k least most
+
   in_fine : (view : ActivityView) (slots : List Slot) → ExprFine P plain (rested_in view slots)
   in_fine view [] = truth-fine P plain false
   in_fine view (slot ∷ []) = rested_fine view slot
-  in_fine view (slot ∷ more ∷ rest) = between_fine view slot.counter slot.value (last_value more.value rest)
+  in_fine view (slot ∷ more ∷ rest) = within_fine view slot.counter slot.value (last_value more.value rest)
 
   ends_fine : (view : ActivityView) (needed : Needed) → ExprFine P plain (ends_test view needed)
   ends_fine view needed = by needed.all

@@ -81,10 +81,9 @@ own_function structs units earlier unit place at is =
     no_counter units (function_code structs earlier unit) place
     (each-fine None_of (places_named (function_code structs earlier unit)) place (function-fine None_of (λ place none. none) structs earlier unit) at) is
 
-own_init : (units : List UnitDef) (name : Text) → NamesOwn units (init_function name)
-own_init units name place at is =
-    no_counter units (init_function name) place
-    (each-fine None_of (places_named (init_function name)) place (init-fine None_of (λ place none. none) name) at) is
+own_init : (units : List UnitDef) → NamesOwn units init_function
+own_init units place at is =
+    no_counter units init_function place (each-fine None_of (places_named init_function) place (init-fine None_of (λ place none. none)) at) is
 
 own_tick : (units : List UnitDef) (unit : UnitDef) (remembers : Bool) → NamesOwn units (tick_function unit remembers)
 own_tick units unit remembers place at is =
@@ -193,7 +192,7 @@ module _ (program : Program) (machine : List InMachine) (unit : UnitDef) (ends :
   own_functions = functions_before program machine
 
   abbrev last_functions : List CFunc
-  last_functions = init_function unit.name ∷ tick_function unit (remembers_any (activities program.entry)) ∷ []
+  last_functions = init_function ∷ tick_function unit (remembers_any (activities program.entry)) ∷ []
 
   functions_are : file.funcs ≡ own_functions ++ last_functions
   functions_are = ap (λ (file : Parts). file.funcs) ends.is
@@ -235,10 +234,10 @@ module _ (program : Program) (machine : List InMachine) (unit : UnitDef) (ends :
 
     own_last : (function : CFunc) → Contains last_functions function → NamesOwn units function
     own_last function at =
-        ⊎_elim (λ is. subst (NamesOwn units) is (own_init units unit.name))
+        ⊎_elim (λ is. subst (NamesOwn units) is (own_init units))
         (λ later. ⊎_elim (λ is. subst (NamesOwn units) is (own_tick units unit (remembers_any (activities program.entry))))
         (λ none. absurd (none_has function none)) (first_or (tick_function unit (remembers_any (activities program.entry))) [] function later))
-        (first_or (init_function unit.name) (tick_function unit (remembers_any (activities program.entry)) ∷ []) function at)
+        (first_or init_function (tick_function unit (remembers_any (activities program.entry)) ∷ []) function at)
 
     pub counters_own : CountersAreOwn units file
     counters_own function place has =

@@ -42,7 +42,7 @@ use Rattle.bl_emit_acts_laws_wellformed.specs.Formed.Formed.{BlockIs, PlaceIs, S
 use Rattle.bl_emit_acts_laws_wellformed.proofs.OnFormed.Acts.{block_cons, block_one, calling-is, clear-is}
 use Rattle.bl_emit_acts_laws_wellformed.proofs.OnFormed.Judged.{kept, literal-is, read-is}
 use Rattle.bl_emit_acts_laws_wellformed.proofs.OnFormed.Prelude.{unit_named}
-use Rattle.bl_emit_acts_laws_wellformed.proofs.OnFormed.Typed.{variable_place}
+use Rattle.bl_emit_acts_laws_wellformed.proofs.OnFormed.Typed.{pointer_place, variable_place}
 use Rattle.bl_emit_functions_laws_wellformed.proofs.OnFiles.Shapes.{address-calls, call-calls, calling-calls, clear-calls, if-calls, literal-calls, place-calls}
 use Rattle.bl_emit_functions_laws_wellformed.proofs.OnFiles.Shapes.{read-calls, return-calls, step-calls, value-calls}
 use Rattle.bl_emit_functions_laws_wellformed.proofs.OnFormed.Shapes.{if-is, return-is}
@@ -67,7 +67,6 @@ pub record Entry (structs : List StructDef) (unit : UnitDef) (remembers : Bool) 
   pub state : IsDeclared table (state_struct unit.name remembers)
   pub ins : IsDeclared table (port_struct structs (codes "bl_in") (codes "i_") (inputs_of unit))
   pub outs : IsDeclared table (port_struct structs (codes "bl_out") (codes "o_") (outputs_of unit))
-  pub frame : is_some (table (frame_name unit.name)) ≡ true
   pub known : functions (unit_name unit.name) ≡ Some (signature_of_activity structs unit remembers)
   pub depth : entry_or 0 depths (unit_name unit.name) ≤ 100
 
@@ -153,7 +152,7 @@ module _ (structs : List StructDef) (unit : UnitDef) (remembers : Bool) (table :
   -- ---- bl_init
 
   abbrev init : CFunc
-  init = init_function unit.name
+  init = init_function
 
   abbrev in_init : Context
   in_init = context_in table functions init
@@ -167,20 +166,19 @@ module _ (structs : List StructDef) (unit : UnitDef) (remembers : Bool) (table :
 
   init_body : BlockIs in_init init.body
   init_body =
-      block_one in_init (c_clear (c_place true (codes "s") (c_step (codes "f") ∷ [])) (frame_name unit.name))
-      (clear-is in_init true (c_place true (codes "s") (c_step (codes "f") ∷ [])) (frame_name unit.name)
-      (member_place in_init (codes "s") (codes "bl_state") (codes "f") (OfStruct (frame_name unit.name)) refl (frame_member in_init refl)) e.frame refl)
+      block_one in_init (c_clear (c_place true (codes "s") []) (codes "bl_state"))
+      (clear-is in_init true (c_place true (codes "s") []) (codes "bl_state")
+      (pointer_place in_init (codes "s") (OfStruct (codes "bl_state")) refl) (ap is_some e.state) refl)
 
   init_calls : calls_in_block init.body ≡ []
   init_calls =
-      (λ i. clear-calls (c_place true (codes "s") (c_step (codes "f") ∷ [])) (frame_name unit.name) i ++ [])
-      ∙ (λ i. step_calls_none true (codes "s") (codes "f") i ++ [])
+      (λ i. clear-calls (c_place true (codes "s") []) (codes "bl_state") i ++ []) ∙ (λ i. root_calls_none true (codes "s") i ++ [])
 
   init_depth : depth_of_function depths init ≤ 300
   init_depth = let none : most depths (calls_in_block init.body) ≡ 0 = ap (most depths) init_calls in omega (arith, none)
 
   init_turns : turns_in_block init.body ≡ []
-  init_turns = one-turns (c_clear (c_place true (codes "s") (c_step (codes "f") ∷ [])) (frame_name unit.name)) [] (clear-turns _ _)
+  init_turns = one-turns (c_clear (c_place true (codes "s") []) (codes "bl_state")) [] (clear-turns _ _)
 
   pub init-fine : functions (codes "bl_init") ≡ None → faults_in_function table functions depths true init ≡ []
   init-fine new =

@@ -97,7 +97,7 @@ module _ (program : Program) (machine : List InMachine) (unit : UnitDef) (keeps 
     (passes : Passes program.structs program.units program.entry) (there : slice_get program.units program.entry ≡ Some unit)
     (closed : NeededClosed program.structs program.units program.entry) (sound : StructsSound program machine unit)
     (end : FunctionsEnd program.structs program.units program.entry (table_of program machine) (parts_of program machine)
-    (init_function unit.name ∷ tick_function unit (unwrap_or (slice_get (parts_of program machine).remember program.entry) false) ∷ [])) where
+    (init_function ∷ tick_function unit (unwrap_or (slice_get (parts_of program machine).remember program.entry) false) ∷ [])) where
   abbrev parts : ProgramParts
   parts = parts_of program machine
 
@@ -108,7 +108,7 @@ module _ (program : Program) (machine : List InMachine) (unit : UnitDef) (keeps 
   remembers = unwrap_or (slice_get parts.remember program.entry) false
 
   abbrev init : CFunc
-  init = init_function unit.name
+  init = init_function
 
   abbrev tick : CFunc
   tick = tick_function unit remembers
@@ -160,7 +160,6 @@ module _ (program : Program) (machine : List InMachine) (unit : UnitDef) (keeps 
     state = sound.interface state (here state (ins ∷ outs ∷ []));
     ins = sound.interface ins (further state (ins ∷ outs ∷ []) ins (here ins (outs ∷ [])));
     outs = sound.interface outs (further state (ins ∷ outs ∷ []) outs (further ins (outs ∷ []) outs (here outs [])));
-    frame = end.frames program.entry unit there need active;
     known = end.known.known program.entry unit there within need
         ∙ ap (λ b. Some (signature_by b program.structs unit remembers)) active;
     depth = let low = end.chains.of_units program.entry unit there in let few = chain_low in omega (arith, low, few);
@@ -184,7 +183,6 @@ module _ (program : Program) (machine : List InMachine) (unit : UnitDef) (keeps 
     state = before.state;
     ins = before.ins;
     outs = before.outs;
-    frame = before.frame;
     known = ap (λ o. option_or o None) before.known;
     depth = subst (λ o. unwrap_or o 0 ≤ 100) (sym (none_more (end.depths (unit_name unit.name)))) before.depth;
   }
@@ -225,5 +223,5 @@ pub files : (program : Program) → NeededClosed program.structs program.units p
 files program closed parts_well_formed machine unit keeps passes there forms sound =
     formed program machine unit keeps passes there closed sound
     (parts_well_formed machine (table_of program machine)
-    (init_function unit.name ∷ tick_function unit (unwrap_or (slice_get (parts_of program machine).remember program.entry) false) ∷ [])
+    (init_function ∷ tick_function unit (unwrap_or (slice_get (parts_of program machine).remember program.entry) false) ∷ [])
     keeps passes forms sound.types sound.parts (omega arith))

@@ -8,14 +8,14 @@ use Rattle.bl_tree.specs.declared.tree.Unit.{Unit as UnitDef}
 use Rattle.bl_tree.specs.declared.tree.UnitKind.{UnitKind}
 use Rattle.bl_tree.specs.declared.tree.UnitKind.TheVariants.{Function, Activity as ActivityKind}
 use Rattle.bl_tree.specs.Program.{IsWellTyped}
-use Rattle.bl_tree.specs.Reduce.{greatest, joined, total}
+use Rattle.bl_tree.specs.Reduce.{greatest, total}
 use Rattle.bl_tree.specs.Typing.{is_activity}
 use Rattle.bl_cause.specs.Activities.{EachTwo, activities}
 use Rattle.bl_effects.specs.Rules.{Passes}
 use Rattle.bl_limits.specs.Rules.{Passes as KeepsLimits}
 use Rattle.bl_limits_measures.specs.Calls.{calls_of}
 use Rattle.bl_limits_measures.specs.Laws.{CellsAdd}
-use Rattle.bl_limits_measures.specs.Runs.{runs_of}
+use Rattle.bl_limits_measures.specs.Runs.{activities_by_place}
 use Rattle.bl_limits_measures.specs.Statements.{cell_statements_of}
 use Rattle.bl_limits_measures.specs.Units.{cells_at, cells_with, variables_of}
 use Rattle.bl_limits_measures_laws.specs.Laws.{UnitsUseEarlierOnes}
@@ -32,7 +32,6 @@ use Rattle.bl_machine_prevs_laws.specs.Scalar.{PrevsAreScalar}
 use Rattle.bl_emit_functions_laws_wellformed.specs.Formed.{IsNumbered}
 use Rattle.bl_emit_spec.specs.Activities.{Activity}
 use Rattle.bl_emit_spec.specs.Programs.{activity_of, needed_units, parts_of_function, parts_of_next}
-use Rattle.bl_emit_spec.specs.Shared.{IsSharedActivityOf}
 use Rattle.bl_emit_spec_laws_wellformed_bodies.specs.Bodies.{OwnsRules}
 use Rattle.bl_emit_spec_laws_nodes.specs.Copied.{NodesCopied, RunsCopied}
 use Rattle.bl_emit_spec_laws_wellformed.specs.Counts.{NodesCounted}
@@ -40,13 +39,8 @@ use Rattle.bl_emit_spec_laws_wellformed_bodies.specs.Lists.{ActivityConditions, 
 use Rattle.bl_emit_spec_laws_wellformed.specs.Machines.{IsModest, MachinesDiffer, MachinesSpell}
 use Rattle.bl_emit_spec_laws_wellformed.specs.Needed.{NeededNumbered, NeededSmall}
 use Rattle.bl_emit_spec_laws.proofs.OnOwn.Members.{contains_at}
-use Rattle.bl_emit_spec_laws.proofs.OnOwn.Listing.{Listing, shared_listing}
 use Rattle.bl_emit_spec_laws.proofs.OnOwn.Owning.{asks_on, changes_on, copied_below}
 use Rattle.bl_emit_laws.proofs.OnForms.Copying.{copies-suffice}
-use Rattle.bl_machine.specs.declared.slots.Slot.{Slot}
-use Rattle.bl_machine_transitions.specs.Shared.{shared}
-use Rattle.bl_machine_transitions_laws.specs.Laws.{RulesAreListed}
-use Rattle.bl_machine_transitions_laws.proofs.Shared.{shared_many}
 use Rattle.bl_emit_laws.specs.Forms.{UnitsMeetConditions}
 
 get_behind : {A : Type 0} (xs : List A) (y : A) (ys : List A) → slice_get (xs ++ y ∷ ys) (length xs) ≡ Some y
@@ -76,7 +70,6 @@ pub record Promised (structs : List StructDef) (units : List UnitDef) (entry : �
   pub small : NeededSmall structs units entry
   pub numbered : NeededNumbered structs units entry
   pub spots : SpotsDiffer
-  pub listed : RulesAreListed
   pub nodes : (slots : Slots) (body : Block) → map (λ (rule : Transition). rule.node) (rules slots body) ≡ nodes_in body
   pub copied : NodesCopied
   pub runs : RunsCopied
@@ -94,7 +87,7 @@ module _ (structs : List StructDef) (units : List UnitDef) (entry : ℕ) (laws :
   statements_less : (k : ℕ) (unit : UnitDef) → slice_get units k ≡ Some unit → cell_statements_of unit ≤ cells_at structs units k
   statements_less k unit there =
       subst (λ n. cell_statements_of unit ≤ n) (sym (laws.add structs units k unit (laws.uses structs units keeps.units_stand) there))
-      (enough unit.kind (variables_of structs unit) (cell_statements_of unit) (total (map (cells_at structs units) (runs_of unit)))
+      (enough unit.kind (variables_of structs unit) (cell_statements_of unit) (total (map (cells_at structs units) (activities_by_place unit)))
       (greatest (map (cells_at structs units) (calls_of unit))))
 
   module _ (earlier : List UnitDef) (unit : UnitDef) (rest : List UnitDef) (whole : earlier ++ unit ∷ rest ≡ units) (remember : List Bool) where
@@ -108,33 +101,25 @@ module _ (structs : List StructDef) (units : List UnitDef) (entry : ℕ) (laws :
     before = ap (take (length earlier)) (sym whole) ∙ take_front earlier (unit ∷ rest)
 
     module _ (one : InMachine) (active : is_activity unit.kind ≡ true) (needed : slice_get (needed_units units entry) k ≡ Some true)
-        (own : IsActivityOf unit one) (plain : IsSharedActivityOf unit one) where
+        (own : IsActivityOf unit one) where
       abbrev a : Activity
       a = activity_of structs (take k units) remember unit one
 
       modest : IsModest structs units k unit one
-      modest = record { there = there; of_unit = own; shared = plain; cells = laws.small k keeps limits needed }
+      modest = record { there = there; of_unit = own; cells = laws.small k keeps limits needed }
 
       few_places : places_in (plain_body unit.body) < 2 ^ 32
       few_places =
           places_small (places_in (plain_body unit.body)) (cell_statements_of unit) (cells_at structs units k)
           (laws.nodes_counted k unit keeps there).places (statements_less k unit there) modest.cells
 
-      -- the numbers of its places
-      abbrev numbers : List Slot
-      numbers = shared (joined one.blocks) (plain_body unit.body) one.slots
-
-      listing : Listing a.sizes a.slots (plain_body a.unit.body) numbers
-      listing = shared_listing laws.spots laws.listed (joined one.blocks) unit.body one.slots own.counters
-
       owns : OwnsRules a
       owns = record {
-        asks = λ rule has. asks_on a numbers laws.spots refl listing few_places rule has;
-        so = λ rule has. (changes_on a numbers laws.spots refl listing rule has).0;
-        otherwise = λ rule has. (changes_on a numbers laws.spots refl listing rule has).1;
-        some = subst (λ many. 0 < many) (sym (shared_many (joined one.blocks) (plain_body unit.body) one.slots))
-            (laws.counted structs units entry unit one keeps passes (contains_at units k unit there) active own);
-        read = λ c on. copied_below a numbers laws.spots refl listing c on;
+        asks = λ rule has. asks_on a one.slots laws.spots refl refl own.counters few_places rule has;
+        so = λ rule has. (changes_on a one.slots laws.spots refl refl own.counters rule has).0;
+        otherwise = λ rule has. (changes_on a one.slots laws.spots refl refl own.counters rule has).1;
+        some = laws.counted structs units entry unit one keeps passes (contains_at units k unit there) active own;
+        read = λ c on. copied_below a one.slots laws.spots refl refl own.counters c on;
       }
 
       forms : ActivityConditions structs units k a
@@ -159,7 +144,7 @@ module _ (structs : List StructDef) (units : List UnitDef) (entry : ℕ) (laws :
     -- those behind it are
     abbrev Behind : Type 0
     Behind = (remember : List Bool) (needed : List Bool) (machine : List InMachine) → Told (suc k) needed →
-        EachTwo IsActivityOf (activities rest) machine → EachTwo IsSharedActivityOf (activities rest) machine →
+        EachTwo IsActivityOf (activities rest) machine →
         AllConditions structs units (earlier ++ unit ∷ []) remember rest needed machine
 
     own_needed : (needed : List Bool) → Told k (true ∷ needed) → slice_get (needed_units units entry) k ≡ Some true
@@ -167,38 +152,38 @@ module _ (structs : List StructDef) (units : List UnitDef) (entry : ℕ) (laws :
 
     listed : (active test : Bool) (needed : List Bool) (machine : List InMachine) → is_activity unit.kind ≡ active → Told k (test ∷ needed) →
         EachTwo IsActivityOf (cond active (unit ∷ activities rest) (activities rest)) machine →
-        EachTwo IsSharedActivityOf (cond active (unit ∷ activities rest) (activities rest)) machine → Behind → Listed active test needed machine
-    listed true test needed [] is told own plain behind = absurd own
-    listed true true needed (one ∷ machine) is told own plain behind = (
-      activity_forms one is (own_needed needed told) own.0 plain.0,
-      behind _ needed machine (told_rest k true needed told) own.1 plain.1,
+        Behind → Listed active test needed machine
+    listed true test needed [] is told own behind = absurd own
+    listed true true needed (one ∷ machine) is told own behind = (
+      activity_forms one is (own_needed needed told) own.0,
+      behind _ needed machine (told_rest k true needed told) own.1,
     )
-    listed true false needed (one ∷ machine) is told own plain behind = (tt, behind _ needed machine (told_rest k false needed told) own.1 plain.1)
-    listed false true needed machine is told own plain behind = (
+    listed true false needed (one ∷ machine) is told own behind = (tt, behind _ needed machine (told_rest k false needed told) own.1)
+    listed false true needed machine is told own behind = (
       subst (λ before. IsNumbered structs before unit) before (laws.numbered k unit keeps limits there (own_needed needed told)),
-      behind _ needed machine (told_rest k true needed told) own plain,
+      behind _ needed machine (told_rest k true needed told) own,
     )
-    listed false false needed machine is told own plain behind = (tt, behind _ needed machine (told_rest k false needed told) own plain)
+    listed false false needed machine is told own behind = (tt, behind _ needed machine (told_rest k false needed told) own)
 
   length_one : (earlier : List UnitDef) (unit : UnitDef) → length (earlier ++ unit ∷ []) ≡ suc (length earlier)
   length_one earlier unit = let all = length-append earlier (unit ∷ []) in omega arith
 
   all_forms : (earlier : List UnitDef) (remember : List Bool) (rest : List UnitDef) (needed : List Bool) (machine : List InMachine) →
       earlier ++ rest ≡ units → Told (length earlier) needed → EachTwo IsActivityOf (activities rest) machine →
-      EachTwo IsSharedActivityOf (activities rest) machine → AllConditions structs units earlier remember rest needed machine
-  all_forms earlier remember [] needed machine whole told own plain = tt
-  all_forms earlier remember (unit ∷ rest) [] machine whole told own plain = tt
-  all_forms earlier remember (unit ∷ rest) (test ∷ needed) machine whole told own plain =
-      listed earlier unit rest whole remember (is_activity unit.kind) test needed machine refl told own plain
-      (λ remember needed machine told own plain.
+      AllConditions structs units earlier remember rest needed machine
+  all_forms earlier remember [] needed machine whole told own = tt
+  all_forms earlier remember (unit ∷ rest) [] machine whole told own = tt
+  all_forms earlier remember (unit ∷ rest) (test ∷ needed) machine whole told own =
+      listed earlier unit rest whole remember (is_activity unit.kind) test needed machine refl told own
+      (λ remember needed machine told own.
       all_forms (earlier ++ unit ∷ []) remember rest needed machine (append_assoc earlier (unit ∷ []) rest ∙ whole)
-      (subst (λ n. Told n needed) (sym (length_one earlier unit)) told) own plain)
+      (subst (λ n. Told n needed) (sym (length_one earlier unit)) told) own)
 
 behind_none : (needed : List Bool) (n j : ℕ) → n ≡ 0 → slice_get needed j ≡ Some true → slice_get needed (n + j) ≡ Some true
 behind_none needed n j none is = subst (λ m. slice_get needed m ≡ Some true) (omega (arith, none)) is
 
 pub form : (structs : List StructDef) (units : List UnitDef) (entry : ℕ) → Promised structs units entry → UnitsMeetConditions structs units entry
-form structs units entry laws machine keeps passes limits agrees plain =
+form structs units entry laws machine keeps passes limits agrees =
     let needed : List Bool = needed_units units entry in
     all_forms structs units entry laws keeps passes limits [] [] units needed machine refl
-    (λ j is. behind_none needed (length {A = UnitDef} []) j refl is) agrees plain
+    (λ j is. behind_none needed (length {A = UnitDef} []) j refl is) agrees

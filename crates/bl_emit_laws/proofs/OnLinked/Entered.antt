@@ -170,23 +170,23 @@ tick_same decide known meaning unit remembers passed memory =
 module _ (decide : CallsDecide) (known : Table Meaning) (functions : List CFunc) (table : known_after no_entries functions ≡ known) (unit : UnitDef)
     (remembers : Bool) where
   abbrev all : List CFunc
-  all = functions ++ (init_function unit.name ∷ tick_function unit remembers ∷ [])
+  all = functions ++ (init_function ∷ tick_function unit remembers ∷ [])
 
   init_found : others (codes "bl_init") functions ≡ true → found (codes "bl_init") (meanings_after no_entries all)
-      ≡ Some (function_c known (init_function unit.name))
+      ≡ Some (function_c known init_function)
   init_found other =
-      found_behind no_entries functions (init_function unit.name ∷ tick_function unit remembers ∷ []) (codes "bl_init") other
-      ∙ ap (λ known. Some (function_c known (init_function unit.name))) table
+      found_behind no_entries functions (init_function ∷ tick_function unit remembers ∷ []) (codes "bl_init") other
+      ∙ ap (λ known. Some (function_c known init_function)) table
 
   tick_found : others (codes "bl_tick") functions ≡ true → found (codes "bl_tick") (meanings_after no_entries all)
-      ≡ Some (function_c (with_entry known (codes "bl_init") (function_c known (init_function unit.name))) (tick_function unit remembers))
+      ≡ Some (function_c (with_entry known (codes "bl_init") (function_c known init_function)) (tick_function unit remembers))
   tick_found other =
-      found_behind no_entries functions (init_function unit.name ∷ tick_function unit remembers ∷ []) (codes "bl_tick") other
-      ∙ ap (λ known. Some (function_c (with_entry known (codes "bl_init") (function_c known (init_function unit.name))) (tick_function unit remembers)))
+      found_behind no_entries functions (init_function ∷ tick_function unit remembers ∷ []) (codes "bl_tick") other
+      ∙ ap (λ known. Some (function_c (with_entry known (codes "bl_init") (function_c known init_function)) (tick_function unit remembers)))
       table
 
   pub init_done : (file : Parts) → file.funcs ≡ all → others (codes "bl_init") functions ≡ true → (passed : List ArgumentValue) (memory : Memory) →
-      entered file (codes "bl_init") passed memory ≡ function_c known (init_function unit.name) 0 passed memory
+      entered file (codes "bl_init") passed memory ≡ function_c known init_function 0 passed memory
   unfolding entered
   init_done file is other passed memory =
       ap (λ functions. applied (found (codes "bl_init") (meanings_after no_entries functions)) 0 passed memory) is
@@ -198,7 +198,7 @@ module _ (decide : CallsDecide) (known : Table Meaning) (functions : List CFunc)
   tick_done file is other passed memory =
       ap (λ functions. applied (found (codes "bl_tick") (meanings_after no_entries functions)) 0 passed memory) is
       ∙ (ap (λ o. applied o 0 passed memory) (tick_found other)
-      ∙ tick_same decide known (function_c known (init_function unit.name)) unit remembers passed memory)
+      ∙ tick_same decide known (function_c known init_function) unit remembers passed memory)
 
 -- the entry is an activity
 active_entry : (o : Option UnitDef) (unit : UnitDef) → o ≡ Some unit → is_entry o ≡ true → is_activity unit.kind ≡ true
@@ -236,5 +236,5 @@ all_enter decide written program machine unit file is = record {
         written program machine unit is.agrees is.there
         (active_entry (slice_get program.units program.entry) unit is.there is.keeps.entry_stands)
 
-    funcs : file.funcs ≡ functions ++ (init_function unit.name ∷ tick_function unit remembers ∷ [])
+    funcs : file.funcs ≡ functions ++ (init_function ∷ tick_function unit remembers ∷ [])
     funcs = is.funcs ∙ written_so.funcs

@@ -15,7 +15,7 @@ use Rattle.bl_tree.specs.Words.{are_distinct, is_name}
 use Rattle.bl_eval.proofs.PassLemmas.{and_right}
 use Rattle.bl_machine.specs.declared.machine.Activity.{Activity as InMachine}
 use Rattle.bl_limits_measures.specs.Calls.{calls_of}
-use Rattle.bl_limits_measures.specs.Runs.{runs_of}
+use Rattle.bl_limits_measures.specs.Runs.{activities_run}
 use Rattle.bl_ctext_semantics.specs.Calls.{calls_in_block}
 use Rattle.bl_ctext_semantics.specs.Tables.{no_entries}
 use Rattle.bl_ctext_semantics_laws_calls.specs.Known.{CallsDecide}
@@ -104,7 +104,7 @@ module _ (structs : List StructDef) (units : List UnitDef) (entry : ℕ) (decide
       by_kind true = of_activity
       by_kind false =
           code_few weight prelude (site_of structs (take k units) unit) by (callees k) 0 unit
-          (front-under by 0 (calls_of unit) (runs_of unit) (needs k unit there is))
+          (front-under by 0 (calls_of unit) (activities_run unit) (needs k unit there is))
 
   test_is : (k : ℕ) (o : Option Bool) → slice_get needed k ≡ o → unwrap_or o false ≡ false → on needed k ≡ false
   test_is k o is off = ap (λ o. unwrap_or o false) is ∙ off

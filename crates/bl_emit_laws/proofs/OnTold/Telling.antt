@@ -8,6 +8,7 @@ use Rattle.bl_tree.specs.declared.c.CMember.{CMember}
 use Rattle.bl_tree.specs.declared.c.CParam.{CParam}
 use Rattle.bl_tree.specs.declared.c.CStmt.{CStmt}
 use Rattle.bl_tree.specs.declared.c.CStruct.{CStruct}
+use Rattle.bl_tree.specs.declared.place.Place.{Place}
 use Rattle.bl_tree.specs.declared.scalar.Scalar.TheVariants.{Bool as OfBool}
 use Rattle.bl_tree.specs.declared.tree.StructDef.{StructDef}
 use Rattle.bl_tree.specs.declared.tree.Unit.{Unit as UnitDef}
@@ -16,19 +17,18 @@ use Rattle.bl_tree.specs.Reduce.{joined}
 use Rattle.bl_graph_nodes.specs.Nodes.{ActAt, CheckAt, EnterAt, Node, ResumeAt, TestAt}
 use Rattle.bl_graph_nodes.specs.Plain.{Block, Done, Then, plain_body}
 use Rattle.bl_machine.specs.declared.machine.Activity.{Activity as InMachine}
-use Rattle.bl_machine.specs.declared.slots.Slot.{Slot}
 use Rattle.bl_machine.specs.Blocks.{up_to}
 use Rattle.bl_machine_pass.specs.Numbered.{slots_of}
 use Rattle.bl_machine_pass.specs.Transitions as nodes
 use Rattle.bl_machine_pass.specs.Transitions.{ClearsBoth, ClearsCounter, Ended, EndsWhen, Finishes, Flagged, Rested, RestedIn, SetsCounter, SetsFlag, SetsMark}
 use Rattle.bl_machine_transitions.specs.Callees.{callees_in, number_in}
-use Rattle.bl_machine_transitions.specs.Shared.{shared}
+use Rattle.bl_machine_transitions.specs.Runs.{begins_run, run_number}
 use Rattle.bl_machine_transitions.specs.Told.{NumberedTransition, all_told, task_at, told_asked, told_change}
 use Rattle.bl_machine_transitions_laws.specs.Laws.{RulesAreListed, entries, first_number}
 use Rattle.bl_emit_functions.specs.Functions.{params_from, struct_of}
 use Rattle.bl_emit_spec.specs.Activities.{Activity, RunAt, activity_function, blocks_code, entry_code, flag_local, is_flagged, is_read_by}
 use Rattle.bl_emit_spec.specs.Activities.{mark_local, mark_locals, memory_params, reads_counter, remembered, rested_code}
-use Rattle.bl_emit_spec.specs.Activities.{rested_local, run_at}
+use Rattle.bl_emit_spec.specs.Activities.{enters_at, one_a_place, rested_local, run_at, run_number_in}
 use Rattle.bl_emit_spec.specs.Activities.{over_param, pointer_param, result_params, runs_at, runs_in_body, scalar_local, view_of}
 use Rattle.bl_emit_spec.specs.Blocks.{ActivityView, NodeCode, Sizes}
 use Rattle.bl_emit_spec.specs.Names.{flag_name, frame_name}
@@ -38,7 +38,7 @@ use Rattle.bl_emit_blocks.specs.Laws.{Alike, BlocksAlike}
 use Rattle.bl_emit_blocks.specs.Numbered.{numbered_turn}
 use Rattle.bl_emit_blocks_laws.specs.Laws.{BodiesAreNumbered}
 use Rattle.bl_emit_tables.specs.Told.{asks_counter, asks_flag, flags_told, mark_told, marks_told, read_told, run_told}
-use Rattle.bl_emit_tables.specs.Told.{runs_told}
+use Rattle.bl_emit_tables.specs.Told.{all_runs_told, runs_told}
 use Rattle.bl_emit.specs.Activities.{ActivityInput, code_told, copied_told, copy_told, counters_told, entry_at, entry_told, frame_by, function_by}
 use Rattle.bl_emit.specs.Activities.{function_told, locals_told, memory_params_told, params_told, remembered_by, remembers_told}
 use Rattle.bl_emit.specs.Activities.{run_locals_told, view_told}
@@ -48,7 +48,24 @@ use Rattle.bl_emit_laws.specs.Told.{ActivitiesAreComputed}
 -- ---- rules, one by one
 
 module _ (number : Node → ℕ) where
-  run_is : (unit : ℕ) (n : Node) → run_at number unit n ≡ run_told (task_at number unit n)
+  enters_is : (unit : ℕ) (at : Place) (n : Node) → enters_at at n ≡ begins_run at (task_at number unit n)
+  enters_is unit at (ActAt l s) = refl
+  enters_is unit at (TestAt l place e) = refl
+  enters_is unit at (CheckAt l place e) = refl
+  enters_is unit at (EnterAt l place arguments) = refl
+  enters_is unit at (ResumeAt l place arguments) = refl
+  enters_is unit at n = refl
+
+  numbers_are : (units : List ℕ) (rules : List nodes.Transition) → length units ≡ length rules → (at : Place) →
+      run_number_in number rules at ≡ run_number (all_told number units rules) at
+  numbers_are [] [] same at = refl
+  numbers_are [] (rule ∷ rules) same at = absurd (omega (arith, same))
+  numbers_are (unit ∷ units) [] same at = refl
+  numbers_are (unit ∷ units) (rule ∷ rules) same at =
+      ap₂ (λ (b : Bool) (more : ℕ). if b then number rule.node else more) (enters_is unit at rule.node)
+      (numbers_are units rules (omega (arith, same)) at)
+
+  run_is : (unit : ℕ) (n : Node) → run_at number unit n ≡ run_told (number n) (task_at number unit n)
   run_is unit (ActAt l s) = refl
   run_is unit (TestAt l at e) = refl
   run_is unit (CheckAt l at e) = refl
@@ -56,7 +73,7 @@ module _ (number : Node → ℕ) where
   run_is unit (ResumeAt l at arguments) = refl
   run_is unit n = refl
 
-  runs_are : (units : List ℕ) (rules : List nodes.Transition) → runs_at number units rules ≡ runs_told (all_told number units rules)
+  runs_are : (units : List ℕ) (rules : List nodes.Transition) → runs_at number units rules ≡ all_runs_told (all_told number units rules)
   runs_are [] rules = refl
   runs_are (unit ∷ units) [] = refl
   runs_are (unit ∷ units) (rule ∷ rules) = ap₂ ◌++◌ (run_is unit rule.node) (runs_are units rules)
@@ -141,20 +158,20 @@ module _ (law : RulesAreListed) (bodies : BodiesAreNumbered) (alike : BlocksAlik
   abbrev calls : List ℕ
   calls = callees_in (plain_body unit.body)
 
-  abbrev slots : List Slot
-  slots = shared (joined one.blocks) (plain_body unit.body) one.slots
-
   abbrev rules : List nodes.Transition
-  rules = nodes.rules (slots_of (plain_body unit.body) slots) (plain_body unit.body)
+  rules = nodes.rules (slots_of (plain_body unit.body) one.slots) (plain_body unit.body)
 
   told_is : all_told number calls rules ≡ t.rules
-  told_is = law.told unit.body (joined one.blocks) slots
+  told_is = law.told unit.body (joined one.blocks) one.slots
 
   each : length calls ≡ length rules
-  each = law.each unit.body slots
+  each = law.each unit.body one.slots
+
+  run_so : run_number_in number rules ≡ run_number t.rules
+  run_so = λ i at. (numbers_are number calls rules each at ∙ ap (λ (rules : List NumberedTransition). run_number rules at) told_is) i
 
   runs_so : runs_told t.rules ≡ runs_in_body a
-  runs_so = sym (runs_are number calls rules ∙ ap runs_told told_is)
+  runs_so = sym (ap one_a_place (runs_are number calls rules ∙ ap all_runs_told told_is))
 
   flags_so : flags_told t.rules ≡ joined (map (flag_local number) rules)
   flags_so = sym (flags_are number calls rules each ∙ ap flags_told told_is)
@@ -177,11 +194,11 @@ module _ (law : RulesAreListed) (bodies : BodiesAreNumbered) (alike : BlocksAlik
   entry_so : entry_told t.sizes t.rules ≡ entry_code (view_of a) (plain_body unit.body)
   entry_so =
       first_is t.sizes t.rules
-      ∙ (ap (map (entry_at t.sizes)) (sym (law.begins unit.body (joined one.blocks) slots))
+      ∙ (ap (map (entry_at t.sizes)) (sym (law.begins unit.body (joined one.blocks) one.slots))
       ∙ sym (entries_are (view_of a) (plain_body unit.body)))
 
   views : Alike (view_told t) (view_of a)
-  views = record { site = refl; copies = refl; sizes = refl; is_read = read_at; remembers = λ k. refl }
+  views = record { site = refl; copies = refl; run = λ at. ap (λ (run : Place → ℕ). run at) (sym run_so); sizes = refl; is_read = read_at; remembers = λ k. refl }
 
   turns_so : map (numbered_turn (view_told t)) t.rules ≡ map (numbered_turn (view_of a)) t.rules
   turns_so = ap (λ (turn : NumberedTransition → NodeCode). map turn t.rules) (λ i rule. alike (view_told t) (view_of a) views rule i)
@@ -193,7 +210,7 @@ module _ (law : RulesAreListed) (bodies : BodiesAreNumbered) (alike : BlocksAlik
       ++ (map (c_copied (view_of a).site) (copied_told unit) ++ blocks_code (map (numbered_turn (view_told t)) t.rules) t.blocks))) counters_so entry_so
       ∙ ap (λ (turns : List NodeCode). map rested_code (filter (is_read_by rules) (up_to (length t.sizes)))
       ++ (entry_code (view_of a) (plain_body unit.body) ++ (map (c_copied (view_of a).site) (copied_told unit) ++ blocks_code turns t.blocks)))
-      (turns_so ∙ sym (bodies (view_of a) unit.body (joined one.blocks) slots refl))
+      (turns_so ∙ sym (bodies (view_of a) unit.body (joined one.blocks) one.slots refl))
 
   locals_so : locals_told t ≡ (activity_function a).locals
   locals_so =

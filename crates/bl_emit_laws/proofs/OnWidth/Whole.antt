@@ -6,21 +6,19 @@ use Rattle.bl_tree.specs.declared.program.Program.{Program}
 use Rattle.bl_tree.specs.declared.tree.Stmt.{Stmt}
 use Rattle.bl_tree.specs.declared.tree.Unit.{Unit as UnitDef}
 use Rattle.bl_tree.specs.Program.{is_entry}
-use Rattle.bl_tree.specs.Reduce.{joined}
 use Rattle.bl_tree.specs.Typing.{is_activity}
 use Rattle.bl_effects.specs.Surface.{width}
 use Rattle.bl_graph_nodes.specs.Plain.{plain_body}
 use Rattle.bl_cause.proofs.PairLemmas.{each_at, filtered_at}
-use Rattle.bl_cause.specs.Activities.{EachTwo, activities as activities_among, graph_position}
+use Rattle.bl_cause.specs.Activities.{activities as activities_among, graph_position}
 use Rattle.bl_ctree.specs.Instances.{Setting, setting_of, unit_at}
 use Rattle.bl_ctree_laws_confluence.specs.Deeds.Orderly.{AcceptedIsOrderly}
 use Rattle.bl_machine.specs.declared.machine.Activity.{Activity as InMachine}
 use Rattle.bl_machine.specs.Layout.{counters_in}
+use Rattle.bl_machine.specs.Machines.{IsActivityOf}
 use Rattle.bl_machine_laws.specs.Numbers.Width.{TakesItsWidth}
-use Rattle.bl_machine_transitions_laws.proofs.Shared.{shared_many}
 use Rattle.bl_emit_spec.specs.Activities.{frame_struct}
 use Rattle.bl_emit_spec.specs.Names.{frame_name}
-use Rattle.bl_emit_spec.specs.Shared.{IsSharedActivityOf}
 use Rattle.bl_emit_spec_laws_simulation.proofs.OnRuns.Running.{unit_there}
 use Rattle.bl_emit_spec_laws.specs.Calls.Built.{Activities, MadeOf, unit_number}
 use Rattle.bl_emit_spec_laws.specs.Calls.Laws.{CompilationContext}
@@ -36,7 +34,6 @@ entry_there (Some unit) is = (unit, refl)
 module _ (program : Program) (orderly : AcceptedIsOrderly) (wide : (body : List Stmt) → TakesItsWidth body) (declares : FramesAreDeclared program)
     (machine : List InMachine) (i : ℕ) (unit : UnitDef)
     (compiled : CompilationContext program.structs program.units program.entry machine (activities_in program machine))
-    (plain : EachTwo IsSharedActivityOf (activities_among program.units) machine)
     (is : unit_at (setting_of program.structs program.units program.entry) i ≡ Some unit)
   where
     abbrev w : Setting
@@ -57,15 +54,15 @@ module _ (program : Program) (orderly : AcceptedIsOrderly) (wide : (body : List 
     made : MadeOf unit (activities k) (slice_get machine (graph_position program.units k))
     made = compiled.built.made k unit there active
 
-    own : IsSharedActivityOf unit made.one
+    own : IsActivityOf unit made.one
     own =
         let among = filtered_at (λ (it : UnitDef). is_activity it.kind) program.units k unit there active in
-        let alone = each_at IsSharedActivityOf (activities_among program.units) machine (graph_position program.units k) unit plain among in
-        subst (IsSharedActivityOf unit) (some_is alone.0 made.one (sym alone.1 ∙ made.is)) alone.2
+        let found = each_at IsActivityOf (activities_among program.units) machine (graph_position program.units k) unit compiled.agrees among in
+        subst (IsActivityOf unit) (some_is found.0 made.one (sym found.1 ∙ made.is)) found.2
 
     many : length (activities k).sizes ≡ width unit.body
     many =
-        ap length made.sizes ∙ shared_many (joined made.one.blocks) (plain_body unit.body) made.one.slots
+        ap length made.sizes
         ∙ sizes_wide made.one.slots (counters_in (plain_body unit.body) 0) (width unit.body) own.slots (wide unit.body).below (wide unit.body).each
 
     small : (c : ℕ) → c < length (activities k).sizes → c < 2 ^ 64
@@ -82,4 +79,4 @@ module _ (program : Program) (orderly : AcceptedIsOrderly) (wide : (body : List 
 
 pub frames_wide : (program : Program) → AcceptedIsOrderly → ((body : List Stmt) → TakesItsWidth body) → FramesAreDeclared program →
     FramesHaveWidth program
-frames_wide program orderly wide declares machine compiled plain i unit is = has_frame program orderly wide declares machine i unit compiled plain is
+frames_wide program orderly wide declares machine compiled i unit is = has_frame program orderly wide declares machine i unit compiled is

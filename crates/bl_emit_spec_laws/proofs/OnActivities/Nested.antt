@@ -28,7 +28,7 @@ use Rattle.bl_emit_spec_laws.specs.Registers.Registers.{Counter, frame_at}
 use Rattle.bl_machine.specs.declared.machine.Activity.{Activity as InMachine}
 use Rattle.bl_machine_pass.specs.Registers.{Registers, with_at}
 use Rattle.bl_machine_pass_laws_execution.specs.Frames.{Frames}
-use Rattle.bl_emit_spec_laws.specs.Calls.Built.{Activities, activity_at, rank_by, site_at, unit_number}
+use Rattle.bl_emit_spec_laws.specs.Calls.Built.{Activities, activity_at, run_by, site_at, unit_number}
 use Rattle.bl_emit_spec_laws.specs.Calls.Laws.{CompilationContext}
 use Rattle.bl_emit_spec_laws.specs.Calls.Memories as memories
 use Rattle.bl_emit_spec_laws.specs.Calls.Memories.{MemoryEncodes, Nests, inner}
@@ -102,7 +102,7 @@ module _ (structs : List StructDef) (units : List UnitDef) (entry : ℕ) (machin
   over_other : {i k : ℕ} {f m f' m' : Location} → Nests W activities i f m k f' m' → (other : Location) → OverOther i f other k f'
   over_other memories.here other = record { place = other; nests = memories.here }
   over_other {i} (memories.inside {l = l} {at = at} {arguments = arguments} is within calls rest) other =
-      let more = over_other rest (inner other (rank_by W activities i (EnterAt l at arguments))) in
+      let more = over_other rest (inner other (run_by W activities i at)) in
       record { place = more.place; nests = memories.inside is within calls more.nests }
 
   -- ---- after the function
@@ -151,7 +151,7 @@ module _ (structs : List StructDef) (units : List UnitDef) (entry : ℕ) (machin
         ∙ stands.registers.each (Counter c) (less_true c (length a.sizes) less)
         ∙ sym (ap pos (with_own i r.counters frames c))
     counters_held {k} {f'} {m} {m'} (memories.inside {j = j} {unit = other} {l = l} {at = at} {arguments = arguments} is within calls rest) c less =
-        let n = rank_by W activities i (EnterAt l at arguments) in
+        let n = run_by W activities i at in
         let found = over_other rest (inner (remembered_at scope) n) in
         let same : other ≡ unit = Rattle.std.proofs.lemmas.Option.same_Some other unit (sym is ∙ is_there) in
         let own = subst (λ (u : UnitDef). Contains (nodes_in (plain_body u.body)) (EnterAt l at arguments)) same within in
@@ -180,7 +180,7 @@ module _ (structs : List StructDef) (units : List UnitDef) (entry : ℕ) (machin
         (kept_holds var value place (function.places.memory remembers).older stood)
     variables_held {k} {m} {f'} {m'} (memories.inside {j = j} {unit = other} {l = l} {at = at} {arguments = arguments} is within calls rest) leads x
         var value there held is_value =
-        let n = rank_by W activities i (EnterAt l at arguments) in
+        let n = run_by W activities i at in
         let remembers = remember i j other l at arguments compiled is within calls
         (inner_remembers structs units entry machine activities compiled remember rest x var there held) in
         let same : other ≡ unit = Rattle.std.proofs.lemmas.Option.same_Some other unit (sym is ∙ is_there) in

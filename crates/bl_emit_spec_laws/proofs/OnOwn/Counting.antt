@@ -169,6 +169,7 @@ list_counts list counted i x is =
     let most : x.value ≤ times x.counter (counters_at list) = omega arith in
     record {
       counter = size.0;
+      low = (let low : 0 < x.value = omega arith in low);
       high = subst (λ n. x.value ≤ n) (sym size.1) most;
     }
 

@@ -11,7 +11,8 @@ use Rattle.bl_graph_nodes.specs.Nodes.{Node, label_of, nodes_in}
 use Rattle.bl_graph_nodes.specs.Plain.{Label, plain_body}
 use Rattle.bl_machine.specs.declared.slots.Slot.{Slot}
 use Rattle.bl_machine.specs.Blocks.{up_to}
-use Rattle.bl_machine_pass.specs.Numbered.{position_where, same_label, same_node, slots_of, sort}
+use Rattle.bl_machine.specs.Slots.{Counters}
+use Rattle.bl_machine_pass.specs.Numbered.{position_where, same_label, same_node, sizes_of, slots_of, sort}
 use Rattle.bl_machine_pass.specs.Transitions.{Change, Transition}
 use Rattle.bl_machine_pass.specs.Transitions.{ClearsBoth, ClearsCounter, EndsWhen, Finishes, SetsCounter, SetsFlag, SetsMark}
 use Rattle.bl_machine_pass_laws.specs.Turns.Laws.{StaysPlaced}
@@ -21,7 +22,6 @@ use Rattle.bl_emit_spec_laws.specs.Registers.Registers.{FewRegisters}
 use Rattle.bl_emit_spec_laws.specs.Calls.Built.{asks_flag, registered, sets_mark}
 use Rattle.bl_emit_spec_laws.proofs.OnOwn.Counting.{get_up_to}
 use Rattle.bl_emit_spec_laws.proofs.OnOwn.Fitting.{ChangeFits}
-use Rattle.bl_emit_spec_laws.proofs.OnOwn.Listing.{Listing}
 use Rattle.bl_emit_spec_laws.proofs.OnOwn.Members.{any_found, both_second, both_true, contains_at, contains_mapped, every_at, where_within}
 use Rattle.bl_emit_spec_laws.proofs.OnOwn.Owning.{Listed, copied_below, rule_fits}
 
@@ -35,7 +35,7 @@ node_itself n =
     both_true (same_label (label_of n) (label_of n)) (nat_eq (sort n) (sort n)) (label_itself (label_of n)) (eq-eqb (sort n) (sort n) refl)
 
 module _ (a : Activity) (list : List Slot) (spots : SpotsDiffer) (slots_are : a.slots ≡ slots_of (plain_body a.unit.body) list)
-    (listing : Listing a.sizes a.slots (plain_body a.unit.body) list) (placed : StaysPlaced)
+    (sizes_are : a.sizes ≡ sizes_of list) (counters : Counters (plain_body a.unit.body) list) (placed : StaysPlaced)
     (order : IsPermutation (up_to (length (nodes_in (plain_body a.unit.body)))) a.order)
   where
     abbrev nodes : List Node
@@ -68,7 +68,7 @@ module _ (a : Activity) (list : List Slot) (spots : SpotsDiffer) (slots_are : a.
         subst (λ n. n < length a.order) (sym same) (rule_below found.one found.there)
 
     change_below : (k : ℕ) (change : Change) →
-        ChangeFits a.slots (rules_at a) (Listed a list spots slots_are listing) change → sets_mark number k change ≡ true →
+        ChangeFits a.slots (rules_at a) (Listed a list spots slots_are sizes_are counters) change → sets_mark number k change ≡ true →
         k < length a.order
     change_below k (SetsFlag n) fits on = absurd (cc)
     change_below k (SetsCounter slot) fits on = absurd (cc)
@@ -85,14 +85,14 @@ module _ (a : Activity) (list : List Slot) (spots : SpotsDiffer) (slots_are : a.
         let found = any_found (λ (rule : Transition). list_any (sets_mark number k) rule.so) (rules_at a) on in
         let change = any_found (sets_mark number k) found.one.so found.on in
         change_below k change.one
-        (every_at (ChangeFits a.slots (rules_at a) (Listed a list spots slots_are listing)) found.one.so change.one
-        (rule_fits a list spots slots_are listing found.one found.there).so change.there)
+        (every_at (ChangeFits a.slots (rules_at a) (Listed a list spots slots_are sizes_are counters)) found.one.so change.one
+        (rule_fits a list spots slots_are sizes_are counters found.one found.there).so change.there)
         change.on
 
     pub registers_few : length a.order ≤ 2 ^ 64 → length a.sizes ≤ 2 ^ 64 → FewRegisters (registered a)
     registers_few ordered sized = record {
       counters = λ k on. (let below = ltb-true k (length a.sizes) on in omega (arith, below, sized));
-      copied = λ k on. (let below = copied_below a list spots slots_are listing k on in omega (arith, below, sized));
+      copied = λ k on. (let below = copied_below a list spots slots_are sizes_are counters k on in omega (arith, below, sized));
       flags = λ k on. (let below = flag_below k on in omega (arith, below, ordered));
       marks = λ k on. (let below = mark_below k on in omega (arith, below, ordered));
     }

@@ -1,5 +1,5 @@
 -- What fits is told by registers of the activity.
-use Rattle.std.proofs.Common.{◌≡◌, ℕ, ◌<◌, ◌≤◌, ◌^◌, Bool, true, false, ◌&&◌, List, []}
+use Rattle.std.proofs.Common.{◌≡◌, ℕ, ◌+◌, ◌<◌, ◌≤◌, ◌^◌, Bool, true, false, ◌&&◌, List, []}
 use Rattle.std.proofs.Common.{Contains, Some, nat_eq, refl, sym, ap}
 use Rattle.std.proofs.Common.{subst, ◌∙◌, arith, length, pos, unwrap_or, eq-eqb, eqb-true, lt-ltb, if◌then◌else◌}
 use Rattle.std.proofs.lemmas.Bool.{le-leb, leb-true}
@@ -14,20 +14,22 @@ use Rattle.bl_graph_nodes.specs.Nodes.{Node}
 use Rattle.bl_graph_nodes.specs.Plain.{Block, plain_body}
 use Rattle.bl_machine.specs.declared.slots.Slot.{Slot}
 use Rattle.bl_machine.specs.Layout.{places_in}
+use Rattle.bl_machine.specs.Slots.{Counters}
 use Rattle.bl_machine_pass.specs.SlotLayout.{EndOf, RestOf, Spot, slot_at, spots_in}
-use Rattle.bl_machine_pass.specs.Numbered.{no_slot, slots_of}
+use Rattle.bl_machine_pass.specs.Numbered.{no_slot, sizes_of, slots_of}
 use Rattle.bl_machine_pass.specs.Transitions.{Age, Asked, Change, Transition}
 use Rattle.bl_machine_pass.specs.Transitions.{ClearsBoth, ClearsCounter, Ended, EndsWhen, Finishes, Flagged, IsAny, IsNew, IsOld, Rested, RestedIn, SetsCounter, SetsFlag, SetsMark}
 use Rattle.bl_machine_pass_laws.specs.Spots.{SpotsDiffer}
+use Rattle.bl_machine_transitions_laws.proofs.Agreeing.{each_agrees}
 use Rattle.bl_machine_pass_laws.proofs.OnSlots.Finding.{number_at}
 use Rattle.bl_emit_spec.specs.Activities.{Activity, is_flagged, reads_counter, rules_at, view_of}
-use Rattle.bl_emit_spec.specs.Blocks.{type_for}
+use Rattle.bl_emit_spec.specs.Blocks.{Sizes, type_for}
 use Rattle.bl_emit_spec_laws.specs.Registers.Laws.{are_in_a_row, asks_its_own, changes_its_own, fits_counter, has_age}
 use Rattle.bl_emit_spec_laws.specs.Calls.Built.{asks_flag, registered, sets_mark}
 use Rattle.bl_emit_spec_laws.specs.Own.{PlaceCounts}
-use Rattle.bl_emit_spec_laws.proofs.OnOwn.Listing.{Listing}
-use Rattle.bl_emit_spec_laws.proofs.OnOwn.Fitting.{AgeFits, AskedFits, ChangeFits, HasFlag, HasMark, IsCounter, RuleFits, rules_in_fit}
-use Rattle.bl_emit_spec_laws.proofs.OnOwn.InRow.{spots_in_many, there_at}
+use Rattle.bl_emit_spec_laws.proofs.OnOwn.Counting.{list_counts, size_few}
+use Rattle.bl_emit_spec_laws.proofs.OnOwn.Fitting.{AgeFits, AskedFits, ChangeFits, HasFlag, HasMark, IsCounter, RuleFits, RowsIn, rules_in_fit}
+use Rattle.bl_emit_spec_laws.proofs.OnOwn.InRow.{rows_in, spots_in_many, there_at}
 use Rattle.bl_emit_spec_laws.proofs.OnOwn.Members.{Every, all_true, any_found, any_true, both_true, contains_at, every_at, every_from}
 use Rattle.bl_emit_spec_laws.proofs.OnOwn.Members.{stands_at}
 use Rattle.bl_emit_spec_laws.proofs.OnWithin.Changing.{ChangeWithin}
@@ -60,7 +62,7 @@ in_type size v within few =
 -- ---- an activity whose numbers stand in a list
 
 module _ (a : Activity) (list : List Slot) (spots : SpotsDiffer) (slots_are : a.slots ≡ slots_of (plain_body a.unit.body) list)
-    (listing : Listing a.sizes a.slots (plain_body a.unit.body) list)
+    (sizes_are : a.sizes ≡ sizes_of list) (counters : Counters (plain_body a.unit.body) list)
   where
     abbrev body : Block
     body = plain_body a.unit.body
@@ -77,7 +79,7 @@ module _ (a : Activity) (list : List Slot) (spots : SpotsDiffer) (slots_are : a.
     spot_within : (i : ℕ) (p : Spot) → slice_get (spots_in body) i ≡ Some p → i < length list
     spot_within i p is =
         let below = slice_get_within (spots_in body) i p is in
-        let many = spots_in_many body in let each = listing.one_each in omega arith
+        let many = spots_in_many body in let each = counters.one_each in omega arith
 
     by_slots : (p : Spot) (i : ℕ) → slice_get (spots_in body) i ≡ Some p → slot_at a.slots p ≡ unwrap_or (slice_get list i) no_slot
     by_slots p i is = ap (λ slots. slot_at slots p) slots_are ∙ by_labels p i is
@@ -91,16 +93,20 @@ module _ (a : Activity) (list : List Slot) (spots : SpotsDiffer) (slots_are : a.
     -- ---- counters and values
 
     listed_counts : (slot : Slot) → Listed slot → PlaceCounts a.sizes slot
-    listed_counts = listing.counts
+    listed_counts slot there =
+        let at = stands_at list slot there in
+        subst (λ sizes. PlaceCounts sizes slot) (sym sizes_are) (list_counts list counters.values at.0 slot at.1)
 
     pub place_counts : (p : Spot) → Contains (spots_in body) p → PlaceCounts a.sizes (slot_at a.slots p)
     place_counts p there = listed_counts (slot_at a.slots p) (spot_listed p there)
 
     listed_fits : places_in body < 2 ^ 32 → (slot : Slot) → Listed slot → fits_counter a.sizes slot ≡ true
     listed_fits few slot there =
+        let at = stands_at list slot there in
         let counts = listed_counts slot there in
-        let most : unwrap_or (slice_get a.sizes slot.counter) 0 ≤ length list = listing.few slot there in
-        let each = listing.one_each in
+        let most : unwrap_or (slice_get a.sizes slot.counter) 0 ≤ length list =
+        subst (λ (sizes : Sizes). unwrap_or (slice_get sizes slot.counter) 0 ≤ length list) (sym sizes_are) (size_few list at.0 slot at.1) in
+        let each = counters.one_each in
         let high = counts.high in
         in_type (unwrap_or (slice_get a.sizes slot.counter) 0) slot.value high (omega (arith, few, most, high, each))
 
@@ -109,10 +115,17 @@ module _ (a : Activity) (list : List Slot) (spots : SpotsDiffer) (slots_are : a.
     abbrev all : List Transition
     all = rules_at a
 
+    rows : RowsIn a.slots body
+    rows =
+        rows_in list counters.values a.slots 0 0 body (let each = counters.one_each in omega arith)
+        (each_agrees (slot_at a.slots) (λ i. unwrap_or (slice_get list i) no_slot) (spots_in body) 0
+        (λ i p is. (let there : i ≡ 0 + i = omega arith in by_slots p i is ∙ ap (λ k. unwrap_or (slice_get list k) no_slot) there)))
+        counters.rest
+
     rules_fit : Every (RuleFits a.slots all Listed) all
     rules_fit =
         rules_in_fit a.slots all Listed body Finishes (every_from (Contains all) all (λ rule there. there))
-        (every_from (λ p. Listed (slot_at a.slots p)) (spots_in body) spot_listed) listing.rows tt
+        (every_from (λ p. Listed (slot_at a.slots p)) (spots_in body) spot_listed) rows tt
 
     pub rule_fits : (rule : Transition) → Contains all rule → RuleFits a.slots all Listed rule
     rule_fits rule there = every_at (RuleFits a.slots all Listed) all rule rules_fit there

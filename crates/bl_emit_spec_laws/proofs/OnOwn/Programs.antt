@@ -4,38 +4,33 @@ use Rattle.std.specs.List.{list_all}
 use Rattle.std.specs.Prelude.{IsPermutation}
 use Rattle.bl_tree.specs.declared.tree.StructDef.{StructDef}
 use Rattle.bl_tree.specs.declared.tree.Unit.{Unit as UnitDef}
-use Rattle.bl_tree.specs.Reduce.{joined}
 use Rattle.bl_tree.specs.Typing.{is_activity}
 use Rattle.bl_cause.specs.Activities.{activities as activities_of, graph_position}
 use Rattle.bl_cause.proofs.PairLemmas.{each_at, filtered_at}
 use Rattle.bl_graph_nodes.specs.Nodes.{nodes_in}
 use Rattle.bl_graph_nodes.specs.Plain.{plain_body}
 use Rattle.bl_machine.specs.declared.machine.Activity.{Activity as InMachine}
-use Rattle.bl_machine.specs.declared.slots.Slot.{Slot}
 use Rattle.bl_machine.specs.Blocks.{Ordered, up_to}
 use Rattle.bl_machine.specs.Layout.{places_in}
 use Rattle.bl_machine.specs.Machines.{IsActivityOf}
 use Rattle.bl_machine.specs.Slots.{Counters}
 use Rattle.bl_machine_pass.specs.SlotLayout.{Spot, slot_at, spots_in}
-use Rattle.bl_machine_pass.specs.Numbered.{slots_of}
+use Rattle.bl_machine_pass.specs.Numbered.{sizes_of, slots_of}
 use Rattle.bl_machine_pass.specs.Transitions.{Transition, rules}
 use Rattle.bl_machine_pass_laws.specs.Turns.Laws.{StaysPlaced}
 use Rattle.bl_machine_pass_laws.specs.Spots.{SpotsDiffer}
-use Rattle.bl_machine_transitions.specs.Shared.{shared, shared_sizes}
-use Rattle.bl_machine_transitions_laws.specs.Laws.{RulesAreListed}
 use Rattle.bl_emit_spec.specs.Activities.{Activity, rules_at, view_of}
 use Rattle.bl_emit_spec_laws.specs.Registers.Laws.{asks_its_own, changes_its_own}
 use Rattle.bl_emit_spec_laws.specs.Registers.Registers.{FewRegisters}
 use Rattle.bl_emit_spec_laws.specs.Calls.Built.{Activities, registered}
 use Rattle.bl_emit_spec_laws.specs.Own.{BuiltAt, PlaceCounts}
 use Rattle.bl_emit_spec_laws.proofs.OnOwn.Few.{registers_few}
-use Rattle.bl_emit_spec_laws.proofs.OnOwn.Listing.{Listing, shared_listing}
 use Rattle.bl_emit_spec_laws.proofs.OnOwn.Members.{Every, some_is}
 use Rattle.bl_emit_spec_laws.proofs.OnOwn.Owning.{asks_on, changes_on, changes_stay, copied_below, place_counts}
 use Rattle.bl_emit_spec_laws.proofs.OnWithin.Changing.{ChangeWithin}
 
-module _ (spots : SpotsDiffer) (told : RulesAreListed) (structs : List StructDef) (units : List UnitDef) (machine : List InMachine)
-    (activities : Activities) (k : ℕ) (unit : UnitDef) (at : BuiltAt structs units machine activities k unit)
+module _ (spots : SpotsDiffer) (structs : List StructDef) (units : List UnitDef) (machine : List InMachine) (activities : Activities) (k : ℕ)
+    (unit : UnitDef) (at : BuiltAt structs units machine activities k unit)
   where
     abbrev a : Activity
     a = activities k
@@ -44,21 +39,11 @@ module _ (spots : SpotsDiffer) (told : RulesAreListed) (structs : List StructDef
     unit_is = at.built.unit k unit at.is_there
 
     record Made : Type 0 where
-      list : List Slot
-      slots : a.slots ≡ slots_of (plain_body a.unit.body) list
-      listing : Listing a.sizes a.slots (plain_body a.unit.body) list
+      one : InMachine
+      slots : a.slots ≡ slots_of (plain_body a.unit.body) one.slots
+      sizes : a.sizes ≡ sizes_of one.slots
+      counters : Counters (plain_body a.unit.body) one.slots
       order : IsPermutation (up_to (length (nodes_in (plain_body a.unit.body)))) a.order
-
-    -- the numbers of the unit's places
-    listing_of : (one : InMachine) → a.slots ≡ slots_of (plain_body unit.body) (shared (joined one.blocks) (plain_body unit.body) one.slots) →
-        a.sizes ≡ shared_sizes (joined one.blocks) (plain_body unit.body) one.slots → Counters (plain_body unit.body) one.slots →
-        Listing a.sizes a.slots (plain_body a.unit.body) (shared (joined one.blocks) (plain_body unit.body) one.slots)
-    listing_of one slots_are sizes_are counters =
-        let list = shared (joined one.blocks) (plain_body unit.body) one.slots in
-        subst (λ (u : UnitDef). Listing a.sizes a.slots (plain_body u.body) list) (sym unit_is)
-        (subst (λ sizes. Listing sizes a.slots (plain_body unit.body) list) (sym sizes_are)
-        (subst (λ slots. Listing (shared_sizes (joined one.blocks) (plain_body unit.body) one.slots) slots (plain_body unit.body) list) (sym slots_are)
-        (shared_listing spots told (joined one.blocks) unit.body one.slots counters)))
 
     made : Made
     made =
@@ -67,11 +52,10 @@ module _ (spots : SpotsDiffer) (told : RulesAreListed) (structs : List StructDef
         let parts = at.built.made k unit at.is_there at.activity in
         let same : own.0 ≡ parts.one = some_is own.0 parts.one (sym own.1 ∙ parts.is) in
         record {
-          list = shared (joined parts.one.blocks) (plain_body unit.body) parts.one.slots;
-          slots =
-              parts.slots
-              ∙ ap (λ (u : UnitDef). slots_of (plain_body u.body) (shared (joined parts.one.blocks) (plain_body unit.body) parts.one.slots)) (sym unit_is);
-          listing = listing_of parts.one parts.slots parts.sizes
+          one = parts.one;
+          slots = parts.slots ∙ ap (λ (u : UnitDef). slots_of (plain_body u.body) parts.one.slots) (sym unit_is);
+          sizes = parts.sizes;
+          counters = subst (λ (u : UnitDef). Counters (plain_body u.body) parts.one.slots) (sym unit_is)
               (subst (λ (one : InMachine). Counters (plain_body unit.body) one.slots) same own.2.counters);
           order = subst (λ (u : UnitDef). IsPermutation (up_to (length (nodes_in (plain_body u.body)))) a.order) (sym unit_is)
               (subst (λ order. IsPermutation (up_to (length (nodes_in (plain_body unit.body)))) order) (sym parts.order)
@@ -83,27 +67,27 @@ module _ (spots : SpotsDiffer) (told : RulesAreListed) (structs : List StructDef
 
     pub unit_places : (p : Spot) → Contains (spots_in (plain_body unit.body)) p → PlaceCounts a.sizes (slot_at a.slots p)
     unit_places p there =
-        place_counts a made.list spots made.slots made.listing p
+        place_counts a made.one.slots spots made.slots made.sizes made.counters p
         (subst (λ (u : UnitDef). Contains (spots_in (plain_body u.body)) p) (sym unit_is) there)
 
     pub unit_copies : (c : ℕ) → (view_of a).is_read c ≡ true → c < length a.sizes
-    unit_copies c reads = copied_below a made.list spots made.slots made.listing c reads
+    unit_copies c reads = copied_below a made.one.slots spots made.slots made.sizes made.counters c reads
 
     pub unit_changes : (rule : Transition) → Contains (rules a.slots (plain_body unit.body)) rule →
         (list_all (changes_its_own (view_of a).number (registered a)) rule.so ≡ true)
         × (list_all (changes_its_own (view_of a).number (registered a)) rule.otherwise ≡ true)
-    unit_changes rule there = changes_on a made.list spots made.slots made.listing rule (rule_there rule there)
+    unit_changes rule there = changes_on a made.one.slots spots made.slots made.sizes made.counters rule (rule_there rule there)
 
     pub unit_within : (rule : Transition) → Contains (rules a.slots (plain_body unit.body)) rule →
         Every (ChangeWithin a.sizes) rule.so × Every (ChangeWithin a.sizes) rule.otherwise
-    unit_within rule there = changes_stay a made.list spots made.slots made.listing rule (rule_there rule there)
+    unit_within rule there = changes_stay a made.one.slots spots made.slots made.sizes made.counters rule (rule_there rule there)
 
     pub unit_asks : places_in (plain_body unit.body) < 2 ^ 32 → (rule : Transition) → Contains (rules a.slots (plain_body unit.body)) rule →
         asks_its_own (view_of a) (registered a) rule.node rule.asked ≡ true
     unit_asks few rule there =
-        asks_on a made.list spots made.slots made.listing
+        asks_on a made.one.slots spots made.slots made.sizes made.counters
         (subst (λ (u : UnitDef). places_in (plain_body u.body) < 2 ^ 32) (sym unit_is) few) rule (rule_there rule there)
 
     pub unit_few : StaysPlaced → length a.order ≤ 2 ^ 64 → length a.sizes ≤ 2 ^ 64 → FewRegisters (registered a)
     unit_few placed ordered sized =
-        registers_few a made.list spots made.slots made.listing placed made.order ordered sized
+        registers_few a made.one.slots spots made.slots made.sizes made.counters placed made.order ordered sized

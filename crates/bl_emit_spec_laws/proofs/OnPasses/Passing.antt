@@ -126,9 +126,9 @@ module _ (structs : List StructDef) (units : List UnitDef) (entry : ℕ) (machin
   -- as a pass starts
   unflagged_first : (i : ℕ) (unit : UnitDef) (scope : Scope) (frames : Frames) (store : Store) (copies : List Value) (r : Registers) (here : Memory) →
       Mid i unit scope frames store copies r here → PassStarts W activities i unit frames r → Unflagged i 0 r
-  unflagged_first i unit scope frames store copies r here mid (executes.begins zeros) p less behind =
-      placed.begins i unit p mid.compiled mid.is_there behind
-  unflagged_first i unit scope frames store copies r here mid (executes.goes_on some) p less behind = refl
+  unflagged_first i unit scope frames store copies r here mid (inl begun) p less behind =
+      ap (λ (s : Registers). s.flags p) begun.0 ∙ placed.begins i unit p mid.compiled mid.is_there behind
+  unflagged_first i unit scope frames store copies r here mid (inr resumed) p less behind = ap (λ (s : Registers). s.flags p) resumed.0
 
   -- behind a rule's turn
   unflagged_next : (i : ℕ) (unit : UnitDef) (scope : Scope) (frames : Frames) (store : Store) (copies : List Value) (r : Registers) (here : Memory) →

@@ -17,7 +17,6 @@ use Rattle.bl_ctree.specs.declared.instance.Instance.{Instance}
 use Rattle.bl_ctree.specs.Instances.{Setting, setting_of, unit_at, unit_of}
 use Rattle.bl_ctree_laws_confluence.specs.Deeds.Orderly.{AcceptedIsOrderly}
 use Rattle.bl_machine.specs.declared.machine.Activity.{Activity as InMachine}
-use Rattle.bl_machine.specs.declared.slots.Slot.{Slot}
 use Rattle.bl_machine.specs.Blocks.{CouldFollow, Ordered, up_to}
 use Rattle.bl_machine.specs.Machines.{IsActivityOf}
 use Rattle.bl_machine_pass.specs.Numbered.{position_where, slots_of}
@@ -28,7 +27,6 @@ use Rattle.bl_machine_pass_laws.specs.Flags.{FlagsAreAsked, FlagsAreReached, Fla
 use Rattle.bl_machine_pass_laws.specs.Keys.{NodesHaveKeys}
 use Rattle.bl_machine_transitions.specs.Callees.{callees_in, number_in}
 use Rattle.bl_machine_transitions.specs.Listed.{layout_of}
-use Rattle.bl_machine_transitions.specs.Shared.{shared}
 use Rattle.bl_machine_transitions_laws.specs.Laws.{RulesAreListed}
 use Rattle.bl_machine_transitions_laws.proofs.Agreeing.{Agrees}
 use Rattle.bl_machine_transitions_laws.proofs.Standing.{nodes_stand}
@@ -82,7 +80,7 @@ pub record Laws : Type 0 where
   pub reached : FlagsAreReached
 
 module _ (laws : Laws) (a : Activity) (unit : UnitDef) (one : InMachine) (unit_is : a.unit ≡ unit) (order_is : a.order ≡ joined one.blocks)
-    (blocks_are : a.blocks ≡ one.blocks) (list : List Slot) (slots_are : a.slots ≡ slots_of (plain_body unit.body) list)
+    (blocks_are : a.blocks ≡ one.blocks) (slots_are : a.slots ≡ slots_of (plain_body unit.body) one.slots)
     (ordered : Ordered (plain_body unit.body) one.blocks)
   where
     abbrev body : Block
@@ -104,7 +102,7 @@ module _ (laws : Laws) (a : Activity) (unit : UnitDef) (one : InMachine) (unit_i
     many_rules = sym (mapped_many (λ (rule : Transition). rule.node) rs) ∙ ap (λ (xs : List Node). length xs) nodes_are
 
     many_callees : length (callees_in body) ≡ length rs
-    many_callees = laws.listed.each unit.body list ∙ ap (λ slots. length (rules slots body)) (sym slots_are)
+    many_callees = laws.listed.each unit.body one.slots ∙ ap (λ slots. length (rules slots body)) (sym slots_are)
 
     permutes : IsPermutation (up_to (length nodes)) a.order
     permutes = subst (λ order. IsPermutation (up_to (length nodes)) order) (sym order_is) ordered.all
@@ -135,7 +133,7 @@ module _ (laws : Laws) (a : Activity) (unit : UnitDef) (one : InMachine) (unit_i
     number_of_node p k n is at =
         let none : 0 + p ≡ p = omega arith in
         ap (λ (u : UnitDef). number_in a.order (plain_body u.body) n) unit_is
-        ∙ agrees_at (number_in a.order body) (layout_of a.order list).number nodes 0 p n (nodes_stand laws.keys unit.body a.order list) is
+        ∙ agrees_at (number_in a.order body) (layout_of a.order one.slots).number nodes 0 p n (nodes_stand laws.keys unit.body a.order one.slots) is
         ∙ ap (λ q. position_where (nat_eq q) a.order) none
         ∙ found_at p a.order k at (λ j there. number_once (length nodes) a.order permutes p j k there at)
 
@@ -281,8 +279,7 @@ module _ (laws : Laws) (orderly : AcceptedIsOrderly) (structs : List StructDef)
         unit_is : a.unit ≡ unit
         order : a.order ≡ joined one.blocks
         blocks : a.blocks ≡ one.blocks
-        list : List Slot
-        slots : a.slots ≡ slots_of (plain_body unit.body) list
+        slots : a.slots ≡ slots_of (plain_body unit.body) one.slots
         ordered : Ordered (plain_body unit.body) one.blocks
 
       made : Made
@@ -296,31 +293,30 @@ module _ (laws : Laws) (orderly : AcceptedIsOrderly) (structs : List StructDef)
             unit_is = compiled.built.unit k unit there;
             order = parts.order;
             blocks = parts.blocks;
-            list = shared (joined parts.one.blocks) (plain_body unit.body) parts.one.slots;
             slots = parts.slots;
             ordered = subst (λ (one : InMachine). Ordered (plain_body unit.body) one.blocks) same own.2.order;
           }
 
       instance_rule : (rule : Transition) → HasRule (slots_by w activities) i unit rule → BlockAt a unit (rank_by w activities i rule.node) rule
-      instance_rule rule has = of_rule laws a unit made.one made.unit_is made.order made.blocks made.list made.slots made.ordered rule has
+      instance_rule rule has = of_rule laws a unit made.one made.unit_is made.order made.blocks made.slots made.ordered rule has
 
       instance_number : (number : ℕ) → number < length (joined (turns_in_blocks a)) → RuleAt w activities i unit number
       instance_number number below =
-          let found = of_number laws a unit made.one made.unit_is made.order made.blocks made.list made.slots made.ordered number below in
+          let found = of_number laws a unit made.one made.unit_is made.order made.blocks made.slots made.ordered number below in
           record { rule = found.rule; there = found.there; numbered = found.numbered }
 
       instance_waits : (rule : Transition) → HasRule (slots_by w activities) i unit rule → IsBehind a (rank_by w activities i rule.node) →
           rule.asked ≡ Flagged
-      instance_waits rule has behind = waits laws a unit made.one made.unit_is made.order made.blocks made.list made.slots made.ordered rule has behind
+      instance_waits rule has behind = waits laws a unit made.one made.unit_is made.order made.blocks made.slots made.ordered rule has behind
 
       instance_before : (rule : Transition) (change : Change) (m : Node) → HasRule (slots_by w activities) i unit rule →
           Contains rule.so change ⊎ Contains rule.otherwise change → MayFlag change m → IsBehind a (rank_by w activities i m) →
           rank_by w activities i m ≡ suc (rank_by w activities i rule.node)
       instance_before rule change m has among may behind =
-          before laws a unit made.one made.unit_is made.order made.blocks made.list made.slots made.ordered rule change m has among may behind
+          before laws a unit made.one made.unit_is made.order made.blocks made.slots made.ordered rule change m has among may behind
 
       instance_begins : (number : ℕ) → IsBehind a number → (begun_registers (rank_by w activities) i unit).flags number ≡ false
-      instance_begins number behind = begins laws a unit made.one made.unit_is made.order made.blocks made.list made.slots made.ordered number behind
+      instance_begins number behind = begins laws a unit made.one made.unit_is made.order made.blocks made.slots made.ordered number behind
 
     pub blocks_placed : BlocksPlaced structs units entry machine activities
     blocks_placed = record {

@@ -2,7 +2,7 @@
 use Rattle.std.proofs.Common.{◌≡◌, ℕ, zero, suc, ◌≤◌, ℤ, pos, Bool, true, false, not, ◌&&◌, ◌||◌, List, [], ◌∷◌, map}
 use Rattle.std.proofs.Common.{Option, Some, refl, sym, ap, ap₂, subst}
 use Rattle.std.proofs.Common.{◌∙◌, arith}
-use Rattle.std.proofs.lemmas.Bool.{eq-eqb, eqb-true, leb-true}
+use Rattle.std.proofs.lemmas.Bool.{eq-eqb, eqb-true, le-leb, leb-true}
 use Rattle.std.proofs.lemmas.Bool.Decides.{Decides-int_eq}
 use Rattle.std.specs.Cmp.{int_eq_equiv}
 use Rattle.std.specs.Ordering.{int_eq}
@@ -11,7 +11,7 @@ use Rattle.std.specs.Prelude.{length, nat_eq, nat_le, option_and_then, option_ma
 use Rattle.bl_tree.specs.Numbers.{checked_of, checked_one_of, is_one, number_of}
 use Rattle.bl_tree.specs.declared.c.CExpr.{CExpr}
 use Rattle.bl_tree.specs.declared.scalar.Op.{Op}
-use Rattle.bl_tree.specs.declared.scalar.Op.TheVariants.{And, Eq, Ne, Not, Or}
+use Rattle.bl_tree.specs.declared.scalar.Op.TheVariants.{And, Eq, Ge, Ne, Not, Or}
 use Rattle.bl_tree.specs.declared.scalar.Scalar.{Scalar}
 use Rattle.bl_tree.specs.declared.scalar.Scalar.TheVariants.{Bool as OfBool}
 use Rattle.bl_machine.specs.declared.slots.Slot.{Slot}
@@ -22,7 +22,8 @@ use Rattle.bl_emit_functions.specs.Trees.{c_truth}
 use Rattle.bl_machine_pass.specs.Registers.{Registers, are_ended, is_aged, is_at}
 use Rattle.bl_machine_pass.specs.Transitions.{Age, Needed}
 use Rattle.bl_machine_pass.specs.Transitions.{IsAny, IsNew, IsOld}
-use Rattle.bl_emit_spec.specs.Blocks.{ActivityView, aged_test, at_slot, counter_value, ends_test, greatest_value, in_pairs, in_tree, is_only, rested_at, rested_by}
+use Rattle.bl_emit_spec.specs.Blocks.{ActivityView, aged_test, at_slot, counter_value, ends_test, greatest_value, in_pairs, in_tree, is_greatest, rested_at, rested_by}
+use Rattle.bl_emit_spec.specs.Blocks.{rested_from, rested_since}
 use Rattle.bl_emit_spec.specs.Names.{counter_place, flag_name, flag_place, mark_name, mark_place, rested_name, rested_place}
 use Rattle.bl_emit_spec_laws.specs.Registers.Laws.{RestsWithin, has_age}
 use Rattle.bl_emit_spec_laws.specs.Registers.Registers.{Before, Counter, Flag, Mark, Registered, RegistersEncoded, register_at}
@@ -96,14 +97,29 @@ same_test k l = by (int_eq (pos k) (pos l)) (nat_eq k l) refl refl
     by false true h i =
         absurd (no_such (sym (int_eq_equiv.refl (pos k)) ∙ (ap (λ n. int_eq (pos k) (pos n)) (eqb-true k l i) ∙ h)))
 
--- what is at most 1 is 1 where it isn't 0
-one_value : (w v most : ℕ) → v ≡ 1 → most ≤ 1 → w ≤ most → not (nat_eq w 0) ≡ nat_eq w v
-one_value w v most is few within = subst (λ v. not (nat_eq w 0) ≡ nat_eq w v) (sym is) (by w (omega (arith, few, within)))
+no_zero : (w : ℕ) (same : Bool) → nat_eq (suc w) 0 ≡ same → nat_eq (suc w) 0 ≡ false
+no_zero w false is = is
+no_zero w true is = absurd (let none : suc w ≡ 0 = eqb-true (suc w) 0 is in omega (arith, none))
+
+-- what isn't 0 is at least 1
+some_value : (w v : ℕ) → v ≡ 1 → not (nat_eq w 0) ≡ nat_le v w
+some_value w v is = subst (λ v. not (nat_eq w 0) ≡ nat_le v w) (sym is) (by w)
   where
-    by : (w : ℕ) → w ≤ 1 → not (nat_eq w 0) ≡ nat_eq w 1
-    by zero small = refl
-    by (suc zero) small = refl
-    by (suc (suc w)) small = absurd (omega (arith, small))
+    by : (w : ℕ) → not (nat_eq w 0) ≡ nat_le 1 w
+    by zero = refl
+    by (suc w) = ap not (no_zero w (nat_eq (suc w) 0) refl) ∙ sym (le-leb 1 (suc w) (omega arith))
+
+-- what is at most a number is that number where it is no less
+greatest_value_is : (w v most : ℕ) → most ≤ v → w ≤ most → nat_le v w ≡ nat_eq w v
+greatest_value_is w v most last within = by (nat_eq w v) refl
+  where
+    less : nat_eq w v ≡ false → (more : Bool) → nat_le v w ≡ more → more ≡ false
+    less is false more = refl
+    less is true more = let above : v ≤ w = leb-true v w more in absurd (no_such (sym (eq-eqb w v (omega (arith, above, last, within))) ∙ is))
+
+    by : (same : Bool) → nat_eq w v ≡ same → nat_le v w ≡ same
+    by true is = let equal : w ≡ v = eqb-true w v is in le-leb v w (omega (arith, equal))
+    by false is = less is (nat_le v w) refl
 
 module _ (scope : Scope) (here : Memory) where
   -- an expression has the number of a truth
@@ -154,6 +170,12 @@ module _ (scope : Scope) (here : Memory) where
       compare-number scope here Ne e f (λ l r. refl)
       ∙ (ap₂ (λ (x y : Option ℤ). option_and_then (λ x. option_and_then (checked_of Ne OfBool x) y) x) first second
       ∙ ap (λ b. Some (number_of (not b))) (same_test k l))
+
+  no_less_shows : (e f : CExpr) (k l : ℕ) → gives scope here e ≡ Some (pos k) → gives scope here f ≡ Some (pos l) →
+      Shows (c_two Ge e f) (nat_le l k)
+  no_less_shows e f k l first second =
+      compare-number scope here Ge e f (λ l r. refl)
+      ∙ ap₂ (λ (x y : Option ℤ). option_and_then (λ x. option_and_then (checked_of Ge OfBool x) y) x) first second
 
   -- ---- trees of tests
 
@@ -215,18 +237,27 @@ module _ (scope : Scope) (here : Memory) where
         ap (option_map number_in) (read_answer scope here (mark_place k) (register_at scope (Mark k)) (local_answer scope here (mark_name k)))
         ∙ ap Some (hold.each (Mark k) its)
 
+    pub since_shows : (k least : ℕ) → has.copied k ≡ true → Shows (rested_since view k least) (nat_le least (r.rested k))
+    since_shows k least its = by (nat_eq least 1) refl
+      where
+        by : (one : Bool) → nat_eq least 1 ≡ one → Shows (rested_from view k least one) (nat_le least (r.rested k))
+        by true is =
+            differs_shows (c_read (rested_place k)) (counter_value view.sizes k 0) (r.rested k) 0 (rested_gives k its) (literal_gives _ (pos 0))
+            ∙ ap (λ b. Some (number_of b)) (some_value (r.rested k) least (eqb-true least 1 is))
+        by false is =
+            no_less_shows (c_read (rested_place k)) (counter_value view.sizes k least) (r.rested k) least (rested_gives k its)
+            (literal_gives _ (pos least))
+
     pub rested_shows : RestsWithin view.sizes r → (slot : Slot) → has.copied slot.counter ≡ true →
         Shows (rested_at view slot) (is_at r.rested slot)
-    rested_shows within slot its = by (is_only view.sizes slot) refl
+    rested_shows within slot its = by (is_greatest view.sizes slot.counter slot.value) refl
       where
-        by : (only : Bool) → is_only view.sizes slot ≡ only → Shows (rested_by view slot only) (is_at r.rested slot)
+        by : (last : Bool) → is_greatest view.sizes slot.counter slot.value ≡ last → Shows (rested_by view slot last) (is_at r.rested slot)
         by true is =
-            let found = and_both (nat_eq slot.value 1) (nat_le (greatest_value view.sizes slot.counter) 1) is in
-            differs_shows (c_read (rested_place slot.counter)) (counter_value view.sizes slot.counter 0) (r.rested slot.counter) 0
-            (rested_gives slot.counter its) (literal_gives _ (pos 0))
+            since_shows slot.counter slot.value its
             ∙ ap (λ b. Some (number_of b))
-            (one_value (r.rested slot.counter) slot.value (greatest_value view.sizes slot.counter) (eqb-true slot.value 1 found.0)
-            (leb-true (greatest_value view.sizes slot.counter) 1 found.1) (within slot.counter))
+            (greatest_value_is (r.rested slot.counter) slot.value (greatest_value view.sizes slot.counter)
+            (leb-true (greatest_value view.sizes slot.counter) slot.value is) (within slot.counter))
         by false is =
             eq_shows (c_read (rested_place slot.counter)) (counter_value view.sizes slot.counter slot.value) (r.rested slot.counter) slot.value
             (rested_gives slot.counter its) (literal_gives _ (pos slot.value))

@@ -28,13 +28,14 @@ use Rattle.bl_emit_acts.specs.Trees.{c_literal, c_read, c_two, nowhere}
 use Rattle.bl_machine_pass.specs.Registers.{Registers, are_ended, due_by, is_at}
 use Rattle.bl_machine_pass.specs.Transitions.{Asked}
 use Rattle.bl_machine_pass.specs.Transitions.{Ended, Flagged, Rested, RestedIn}
-use Rattle.bl_emit_spec.specs.Blocks.{ActivityView, counter_type, counter_value, ends_test, guard_of, last_value, rested_between, rested_in, type_for}
+use Rattle.bl_emit_spec.specs.Blocks.{ActivityView, counter_type, counter_value, ends_test, greatest_value, guard_of, is_greatest, last_value}
+use Rattle.bl_emit_spec.specs.Blocks.{rested_between, rested_in, rested_to, rested_within, type_for}
 use Rattle.bl_emit_spec.specs.Names.{rested_place}
 use Rattle.bl_emit_spec_laws.specs.Registers.Laws.{RestsWithin, are_in_a_row, asks_its_own, fits_counter, follow_on, has_age}
 use Rattle.bl_emit_spec_laws.specs.Registers.Registers.{Registered, RegistersEncoded}
 use Rattle.bl_emit_spec_laws.proofs.OnRegisters.Cells.{and_both}
 use Rattle.bl_emit_spec_laws.proofs.OnRegisters.Guards.{Shows, aged_shows, and_shows, ends_show, flag_shows}
-use Rattle.bl_emit_spec_laws.proofs.OnRegisters.Guards.{literal_gives, or_false, rested_gives, rested_shows, truth_shows}
+use Rattle.bl_emit_spec_laws.proofs.OnRegisters.Guards.{literal_gives, or_false, rested_gives, rested_shows, since_shows, truth_shows}
 use Rattle.bl_emit_spec_laws.proofs.OnRegisters.Numbers.{compare-number, gives, one-number}
 
 -- ---- numbers in a row
@@ -201,6 +202,24 @@ module _ (scope : Scope) (here : Memory) where
         (ge_shows s (rested_place k) least (r.rested k) stands (hidden_gives s typed.0 (pos least) typed.1 first))
         (le_shows s (rested_place k) greatest (r.rested k) stands (hidden_gives s typed.0 (pos greatest) typed.1 last))
 
+    -- a comparison with the greatest value says nothing
+    no_greater : (a : Bool) (w most last : ℕ) → w ≤ most → nat_le most last ≡ true → a ≡ (a && nat_le w last)
+    no_greater false w most last few is = refl
+    no_greater true w most last few is = let less : most ≤ last = leb-true most last is in sym (le-leb w last (omega (arith, few, less)))
+
+    within_shows : (k least greatest : ℕ) → has.copied k ≡ true → in_range (counter_type view.sizes k) (pos least) ≡ true →
+        in_range (counter_type view.sizes k) (pos greatest) ≡ true →
+        Shows scope here (rested_within view k least greatest) (nat_le least (r.rested k) && nat_le (r.rested k) greatest)
+    within_shows k least greatest its first last = by (is_greatest view.sizes k greatest) refl
+      where
+        by : (top : Bool) → is_greatest view.sizes k greatest ≡ top →
+            Shows scope here (rested_to view k least greatest top) (nat_le least (r.rested k) && nat_le (r.rested k) greatest)
+        by true is =
+            since_shows scope here view has r hold k least its
+            ∙ ap (λ b. Some (number_of b))
+            (no_greater (nat_le least (r.rested k)) (r.rested k) (greatest_value view.sizes k) greatest (within k) is)
+        by false is = between_shows k least greatest its first last
+
     row_shows : (slots : List Slot) → list_all (λ slot. has.copied slot.counter) slots ≡ true → list_all (fits_counter view.sizes) slots ≡ true →
         are_in_a_row slots ≡ true → Shows scope here (rested_in view slots) (list_any (is_at r.rested) slots)
     row_shows [] its fits row = truth_shows scope here false
@@ -209,9 +228,9 @@ module _ (scope : Scope) (here : Memory) where
         rested_shows scope here view has r hold within slot found.0 ∙ ap (λ b. Some (number_of b)) (sym (or_false (is_at r.rested slot)))
     row_shows (slot ∷ more ∷ rest) its fits row =
         let found = and_both (has.copied slot.counter) (list_all (λ slot. has.copied slot.counter) (more ∷ rest)) its in
-        let within = and_both (fits_counter view.sizes slot) (list_all (fits_counter view.sizes) (more ∷ rest)) fits in
-        between_shows slot.counter slot.value (last_value slot.value (more ∷ rest)) found.0 within.0
-        (last_fits view slot.counter slot.value (more ∷ rest) within.0 within.1 row)
+        let fit = and_both (fits_counter view.sizes slot) (list_all (fits_counter view.sizes) (more ∷ rest)) fits in
+        within_shows slot.counter slot.value (last_value slot.value (more ∷ rest)) found.0 fit.0
+        (last_fits view slot.counter slot.value (more ∷ rest) fit.0 fit.1 row)
         ∙ ap (λ b. Some (number_of b)) (sym (row_in r.rested slot.counter slot.value (more ∷ rest) row))
 
     -- ---- guards

@@ -1,7 +1,8 @@
 -- The `run`s of a body, among the activities that its nodes call.
-use Rattle.std.proofs.Common.{◌≡◌, ◌⊎◌, inl, inr, ℕ, suc, Bool, true, false, List, [], ◌∷◌, ◌++◌, length}
-use Rattle.std.proofs.Common.{map, refl, sym, ap, subst, arith}
+use Rattle.std.proofs.Common.{◌≡◌, ◌⊎◌, inl, inr, ℕ, zero, suc, Bool, true, false, List, [], ◌∷◌, ◌++◌, length}
+use Rattle.std.proofs.Common.{Contains, Some, refl, sym, ap, arith}
 use Rattle.std.proofs.lemmas.List.{length-append}
+use Rattle.std.specs.Prelude.{slice_get}
 use Rattle.bl_tree.specs.declared.place.Place.{Place}
 use Rattle.bl_graph_nodes.specs.Nodes.{Arguments, EnterAt, Node, are_instant, is_instant, nodes_in, nodes_in_each, nodes_of, where_so}
 use Rattle.bl_graph_nodes.specs.Nodes.{CheckAt, DepthEndAt, DepthJoinAt, SurfaceEndAt, SurfaceJoinAt, arguments_of}
@@ -28,9 +29,8 @@ use Rattle.bl_graph_nodes.specs.Plain.{
 use Rattle.bl_ctree_laws.specs.Trees.{Call}
 use Rattle.bl_ctree_laws_traces.proofs.OnBounded.Calls.{calls_in, calls_in_each, calls_of}
 use Rattle.bl_ctree_laws_traces.proofs.OnBounded.Lists.{Among, among_either}
-use Rattle.bl_machine_pass.specs.Transitions.{Transition}
 use Rattle.bl_machine_transitions.specs.Callees.{callees_in, callees_in_each, callees_of, zero_where}
-use Rattle.bl_emit_spec.specs.Activities.{RunAt, run_at, runs_at}
+use Rattle.bl_emit_spec.specs.Activities.{RunAt}
 
 -- the node begins a `run`
 pub record Enters (n : Node) : Type 0 where
@@ -91,7 +91,7 @@ mutual
   callees_many (While l at e body) = ap suc (callees_in_many body)
   callees_many (Again l at body e) = ap (λ n. suc (suc n)) (callees_in_many body)
 
-  callees_in_many : (body : Block) → length (callees_in body) ≡ length (nodes_in body)
+  pub callees_in_many : (body : Block) → length (callees_in body) ≡ length (nodes_in body)
   callees_in_many Done = refl
   callees_in_many (Then s rest) =
       append_many (callees_of s) (callees_in rest) (nodes_of s) (nodes_in rest) (callees_many s) (callees_in_many rest)
@@ -161,22 +161,39 @@ abbrev pub HasRun : ℕ → List RunAt → Type 0
 HasRun u [] = ⊥
 HasRun u (run ∷ runs) = (run.unit ≡ u) ⊎ HasRun u runs
 
-run_left : (u : ℕ) (xs ys : List RunAt) → HasRun u xs → HasRun u (xs ++ ys)
-run_left u [] ys at = absurd at
-run_left u (x ∷ xs) ys (inl is) = inl is
-run_left u (x ∷ xs) ys (inr at) = inr (run_left u xs ys at)
+-- a `run` of the activity is some `run` of it
+pub has_run : (runs : List RunAt) (run : RunAt) → Contains runs run → HasRun run.unit runs
+has_run [] run (k, below, is) = absurd (omega (arith, below))
+has_run (first ∷ runs) run (zero, below, is) = inl (ap (λ (run : RunAt). run.unit) is)
+has_run (first ∷ runs) run (suc k, below, is) = inr (has_run runs run (k, omega (arith, below), is))
 
-run_right : (u : ℕ) (xs ys : List RunAt) → HasRun u ys → HasRun u (xs ++ ys)
-run_right u [] ys at = at
-run_right u (x ∷ xs) ys at = inr (run_right u xs ys at)
+-- where a node begins a `run` of the activity
+pub record EnteredAt (u : ℕ) (ns : List Node) (cs : List ℕ) : Type 0 where
+  pub position : ℕ
+  pub label : Label
+  pub at : Place
+  pub arguments : Arguments
+  pub node : slice_get ns position ≡ Some (EnterAt label at arguments)
+  pub callee : slice_get cs position ≡ Some u
 
-pub entered_runs : (number : Node → ℕ) (u : ℕ) (rs : List Transition) (callees : List ℕ) →
-    Entered u (map (λ (rule : Transition). rule.node) rs) callees →
-    HasRun u (runs_at number callees rs)
-entered_runs number u [] callees at = absurd at
-entered_runs number u (rule ∷ rs) [] at = absurd at
-entered_runs number u (rule ∷ rs) (c ∷ callees) (inl is) =
-    run_left u (run_at number c rule.node) (runs_at number callees rs)
-    (subst (λ n. HasRun u (run_at number c n)) (sym is.0.is) (inl is.1))
-entered_runs number u (rule ∷ rs) (c ∷ callees) (inr at) =
-    run_right u (run_at number c rule.node) (runs_at number callees rs) (entered_runs number u rs callees at)
+pub entered_at : (u : ℕ) (ns : List Node) (cs : List ℕ) → Entered u ns cs → EnteredAt u ns cs
+entered_at u [] cs at = absurd at
+entered_at u (n ∷ ns) [] at = absurd at
+entered_at u (n ∷ ns) (c ∷ cs) (inl is) = record {
+  position = 0;
+  label = is.0.label;
+  at = is.0.at;
+  arguments = is.0.arguments;
+  node = ap Some is.0.is;
+  callee = ap Some is.1;
+}
+entered_at u (n ∷ ns) (c ∷ cs) (inr later) =
+    let found = entered_at u ns cs later in
+    record {
+      position = suc found.position;
+      label = found.label;
+      at = found.at;
+      arguments = found.arguments;
+      node = found.node;
+      callee = found.callee;
+    }

@@ -29,17 +29,17 @@ use Rattle.bl_ctree_laws_traces.proofs.OnBounded.Calls.{calls_in, run_of}
 use Rattle.bl_ctree_laws_traces.proofs.OnBounded.Lists.{Among, among_got}
 use Rattle.bl_ctree_laws_traces.proofs.OnBounded.Statements.{body_few}
 use Rattle.bl_machine.specs.declared.machine.Activity.{Activity as InMachine}
-use Rattle.bl_machine_pass.specs.Transitions.{Transition, rules}
 use Rattle.bl_machine_pass_laws.specs.Turns.Laws.{StaysPlaced}
 use Rattle.bl_machine_transitions.specs.Callees.{callees_in}
-use Rattle.bl_emit_spec.specs.Activities.{Activity, RunAt, memory_member, remembered, remembers_any, runs_at, runs_in_body, view_of}
+use Rattle.bl_emit_spec.specs.Activities.{Activity, RunAt, body_of, memory_member, remembered, remembers_any, runs_in_body, view_of}
 use Rattle.bl_emit_functions.specs.Functions.{members_of, memory_name}
 use Rattle.bl_emit_spec.specs.Activities.{struct_member}
 use Rattle.bl_emit_spec.specs.Blocks.{name_in}
 use Rattle.bl_emit_spec.specs.Names.{callee_name}
 use Rattle.bl_emit_spec_laws.specs.Calls.Built.{Activities, activity_at, unit_number}
 use Rattle.bl_emit_spec_laws.specs.Calls.Laws.{CompilationContext}
-use Rattle.bl_emit_spec_laws.proofs.OnRemember.Entering.{Entered, HasRun, calls_entered, entered_runs}
+use Rattle.bl_emit_spec_laws.proofs.OnRemember.Entering.{Entered, EnteredAt, HasRun, calls_entered, entered_at, has_run}
+use Rattle.bl_emit_spec_laws.proofs.OnRunPlaces.Sharing.{run_kept}
 
 some_is : {A : Type 0} (a b : A) → Some a ≡ Some b → a ≡ b
 some_is a b e = cc
@@ -165,12 +165,14 @@ module _ (orderly : AcceptedIsOrderly) (callers : InstancesHaveCallers) (placed 
           let same : image.call.unit ≡ run.unit = sym (ap (λ (r : Run). r.unit) image.is) in
           let entered : Entered run.unit (nodes_in body) (callees_in body) =
           subst (λ u. Entered u (nodes_in body) (callees_in body)) same (calls_entered body image.call image.there) in
-          let by_rules : Entered run.unit (map (λ (rule : Transition). rule.node) (rules a.slots body)) (callees_in body) =
-          subst (λ ns. Entered run.unit ns (callees_in body)) (sym (placed.nodes a.slots body)) entered in
           let own_unit : a.unit ≡ unit = compiled.built.unit k unit there in
+          let by : EnteredAt run.unit (nodes_in (body_of a)) (callees_in (body_of a)) =
+          subst (λ (u : UnitDef). EnteredAt run.unit (nodes_in (plain_body u.body)) (callees_in (plain_body u.body))) (sym own_unit)
+          (entered_at run.unit (nodes_in body) (callees_in body) entered) in
           let has : HasRun run.unit (runs_in_body a) =
-          subst (λ (u : UnitDef). HasRun run.unit (runs_at (view_of a).number (callees_in (plain_body u.body)) (rules a.slots (plain_body u.body))))
-          (sym own_unit) (entered_runs (view_of a).number run.unit (rules a.slots body) (callees_in body) by_rules) in
+          has_run (runs_in_body a) (record { place = by.at; number = (view_of a).run by.at; unit = run.unit })
+          (run_kept placed.nodes a structs units entry compiled.keeps k (there ∙ ap Some (sym own_unit)) by.position run.unit by.label by.at by.arguments
+          by.node by.callee) in
           remembers a run.unit has told
 
       by_origin : (at : Place) (instance : Instance) → slice_get w.instances j ≡ Some instance → (o : Option Origin) → instance.origin

@@ -12,8 +12,7 @@ use Rattle.bl_cause.proofs.PairLemmas.{each_at, filtered_at}
 use Rattle.bl_graph_nodes.specs.Plain.{plain_body}
 use Rattle.bl_machine.specs.declared.machine.Activity.{Activity as InMachine}
 use Rattle.bl_machine.specs.Machines.{AreActivitiesOf, IsActivityOf}
-use Rattle.bl_machine_pass.specs.Numbered.{slots_of}
-use Rattle.bl_machine_transitions.specs.Shared.{shared, shared_sizes}
+use Rattle.bl_machine_pass.specs.Numbered.{sizes_of, slots_of}
 use Rattle.bl_emit_spec.specs.Activities.{remembers_any}
 use Rattle.bl_emit_spec_laws.specs.Calls.Built.{AreBuilt, MadeOf}
 use Rattle.bl_emit_spec_laws.specs.Tables.Laws.{ActivitiesBuilt}
@@ -73,11 +72,8 @@ module _ (structs : List StructDef) (units : List UnitDef) (machine : List InMac
             is = found.1;
             order = ap (λ o. joined (unwrap_or o no_part).blocks) found.1;
             blocks = ap (λ o. (unwrap_or o no_part).blocks) found.1;
-            slots = λ i. slots_of (plain_body (unwrap_or (there i) no_unit).body)
-                (shared (joined (unwrap_or (found.1 i) no_part).blocks) (plain_body (unwrap_or (there i) no_unit).body)
-                (unwrap_or (found.1 i) no_part).slots);
-            sizes = λ i. shared_sizes (joined (unwrap_or (found.1 i) no_part).blocks) (plain_body (unwrap_or (there i) no_unit).body)
-                (unwrap_or (found.1 i) no_part).slots;
+            slots = λ i. slots_of (plain_body (unwrap_or (there i) no_unit).body) (unwrap_or (found.1 i) no_part).slots;
+            sizes = ap (λ o. sizes_of (unwrap_or o no_part).slots) found.1;
           }
 
 pub all_built : ActivitiesBuilt

@@ -174,7 +174,7 @@ each_many of k (x ∷ xs) = ap suc (each_many of (suc k) xs)
 pub all_kept : WrittenIsKept
 all_kept program machine unit agrees there active = record {
   remembers = remembers;
-  funcs = ap (λ o. (file_at program parts_all o).funcs) there ∙ (λ i. whole.0 i ++ init_function unit.name ∷ tick_function unit (remembers i) ∷ []);
+  funcs = ap (λ o. (file_at program parts_all o).funcs) there ∙ (λ i. whole.0 i ++ init_function ∷ tick_function unit (remembers i) ∷ []);
 }
   where
     activities : Activities

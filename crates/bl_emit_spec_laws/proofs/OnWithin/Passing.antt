@@ -1,5 +1,5 @@
 -- Passes by rules leave each counter within the values that it may have.
-use Rattle.std.proofs.Common.{◌≡◌, ℕ, ◌≤◌, Bool, true, false, List, Some, nat_eq, refl, sym, subst, eqb-true}
+use Rattle.std.proofs.Common.{◌≡◌, inl, inr, ℕ, ◌≤◌, Bool, true, false, List, Some, nat_eq, refl, sym, subst, eqb-true}
 use Rattle.std.proofs.Common.{if◌then◌else◌}
 use Rattle.std.specs.Prelude.{slice_get}
 use Rattle.bl_tree.specs.declared.tree.StructDef.{StructDef}
@@ -17,7 +17,6 @@ use Rattle.bl_machine_pass_laws.specs.Spots.{SpotsDiffer}
 use Rattle.bl_machine_pass_laws_execution.specs.Executes as executes
 use Rattle.bl_machine_pass_laws_execution.specs.Executes.{Executes, HasRule, Performs, begun_registers, resumed_registers}
 use Rattle.bl_machine_pass_laws_execution.specs.Frames.{Frames}
-use Rattle.bl_machine_transitions_laws.specs.Laws.{RulesAreListed}
 use Rattle.bl_emit_spec.specs.Blocks.{Sizes, greatest_value}
 use Rattle.bl_emit_spec_laws.specs.Calls.Built.{Activities, activity_at, cleared, is_under, rank_by, slots_by, unit_number}
 use Rattle.bl_emit_spec_laws.specs.Calls.Calls.{FramesWithin, PassStarts}
@@ -62,12 +61,12 @@ module _ (w : Setting) (activities : Activities) where
 
   pub starts_within : (i : ℕ) (unit : UnitDef) (frames : Frames) (r : Registers) → FramesWithin w activities frames →
       PassStarts w activities i unit frames r → RegistersWithin (sizes_at i) r
-  starts_within i unit frames r all (executes.begins zeros) = begun_within i unit
-  starts_within i unit frames r all (executes.goes_on some) = resumed_within i frames all
+  starts_within i unit frames r all (inl begun) = subst (RegistersWithin (sizes_at i)) (sym begun.0) (begun_within i unit)
+  starts_within i unit frames r all (inr resumed) = subst (RegistersWithin (sizes_at i)) (sym resumed.0) (resumed_within i frames all)
 
 -- ---- passes
 
-module _ (orderly : AcceptedIsOrderly) (spots : SpotsDiffer) (told : RulesAreListed) (structs : List StructDef) (units : List UnitDef) (entry : ℕ)
+module _ (orderly : AcceptedIsOrderly) (spots : SpotsDiffer) (structs : List StructDef) (units : List UnitDef) (entry : ℕ)
     (machine : List InMachine) (activities : Activities) where
   abbrev W : Setting
   W = setting_of structs units entry
@@ -105,10 +104,10 @@ module _ (orderly : AcceptedIsOrderly) (spots : SpotsDiffer) (told : RulesAreLis
       by : (b : Bool) → Own i (after_rule (R i) rule b r)
       by true =
           changes_within (activity_at W activities i).sizes (R i) rule.so r
-          (unit_within spots told structs units machine activities (unit_number W i) unit built rule has).0 within
+          (unit_within spots structs units machine activities (unit_number W i) unit built rule has).0 within
       by false =
           changes_within (activity_at W activities i).sizes (R i) rule.otherwise r
-          (unit_within spots told structs units machine activities (unit_number W i) unit built rule has).1 within
+          (unit_within spots structs units machine activities (unit_number W i) unit built rule has).1 within
 
   module _ (compiled : CompilationContext structs units entry machine activities) where
     mutual
@@ -125,15 +124,11 @@ module _ (orderly : AcceptedIsOrderly) (spots : SpotsDiffer) (told : RulesAreLis
       turn_within (executes.enters {frames = frames} {frames' = frames'} {r' = r'} {callee = callee} {unit = unit} called of does pass over) held =
           let after = pass_within pass (clear_within W activities callee frames held) (begun_within W activities callee unit) in
           frame_within W activities callee r'.counters frames' after.1.counters after.0
-      turn_within
-          (executes.resumes {frames = frames} {frames' = frames'} {r = r} {r' = r'} {callee = callee} {unit = unit} called of starts does pass over)
-          held =
-          let after = pass_within pass held (starts_within W activities callee unit frames r held starts) in
+      turn_within (executes.resumes {frames = frames} {frames' = frames'} {r' = r'} {callee = callee} called runs does pass over) held =
+          let after = pass_within pass held (resumed_within W activities callee frames held) in
           frame_within W activities callee r'.counters frames' after.1.counters after.0
-      turn_within
-          (executes.returns {frames = frames} {frames' = frames'} {r = r} {r' = r'} {callee = callee} {unit = unit} called of starts does pass over
-          gives) held =
-          let after = pass_within pass held (starts_within W activities callee unit frames r held starts) in
+      turn_within (executes.returns {frames = frames} {frames' = frames'} {r' = r'} {callee = callee} called runs does pass over gives) held =
+          let after = pass_within pass held (resumed_within W activities callee frames held) in
           frame_within W activities callee r'.counters frames' after.1.counters after.0
 
   stays : PassesStayWithin structs units entry machine activities
@@ -146,5 +141,5 @@ module _ (orderly : AcceptedIsOrderly) (spots : SpotsDiffer) (told : RulesAreLis
     cleared_within = clear_within W activities;
   }
 
-pub all_stay : AcceptedIsOrderly → SpotsDiffer → RulesAreListed → AllStayWithin
-all_stay orderly spots told structs units entry machine activities = stays orderly spots told structs units entry machine activities
+pub all_stay : AcceptedIsOrderly → SpotsDiffer → AllStayWithin
+all_stay orderly spots structs units entry machine activities = stays orderly spots structs units entry machine activities

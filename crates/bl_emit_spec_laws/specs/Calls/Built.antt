@@ -2,6 +2,7 @@
 use Rattle.std.specs.Prelude.{◌≡◌, ℕ, ◌<◌, zero, suc, Bool, true, false, ◌&&◌, ◌||◌, List, length, take, nat_eq, nat_lt, Option, Some}
 use Rattle.std.specs.Prelude.{option_and_then, option_map, slice_get, unwrap_or, if◌then◌else◌}
 use Rattle.std.specs.List.{list_any}
+use Rattle.bl_tree.specs.declared.place.Place.{Place}
 use Rattle.bl_tree.specs.declared.tree.StructDef.{StructDef}
 use Rattle.bl_tree.specs.declared.tree.Unit.{Unit as UnitDef}
 use Rattle.bl_tree.specs.Reduce.{joined}
@@ -14,9 +15,8 @@ use Rattle.bl_ctree.specs.Instances.{Setting}
 use Rattle.bl_ctree.specs.Store.{depth_at}
 use Rattle.bl_machine.specs.declared.machine.Activity.{Activity as InMachine}
 use Rattle.bl_machine.specs.Uses.{Slots}
-use Rattle.bl_machine_pass.specs.Numbered.{slots_of}
+use Rattle.bl_machine_pass.specs.Numbered.{sizes_of, slots_of}
 use Rattle.bl_machine_pass.specs.Transitions.{Change, SetsMark, Transition}
-use Rattle.bl_machine_transitions.specs.Shared.{shared, shared_sizes}
 use Rattle.bl_machine_pass_laws_execution.specs.Frames.{Frames}
 use Rattle.bl_emit_spec.specs.Activities.{Activity, is_flagged, remembers_any, rules_at, view_of}
 use Rattle.bl_emit_spec_laws.specs.Registers.Registers.{Registered}
@@ -39,10 +39,15 @@ activity_at w activities i = activities (unit_number w i)
 abbrev pub site_at : Setting → Activities → ℕ → TypingContext
 site_at w activities i = (view_of (activity_at w activities i)).site
 
--- the numbers of nodes in C, and those of resting places
+-- the numbers of nodes in C
 abbrev pub rank_by : Setting → Activities → ℕ → Node → ℕ
 rank_by w activities i = (view_of (activity_at w activities i)).number
 
+-- the numbers of `run`s in C, by their places
+abbrev pub run_by : Setting → Activities → ℕ → Place → ℕ
+run_by w activities i = (view_of (activity_at w activities i)).run
+
+-- the numbers of resting places in C
 abbrev pub slots_by : Setting → Activities → ℕ → Slots
 slots_by w activities i = (activity_at w activities i).slots
 
@@ -52,8 +57,8 @@ pub record MadeOf (unit : UnitDef) (a : Activity) (machine : Option InMachine) :
   pub is : machine ≡ Some one
   pub order : a.order ≡ joined one.blocks
   pub blocks : a.blocks ≡ one.blocks
-  pub slots : a.slots ≡ slots_of (plain_body unit.body) (shared (joined one.blocks) (plain_body unit.body) one.slots)
-  pub sizes : a.sizes ≡ shared_sizes (joined one.blocks) (plain_body unit.body) one.slots
+  pub slots : a.slots ≡ slots_of (plain_body unit.body) one.slots
+  pub sizes : a.sizes ≡ sizes_of one.slots
 
 -- each activity of the program is made of its unit, the units before it, and its part of the machine
 pub record AreBuilt (structs : List StructDef) (units : List UnitDef) (machine : List InMachine) (activities : Activities) : Type 0 where

@@ -1,6 +1,7 @@
 -- Calls of the C functions of activities: what they are given, and what they leave.
 use Rattle.std.specs.Prelude.{
   ◌≡◌,
+  ◌⊎◌,
   ◌≤◌,
   ℕ,
   pos,
@@ -38,7 +39,7 @@ use Rattle.bl_emit_acts_laws_simulation.specs.Simulation.{ArgumentsEncoded}
 use Rattle.bl_emit_spec.specs.Activities.{remembers_any}
 use Rattle.bl_emit_spec.specs.Blocks.{greatest_value}
 use Rattle.bl_machine_pass.specs.Registers.{Registers, with_at}
-use Rattle.bl_machine_pass_laws_execution.specs.Executes.{Executes, PassStart, PassTraps}
+use Rattle.bl_machine_pass_laws_execution.specs.Executes.{Executes, PassTraps, begun_registers, resumed_registers}
 use Rattle.bl_machine_pass_laws_execution.specs.Frames.{Frames}
 use Rattle.bl_emit_spec_laws.specs.Calls.Built.{Activities, activity_at, cleared, rank_by, slots_by, unit_number}
 use Rattle.bl_emit_spec_laws.specs.Calls.Memories.{MemoryEncodes}
@@ -102,9 +103,11 @@ pub record CallBegins (w : Setting) (activities : Activities) (i : ℕ) (unit : 
   pub fits : StoreFits w store
   pub within : FramesWithin w activities frames
 
--- the registers with which a pass of an instance starts, by the numbers that are in C
+-- the registers with which a pass starts: the body begins where all counters of the instance hold 0, or goes on where the first one doesn't
 abbrev pub PassStarts : Setting → Activities → ℕ → UnitDef → Frames → Registers → Type 0
-PassStarts w activities i unit frames r = PassStart (rank_by w activities) i unit frames r
+PassStarts w activities i unit frames r =
+    ((r ≡ begun_registers (rank_by w activities) i unit) × ((c : ℕ) → frames i c ≡ 0))
+    ⊎ ((r ≡ resumed_registers frames i) × (frames i 0 ≡ 0 → ⊥))
 
 -- ---- what a call leaves
 

@@ -22,7 +22,7 @@ use Rattle.bl_emit_spec.specs.Activities.{copies_of, remembers_any}
 use Rattle.bl_emit_spec_laws.specs.Registers.Registers.{ApartFromPointers, FramePointersAreValid, RegistersEncoded, frame_at, over_at}
 use Rattle.bl_machine_pass.specs.Registers.{Registers}
 use Rattle.bl_machine_pass_laws_execution.specs.Frames.{Frames}
-use Rattle.bl_emit_spec_laws.specs.Calls.Built.{Activities, activity_at, rank_by, registered, site_at, unit_number}
+use Rattle.bl_emit_spec_laws.specs.Calls.Built.{Activities, activity_at, registered, run_by, site_at, unit_number}
 use Rattle.bl_emit_spec_laws.specs.Calls.Calls.{ActivitySimulates}
 use Rattle.bl_emit_spec_laws.specs.Calls.Memories.{MemoryEncodes, inner}
 
@@ -72,7 +72,7 @@ pub record PassRepresents (w : Setting) (activities : Activities) (i : ℕ) (uni
   pub copied : CopiesEncoded (site_at w activities i) copies (is_copied (copies_of unit)) scope here
   pub callees : (l : Label) (at : Place) (arguments : Arguments) (j : ℕ) → Contains (nodes_in (plain_body unit.body)) (EnterAt l at arguments) →
       callee_of w i at ≡ Some j →
-      let n = rank_by w activities i (EnterAt l at arguments) in
+      let n = run_by w activities i at in
       MemoryEncodes w activities j (inner (frame_at scope) n) (inner (remembered_at scope) n) frames store here
   pub result : (value : Value) → r.over ≡ true → is_some unit.result ≡ true → result_at store i ≡ Some value →
       number_in (value_at here (result_at_c scope)) ≡ number_or_zero value

@@ -16,9 +16,9 @@ use Rattle.bl_emit_acts.specs.Types.{variable_name}
 use Rattle.bl_emit_acts_laws_simulation.specs.Encodes.{Encodes, home_at}
 use Rattle.bl_emit_spec.specs.Names.{callee_name, counter_name}
 use Rattle.bl_machine_pass_laws_execution.specs.Frames.{Frames}
-use Rattle.bl_emit_spec_laws.specs.Calls.Built.{Activities, activity_at, rank_by, site_at}
+use Rattle.bl_emit_spec_laws.specs.Calls.Built.{Activities, activity_at, run_by, site_at}
 
--- the part of a struct, of counters or of variables, that belongs to the `run` which begins at the node with this number
+-- the part of a struct, of counters or of variables, that belongs to the `run`s of the place with this number
 abbrev pub inner : Location → ℕ → Location
 inner place n = further place (member (callee_name n) ∷ [])
 
@@ -28,7 +28,7 @@ pub data Nests (w : Setting) (activities : Activities) : ℕ → Location → Lo
   here : {i : ℕ} {f m : Location} → Nests w activities i f m i f m
   inside : {i j k : ℕ} {f m f' m' : Location} {unit : UnitDef} {l : Label} {at : Place} {arguments : Arguments} → unit_at w i ≡ Some unit →
       Contains (nodes_in (plain_body unit.body)) (EnterAt l at arguments) → callee_of w i at ≡ Some j →
-      Nests w activities j (inner f (rank_by w activities i (EnterAt l at arguments))) (inner m (rank_by w activities i (EnterAt l at arguments))) k f' m' →
+      Nests w activities j (inner f (run_by w activities i at)) (inner m (run_by w activities i at)) k f' m' →
       Nests w activities i f m k f' m'
 
 -- memory encodes, at these places, the counters and variables of the instance and of all that it calls

@@ -35,7 +35,7 @@ pub record WrittenAs (program : Program) (machine : List InMachine) (unit : Unit
   pub funcs : (written program machine).funcs
       ≡ kept (needed_units program.units program.entry)
       (functions_of_all program.structs program.units (activities_of program.structs program.units machine))
-      ++ (init_function unit.name
+      ++ (init_function
       ∷ tick_function unit (remembers_any (activities_of program.structs program.units machine program.entry)) ∷ [])
 
 -- the file written of a program with its machine, whose entry is an activity, has those functions

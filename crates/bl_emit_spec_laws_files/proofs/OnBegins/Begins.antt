@@ -1,5 +1,5 @@
 -- The function of an activity begins as a pass begins.
-use Rattle.std.proofs.Common.{◌≡◌, ℕ, zero, suc, ◌+◌, ◌<◌, pos, arith, Bool, true}
+use Rattle.std.proofs.Common.{◌≡◌, inl, inr, ℕ, zero, suc, ◌+◌, ◌<◌, pos, arith, Bool, true}
 use Rattle.std.proofs.Common.{false, not, ◌&&◌, ◌||◌}
 use Rattle.std.proofs.Common.{List, [], ◌∷◌, ◌++◌, length, map, Option, Some, refl, sym, ap, ◌∙◌, subst}
 use Rattle.std.proofs.lemmas.Bool.{lt-ltb, ltb-true}
@@ -40,11 +40,10 @@ use Rattle.bl_machine.specs.Blocks.{up_to}
 use Rattle.bl_machine.specs.declared.machine.Activity.{Activity as InMachine}
 use Rattle.bl_machine_pass.specs.Registers.{Registers}
 use Rattle.bl_machine_pass.specs.Transitions.{Finishes, rules}
-use Rattle.bl_machine_pass_laws_execution.specs.Executes as executes
 use Rattle.bl_machine_pass_laws_execution.specs.Executes.{begun_registers, resumed_registers}
 use Rattle.bl_machine_pass_laws.specs.Turns.Laws.{entry_flag}
 use Rattle.bl_machine_pass_laws_execution.specs.Frames.{Frames}
-use Rattle.bl_emit_spec_laws.specs.Calls.Built.{Activities, activity_at, asks_flag, rank_by, registered, site_at, unit_number}
+use Rattle.bl_emit_spec_laws.specs.Calls.Built.{Activities, activity_at, asks_flag, rank_by, registered, run_by, site_at, unit_number}
 use Rattle.bl_emit_spec_laws.specs.Calls.Calls.{CallAddresses, CallBegins, MayGive, PassStarts, input_values, output_values, passed_to}
 use Rattle.bl_emit_spec_laws.specs.Calls.Laws.{CompilationContext, PartSimulates, memory_in, scope_in, start_code}
 use Rattle.bl_emit_spec_laws.specs.Calls.Memories as memories
@@ -310,18 +309,18 @@ module _ (structs : List StructDef) (units : List UnitDef) (entry_at : ℕ) (ord
     same_resumed goes Over its = ap number_of over_third
 
     same : Same r
-    same = by r starts
+    same = by starts
       where
-        by : (r : Registers) → PassStarts w activities i unit frames r → Same r
-        by r (executes.begins zeros) = same_begun zeros
-        by r (executes.goes_on goes) = same_resumed goes
+        by : PassStarts w activities i unit frames r → Same r
+        by (inl (is, zeros)) = subst Same (sym is) (same_begun zeros)
+        by (inr (is, goes)) = subst Same (sym is) (same_resumed goes)
 
     not_over : r.over ≡ false
-    not_over = by r starts
+    not_over = by starts
       where
-        by : (r : Registers) → PassStarts w activities i unit frames r → r.over ≡ false
-        by r (executes.begins zeros) = refl
-        by r (executes.goes_on goes) = refl
+        by : PassStarts w activities i unit frames r → r.over ≡ false
+        by (inl (is, zeros)) = ap (λ (r : Registers). r.over) is
+        by (inr (is, goes)) = ap (λ (r : Registers). r.over) is
 
     module _ (m after : Memory) (stands : Mid third m) (left : BegunWith site scope m now Copied after) where
       after_older : (root : Root) (way : List Projection) → is_older (depth + 1) root ≡ true → after root way ≡ begun root way
@@ -351,11 +350,11 @@ module _ (structs : List StructDef) (units : List UnitDef) (entry_at : ℕ) (ord
       after_callees : (l : Label) (at : Place) (arguments : Arguments) (j : ℕ) →
           Contains (nodes_in (plain_body unit.body)) (EnterAt l at arguments) →
           callee_of w i at ≡ Some j →
-          MemoryEncodes w activities j (inner (frame_at scope) (rank_by w activities i (EnterAt l at arguments)))
-          (inner (remembered_at scope) (rank_by w activities i (EnterAt l at arguments))) frames store after
+          MemoryEncodes w activities j (inner (frame_at scope) (run_by w activities i at))
+          (inner (remembered_at scope) (run_by w activities i at)) frames store after
       after_callees l at arguments j within calls =
-          subst (λ (p : Location). MemoryEncodes w activities j (inner p (rank_by w activities i (EnterAt l at arguments)))
-          (inner (remembered_at scope) (rank_by w activities i (EnterAt l at arguments))) frames store after) (sym go.frame)
+          subst (λ (p : Location). MemoryEncodes w activities j (inner p (run_by w activities i at))
+          (inner (remembered_at scope) (run_by w activities i at)) frames store after) (sym go.frame)
           (callee_kept structs units entry_at machine activities compiled remember i unit there (depth + 1) frames store here after
           (λ root way older. after_older root way older ∙ begun_older root way older) given.frame given.memory (remembered_at scope) begins.memory
           go.memory frame_older memory_older l at arguments j within calls)

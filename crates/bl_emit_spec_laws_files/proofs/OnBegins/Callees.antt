@@ -22,7 +22,7 @@ use Rattle.bl_emit_spec.specs.Activities.{remembers_any}
 use Rattle.bl_emit_spec.specs.Names.{counter_name}
 use Rattle.bl_machine.specs.declared.machine.Activity.{Activity as InMachine}
 use Rattle.bl_machine_pass_laws_execution.specs.Frames.{Frames}
-use Rattle.bl_emit_spec_laws.specs.Calls.Built.{Activities, activity_at, rank_by, site_at}
+use Rattle.bl_emit_spec_laws.specs.Calls.Built.{Activities, activity_at, run_by, site_at}
 use Rattle.bl_emit_spec_laws.specs.Calls.Laws.{CompilationContext}
 use Rattle.bl_emit_spec_laws.specs.Calls.Memories as memories
 use Rattle.bl_emit_spec_laws.specs.Calls.Memories.{MemoryEncodes, Nests, inner}
@@ -43,7 +43,7 @@ module _ (w : Setting) (activities : Activities) where
       (m2' : Location) × Nests w activities i f m2 k f' m2'
   elsewhere {i} {k} {f} {m} memories.here m2 = (m2, memories.here)
   elsewhere {i} (memories.inside {j = j} {unit = unit} {l = l} {at = at} {arguments = arguments} is within calls rest) m2 =
-      let found = elsewhere rest (inner m2 (rank_by w activities i (EnterAt l at arguments))) in
+      let found = elsewhere rest (inner m2 (run_by w activities i at)) in
       (found.0, memories.inside {unit = unit} {l = l} {at = at} {arguments = arguments} is within calls found.1)
 
 module _ (structs : List StructDef) (units : List UnitDef) (entry : ℕ) (machine : List InMachine) (activities : Activities)
@@ -69,7 +69,7 @@ module _ (structs : List StructDef) (units : List UnitDef) (entry : ℕ) (machin
       (l : Label) (at : Place) (arguments : Arguments) (j : ℕ) (within : Contains (nodes_in (plain_body unit.body)) (EnterAt l at arguments))
       (calls : callee_of (setting_of structs units entry) i at ≡ Some j) where
     abbrev n : ℕ
-    n = rank_by W activities i (EnterAt l at arguments)
+    n = run_by W activities i at
 
     counters_kept : (k : ℕ) (f' m' : Location) → Nests W activities j (inner f n) (inner m2 n) k f' m' → (c : ℕ) → c
         < length (activity_at W activities k).sizes →
@@ -101,6 +101,6 @@ module _ (structs : List StructDef) (units : List UnitDef) (entry : ℕ) (machin
         }
 
     pub callee_kept : MemoryEncodes (setting_of structs units entry) activities j
-        (inner f (rank_by (setting_of structs units entry) activities i (EnterAt l at arguments)))
-        (inner m2 (rank_by (setting_of structs units entry) activities i (EnterAt l at arguments))) frames store after
+        (inner f (run_by (setting_of structs units entry) activities i at))
+        (inner m2 (run_by (setting_of structs units entry) activities i at)) frames store after
     callee_kept = record { counters = counters_kept; variables = variables_kept }

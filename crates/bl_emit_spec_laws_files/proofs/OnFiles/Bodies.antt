@@ -77,6 +77,10 @@ module _ (scope : Scope) (here : Memory) where
       ∙ ap (λ (first : Counted (List Projection)). next (next first (λ a. next (each_of [] scope here) (λ others. given (Some (a ∷ others)))))
       (λ ways. given (Some (further (start_of scope true name) (way_of ways))))) (step-way scope here of)
 
+  -- what a pointer points to
+  pub whole_place : (name : Text) → location_c (c_place true name []) scope here ≡ given (Some (further (start_of scope true name) []))
+  whole_place name = place-location scope here true name []
+
   pub local_place : (name : Text) → location_c (c_place false name []) scope here ≡ given (Some (further (start_of scope false name) []))
   local_place name = place-location scope here false name []
 

@@ -54,7 +54,7 @@ function_behind asked known (f ∷ functions) rest none =
 module _ (structs : List StructDef) (unit : UnitDef) (remembers : Bool) (before : List CStruct) (functions : List CFunc)
     (none : NoneOfInterface before functions) where
   abbrev last : List CFunc
-  last = init_function unit.name ∷ tick_function unit remembers ∷ []
+  last = init_function ∷ tick_function unit remembers ∷ []
 
   other_start : (f : CFunc) → Contains functions f → bytes_eq f.name (codes "bl_init") ≡ false
   other_start f at = let named = none.named f at in ap (λ (name : Text). bytes_eq name (codes "bl_init")) named.1

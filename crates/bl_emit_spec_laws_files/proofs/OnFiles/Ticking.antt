@@ -1,5 +1,5 @@
 -- A C file run over rows, tick by tick beside a run of passes by rules.
-use Rattle.std.proofs.Common.{◌≡◌, ℕ, ℤ, zero, suc, ◌+◌, ◌≤◌, pos, Bool, true, ◌&&◌, List, []}
+use Rattle.std.proofs.Common.{◌≡◌, inl, inr, ℕ, ℤ, zero, suc, ◌+◌, ◌≤◌, pos, Bool, true, ◌&&◌, List, []}
 use Rattle.std.proofs.Common.{◌∷◌, ◌++◌, map, length, take, drop}
 use Rattle.std.proofs.Common.{Option, Some, None, refl, sym, ap, ap₂, ◌∙◌, subst, arith}
 use Rattle.std.proofs.lemmas.Bool.{leb-true}
@@ -55,7 +55,7 @@ use Rattle.bl_machine_pass_laws_typing.specs.Fits.{PassesKeepTypes}
 use Rattle.bl_machine_pass_laws_typing.specs.Starts.{AllStartsFit}
 use Rattle.bl_machine_pass_laws_execution.specs.Frames.{Frames}
 use Rattle.bl_machine_pass_laws_execution.specs.Runs as run
-use Rattle.bl_machine_pass_laws_execution.specs.Runs.{RuleRun}
+use Rattle.bl_machine_pass_laws_execution.specs.Runs.{RuleRun, TickStarts}
 use Rattle.bl_emit_spec_laws.specs.Calls.Built.{Activities, activity_at, cleared, rank_by, slots_by, unit_number}
 use Rattle.bl_emit_spec_laws.specs.Calls.Calls.{ActivitySimulates, CallBegins, FramesWithin, MayGive, PassStarts, input_values, output_values}
 use Rattle.bl_emit_spec_laws.specs.Calls.Laws.{CompilationContext}
@@ -246,6 +246,7 @@ module _ (out : HomesLeadOut) (orderly : AcceptedIsOrderly) (keep : PassesKeepTy
     outputs : OutputsEncoded structs here (outputs_of unit) (output_values W s 0 unit) (map output_place (outputs_of unit))
     fits : StoreFits W s
     within : FramesWithin W activities frames
+    begins : frames 0 0 ≡ 0 → (c : ℕ) → frames 0 c ≡ 0
 
   abbrev Has : Store → Type 0
   Has s = HasFrame W s 0 unit
@@ -355,17 +356,21 @@ module _ (out : HomesLeadOut) (orderly : AcceptedIsOrderly) (keep : PassesKeepTy
         within = between.within;
       }
 
+      pass_starts : (r : Registers) → TickStarts (rank_by W activities) unit frames r → PassStarts W activities 0 unit frames r
+      pass_starts r (run.begins none) = inl (refl, between.begins none)
+      pass_starts r (run.goes_on some) = inr (refl, some)
+
       abbrev may : MayGive unit remembers 0 (tick_gives unit begun_memory)
       may = may_give unit remembers begun_memory resultless outputs_distinct
 
       -- where the pass is cut the tick traps
-      tick_cut : (r : Registers) → PassStarts W activities 0 unit frames r →
+      tick_cut : (r : Registers) → TickStarts (rank_by W activities) unit frames r →
           PassTraps W (rank_by W activities) (slots_by W activities) (cleared W) 0 0 frames (woken_store row s) (view_at W (woken_store row s) 0).now r →
           (tick_c file (numbers_of (cells_of file) here) row).reply ≡ Reply.trapped
       tick_cut r starts cut =
           ap (λ (t : TickOfFile). t.reply) (tick_is row here)
           ∙ ap reply_of (tick_traps known unit remembers resultless (set row here)
-          (comes.cut 0 unit (tick_gives unit begun_memory) frames (woken_store row s) r begun_memory at_entry is may call_begins starts cut))
+          (comes.cut 0 unit (tick_gives unit begun_memory) frames (woken_store row s) r begun_memory at_entry is may call_begins (pass_starts r starts) cut))
 
       -- else it leaves what the pass leaves
       record TickLeaves (inner : Frames) (left : Store) (r : Registers) : Type 0 where
@@ -373,15 +378,16 @@ module _ (out : HomesLeadOut) (orderly : AcceptedIsOrderly) (keep : PassesKeepTy
         reply : (tick_c file (numbers_of (cells_of file) here) row).reply ≡ reply_of (Some (number_of r.over))
         outputs : (tick_c file (numbers_of (cells_of file) here) row).outputs ≡ outputs_row W left
         numbers : (tick_c file (numbers_of (cells_of file) here) row).cells ≡ numbers_of (cells_of file) after
-        next : Between (with_at 0 r.counters inner) left after
+        next : (r.counters 0 ≡ 0 → ⊥) → Between (with_at 0 r.counters inner) left after
 
-      tick_done : (r : Registers) (inner : Frames) (left : Store) (r' : Registers) → PassStarts W activities 0 unit frames r →
+      tick_done : (r : Registers) (inner : Frames) (left : Store) (r' : Registers) → TickStarts (rank_by W activities) unit frames r →
           Executes W (rank_by W activities) (slots_by W activities) (cleared W) 0 0 frames (woken_store row s) (view_at W (woken_store row s) 0).now r
           inner left r' → TickLeaves inner left r'
       tick_done r inner left r' starts pass =
           let c = entry_called known unit remembers resultless begun_memory in
           let leaves = comes.executes 0 unit (tick_gives unit begun_memory) frames (woken_store row s) r inner left r' begun_memory at_entry is may
-          call_begins starts pass in
+          call_begins
+          (pass_starts r starts) pass in
           let replies = tick_replies known unit remembers resultless (set row here) r'.over leaves.returned leaves.over in
           let after = without_frame 0 c.memory in
           let fits : StoreFits W left =
@@ -389,7 +395,7 @@ module _ (out : HomesLeadOut) (orderly : AcceptedIsOrderly) (keep : PassesKeepTy
           (woken_store row s) (view_at W (woken_store row s) 0).now r inner left r' woken_fits pass in
           let within : FramesWithin W activities inner × RegistersWithin (activity_at W activities 0).sizes r' =
           (stay structs units entry machine activities).executes 0 0 frames (woken_store row s) (view_at W (woken_store row s) 0).now r inner left r'
-          compiled between.within (starts_within W activities 0 unit frames r between.within starts) pass in
+          compiled between.within (starts_within W activities 0 unit frames r between.within (pass_starts r starts)) pass in
           let outs = outputs_moved structs c.memory after (outputs_of unit) (output_values W left 0 unit) (λ way. refl) leaves.outputs in
           record {
             after = after;
@@ -398,11 +404,12 @@ module _ (out : HomesLeadOut) (orderly : AcceptedIsOrderly) (keep : PassesKeepTy
                 ap (λ (t : TickOfFile). t.outputs) (tick_is row here) ∙ ap (outputs_in (ports_of (codes "bl_out") file)) replies.memory
                 ∙ row_is left after fits outs;
             numbers = ap (λ (t : TickOfFile). t.cells) (tick_is row here) ∙ ap (numbers_of (cells_of file)) replies.memory;
-            next = record {
+            next = λ some. record {
               memory = memory_moved W activities (with_at 0 r'.counters inner) left c.memory after (λ way. refl) leaves.memory;
               outputs = outs;
               fits = fits;
               within = frame_within W activities 0 r'.counters inner within.1.counters within.0;
+              begins = λ none. absurd (some none);
             };
           }
 
@@ -435,30 +442,30 @@ module _ (out : HomesLeadOut) (orderly : AcceptedIsOrderly) (keep : PassesKeepTy
       (c_trace_from file rows (tick_c file (numbers_of (cells_of file) here) row).cells) (outputs_row W left)
       (one.reply ∙ ap (λ (b : Bool). reply_of (Some (number_of b))) over) one.outputs
   run_shown (row ∷ rows) frames s trace here fit between
-      (run.lasts {r = r} {inner = inner} {left = left} {r' = r'} {rest = rest} starts pass over more) =
+      (run.lasts {r = r} {inner = inner} {left = left} {r' = r'} {rest = rest} starts pass over some more) =
       let one = tick_done row frames s here between (and_left (row_fits (input_columns unit) row) _ fit) r inner left r' starts pass in
       lasts_so (tick_c file (numbers_of (cells_of file) here) row)
       (c_trace_from file rows (tick_c file (numbers_of (cells_of file) here) row).cells) rest (outputs_row W left)
       (one.reply ∙ ap (λ (b : Bool). reply_of (Some (number_of b))) over) one.outputs
       (ap (c_trace_from file rows) one.numbers
-      ∙ run_shown rows (with_at 0 r'.counters inner) left rest one.after (and_right (row_fits (input_columns unit) row) _ fit) one.next more)
+      ∙ run_shown rows (with_at 0 r'.counters inner) left rest one.after (and_right (row_fits (input_columns unit) row) _ fit) (one.next some) more)
 
   -- ---- the start
 
-  started_is : started file ≡ begun stands.before unit.name
+  started_is : started file ≡ begun stands.before
   unfolding started entered
   started_is = ap (λ (o : Option Meaning). applied o 0 (object state_object ∷ []) cleared_memory) stands.starts
 
   abbrev first_memory : Memory
-  first_memory = (begun stands.before unit.name).memory
+  first_memory = (begun stands.before).memory
 
   first_zero : AllZero first_memory
-  first_zero = begun_zero stands.before unit.name
+  first_zero = begun_zero stands.before
 
   start_is : start_c file ≡ Some (numbers_of (cells_of file) first_memory)
   start_is =
       ap (λ (c : CallResult). cells_if (is_some c.result) (numbers_of (cells_of file) c.memory)) started_is
-      ∙ ap (λ (o : Option ℤ). cells_if (is_some o) (numbers_of (cells_of file) first_memory)) (begun_result stands.before unit.name)
+      ∙ ap (λ (o : Option ℤ). cells_if (is_some o) (numbers_of (cells_of file) first_memory)) (begun_result stands.before)
 
   first_between : (frames : Frames) → ((i c : ℕ) → frames i c ≡ 0) → Between frames (first_store W) first_memory
   first_between frames none = record {
@@ -477,6 +484,7 @@ module _ (out : HomesLeadOut) (orderly : AcceptedIsOrderly) (keep : PassesKeepTy
     within = λ i c.
         subst (λ (n : ℕ). n ≤ greatest_value (activity_at W activities i).sizes c) (sym (none i c))
         (none_within (activity_at W activities i).sizes c);
+    begins = λ first c. none 0 c;
   }
     where
       first_fits : StoreFits W (first_store W)

@@ -13,7 +13,7 @@ use Rattle.bl_tree.specs.declared.tree.StructDef.{StructDef}
 use Rattle.bl_tree.specs.declared.tree.Unit.{Unit as UnitDef}
 use Rattle.bl_tree.specs.Reduce.{joined}
 use Rattle.bl_eval.proofs.PassLemmas.{get_take}
-use Rattle.bl_graph_nodes.specs.Nodes.{Arguments, EnterAt, Node, nodes_in}
+use Rattle.bl_graph_nodes.specs.Nodes.{Arguments, EnterAt, nodes_in}
 use Rattle.bl_graph_nodes.specs.Plain.{Label, plain_body}
 use Rattle.bl_ctext_semantics.specs.Faults.{WellFormed, struct_table}
 use Rattle.bl_ctext_semantics.specs.Memory.{Location, Projection, member, state_object}
@@ -26,17 +26,12 @@ use Rattle.bl_emit_functions.specs.Functions.{members_of, memory_name}
 use Rattle.bl_emit_spec.specs.Activities.{
   Activity,
   RunAt,
-  body_of,
-  callees_in,
   counter_member,
   frame_member,
   frame_struct,
   memory_member,
   remembered,
   remembers_any,
-  rules_at,
-  run_at,
-  runs_at,
   runs_in_body,
   struct_member,
   view_of,
@@ -46,12 +41,12 @@ use Rattle.bl_emit_spec.specs.Names.{callee_name, frame_name}
 use Rattle.bl_emit_spec.specs.Programs.{state_struct}
 use Rattle.bl_machine.specs.declared.machine.Activity.{Activity as InMachine}
 use Rattle.bl_machine.specs.Blocks.{up_to}
-use Rattle.bl_machine_pass.specs.Transitions.{Transition}
 use Rattle.bl_machine_pass_laws.specs.Turns.Laws.{StaysPlaced}
-use Rattle.bl_emit_spec_laws.specs.Calls.Built.{Activities, activity_at, rank_by, unit_number}
+use Rattle.bl_emit_spec_laws.specs.Calls.Built.{Activities, activity_at, run_by, unit_number}
 use Rattle.bl_emit_spec_laws.specs.Calls.Laws.{CompilationContext}
 use Rattle.bl_emit_spec_laws.specs.Calls.Memories as memories
 use Rattle.bl_emit_spec_laws.specs.Calls.Memories.{Nests, inner}
+use Rattle.bl_emit_spec_laws.proofs.OnRunPlaces.Sharing.{run_kept}
 use Rattle.bl_emit_spec_laws_files.specs.States.States.{FramesDeclared, RunFound, RunsFound, frame_place, memory_of_activity, memory_place}
 use Rattle.bl_emit_spec_laws_files.proofs.OnStates.Declared.{member_step, stands_somewhere}
 
@@ -112,29 +107,6 @@ below (suc n) k less = by (Rattle.std.specs.Prelude.nat_lt k n) refl (λ fewer. 
 pub some_long : {X : Type 0} (xs : List X) (x : X) → Contains xs x → nat_lt 0 (length xs) ≡ true
 some_long xs x at = let less = at.1 in lt-ltb 0 (length xs) (omega (arith, less))
 
--- ---- `run`s
-
-mapped_got : {A B : Type 0} (f : A → B) (xs : List A) (k : ℕ) (y : B) → slice_get (map f xs) k ≡ Some y → (x : A) × (slice_get xs k ≡ Some x)
-    × (f x ≡ y)
-mapped_got f [] k y e = absurd (cc)
-mapped_got f (x ∷ xs) zero y e = (x, refl, same_Some (f x) y e)
-mapped_got f (x ∷ xs) (suc k) y e = mapped_got f xs k y e
-
-run_there : (number : Node → ℕ) (callees : List ℕ) (rs : List Transition) (p u : ℕ) (rule : Transition) (l : Label) (at : Place) (arguments : Arguments) →
-    slice_get callees p ≡ Some u → slice_get rs p ≡ Some rule → rule.node ≡ EnterAt l at arguments →
-    Contains (runs_at number callees rs) (record { number = number (EnterAt l at arguments); unit = u })
-run_there number callees [] p u rule l at arguments one two is = absurd (cc)
-run_there number [] (r ∷ rs) p u rule l at arguments one two is = absurd (cc)
-run_there number (v ∷ callees) (r ∷ rs) zero u rule l at arguments one two is =
-    let node = ap (λ (r : Transition). r.node) (same_Some r rule two) ∙ is in
-    in_left (run_at number v r.node) (runs_at number callees rs) (record { number = number (EnterAt l at arguments); unit = u })
-    (subst (λ (n : Node). Contains (run_at number v n) (record { number = number (EnterAt l at arguments); unit = u })) (sym node)
-    (subst (λ (w : ℕ). Contains (run_at number w (EnterAt l at arguments)) (record { number = number (EnterAt l at arguments); unit = u }))
-    (sym (same_Some v u one)) (here (record { number = number (EnterAt l at arguments); unit = u }) [])))
-run_there number (v ∷ callees) (r ∷ rs) (suc p) u rule l at arguments one two is =
-    in_right (run_at number v r.node) (runs_at number callees rs) (record { number = number (EnterAt l at arguments); unit = u })
-    (run_there number callees rs p u rule l at arguments one two is)
-
 -- ---- places
 
 unit_by : (w : Setting) (o : Option Instance) (unit : UnitDef) → option_and_then (unit_of w) o ≡ Some unit →
@@ -191,19 +163,17 @@ module _ (orderly : AcceptedIsOrderly) (placed : StaysPlaced) (structs : List St
     found = runs i j u l at arguments is within calls
 
     n : ℕ
-    n = rank_by W activities i (EnterAt l at arguments)
+    n = run_by W activities i at
 
     run : RunAt
-    run = record { number = rank_by W activities i (EnterAt l at arguments); unit = unit_number W j }
+    run = record { place = at; number = run_by W activities i at; unit = unit_number W j }
 
-    run_within : Contains (runs_in_body (A i)) (record { number = rank_by W activities i (EnterAt l at arguments); unit = unit_number W j })
+    run_within : Contains (runs_in_body (A i)) (record { place = at; number = run_by W activities i at; unit = unit_number W j })
     run_within =
         let called = subst (λ (x : UnitDef). Rattle.bl_emit_spec_laws.specs.Calls.Laws.CalledAt (plain_body x.body) (EnterAt l at arguments)
         (unit_number W j)) (sym (own_unit i u is)) found.called in
-        let rule = mapped_got (λ (rule : Transition). rule.node) (rules_at (A i)) called.position (EnterAt l at arguments)
-        (ap (λ (ns : List Node). slice_get ns called.position) (placed.nodes (A i).slots (body_of (A i))) ∙ called.node) in
-        run_there (view_of (A i)).number (callees_in (body_of (A i))) (rules_at (A i)) called.position (unit_number W j) rule.0 l at arguments called.unit
-        rule.1 rule.2
+        run_kept placed.nodes (A i) structs units entry compiled.keeps (unit_number W i) (unit_there i u is ∙ ap Some (sym (own_unit i u is)))
+        called.position (unit_number W j) l at arguments called.node called.unit
 
     earlier_is : slice_get (A i).earlier (unit_number W j) ≡ Some found.other
     earlier_is =
@@ -213,15 +183,14 @@ module _ (orderly : AcceptedIsOrderly) (placed : StaysPlaced) (structs : List St
     named : name_in (slice_get (A i).earlier (unit_number W j)) ≡ (A j).unit.name
     named = ap name_in earlier_is ∙ ap (λ (x : UnitDef). x.name) (sym (own_unit j found.other found.is_there))
 
-    frame_step : step_in (struct_table file.structs) (whole (OfStruct (frame_struct (A i)).name)) (member (callee_name (rank_by W activities i (EnterAt l at
-        arguments)))) ≡ Some (whole (OfStruct (frame_struct (A j)).name))
+    frame_step : step_in (struct_table file.structs) (whole (OfStruct (frame_struct (A i)).name)) (member (callee_name (run_by W activities i at))) ≡ Some (whole (OfStruct (frame_struct (A j)).name))
     frame_step =
         member_step file formed (frame_struct (A i))
-        (frame_member (A i) (record { number = rank_by W activities i (EnterAt l at arguments); unit = unit_number W j })) (declared.frames i u is)
+        (frame_member (A i) (record { place = at; number = run_by W activities i at; unit = unit_number W j })) (declared.frames i u is)
         (in_right (map (counter_member (A i).sizes) (up_to (length (A i).sizes))) (map (frame_member (A i)) (runs_in_body (A i)))
-        (frame_member (A i) (record { number = rank_by W activities i (EnterAt l at arguments); unit = unit_number W j }))
+        (frame_member (A i) (record { place = at; number = run_by W activities i at; unit = unit_number W j }))
         (in_mapped (frame_member (A i)) (runs_in_body (A i))
-        (record { number = rank_by W activities i (EnterAt l at arguments); unit = unit_number W j }) run_within))
+        (record { place = at; number = run_by W activities i at; unit = unit_number W j }) run_within))
         ∙ ap (λ (name : Text). Some (whole (OfStruct (frame_name name)))) named
 
     module _ (remembers : remembers_any (A j) ≡ true) where
@@ -233,47 +202,46 @@ module _ (orderly : AcceptedIsOrderly) (placed : StaysPlaced) (structs : List St
           ∙ ap₂ (λ a b. a && b) active remembers
 
       the_member : CMember
-      the_member = struct_member (callee_name (rank_by W activities i (EnterAt l at arguments))) (memory_name (name_in (slice_get (A i).earlier (unit_number
+      the_member = struct_member (callee_name (run_by W activities i at)) (memory_name (name_in (slice_get (A i).earlier (unit_number
           W j))))
 
-      member_within : Contains (remembered (A i)) (struct_member (callee_name (rank_by W activities i (EnterAt l at arguments)))
+      member_within : Contains (remembered (A i)) (struct_member (callee_name (run_by W activities i at))
           (memory_name (name_in (slice_get (A i).earlier (unit_number W j)))))
       member_within =
           in_right (members_of (A i).structs (A i).earlier (A i).unit) (joined (map (memory_member (A i)) (runs_in_body (A i))))
-          (struct_member (callee_name (rank_by W activities i (EnterAt l at arguments))) (memory_name (name_in (slice_get (A i).earlier (unit_number W j)))))
-          (in_joined (memory_member (A i)) (runs_in_body (A i)) (record { number = rank_by W activities i (EnterAt l at arguments); unit = unit_number W j })
-          (struct_member (callee_name (rank_by W activities i (EnterAt l at arguments))) (memory_name (name_in (slice_get (A i).earlier (unit_number W j)))))
+          (struct_member (callee_name (run_by W activities i at)) (memory_name (name_in (slice_get (A i).earlier (unit_number W j)))))
+          (in_joined (memory_member (A i)) (runs_in_body (A i)) (record { place = at; number = run_by W activities i at; unit = unit_number W j })
+          (struct_member (callee_name (run_by W activities i at)) (memory_name (name_in (slice_get (A i).earlier (unit_number W j)))))
           run_within
-          (subst (λ (b : Bool). Contains (if b then struct_member (callee_name (rank_by W activities i (EnterAt l at arguments)))
+          (subst (λ (b : Bool). Contains (if b then struct_member (callee_name (run_by W activities i at))
           (memory_name (name_in (slice_get (A i).earlier (unit_number W j)))) ∷ [] else [])
-          (struct_member (callee_name (rank_by W activities i (EnterAt l at arguments))) (memory_name (name_in (slice_get (A i).earlier (unit_number W j))))))
-          (sym told) (here (struct_member (callee_name (rank_by W activities i (EnterAt l at arguments)))
+          (struct_member (callee_name (run_by W activities i at)) (memory_name (name_in (slice_get (A i).earlier (unit_number W j))))))
+          (sym told) (here (struct_member (callee_name (run_by W activities i at))
           (memory_name (name_in (slice_get (A i).earlier (unit_number W j))))) [])))
 
       outer_remembers : remembers_any (A i) ≡ true
       outer_remembers =
-          some_long (remembered (A i)) (struct_member (callee_name (rank_by W activities i (EnterAt l at arguments)))
+          some_long (remembered (A i)) (struct_member (callee_name (run_by W activities i at))
           (memory_name (name_in (slice_get (A i).earlier (unit_number W j))))) member_within
 
-      memory_step : step_in (struct_table file.structs) (whole (OfStruct (memory_of_activity (A i)).name)) (member (callee_name (rank_by W activities i
-          (EnterAt l at arguments)))) ≡ Some (whole (OfStruct (memory_of_activity (A j)).name))
+      memory_step : step_in (struct_table file.structs) (whole (OfStruct (memory_of_activity (A i)).name)) (member (callee_name (run_by W activities i at))) ≡ Some (whole (OfStruct (memory_of_activity (A j)).name))
       memory_step =
           member_step file formed (memory_of_activity (A i))
-          (struct_member (callee_name (rank_by W activities i (EnterAt l at arguments))) (memory_name (name_in (slice_get (A i).earlier (unit_number W j)))))
+          (struct_member (callee_name (run_by W activities i at)) (memory_name (name_in (slice_get (A i).earlier (unit_number W j)))))
           (declared.memories i u is outer_remembers) member_within
           ∙ ap (λ (name : Text). Some (whole (OfStruct (memory_name name)))) named
 
     pub inner_stands : (f m : Location) → StandsAt i f m →
-        StandsAt j (inner f (rank_by W activities i (EnterAt l at arguments))) (inner m (rank_by W activities i (EnterAt l at arguments)))
+        StandsAt j (inner f (run_by W activities i at)) (inner m (run_by W activities i at))
     inner_stands f m stands = record {
       other = found.other;
       is_there = found.is_there;
       frame_root = stands.frame_root;
       memory_root = stands.memory_root;
-      frame = along f.parts (member (callee_name (rank_by W activities i (EnterAt l at arguments))) ∷ []) (whole (OfStruct (frame_struct (A i)).name))
+      frame = along f.parts (member (callee_name (run_by W activities i at)) ∷ []) (whole (OfStruct (frame_struct (A i)).name))
           (whole (OfStruct (frame_struct (A j)).name)) stands.frame frame_step;
       memory = λ remembers.
-          along m.parts (member (callee_name (rank_by W activities i (EnterAt l at arguments))) ∷ []) (whole (OfStruct (memory_of_activity (A i)).name))
+          along m.parts (member (callee_name (run_by W activities i at)) ∷ []) (whole (OfStruct (memory_of_activity (A i)).name))
           (whole (OfStruct (memory_of_activity (A j)).name)) (stands.memory (outer_remembers remembers)) (memory_step remembers);
     }
 

@@ -65,7 +65,7 @@ use Rattle.bl_machine_pass.specs.Registers.{Registers}
 use Rattle.bl_machine_pass_laws_execution.specs.Executes as executes
 use Rattle.bl_machine_pass_laws_execution.specs.Executes.{CopiesMatch, NodeTraps, Performs, deed_at, recopied, recopied_kind}
 use Rattle.bl_machine_pass_laws_execution.specs.Frames.{Frames}
-use Rattle.bl_emit_spec_laws.specs.Calls.Built.{Activities, activity_at, cleared, rank_by, registered, site_at, slots_by, unit_number}
+use Rattle.bl_emit_spec_laws.specs.Calls.Built.{Activities, activity_at, cleared, rank_by, registered, run_by, site_at, slots_by, unit_number}
 use Rattle.bl_emit_spec_laws.specs.Calls.Laws.{Midway, PassKeepsFrame}
 use Rattle.bl_emit_spec_laws.specs.Calls.Memories as memories
 use Rattle.bl_emit_spec_laws.specs.Calls.Memories.{MemoryEncodes, inner}
@@ -246,8 +246,8 @@ module _ (w : Setting) (activities : Activities) (i : ℕ) (frames : Frames) (st
       (frames' ≡ frames) × (done_by w (deed_at i n) store ≡ Some (record { answer = answer; store = left }))
   act_performs n answer frames' left act (executes.does point did) = (refl, did)
   act_performs n answer frames' left act (executes.enters called there copied executed over) = absurd act
-  act_performs n answer frames' left act (executes.resumes called of starts copied executed over) = absurd act
-  act_performs n answer frames' left act (executes.returns called of starts copied executed over gives) = absurd act
+  act_performs n answer frames' left act (executes.resumes called rested copied executed over) = absurd act
+  act_performs n answer frames' left act (executes.returns called rested copied executed over gives) = absurd act
 
   pub act_stops : (n : Node) → IsActNode n → NodeTraps w (rank_by w activities) (slots_by w activities) (cleared w) i n frames store →
       done_by w (deed_at i n) store ≡ None
@@ -255,7 +255,7 @@ module _ (w : Setting) (activities : Activities) (i : ℕ) (frames : Frames) (st
   act_stops n act (executes.inputs_stop called did) = absurd act
   act_stops n act (executes.copies_stop called did) = absurd act
   act_stops n act (executes.begun_stops called there copied cut) = absurd act
-  act_stops n act (executes.resumed_stops called of starts copied cut) = absurd act
+  act_stops n act (executes.resumed_stops called rested copied cut) = absurd act
 
 pub and_first : (a b : Bool) → (a && b) ≡ true → a ≡ true
 and_first true b h = refl
@@ -370,7 +370,7 @@ module _ (frames_apart : FramesApart) (keep : RegistersKeepApart) (structs : Lis
     module _ (m : Label) (at : Place) (arguments : Arguments) (j : ℕ) (there : Contains (nodes_in (plain_body unit.body)) (EnterAt m at arguments))
         (called : callee_of w i at ≡ Some j) where
       abbrev n : ℕ
-      n = rank_by w activities i (EnterAt m at arguments)
+      n = run_by w activities i at
 
       abbrev f : Location
       f = inner (frame_at scope) n

@@ -5,7 +5,6 @@ use Rattle.std.proofs.lemmas.Bool.{eqb-true, ltb-true}
 use Rattle.std.proofs.lemmas.List.{append-nil}
 use Rattle.std.specs.Prelude.{bytes_eq, is_some, ◌==◌, if◌then◌else◌}
 use Rattle.bl_tree.specs.Typing.{TypingContext}
-use Rattle.bl_graph_nodes.specs.Nodes.{EnterAt}
 use Rattle.bl_ctext_semantics.specs.Meaning.{Scope, further}
 use Rattle.bl_ctext_semantics.specs.Memory.{Location, Memory, Projection, Root, input_object, left_after, member, output_object, same_part}
 use Rattle.bl_ctext_semantics.specs.Memory.{same_root, state_object, value_at, variable}
@@ -17,7 +16,7 @@ use Rattle.bl_emit_spec.specs.Names.{callee_name, counter_name, flag_name, mark_
 use Rattle.bl_emit_spec_laws.specs.Registers.Registers.{Before, Counter, Flag, FramePointersAreValid, Mark, Outside, Over, Register, Registered, RegistersEncodedAfter}
 use Rattle.bl_emit_spec_laws.specs.Registers.Registers.{frame_at, has_register, over_at, register_at}
 use Rattle.bl_machine_pass.specs.Registers.{Registers}
-use Rattle.bl_emit_spec_laws.specs.Calls.Built.{Activities, rank_by}
+use Rattle.bl_emit_spec_laws.specs.Calls.Built.{Activities, run_by}
 use Rattle.bl_emit_spec_laws.specs.Calls.Memories as memories
 use Rattle.bl_emit_spec_laws.specs.Calls.Memories.{Nests, inner}
 use Rattle.bl_emit_spec_laws.specs.Calls.Invariant.{PlaceIsSeparate}
@@ -162,7 +161,7 @@ pub nests_beyond : (w : Setting) (activities : Activities) (i k : ℕ) (f m f' m
     Beyond f f' × Beyond m m'
 nests_beyond w activities i k f m f' m' memories.here = (beyond_itself f, beyond_itself m)
 nests_beyond w activities i k f m f' m' (memories.inside {j = j} {l = l} {at = at} {arguments = arguments} there node called deeper) =
-    let n = rank_by w activities i (EnterAt l at arguments) in
+    let n = run_by w activities i at in
     let found = nests_beyond w activities j k (inner f n) (inner m n) f' m' deeper in (
       beyond_part f f' (member (callee_name n) ∷ []) found.0,
       beyond_part m m' (member (callee_name n) ∷ []) found.1,

@@ -1,7 +1,15 @@
 -- What an `if` comes to, and so the block of a node.
-use Rattle.std.proofs.Common.{◌≡◌, ℕ, ◌+◌, Bool, true, false, List, [], ◌∷◌, map, Option, Some, None, refl, sym, ap, ◌∙◌, subst}
+use Rattle.std.proofs.Common.{◌≡◌, ℕ, ◌+◌, ℤ, Bool, true, false, List, [], ◌∷◌, map, Option, Some, None, refl, sym, ap, ◌∙◌, subst}
 use Rattle.std.specs.Prelude.{option_map, unwrap_or, if◌then◌else◌}
-use Rattle.bl_tree.specs.declared.c.CExpr.{CExpr}
+use Rattle.bl_tree.specs.declared.place.Place.{Place}
+use Rattle.bl_tree.specs.declared.c.CArg.{CArg}
+use Rattle.bl_tree.specs.declared.c.CCall.{CCall}
+use Rattle.bl_tree.specs.declared.c.CExpr.{CExpr, fold-roll-CExpr, out-CExpr, roll-CExpr, roll-out-CExpr}
+use Rattle.bl_tree.specs.declared.c.CExprKind.{CExprKind, CExprKind-F, fold-roll-CExprKind, out-CExprKind, roll-CExprKind, roll-out-CExprKind}
+use Rattle.bl_tree.specs.declared.c.CIndex.{CIndex}
+use Rattle.bl_tree.specs.declared.c.CPlace.{CPlace}
+use Rattle.bl_tree.specs.declared.c.CStep.{CStep}
+use Rattle.bl_tree.specs.declared.scalar.Scalar.TheVariants.{Bits, Bool as OfBool, Int, Nat}
 use Rattle.bl_tree.specs.declared.c.CStmt.{CStmt, fold-roll-CStmt, roll-CStmt}
 use Rattle.bl_tree.specs.declared.c.CStmtKind.{CStmtKind, CStmtKind-F, fold-roll-CStmtKind, roll-CStmtKind}
 use Rattle.bl_tree.specs.declared.c.CStmtKind.TheVariants as statement
@@ -10,9 +18,10 @@ use Rattle.bl_ctext_semantics.specs.Course.{End, Outcome, breaks, ended_by, foll
 use Rattle.bl_ctext_semantics.specs.Memory.{CValue, Memory, number_in}
 use Rattle.bl_ctext_semantics.specs.Meaning.{Scope, block_c, block_of, executed, runs_c, value_c}
 use Rattle.bl_emit_acts.specs.Trees.{nowhere}
+use Rattle.bl_emit_functions.specs.Statements.{else_code}
 use Rattle.bl_emit_functions.specs.Trees.{c_if}
 use Rattle.bl_emit_spec.specs.Activities.{view_of}
-use Rattle.bl_emit_spec.specs.Blocks.{guard_of, node_code}
+use Rattle.bl_emit_spec.specs.Blocks.{choice_code, guard_of, node_code, spelled_in_kind, spelled_truth}
 use Rattle.bl_emit_spec_laws.specs.Registers.Laws.{GuardsEvaluate}
 use Rattle.bl_ctree.specs.Instances.{Setting, setting_of}
 use Rattle.bl_ctree.specs.Store.{Store}
@@ -127,6 +136,56 @@ if_block scope here Q test block other b shown chosen =
     let truth : truth_c scope test here ≡ Some b =
     both_maps (value_c test scope here).answer ∙ (ap (option_map is_one) shown ∙ ap Some (is_bit b)) in
     if_alone scope here Q test block other (subst (Chosen scope here Q block other) (sym truth) chosen)
+
+-- ---- truths that are spelled
+
+abbrev literal_at : Place → ℤ → CExpr
+literal_at place n = roll-CExpr (record { place = place; what = roll-CExprKind (CExprKind-F.Literal OfBool n) })
+
+as_literal : (e : CExpr) (n : ℤ) → out-CExprKind (out-CExpr e).what ≡ CExprKind-F.Literal OfBool n → literal_at (out-CExpr e).place n ≡ e
+as_literal e n is =
+    ap (λ (layer : CExprKind-F CArg CExprKind CCall CExpr CIndex CPlace CStep).
+    roll-CExpr (record { place = (out-CExpr e).place; what = roll-CExprKind layer })) (sym is)
+    ∙ (ap (λ (what : CExprKind). roll-CExpr (record { place = (out-CExpr e).place; what = what })) (roll-out-CExprKind (out-CExpr e).what)
+    ∙ roll-out-CExpr e)
+
+literal_truth : (place : Place) (n : ℤ) (scope : Scope) (here : Memory) → truth_c scope (literal_at place n) here ≡ Some (is_one n)
+literal_truth place n scope here = rw (fold-roll-CExpr, fold-roll-CExprKind) refl
+
+-- an expression that spells a truth has it
+spelled_gives : (e : CExpr) (b : Bool) (scope : Scope) (here : Memory) → spelled_truth e ≡ Some b → truth_c scope e here ≡ Some b
+spelled_gives e b scope here spelled = by (out-CExprKind (out-CExpr e).what) refl spelled
+  where
+    by : (layer : CExprKind-F CArg CExprKind CCall CExpr CIndex CPlace CStep) → out-CExprKind (out-CExpr e).what ≡ layer →
+        spelled_in_kind layer ≡ Some b → truth_c scope e here ≡ Some b
+    by (CExprKind-F.Literal OfBool n) is h =
+        ap (λ e. truth_c scope e here) (sym (as_literal e n is)) ∙ (literal_truth (out-CExpr e).place n scope here ∙ h)
+    by (CExprKind-F.Literal (Int w) n) is h = absurd (cc)
+    by (CExprKind-F.Literal (Nat w) n) is h = absurd (cc)
+    by (CExprKind-F.Literal (Bits w) n) is h = absurd (cc)
+    by (CExprKind-F.Read place) is h = absurd (cc)
+    by (CExprKind-F.Call call) is h = absurd (cc)
+    by (CExprKind-F.Not operand) is h = absurd (cc)
+    by (CExprKind-F.Two op left right) is h = absurd (cc)
+
+-- an `else` that is left out does nothing
+pub else_same : (code : List CStmt) → unwrap_or (else_code code) [] ≡ code
+else_same [] = refl
+else_same (s ∷ rest) = refl
+
+-- a choice alone comes to what its chosen side comes to
+pub choice_alone : (scope : Scope) (here : Memory) (Q : End → Memory → Type 0) (test : CExpr) (so other : List CStmt) →
+    Chosen scope here Q so (else_code other) (truth_c scope test here) →
+    Q (block_c (choice_code test (spelled_truth test) so other) scope here).end (block_c (choice_code test (spelled_truth test) so other) scope here).memory
+choice_alone scope here Q test so other chosen = by (spelled_truth test) refl
+  where
+    by : (truth : Option Bool) → spelled_truth test ≡ truth →
+        Q (block_c (choice_code test truth so other) scope here).end (block_c (choice_code test truth so other) scope here).memory
+    by None is = if_alone scope here Q test so (else_code other) chosen
+    by (Some true) is = subst (Chosen scope here Q so (else_code other)) (spelled_gives test true scope here is) chosen
+    by (Some false) is =
+        subst (λ code. Q (block_c code scope here).end (block_c code scope here).memory) (else_same other)
+        (subst (Chosen scope here Q so (else_code other)) (spelled_gives test false scope here is) chosen)
 
 -- ---- blocks
 

@@ -152,8 +152,8 @@ module _ (w : Setting) (activities : Activities) (i : ℕ) (frames : Frames) (st
       (frames' ≡ frames) × (done_by w (deed_at i n) store ≡ Some (record { answer = answer; store = left }))
   return_performs n answer frames' left h (executes.does point did) = (refl, did)
   return_performs n answer frames' left h (executes.enters called there copied executed over) = absurd (cc)
-  return_performs n answer frames' left h (executes.resumes called of starts copied executed over) = absurd (cc)
-  return_performs n answer frames' left h (executes.returns called of starts copied executed over gives) = absurd (cc)
+  return_performs n answer frames' left h (executes.resumes called rested copied executed over) = absurd (cc)
+  return_performs n answer frames' left h (executes.returns called rested copied executed over gives) = absurd (cc)
 
   return_stops : (n : Node) → is_return_node n ≡ true → NodeTraps w (rank_by w activities) (slots_by w activities) (cleared w) i n frames store →
       done_by w (deed_at i n) store ≡ None
@@ -161,7 +161,7 @@ module _ (w : Setting) (activities : Activities) (i : ℕ) (frames : Frames) (st
   return_stops n h (executes.inputs_stop called did) = absurd (cc)
   return_stops n h (executes.copies_stop called did) = absurd (cc)
   return_stops n h (executes.begun_stops called there copied cut) = absurd (cc)
-  return_stops n h (executes.resumed_stops called of starts copied cut) = absurd (cc)
+  return_stops n h (executes.resumed_stops called rested copied cut) = absurd (cc)
 
 -- ---- numbers
 

@@ -25,7 +25,7 @@ use Rattle.bl_emit_spec.specs.Names.{callee_name, counter_name}
 use Rattle.bl_emit_spec_laws.specs.Registers.Registers.{frame_at, register_at}
 use Rattle.bl_machine_pass.specs.Registers.{Registers}
 use Rattle.bl_machine_pass_laws_execution.specs.Frames.{Frames}
-use Rattle.bl_emit_spec_laws.specs.Calls.Built.{Activities, activity_at, rank_by, site_at}
+use Rattle.bl_emit_spec_laws.specs.Calls.Built.{Activities, activity_at, run_by, site_at}
 use Rattle.bl_emit_spec_laws.specs.Calls.Laws.{PassKeepsFrame}
 use Rattle.bl_emit_spec_laws.specs.Calls.Memories as memories
 use Rattle.bl_emit_spec_laws.specs.Calls.Memories.{MemoryEncodes, inner}
@@ -96,7 +96,7 @@ module _ (w : Setting) (activities : Activities) (i : ℕ) (unit : UnitDef) (sco
   module _ (m : Label) (at : Place) (arguments : Arguments) (j : ℕ) (there : Contains (nodes_in (plain_body unit.body)) (EnterAt m at arguments))
       (called : callee_of w i at ≡ Some j) where
     abbrev n : ℕ
-    n = rank_by w activities i (EnterAt m at arguments)
+    n = run_by w activities i at
 
     abbrev f : Location
     f = inner (frame_at scope) n

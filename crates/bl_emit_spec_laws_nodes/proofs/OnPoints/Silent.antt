@@ -181,15 +181,15 @@ module _ (w : Setting) (activities : Activities) (i : ℕ) (copies : List Value)
       (frames' ≡ frames) × Quiet w i store copies answer left (recopied w i n left copies)
   silent_performs n answer frames' left silent (executes.does point did) = (refl, silent_does w i store copies n silent answer left did)
   silent_performs n answer frames' left silent (executes.enters called there copied executed over) = absurd silent
-  silent_performs n answer frames' left silent (executes.resumes called of starts copied executed over) = absurd silent
-  silent_performs n answer frames' left silent (executes.returns called of starts copied executed over gives) = absurd silent
+  silent_performs n answer frames' left silent (executes.resumes called rested copied executed over) = absurd silent
+  silent_performs n answer frames' left silent (executes.returns called rested copied executed over gives) = absurd silent
 
   silent_stops : (n : Node) → IsSilent n → NodeTraps w (rank_by w activities) (slots_by w activities) (cleared w) i n frames store → ⊥
   silent_stops n silent (executes.point_stops point did) = silent_goes w i store copies n silent did
   silent_stops n silent (executes.inputs_stop called did) = silent
   silent_stops n silent (executes.copies_stop called did) = silent
   silent_stops n silent (executes.begun_stops called there copied cut) = silent
-  silent_stops n silent (executes.resumed_stops called of starts copied cut) = silent
+  silent_stops n silent (executes.resumed_stops called rested copied cut) = silent
 
 -- ---- blocks
 

@@ -60,7 +60,7 @@ use Rattle.bl_emit_spec_laws_nodes.specs.Points.Laws.{BlocksChoose, ChangesSimul
 use Rattle.bl_emit_spec_laws_nodes.specs.Points.Laws.{RulesOwn, ends_body, is_return_node}
 use Rattle.bl_emit_spec_laws_nodes.specs.Points.Nodes.{IsTest, NodesStand, PrevsAgree, TestNodesSimulate, ViewsFit, copied_there, fits_there}
 use Rattle.bl_emit_spec_laws_nodes.proofs.OnPoints.Besides.{beside, site_is, value_there_is}
-use Rattle.bl_emit_spec_laws_nodes.proofs.OnPoints.Choices.{Chosen, if_alone, truth_c}
+use Rattle.bl_emit_spec_laws_nodes.proofs.OnPoints.Choices.{Chosen, choice_alone, else_same, truth_c}
 use Rattle.bl_emit_spec_laws_nodes.proofs.OnPoints.Silent.{comes_as, either, no_such, not_so, over_after}
 
 -- ---- nodes
@@ -148,10 +148,6 @@ number_made structs ty s scope here (Whole place) datum is shown = absurd (let n
 
 -- ---- changes by the answer
 
-else_same : (code : List CStmt) → unwrap_or (else_code code) [] ≡ code
-else_same [] = refl
-else_same (s ∷ rest) = refl
-
 some_answer : (store left : Store) (answer : Bool) (o : Option Value) →
     option_map (tested_so store) o ≡ Some (record { answer = answer; store = left }) →
     (value : Value) × (o ≡ Some value) × (answer ≡ is_true_value value) × (left ≡ store)
@@ -171,8 +167,8 @@ module _ (w : Setting) (activities : Activities) (i : ℕ) (frames : Frames) (st
       (frames' ≡ frames) × (done_by w (deed_at i n) store ≡ Some (record { answer = answer; store = left }))
   test_performs n answer frames' left test (executes.does point did) = (refl, did)
   test_performs n answer frames' left test (executes.enters called there copied executed over) = absurd test
-  test_performs n answer frames' left test (executes.resumes called of starts copied executed over) = absurd test
-  test_performs n answer frames' left test (executes.returns called of starts copied executed over gives) = absurd test
+  test_performs n answer frames' left test (executes.resumes called rested copied executed over) = absurd test
+  test_performs n answer frames' left test (executes.returns called rested copied executed over gives) = absurd test
 
   test_stops : (n : Node) → IsTest n → NodeTraps w (rank_by w activities) (slots_by w activities) (cleared w) i n frames store →
       done_by w (deed_at i n) store ≡ None
@@ -180,7 +176,7 @@ module _ (w : Setting) (activities : Activities) (i : ℕ) (frames : Frames) (st
   test_stops n test (executes.inputs_stop called did) = absurd test
   test_stops n test (executes.copies_stop called did) = absurd test
   test_stops n test (executes.begun_stops called there copied cut) = absurd test
-  test_stops n test (executes.resumed_stops called of starts copied cut) = absurd test
+  test_stops n test (executes.resumed_stops called rested copied cut) = absurd test
 
 -- what is left where a test has answered
 as_left : (w : Setting) (activities : Activities) (i : ℕ) (unit : UnitDef) (scope : Scope) (r : Registers) (rule : Transition) (here : Memory)
@@ -302,14 +298,13 @@ module _ (stand : ChangesSimulateInPass) (choose : BlocksChoose) (frames_apart :
         let o = block_c code scope here in
         comes_as w activities i unit scope frames store copies (after_rule (rank_by w activities i) rule b r) here o (ending o.end o.memory)
         refl refl
-        (if_alone scope here (λ end m. Left b (ending end m)) (code_made (view_of (activity_at w activities i)).site e) so_code
-        (else_code other_code)
+        (choice_alone scope here (λ end m. Left b (ending end m)) (code_made (view_of (activity_at w activities i)).site e) so_code other_code
         (subst (Chosen scope here (λ end m. Left b (ending end m)) so_code (else_code other_code))
         (sym (same_truth ∙ ap (option_map is_true_value) at)) (chosen_by b)))
 
     cut : value_there w store i e ≡ None → (block_c code scope here).end ≡ traps
     cut at =
-        if_alone scope here (λ end m. end ≡ traps) (code_made (view_of (activity_at w activities i)).site e) so_code (else_code other_code)
+        choice_alone scope here (λ end m. end ≡ traps) (code_made (view_of (activity_at w activities i)).site e) so_code other_code
         (subst (Chosen scope here (λ end m. end ≡ traps) so_code (else_code other_code)) (sym (same_truth ∙ ap (option_map is_true_value) at)) refl)
 
 pub tests_come_so : ChangesSimulateInPass → BlocksChoose → FramesApart → (structs : List StructDef) (units : List UnitDef) (entry : ℕ) →

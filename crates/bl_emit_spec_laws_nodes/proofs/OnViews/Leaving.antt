@@ -22,7 +22,6 @@ use Rattle.bl_tree.specs.Static.{overlaps, whole}
 use Rattle.bl_tree.specs.Types.{scalar_in}
 use Rattle.bl_tree.specs.Typing.{var_at}
 use Rattle.bl_eval.specs.Values.{value_at}
-use Rattle.bl_graph_nodes.specs.Nodes.{EnterAt}
 use Rattle.bl_ctext_semantics.specs.Memory.{Location as CLocation}
 use Rattle.bl_ctree.specs.declared.instance.Instance.{Instance}
 use Rattle.bl_ctree.specs.declared.instance.Origin.{Origin}
@@ -40,7 +39,7 @@ use Rattle.bl_emit_acts.specs.Places.{copies_inputs, home_of}
 use Rattle.bl_emit_acts_laws_simulation.specs.Acts.{is_act}
 use Rattle.bl_emit_acts_laws_simulation.specs.Encodes.{home_at}
 use Rattle.bl_machine.specs.declared.machine.Activity.{Activity as InMachine}
-use Rattle.bl_emit_spec_laws.specs.Calls.Built.{Activities, rank_by, site_at, unit_number}
+use Rattle.bl_emit_spec_laws.specs.Calls.Built.{Activities, run_by, site_at, unit_number}
 use Rattle.bl_emit_spec_laws.specs.Calls.Laws.{CompilationContext}
 use Rattle.bl_emit_spec_laws.specs.Calls.Memories as memories
 use Rattle.bl_emit_spec_laws.specs.Calls.Memories.{Nests, inner}
@@ -170,7 +169,7 @@ inside_more w i j k at called (nesting.deeper p place deep more) = nesting.deepe
 pub nests_inside : (w : Setting) (activities : Activities) (i k : ℕ) (f m f' m' : CLocation) → Nests w activities i f m k f' m' → Inside w i k
 nests_inside w activities i k f m f' m' memories.here = nesting.itself
 nests_inside w activities i k f m f' m' (memories.inside {j = j} {l = l} {at = at} {arguments = arguments} there node called deeper) =
-    let n = rank_by w activities i (EnterAt l at arguments) in
+    let n = run_by w activities i at in
     inside_more w i j k at called (nests_inside w activities j k (inner f n) (inner m n) f' m' deeper)
 
 -- the home of a variable that is no output is itself

@@ -7,7 +7,6 @@ use Rattle.bl_tree.specs.declared.c.CMember.{CMember}
 use Rattle.bl_tree.specs.declared.tree.Var.{Var}
 use Rattle.bl_tree.specs.Reduce.{joined}
 use Rattle.bl_tree.specs.Typing.{TypingContext, var_at}
-use Rattle.bl_graph_nodes.specs.Nodes.{EnterAt}
 use Rattle.bl_ctext_semantics.specs.Memory.{Location}
 use Rattle.bl_ctree.specs.Instances.{Setting}
 use Rattle.bl_emit_acts.specs.declared.home.Home.TheVariants.{Held}
@@ -15,7 +14,7 @@ use Rattle.bl_emit_acts.specs.Places.{home_of}
 use Rattle.bl_emit_acts_laws_simulation.specs.Encodes.{home_at}
 use Rattle.bl_emit_functions.specs.Functions.{is_held, member_of, members_from}
 use Rattle.bl_emit_spec.specs.Activities.{Activity, memory_member, remembers_any, runs_in_body, view_of}
-use Rattle.bl_emit_spec_laws.specs.Calls.Built.{Activities, activity_at, rank_by, site_at}
+use Rattle.bl_emit_spec_laws.specs.Calls.Built.{Activities, activity_at, run_by, site_at}
 use Rattle.bl_emit_spec_laws.specs.Calls.Memories as memories
 use Rattle.bl_emit_spec_laws.specs.Calls.Memories.{Nests, inner}
 use Rattle.bl_emit_spec_laws_nodes.specs.Views.{CalleesRemember, RememberingStands}
@@ -57,7 +56,7 @@ module _ (w : Setting) (activities : Activities) (callees : CalleesRemember w ac
   nests_remember i k f m f' m' x var memories.here there held = own_remembers (activity_at w activities i) x var there held
   nests_remember i k f m f' m' x var (memories.inside {j =
       j} {unit = unit} {l = l} {at = at} {arguments = arguments} is node called deeper) there held =
-      let n = rank_by w activities i (EnterAt l at arguments) in
+      let n = run_by w activities i at in
       callees i j unit l at arguments is node called (nests_remember j k (inner f n) (inner m n) f' m' x var deeper there held)
 
 pub remembering_all : RememberingStands

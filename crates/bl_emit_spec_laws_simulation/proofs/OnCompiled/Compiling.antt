@@ -20,7 +20,6 @@ use Rattle.bl_machine.specs.Blocks.{up_to}
 use Rattle.bl_machine.specs.Layout.{places_in}
 use Rattle.bl_machine.specs.Machines.{AreActivitiesOf, IsActivityOf}
 use Rattle.bl_machine_pass.specs.Numbered.{sizes_of}
-use Rattle.bl_machine_transitions_laws.proofs.Shared.{shared_many}
 use Rattle.bl_emit_functions_laws_wellformed.specs.Numbered.{UnitsCounted}
 use Rattle.bl_emit_spec_laws.specs.Registers.Registers.{FewRegisters}
 use Rattle.bl_emit_spec_laws.specs.Calls.Built.{Activities, AreBuilt, registered}
@@ -29,7 +28,6 @@ use Rattle.bl_emit_spec_laws_wellformed.specs.Counts.{NodesCounted}
 use Rattle.bl_emit_spec_laws_wellformed.proofs.OnMachines.Counters.{sizes_few}
 use Rattle.bl_emit_spec_laws.proofs.OnOwn.Members.{some_is, stands_at}
 use Rattle.bl_emit_spec_laws.specs.Own.{RegistersAreFew}
-use Rattle.bl_emit_spec.specs.Shared.{IsShared, IsSharedActivityOf}
 use Rattle.bl_emit_spec_laws_simulation.specs.Compiled.{AreCountable, ProgramsCompile}
 
 up_length : (n : ℕ) → length (up_to n) ≡ n
@@ -47,7 +45,7 @@ counters_few counters places statements few less small = omega (arith, few, less
 
 module _ (structs : List StructDef) (units : List UnitDef) (entry : ℕ) (counted : UnitsCounted structs units entry)
     (nodes : NodesCounted structs units entry) (few : RegistersAreFew) (machine : List InMachine) (activities : Activities)
-    (keeps : IsWellTyped structs units entry) (agrees : AreActivitiesOf units machine) (plain : IsShared units machine)
+    (keeps : IsWellTyped structs units entry) (agrees : AreActivitiesOf units machine)
     (built : AreBuilt structs units machine activities) (countable : AreCountable units)
   where
     ordered : (k : ℕ) (unit : UnitDef) → slice_get units k ≡ Some unit → is_activity unit.kind ≡ true → length (activities k).order ≤ 2 ^ 64
@@ -65,12 +63,11 @@ module _ (structs : List StructDef) (units : List UnitDef) (entry : ℕ) (counte
     sized k unit there active =
         let made = built.made k unit there active in
         let among = filtered_at (λ (it : UnitDef). is_activity it.kind) units k unit there active in
-        let alone = each_at IsSharedActivityOf (activities_among units) machine (graph_position units k) unit plain among in
-        let is_plain = subst (IsSharedActivityOf unit) (some_is alone.0 made.one (sym alone.1 ∙ made.is)) alone.2 in
+        let own = each_at IsActivityOf (activities_among units) machine (graph_position units k) unit agrees among in
+        let of_unit = subst (IsActivityOf unit) (some_is own.0 made.one (sym own.1 ∙ made.is)) own.2 in
         subst (λ (sizes : List ℕ). length sizes ≤ 2 ^ 64) (sym made.sizes)
-        (subst (λ many. many ≤ 2 ^ 64) (sym (shared_many (joined made.one.blocks) (plain_body unit.body) made.one.slots))
         (counters_few (length (sizes_of made.one.slots)) (places_in (plain_body unit.body)) (cell_statements_of unit)
-        (sizes_few (plain_body unit.body) made.one.slots is_plain.slots) (nodes k unit keeps there).places (countable k unit there).statements))
+        (sizes_few (plain_body unit.body) made.one.slots of_unit.slots) (nodes k unit keeps there).places (countable k unit there).statements)
 
     registers : (k : ℕ) (unit : UnitDef) → slice_get units k ≡ Some unit → is_activity unit.kind ≡ true → FewRegisters (registered (activities k))
     registers k unit there active =
@@ -94,5 +91,5 @@ module _ (structs : List StructDef) (units : List UnitDef) (entry : ℕ) (counte
 
 pub programs_compile : (structs : List StructDef) (units : List UnitDef) (entry : ℕ) → UnitsCounted structs units entry →
     NodesCounted structs units entry → RegistersAreFew → ProgramsCompile structs units entry
-programs_compile structs units entry counted nodes few machine activities keeps passes text agrees plain built countable =
-    compiled structs units entry counted nodes few machine activities keeps agrees plain built countable passes text
+programs_compile structs units entry counted nodes few machine activities keeps passes text agrees built countable =
+    compiled structs units entry counted nodes few machine activities keeps agrees built countable passes text

@@ -9,7 +9,7 @@ use Rattle.bl_tree.specs.Reduce.{greatest, total}
 use Rattle.bl_limits.specs.Rules.{Passes as KeepsLimits}
 use Rattle.bl_limits_measures.specs.Calls.{calls_of}
 use Rattle.bl_limits_measures.specs.Laws.{CellsAdd}
-use Rattle.bl_limits_measures.specs.Runs.{runs_of}
+use Rattle.bl_limits_measures.specs.Runs.{activities_by_place}
 use Rattle.bl_limits_measures.specs.Statements.{cell_statements_of}
 use Rattle.bl_limits_measures.specs.Units.{cells_at, cells_with, variables_of}
 use Rattle.bl_limits_measures_laws.specs.Laws.{UnitsUseEarlierOnes}
@@ -72,7 +72,7 @@ module _ (structs : List StructDef) (units : List UnitDef) (entry : ℕ) (orderl
     statements_less : (k : ℕ) (unit : UnitDef) → slice_get units k ≡ Some unit → cell_statements_of unit ≤ cells_at structs units k
     statements_less k unit there =
         subst (λ n. cell_statements_of unit ≤ n) (sym (add structs units k unit (uses structs units compiled.keeps.units_stand) there))
-        (enough unit.kind (variables_of structs unit) (cell_statements_of unit) (total (map (cells_at structs units) (runs_of unit)))
+        (enough unit.kind (variables_of structs unit) (cell_statements_of unit) (total (map (cells_at structs units) (activities_by_place unit)))
         (greatest (map (cells_at structs units) (calls_of unit))))
 
     few : (i : ℕ) (unit : UnitDef) → unit_at W i ≡ Some unit → places_in (plain_body unit.body) < 2 ^ 32

@@ -52,12 +52,12 @@ use Rattle.bl_machine_pass_laws_execution.specs.Frames.{Frames}
 use Rattle.bl_machine_pass_laws_execution.specs.Kept.Outputs.{IsRunNode, OutputsLead, RulesRun}
 use Rattle.bl_emit_spec_laws.specs.Registers.Registers.{frame_at}
 use Rattle.bl_emit_acts_laws_simulation.specs.Frames.{remembered_at}
-use Rattle.bl_emit_spec_laws.specs.Calls.Built.{Activities, activity_at, site_at, slots_by, unit_number}
+use Rattle.bl_emit_spec_laws.specs.Calls.Built.{Activities, activity_at, run_by, site_at, slots_by, unit_number}
 use Rattle.bl_emit_spec_laws.specs.Calls.Calls.{CallBegins, MayGive, input_values, output_values}
 use Rattle.bl_emit_spec_laws.specs.Calls.Laws.{Midway}
 use Rattle.bl_emit_spec_laws.specs.Calls.Memories.{MemoryEncodes, inner}
 use Rattle.bl_emit_spec_laws.specs.Calls.Invariant.{PlacesAreSeparate}
-use Rattle.bl_emit_spec_laws_nodes.specs.Calling.{NotEnded, PlaceLeads, RunEstablishes, RunOf, RunsEstablish, RunsStand, call_written, given_by, run_number}
+use Rattle.bl_emit_spec_laws_nodes.specs.Calling.{NotEnded, PlaceLeads, RunEstablishes, RunOf, RunsEstablish, RunsStand, call_written, given_by}
 use Rattle.bl_emit_spec_laws_nodes.specs.Points.Nodes.{PrevsAgree, ViewsFit}
 use Rattle.bl_emit_spec_laws_nodes.proofs.OnPoints.Besides.{apart, beside, site_is}
 use Rattle.bl_emit_spec_laws.specs.Remember.{CallersRemember}
@@ -102,7 +102,7 @@ module _ (structs : List StructDef) (units : List UnitDef) (entry : ℕ) (laws :
   u = unit_number w j
 
   abbrev n : ℕ
-  n = run_number w activities i l at arguments
+  n = run_by w activities i at
 
   abbrev site : TypingContext
   site = site_of structs (take k units) unit

@@ -61,7 +61,7 @@ use Rattle.bl_machine_pass_laws_execution.specs.Kept.Laws.{InputsGoIn, PassesKee
 use Rattle.bl_machine_pass_laws_execution.specs.Kept.Outputs.{OutputsLead, OutputsLeadIn, RulesRun}
 use Rattle.bl_machine_pass_laws.specs.Keys.{NodesHaveKeys}
 use Rattle.bl_emit_spec_laws_nodes.specs.Calling.{PlaceLeads, RunEstablishes, RunLeaves, RunOf, call_given, given_by}
-use Rattle.bl_emit_spec_laws.specs.Calls.Built.{Activities, activity_at, cleared, rank_by, registered, site_at, slots_by, unit_number}
+use Rattle.bl_emit_spec_laws.specs.Calls.Built.{Activities, activity_at, cleared, rank_by, registered, run_by, site_at, slots_by, unit_number}
 use Rattle.bl_emit_spec_laws.specs.Calls.Calls.{CallLeaves, output_values}
 use Rattle.bl_emit_spec_laws.specs.Calls.Laws.{CompilationContext, Midway, PassKeepsFrame}
 use Rattle.bl_emit_spec_laws.specs.Calls.Memories as memories
@@ -79,6 +79,7 @@ use Rattle.bl_emit_spec_laws_simulation.specs.Leaves.{AllRunsLeave}
 use Rattle.bl_emit_spec_laws_simulation.proofs.OnLeaves.Homes.{caller_now, inner_now, not_itself, not_within, result_kept}
 use Rattle.bl_emit_spec_laws_simulation.proofs.OnLeaves.Kept.{PlaceIn, copy_same, counters_same, memories_same, outside_same, register_same, result_same}
 use Rattle.bl_emit_spec_laws_simulation.proofs.OnLeaves.Kept.{variable_same}
+use Rattle.bl_emit_spec_laws.proofs.OnRunPlaces.Sharing.{FirstNode, first_node}
 use Rattle.bl_emit_spec_laws_simulation.proofs.OnLeaves.Numbers.{callees_differ, one_number, run_flagged}
 use Rattle.bl_emit_spec_laws_simulation.proofs.OnLeaves.Outputs.{HoldAt, dropped_get, hold_by_place, hold_by_var, taken_get}
 use Rattle.bl_emit_spec_laws_simulation.proofs.OnLeaves.Seen.{home_further, number_of_home, path_at, seen_number}
@@ -126,19 +127,19 @@ module _ (laws : Laws) (structs : List StructDef) (units : List UnitDef) (entry 
     (run : RunOf (setting_of structs units entry) activities i unit l at arguments j other)
     (copied : DeedYields (setting_of structs units entry) (deed i at (Copies j arguments.inputs)) store true given)
     (gives : RunEstablishes (setting_of structs units entry) activities i scope
-    (rank_by (setting_of structs units entry) activities i (EnterAt l at arguments)) arguments j other frames given here)
+    (run_by (setting_of structs units entry) activities i at) arguments j other frames given here)
     (executes : Executes (setting_of structs units entry) (rank_by (setting_of structs units entry) activities)
     (slots_by (setting_of structs units entry) activities) (cleared (setting_of structs units entry)) j 0 frames given
     (view_at (setting_of structs units entry) given j).now begun frames' left r')
     (called : CallLeaves (setting_of structs units entry) activities j other scope.depth
-    (given_by scope (rank_by (setting_of structs units entry) activities i (EnterAt l at arguments)) gives.inputs gives.outputs) frames' left r' here
+    (given_by scope (run_by (setting_of structs units entry) activities i at) gives.inputs gives.outputs) frames' left r' here
     (call_given (setting_of structs units entry) activities j other scope
-    (rank_by (setting_of structs units entry) activities i (EnterAt l at arguments)) gives.inputs gives.outputs here)) where
+    (run_by (setting_of structs units entry) activities i at) gives.inputs gives.outputs here)) where
   abbrev W : Setting
   W = setting_of structs units entry
 
   abbrev n : ℕ
-  n = rank_by W activities i (EnterAt l at arguments)
+  n = run_by W activities i at
 
   abbrev k : ℕ
   k = unit_number W i
@@ -375,16 +376,27 @@ module _ (laws : Laws) (structs : List StructDef) (units : List UnitDef) (entry 
   node_here : (x : Node) → Contains (nodes_in (plain_body unit.body)) x → Contains (nodes_in (plain_body a.unit.body)) x
   node_here x is = subst (λ (u : UnitDef). Contains (nodes_in (plain_body u.body)) x) (sym own_unit) is
 
+  -- the first node at which a `run` at the place begins
+  first_here : (l' : Label) (at' : Place) (arguments' : Arguments) → Contains (nodes_in (plain_body unit.body)) (EnterAt l' at' arguments') →
+      FirstNode laws.placed.nodes a at'
+  first_here l' at' arguments' is = first_node laws.placed.nodes a l' at' arguments' (node_here (EnterAt l' at' arguments') is)
+
+  first_in : (at' : Place) (first : FirstNode laws.placed.nodes a at') →
+      Contains (nodes_in (plain_body a.unit.body)) (EnterAt first.label at' first.arguments)
+  first_in at' first = contains_at (nodes_in (plain_body a.unit.body)) first.position (EnterAt first.label at' first.arguments) first.is_there
+
   number_small : (l' : Label) (at' : Place) (arguments' : Arguments) → Contains (nodes_in (plain_body unit.body)) (EnterAt l' at' arguments') →
-      rank_by W activities i (EnterAt l' at' arguments') < 2 ^ 64
+      run_by W activities i at' < 2 ^ 64
   number_small l' at' arguments' is =
-      (compiled.registers k unit there active).flags (rank_by W activities i (EnterAt l' at' arguments'))
-      (run_flagged laws.placed a.slots (plain_body a.unit.body) (rank_by W activities i) l' at' arguments' (node_here (EnterAt l' at' arguments') is))
+      let first = first_here l' at' arguments' is in
+      subst (λ m. m < 2 ^ 64) (sym first.number_is)
+      ((compiled.registers k unit there active).flags (rank_by W activities i (EnterAt first.label at' first.arguments))
+      (run_flagged laws.placed a.slots (plain_body a.unit.body) (rank_by W activities i) first.label at' first.arguments (first_in at' first)))
 
   module _ (l' : Label) (at' : Place) (arguments' : Arguments) (c : ℕ)
       (is : Contains (nodes_in (plain_body unit.body)) (EnterAt l' at' arguments')) (calls : callee_of W i at' ≡ Some c) where
     abbrev n' : ℕ
-    n' = rank_by W activities i (EnterAt l' at' arguments')
+    n' = run_by W activities i at'
 
     abbrev f : Location
     f = inner (frame_at scope) n'
@@ -399,19 +411,17 @@ module _ (laws : Laws) (structs : List StructDef) (units : List UnitDef) (entry 
     itself : c ≡ j → Held_left c n'
     itself same =
         let one : at ≡ at' = one_place W i j at at' run.callee (calls ∙ ap (λ c. Some c) same) in
-        let node : Contains (nodes_in (plain_body unit.body)) (EnterAt l at' arguments) =
-        subst (λ at. Contains (nodes_in (plain_body unit.body)) (EnterAt l at arguments)) one run.node in
-        let nodes : EnterAt l at' arguments ≡ EnterAt l' at' arguments' =
-        (compiled.text.alone unit (contains_at units k unit there)).alone l l' at' arguments arguments' node is in
-        let numbers : n ≡ n' = ap (rank_by W activities i) (ap (λ at. EnterAt l at arguments) one ∙ nodes) in
+        let numbers : n ≡ n' = ap (run_by W activities i) one in
         subst (λ c. Held_left c n') (sym same) (subst (λ n. Held_left j n) numbers called.memory)
 
     module _ (apart : c ≡ j → ⊥) where
       differ_numbers : n ≡ n' → ⊥
       differ_numbers same =
-          let nodes : EnterAt l at arguments ≡ EnterAt l' at' arguments' =
-          one_number laws.keys a.unit.body a.order permutes (EnterAt l at arguments) (EnterAt l' at' arguments')
-          (node_here (EnterAt l at arguments) run.node) (node_here (EnterAt l' at' arguments') is) same in
+          let first = first_here l at arguments run.node in
+          let second = first_here l' at' arguments' is in
+          let nodes : EnterAt first.label at first.arguments ≡ EnterAt second.label at' second.arguments =
+          one_number laws.keys a.unit.body a.order permutes (EnterAt first.label at first.arguments) (EnterAt second.label at' second.arguments)
+          (first_in at first) (first_in at' second) (sym first.number_is ∙ (same ∙ second.number_is)) in
           let one : at ≡ at' = ap (λ n. run_place n at) nodes in
           apart (same_Some c j (sym calls ∙ (ap (callee_of W i) (sym one) ∙ run.callee)))
 

@@ -1,5 +1,5 @@
 -- The blocks of the nodes at which a `run` begins or goes on.
-use Rattle.std.proofs.Common.{◌≡◌, ℕ, Bool, true, false, List, [], ◌∷◌, ◌++◌, Option, Some, None, refl, sym, ap, ◌∙◌, subst}
+use Rattle.std.proofs.Common.{◌≡◌, inl, inr, ℕ, Bool, true, false, List, [], ◌∷◌, ◌++◌, Option, Some, None, refl, sym, ap, ◌∙◌, subst}
 use Rattle.std.proofs.lemmas.Option.{same_Some}
 use Rattle.std.specs.List.{list_any}
 use Rattle.std.specs.Prelude.{pos, slice_get, take}
@@ -38,12 +38,23 @@ use Rattle.bl_machine_laws.specs.Passes.Follows.{DeedYields}
 use Rattle.bl_machine_pass.specs.Registers.{Registers, after_rule, all_changed, is_due, with_at}
 use Rattle.bl_machine_pass.specs.Transitions.{Transition}
 use Rattle.bl_machine_pass_laws_execution.specs.Executes as executes
-use Rattle.bl_machine_pass_laws_execution.specs.Executes.{CopiesMatch, Executes, HasRule, IsPoint, NodeTraps, PassTraps, Performs, begun_registers, recopied, resumed_registers}
+use Rattle.bl_machine_pass_laws_execution.specs.Executes.{
+  CopiesMatch,
+  Executes,
+  HasRule,
+  IsPoint,
+  NodeTraps,
+  PassTraps,
+  Performs,
+  begun_registers,
+  recopied,
+  resumed_registers,
+}
 use Rattle.bl_machine_pass_laws.specs.Turns.Laws.{StaysPlaced}
 use Rattle.bl_machine_pass_laws_typing.specs.Fits.{PassesKeepTypes}
 use Rattle.bl_machine_pass_laws_execution.specs.Frames.{Frames}
 use Rattle.bl_machine_pass_laws.specs.Keys.{NodesHaveKeys}
-use Rattle.bl_emit_spec_laws.specs.Calls.Built.{Activities, activity_at, cleared, rank_by, site_at, slots_by, unit_number}
+use Rattle.bl_emit_spec_laws.specs.Calls.Built.{Activities, activity_at, cleared, rank_by, run_by, site_at, slots_by, unit_number}
 use Rattle.bl_emit_spec_laws.specs.Calls.Calls.{FramesWithin, PassStarts}
 use Rattle.bl_emit_spec_laws.specs.Calls.Laws.{CalledAt, Midway, PartSimulates, PassKeepsFrame, block_done}
 use Rattle.bl_emit_spec_laws.specs.Calls.Memories.{inner}
@@ -52,7 +63,7 @@ use Rattle.bl_emit_spec_laws_nodes.specs.Calling.{NotEnded, RunLeaves, RunOf, Ru
 use Rattle.bl_emit_spec_laws.specs.Cleared.{ClearingIsInside}
 use Rattle.bl_emit_spec_laws.specs.Registers.Laws.{RegistersWithin}
 use Rattle.bl_emit_spec_laws.specs.Within.{AllStayWithin}
-use Rattle.bl_emit_spec_laws.proofs.OnWithin.Passing.{frame_within, starts_within}
+use Rattle.bl_emit_spec_laws.proofs.OnWithin.Passing.{frame_within, resumed_within}
 use Rattle.bl_emit_spec_laws_nodes.specs.Points.Laws.{BlocksChoose, ChangesSimulateInPass, ResultTold, ends_body, is_return_node}
 use Rattle.bl_emit_spec_laws_nodes.specs.Points.Points.{BodiesEnd, PointsStand}
 use Rattle.bl_emit_spec_laws_nodes.proofs.OnPoints.ActNodes.{append_goes}
@@ -61,7 +72,7 @@ use Rattle.bl_emit_spec_laws_nodes.proofs.OnPoints.Silent.{comes_as, either, no_
 use Rattle.bl_emit_spec_laws_simulation.proofs.OnRuns.Asking.{resumes_quiet}
 use Rattle.bl_emit_spec_laws_simulation.proofs.OnRuns.Calls.{after_call, call_comes, call_left, given_fits, inputs_trap, pass_traps, written}
 use Rattle.bl_emit_spec_laws_simulation.proofs.OnRuns.Clearing.{cleared_keeps, cleared_midway, ended_keeps, ended_midway, not_ended}
-use Rattle.bl_emit_spec_laws_simulation.proofs.OnRuns.Entered.{node_by}
+use Rattle.bl_emit_spec_laws.proofs.OnRunPlaces.Entered.{node_by}
 use Rattle.bl_emit_spec_laws_simulation.proofs.OnRuns.Inner.{cleared_own}
 use Rattle.bl_emit_spec_laws_simulation.proofs.OnRuns.Running.{CallsUnit, node_calls}
 use Rattle.bl_emit_spec_laws_simulation.proofs.OnRuns.Statements.{clear_ends, ended_ends, ended_truth, frame_answer, step_goes, step_traps}
@@ -147,7 +158,7 @@ module _ (orderly : AcceptedIsOrderly) (callers : InstancesHaveCallers) (nests :
         (is_number : unit_number w j ≡ u)
       where
         abbrev n : ℕ
-        n = rank_by w activities i (EnterAt l at arguments)
+        n = run_by w activities i at
 
         abbrev forget : CStmt
         forget = c_set (ended_place n) (c_truth false)
@@ -193,7 +204,7 @@ module _ (orderly : AcceptedIsOrderly) (callers : InstancesHaveCallers) (nests :
               mid_begun l at arguments j other run u is_number sees_begun)
 
           starts_begun : PassStarts w activities j other begun_frames (begun_registers (rank_by w activities) j other)
-          starts_begun = executes.begins (λ c. cleared_own callers clearing structs units entry j frames j nesting.itself c)
+          starts_begun = inl (refl, λ c. cleared_own callers clearing structs units entry j frames j nesting.itself c)
 
           not_ended_begun : NotEnded scope n (forgotten cleared_here)
           not_ended_begun =
@@ -298,18 +309,20 @@ module _ (orderly : AcceptedIsOrderly) (callers : InstancesHaveCallers) (nests :
               stopped _ (inputs_trap structs units entry machine activities gives leaves i unit scope frames store copies r
               (forgotten here) mid_resumed l at arguments j other run u is_number sees_resumed did) refl
 
-          module _ (given : Store) (copied : DeedYields w (deed i at (Copies j arguments.inputs)) store true given) (started : Registers)
-              (starts : PassStarts w activities j other frames started) where
-            pub resume_cut : PassTraps w (rank_by w activities) (slots_by w activities) (cleared w) j 0 frames given (view_at w given j).now started →
-                block.end ≡ traps
+          module _ (given : Store) (copied : DeedYields w (deed i at (Copies j arguments.inputs)) store true given) (runs : frames j 0 ≡ 0 → ⊥) where
+            starts_resumed : PassStarts w activities j other frames (resumed_registers frames j)
+            starts_resumed = inr (refl, runs)
+
+            pub resume_cut : PassTraps w (rank_by w activities) (slots_by w activities) (cleared w) j 0 frames given (view_at w given j).now
+                (resumed_registers frames j) → block.end ≡ traps
             resume_cut cut =
                 stopped _ (pass_traps structs units entry machine activities gives leaves i unit scope frames store copies r
                 (forgotten here) mid_resumed l at arguments j other run u is_number sees_resumed given not_ended_resumed copied
-                started starts cut) refl
+                (resumed_registers frames j) starts_resumed cut) refl
 
             module _ (frames' : Frames) (left : Store) (r' : Registers)
                 (executed : Executes w (rank_by w activities) (slots_by w activities) (cleared w) j 0 frames given (view_at w given j).now
-                started frames' left r')
+                (resumed_registers frames j) frames' left r')
               where
                 abbrev new_frames : Frames
                 new_frames = with_at j r'.counters frames'
@@ -317,12 +330,12 @@ module _ (orderly : AcceptedIsOrderly) (callers : InstancesHaveCallers) (nests :
                 abbrev after : Memory
                 after = after_call structs units entry machine activities gives leaves i unit scope frames store copies r
                     (forgotten here) mid_resumed l at arguments j other run u is_number sees_resumed given not_ended_resumed copied
-                    started starts frames' left r' executed
+                    (resumed_registers frames j) starts_resumed frames' left r' executed
 
                 ended : RunLeaves w activities i unit scope n j other new_frames left copies r r'.over (forgotten here) after
                 ended = call_left structs units entry machine activities gives leaves i unit scope frames store copies r
                     (forgotten here) mid_resumed l at arguments j other run u is_number sees_resumed given not_ended_resumed copied
-                    started starts frames' left r' executed
+                    (resumed_registers frames j) starts_resumed frames' left r' executed
 
                 kept_after : Keeping here after
                 kept_after = keeping here (forgotten here) after kept_resumed ended.kept
@@ -335,7 +348,7 @@ module _ (orderly : AcceptedIsOrderly) (callers : InstancesHaveCallers) (nests :
                     let called_so = step_goes scope calls (asked ∷ []) (forgotten here) after
                     (call_comes structs units entry machine activities gives leaves i unit scope frames store copies r
                     (forgotten here) mid_resumed l at arguments j other run u is_number sees_resumed given not_ended_resumed copied
-                    started starts frames' left r' executed) in
+                    (resumed_registers frames j) starts_resumed frames' left r' executed) in
                     (so.0 ∙ (before.0 ∙ called_so.0), so.1 ∙ (before.1 ∙ called_so.1))
 
                 -- the body of what is called hasn't ended
@@ -366,9 +379,8 @@ module _ (orderly : AcceptedIsOrderly) (callers : InstancesHaveCallers) (nests :
 
                 within_after : FramesWithin w activities frames' × RegistersWithin (activity_at w activities j).sizes r'
                 within_after =
-                    (stay structs units entry machine activities).executes j 0 frames given (view_at w given j).now started frames'
-                    left r' midway.compiled midway.frames_within (starts_within w activities j other frames started midway.frames_within starts)
-                    executed
+                    (stay structs units entry machine activities).executes j 0 frames given (view_at w given j).now (resumed_registers frames j) frames'
+                    left r' midway.compiled midway.frames_within (resumed_within w activities j frames midway.frames_within) executed
 
                 mid_after : Midway structs units entry machine activities i unit scope new_frames left copies r after
                 mid_after = record {
@@ -377,10 +389,10 @@ module _ (orderly : AcceptedIsOrderly) (callers : InstancesHaveCallers) (nests :
                   function = midway.function;
                   stands = ended.stands;
                   fits = (fitting structs units entry midway.compiled.keeps).executes (rank_by w activities) (slots_by w activities) (cleared w) j 0
-                      frames given (view_at w given j).now started frames' left r'
+                      frames given (view_at w given j).now (resumed_registers frames j) frames' left r'
                       (given_fits structs units entry machine activities gives leaves i unit scope frames store copies r
                       (forgotten here) mid_resumed l at arguments j other run u is_number sees_resumed given not_ended_resumed copied
-                      started starts) executed;
+                      (resumed_registers frames j) starts_resumed) executed;
                   copies_fit = midway.copies_fit;
                   frames_within = frame_within w activities j r'.counters frames' within_after.1.counters within_after.0;
                   within = midway.within;
@@ -446,19 +458,15 @@ module _ (orderly : AcceptedIsOrderly) (callers : InstancesHaveCallers) (nests :
         enter_comes l at arguments j other (subst (λ other. RunOf w activities i unit l at arguments j other) same calls.run) calls.number is given copied
         frames' left r' executed
     turn_comes
-        (executes.resumes {l = l} {at = at} {arguments = arguments} {given = given} {frames' = frames'} {left = left} {r = started} {r' = r'} {callee = j}
-        {unit = other} begins of starts copied executed over) is none =
+        (executes.resumes {l = l} {at = at} {arguments = arguments} {given = given} {frames' = frames'} {left = left} {r' = r'} {callee = j}
+        begins runs copied executed over) is none =
         let calls = run_at true l at arguments j is begins in
-        let same : calls.other ≡ other = same_Some calls.other other (sym calls.run.is_there ∙ of) in
-        resume_comes l at arguments j other (subst (λ other. RunOf w activities i unit l at arguments j other) same calls.run) calls.number is given copied
-        started starts frames' left r' executed over
+        resume_comes l at arguments j calls.other calls.run calls.number is given copied runs frames' left r' executed over
     turn_comes
-        (executes.returns {l = l} {at = at} {arguments = arguments} {given = given} {frames' = frames'} {ended = ended} {left = left} {r = started} {r' = r'}
-        {callee = j} {unit = other} begins of starts copied executed over did) is none =
+        (executes.returns {l = l} {at = at} {arguments = arguments} {given = given} {frames' = frames'} {ended = ended} {left = left} {r' = r'} {callee = j}
+        begins runs copied executed over did) is none =
         let calls = run_at true l at arguments j is begins in
-        let same : calls.other ≡ other = same_Some calls.other other (sym calls.run.is_there ∙ of) in
-        return_comes l at arguments j other (subst (λ other. RunOf w activities i unit l at arguments j other) same calls.run) calls.number is given copied
-        started starts frames' ended r' executed over left did
+        return_comes l at arguments j calls.other calls.run calls.number is given copied runs frames' ended r' executed over left did
 
     pub turn_stops : {n : Node} → NodeTraps w (rank_by w activities) (slots_by w activities) (cleared w) i n frames store → rule.node ≡ n →
         (IsPoint n → ⊥) → block.end ≡ traps
@@ -473,13 +481,9 @@ module _ (orderly : AcceptedIsOrderly) (callers : InstancesHaveCallers) (nests :
         let calls = run_at false l at arguments j is begins in
         let same : calls.other ≡ other = same_Some calls.other other (sym calls.run.is_there ∙ of) in
         enter_cut l at arguments j other (subst (λ other. RunOf w activities i unit l at arguments j other) same calls.run) calls.number is given copied cut
-    turn_stops
-        (executes.resumed_stops {l = l} {at = at} {arguments = arguments} {given = given} {r = started} {callee = j} {unit = other} begins of starts copied
-        cut) is none =
+    turn_stops (executes.resumed_stops {l = l} {at = at} {arguments = arguments} {given = given} {callee = j} begins runs copied cut) is none =
         let calls = run_at true l at arguments j is begins in
-        let same : calls.other ≡ other = same_Some calls.other other (sym calls.run.is_there ∙ of) in
-        resume_cut l at arguments j other (subst (λ other. RunOf w activities i unit l at arguments j other) same calls.run) calls.number is given copied
-        started starts cut
+        resume_cut l at arguments j calls.other calls.run calls.number is given copied runs cut
 
 pub runs_simulate : AcceptedIsOrderly → InstancesHaveCallers → ProgramsNest → FramesApart → RegistersKeepApart → ClearingIsInside → BlocksChoose →
     ChangesSimulateInPass → PassesKeepTypes → AllStayWithin → NodesHaveKeys → StaysPlaced → (structs : List StructDef) (units : List UnitDef) (entry : ℕ) →

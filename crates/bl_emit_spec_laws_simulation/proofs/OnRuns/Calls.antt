@@ -26,7 +26,7 @@ use Rattle.bl_machine_laws.specs.Passes.Follows.{DeedYields}
 use Rattle.bl_machine_pass.specs.Registers.{Registers, with_at}
 use Rattle.bl_machine_pass_laws_execution.specs.Executes.{CopiesMatch, Executes, PassTraps}
 use Rattle.bl_machine_pass_laws_execution.specs.Frames.{Frames}
-use Rattle.bl_emit_spec_laws.specs.Calls.Built.{Activities, activity_at, cleared, rank_by, slots_by, unit_number}
+use Rattle.bl_emit_spec_laws.specs.Calls.Built.{Activities, activity_at, cleared, rank_by, run_by, slots_by, unit_number}
 use Rattle.bl_emit_spec_laws.specs.Calls.Calls.{ActivitySimulates, CallLeaves, PassStarts}
 use Rattle.bl_emit_spec_laws.specs.Calls.Laws.{Midway}
 use Rattle.bl_emit_spec_laws_nodes.specs.Calling.{NotEnded, RunEstablishes, RunLeaves, RunOf, RunsEstablish, RunsLeave, call_given, call_written, given_by}
@@ -46,7 +46,7 @@ module _ (structs : List StructDef) (units : List UnitDef) (entry : ℕ) (machin
     w = setting_of structs units entry
 
     abbrev n : ℕ
-    n = rank_by w activities i (EnterAt l at arguments)
+    n = run_by w activities i at
 
     -- the call as it is written
     abbrev pub written : CCall

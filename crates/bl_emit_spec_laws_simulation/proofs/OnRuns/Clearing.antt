@@ -14,7 +14,11 @@ use Rattle.bl_tree.specs.declared.value.Value.{Value}
 use Rattle.bl_tree.specs.Rules.{same_place}
 use Rattle.bl_tree.specs.Typing.{TypingContext, is_activity, var_at}
 use Rattle.bl_effects.proofs.EntryLemmas.{same_place_is, same_place_refl}
-use Rattle.bl_graph_nodes.specs.Nodes.{Arguments, EnterAt, nodes_in, place_of_node}
+use Rattle.bl_graph_nodes.specs.Nodes.{
+  Arguments,
+  EnterAt,
+  nodes_in,
+}
 use Rattle.bl_graph_nodes.specs.Plain.{Label, plain_body}
 use Rattle.bl_ctext_semantics.specs.Meaning.{Scope, further, start_of}
 use Rattle.bl_ctext_semantics.specs.Memory.{CValue, Location, Memory, Projection, left_after, member, number_in}
@@ -36,7 +40,14 @@ use Rattle.bl_machine_pass.specs.Registers.{Registers}
 use Rattle.bl_machine_pass_laws.specs.Turns.Laws.{StaysPlaced}
 use Rattle.bl_machine_pass_laws_execution.specs.Frames.{Frames}
 use Rattle.bl_machine_pass_laws.specs.Keys.{NodesHaveKeys}
-use Rattle.bl_emit_spec_laws.specs.Calls.Built.{Activities, activity_at, cleared, rank_by, site_at, unit_number}
+use Rattle.bl_emit_spec_laws.specs.Calls.Built.{
+  Activities,
+  activity_at,
+  cleared,
+  run_by,
+  site_at,
+  unit_number,
+}
 use Rattle.bl_emit_spec_laws.specs.Calls.Laws.{Midway, PassKeepsFrame}
 use Rattle.bl_emit_spec_laws.specs.Calls.Memories as memories
 use Rattle.bl_emit_spec_laws.specs.Calls.Memories.{MemoryEncodes, Nests, inner}
@@ -93,7 +104,7 @@ module _ (orderly : AcceptedIsOrderly) (callers : InstancesHaveCallers) (clearin
         (there : Contains (nodes_in (plain_body unit.body)) (EnterAt l at arguments)) (called : callee_of W i at ≡ Some j)
       where
         abbrev n : ℕ
-        n = rank_by W activities i (EnterAt l at arguments)
+        n = run_by W activities i at
 
         abbrev f : Location
         f = inner (frame_at scope) n
@@ -185,7 +196,7 @@ module _ (orderly : AcceptedIsOrderly) (callers : InstancesHaveCallers) (clearin
         (there : Contains (nodes_in (plain_body unit.body)) (EnterAt l at arguments)) (called : callee_of W i at ≡ Some j)
       where
         abbrev own : ℕ
-        own = rank_by W activities i (EnterAt l at arguments)
+        own = run_by W activities i at
 
         abbrev place : Location
         place = inner (frame_at scope) own
@@ -204,7 +215,7 @@ module _ (orderly : AcceptedIsOrderly) (callers : InstancesHaveCallers) (clearin
             (there' : Contains (nodes_in (plain_body unit.body)) (EnterAt l' at' arguments')) (called' : callee_of W i at' ≡ Some j')
           where
             abbrev n2 : ℕ
-            n2 = rank_by W activities i (EnterAt l' at' arguments')
+            n2 = run_by W activities i at'
 
             abbrev f2 : Location
             f2 = inner (frame_at scope) n2
@@ -216,13 +227,7 @@ module _ (orderly : AcceptedIsOrderly) (callers : InstancesHaveCallers) (clearin
             own_counter : at ≡ at' → (k : ℕ) (f' m' : Location) → Nests W activities j' f2 m2 k f' m' → (c : ℕ) →
                 number_in (value_at after (further f' (member (counter_name c) ∷ []))) ≡ pos (cleared W j frames k c)
             own_counter same k f' m' nests c =
-                let alone = midway.compiled.text.alone unit
-                ((orderly structs units entry midway.compiled.keeps midway.compiled.passes).each i unit midway.is_there).is_there in
-                let moved : Contains (nodes_in (plain_body unit.body)) (EnterAt l at' arguments) =
-                subst (λ at. Contains (nodes_in (plain_body unit.body)) (EnterAt l at arguments)) same there in
-                let node : EnterAt l at arguments ≡ EnterAt l' at' arguments' =
-                ap (λ at. EnterAt l at arguments) same ∙ alone.alone l l' at' arguments arguments' moved there' in
-                let number : own ≡ n2 = ap (rank_by W activities i) node in
+                let number : own ≡ n2 = ap (run_by W activities i) same in
                 let callee : j' ≡ j = same_Some j' j (sym called' ∙ (ap (callee_of W i) (sym same) ∙ called)) in
                 let far = (nests_beyond W activities j' k f2 m2 f' m' nests).0 in
                 let where_it_is : further f' (member (counter_name c) ∷ []) ≡ further place (far.0 ++ member (counter_name c) ∷ []) =
@@ -239,10 +244,9 @@ module _ (orderly : AcceptedIsOrderly) (callers : InstancesHaveCallers) (clearin
                 c < length (activity_at W activities k).sizes →
                 number_in (value_at after (further f' (member (counter_name c) ∷ []))) ≡ pos (cleared W j frames k c)
             other_counter differ k f' m' nests c below =
-                let apart : EnterAt l at arguments ≡ EnterAt l' at' arguments' → ⊥ = λ same. differ (ap place_of_node same) in
                 let names : bytes_eq (callee_name own) (callee_name n2) ≡ false =
                 callees_differ keys placed structs units entry machine activities midway.compiled i unit midway.is_there midway.function.active
-                l l' at at' arguments arguments' there there' apart in
+                l l' at at' arguments arguments' there there' differ in
                 let start = frame_at scope in
                 let outside : Inside W j k → ⊥ = λ inside.
                 (let same : j ≡ j' = nest.apart i j j' k at at' called called' inside (nests_inside W activities j' k f2 m2 f' m' nests) in

@@ -9,7 +9,6 @@ use Rattle.bl_tree.specs.declared.tree.StructDef.{StructDef}
 use Rattle.bl_tree.specs.declared.tree.Unit.{Unit as UnitDef}
 use Rattle.bl_tree.specs.Rules.{same_place}
 use Rattle.bl_effects.proofs.EntryLemmas.{same_place_is}
-use Rattle.bl_graph_nodes.specs.Nodes.{EnterAt}
 use Rattle.bl_ctext_semantics.specs.Memory.{Location}
 use Rattle.bl_ctree.specs.declared.instance.Instance.{Instance}
 use Rattle.bl_ctree.specs.declared.instance.Origin.{Origin}
@@ -20,7 +19,7 @@ use Rattle.bl_ctree_laws_confluence.specs.Deeds.Nesting as nesting
 use Rattle.bl_ctree_laws_confluence.specs.Deeds.Origins.{CalledBy, HasCaller, InstancesHaveCallers}
 use Rattle.bl_ctree_laws_confluence.proofs.OnDeeds.Activities.{and_left, and_right}
 use Rattle.bl_machine_pass_laws_execution.specs.Frames.{Frames}
-use Rattle.bl_emit_spec_laws.specs.Calls.Built.{Activities, cleared, is_under, origin_at, rank_by}
+use Rattle.bl_emit_spec_laws.specs.Calls.Built.{Activities, cleared, is_under, origin_at, run_by}
 use Rattle.bl_emit_spec_laws.specs.Calls.Memories as memories
 use Rattle.bl_emit_spec_laws.specs.Calls.Memories.{Nests, inner}
 use Rattle.bl_emit_spec_laws.specs.Cleared.{ClearingIsInside}
@@ -35,7 +34,7 @@ inside_more w i j k at called (nesting.deeper p place deep more) = nesting.deepe
 pub nests_inside : (w : Setting) (activities : Activities) (i k : ℕ) (f m f' m' : Location) → Nests w activities i f m k f' m' → Inside w i k
 nests_inside w activities i k f m f' m' memories.here = nesting.itself
 nests_inside w activities i k f m f' m' (memories.inside {j = j} {l = l} {at = at} {arguments = arguments} there node called deeper) =
-    let n = rank_by w activities i (EnterAt l at arguments) in
+    let n = run_by w activities i at in
     inside_more w i j k at called (nests_inside w activities j k (inner f n) (inner m n) f' m' deeper)
 
 got_or : {A : Type 0} (xs : List A) (k : ℕ) (d : A) → k < length xs → slice_get xs k ≡ Some (get_or xs k d)

@@ -1,4 +1,4 @@
--- Different `run`s of a body have different numbers, and names.
+-- `run`s of different places of a body have different numbers, and names.
 use Rattle.std.proofs.Common.{◌≡◌, ℕ, zero, suc, ◌+◌, ◌<◌, ◌^◌, Bool, true, false, ◌&&◌, ◌||◌, List, [], ◌∷◌, Contains, Some}
 use Rattle.std.proofs.Common.{drop, length, map, nat_eq, refl, sym, ap, subst, ◌∙◌, arith}
 use Rattle.std.proofs.lemmas.Bool.{eq-eqb}
@@ -15,7 +15,7 @@ use Rattle.bl_tree.specs.Reduce.{joined}
 use Rattle.bl_tree.specs.Typing.{is_activity}
 use Rattle.bl_cause.specs.Activities.{activities as activities_of, graph_position}
 use Rattle.bl_cause.proofs.PairLemmas.{each_at, filtered_at}
-use Rattle.bl_graph_nodes.specs.Nodes.{Arguments, EnterAt, Node, nodes_in}
+use Rattle.bl_graph_nodes.specs.Nodes.{Arguments, EnterAt, Node, nodes_in, place_of_node}
 use Rattle.bl_graph_nodes.specs.Plain.{Label, plain_body}
 use Rattle.bl_ctree.specs.Instances.{Setting, setting_of, unit_at}
 use Rattle.bl_machine.specs.declared.machine.Activity.{Activity as InMachine}
@@ -31,9 +31,10 @@ use Rattle.bl_machine_transitions_laws.proofs.Agreeing.{Agrees}
 use Rattle.bl_machine_transitions_laws.proofs.Standing.{nodes_stand}
 use Rattle.bl_emit_spec.specs.Activities.{Activity, is_flagged, rules_at, view_of}
 use Rattle.bl_emit_spec.specs.Names.{callee_name}
-use Rattle.bl_emit_spec_laws.specs.Calls.Built.{Activities, activity_at, asks_flag, rank_by, unit_number}
+use Rattle.bl_emit_spec_laws.specs.Calls.Built.{Activities, activity_at, asks_flag, rank_by, run_by, unit_number}
 use Rattle.bl_emit_spec_laws.specs.Calls.Laws.{CompilationContext}
 use Rattle.bl_emit_spec_laws.proofs.OnPlaced.Lists.{contains_at, found_at, number_once, number_there, stands_at, within_at}
+use Rattle.bl_emit_spec_laws.proofs.OnRunPlaces.Sharing.{FirstNode, first_node}
 use Rattle.bl_emit_spec_laws_simulation.proofs.OnRuns.Asking.{enters_flagged}
 use Rattle.bl_emit_spec_laws_simulation.proofs.OnRuns.Running.{unit_there}
 
@@ -150,7 +151,7 @@ module _ (keys : NodesHaveKeys) (placed : StaysPlaced) (structs : List StructDef
         both false c one other = one
 
     -- the number of the node at which a `run` begins fits a name
-    pub rank_small : (l : Label) (at : Place) (arguments : Arguments) → Contains (nodes_in (plain_body unit.body)) (EnterAt l at arguments) →
+    rank_small : (l : Label) (at : Place) (arguments : Arguments) → Contains (nodes_in (plain_body unit.body)) (EnterAt l at arguments) →
         rank_by w activities i (EnterAt l at arguments) < 2 ^ 64
     rank_small l at arguments within =
         let own : a.unit ≡ unit = compiled.built.unit k unit there in
@@ -162,10 +163,35 @@ module _ (keys : NodesHaveKeys) (placed : StaysPlaced) (structs : List StructDef
         (compiled.registers k unit there active).flags (rank_by w activities i (EnterAt l at arguments))
         (flag_asked rule.0 position.0 l at arguments rule.1 rule.2)
 
-    -- so the names of different `run`s differ
+    own_unit : a.unit ≡ unit
+    own_unit = compiled.built.unit k unit there
+
+    -- the first node at which a `run` at the place begins
+    first_here : (l : Label) (at : Place) (arguments : Arguments) → Contains (nodes_in (plain_body unit.body)) (EnterAt l at arguments) →
+        FirstNode placed.nodes a at
+    first_here l at arguments within =
+        first_node placed.nodes a l at arguments
+        (subst (λ (u : UnitDef). Contains (nodes_in (plain_body u.body)) (EnterAt l at arguments)) (sym own_unit) within)
+
+    first_in : (at : Place) (first : FirstNode placed.nodes a at) → Contains (nodes_in (plain_body unit.body)) (EnterAt first.label at first.arguments)
+    first_in at first =
+        subst (λ (u : UnitDef). Contains (nodes_in (plain_body u.body)) (EnterAt first.label at first.arguments)) own_unit
+        (contains_at (nodes_in (plain_body a.unit.body)) first.position (EnterAt first.label at first.arguments) first.is_there)
+
+    -- the number of a place of `run`s fits a name
+    run_small : (l : Label) (at : Place) (arguments : Arguments) → Contains (nodes_in (plain_body unit.body)) (EnterAt l at arguments) →
+        run_by w activities i at < 2 ^ 64
+    run_small l at arguments within =
+        let first = first_here l at arguments within in
+        subst (λ m. m < 2 ^ 64) (sym first.number_is) (rank_small first.label at first.arguments (first_in at first))
+
+    -- the names of `run`s of different places differ
     pub callees_differ : (l m : Label) (at by : Place) (x y : Arguments) → Contains (nodes_in (plain_body unit.body)) (EnterAt l at x) →
-        Contains (nodes_in (plain_body unit.body)) (EnterAt m by y) → (EnterAt l at x ≡ EnterAt m by y → ⊥) →
-        bytes_eq (callee_name (rank_by w activities i (EnterAt l at x))) (callee_name (rank_by w activities i (EnterAt m by y))) ≡ false
+        Contains (nodes_in (plain_body unit.body)) (EnterAt m by y) → (at ≡ by → ⊥) →
+        bytes_eq (callee_name (run_by w activities i at)) (callee_name (run_by w activities i by)) ≡ false
     callees_differ l m at by x y one two differ =
-        names_differ 120 (rank_by w activities i (EnterAt l at x)) (rank_by w activities i (EnterAt m by y)) (rank_small l at x one)
-        (rank_small m by y two) (λ same. differ (ranks_tell (EnterAt l at x) (EnterAt m by y) one two same))
+        let first = first_here l at x one in
+        let second = first_here m by y two in
+        names_differ 120 (run_by w activities i at) (run_by w activities i by) (run_small l at x one) (run_small m by y two)
+        (λ same. differ (ap place_of_node (ranks_tell (EnterAt first.label at first.arguments) (EnterAt second.label by second.arguments)
+        (first_in at first) (first_in by second) (sym first.number_is ∙ (same ∙ second.number_is)))))

@@ -24,7 +24,7 @@ use Rattle.bl_emit_spec.specs.Names.{callee_name, flag_name, mark_name, rested_n
 use Rattle.bl_emit_spec_laws.specs.Registers.Registers.{Before, Counter, Flag, Mark, Over, Register, frame_at, register_at}
 use Rattle.bl_machine_pass.specs.Registers.{Registers}
 use Rattle.bl_machine_pass_laws_execution.specs.Frames.{Frames}
-use Rattle.bl_emit_spec_laws.specs.Calls.Built.{Activities, rank_by, site_at}
+use Rattle.bl_emit_spec_laws.specs.Calls.Built.{Activities, run_by, site_at}
 use Rattle.bl_emit_spec_laws.specs.Calls.Memories.{MemoryEncodes, inner}
 use Rattle.bl_emit_spec_laws.specs.Calls.Invariant.{PassRepresents, PlacesAreSeparate, result_at_c}
 use Rattle.bl_emit_spec_laws_nodes.proofs.OnPoints.Apart.{first_further, last_further, lies_apart, older_differs, register_inner}
@@ -50,7 +50,7 @@ pub stands_beside : (w : Setting) (activities : Activities) (i : ℕ) (unit : Un
     PassRepresents w activities i unit scope frames store copies r here →
     ((l : Label) (at : Place) (arguments : Arguments) (j : ℕ) → Contains (nodes_in (plain_body unit.body)) (EnterAt l at arguments) →
     callee_of w i at ≡ Some j →
-    let n = rank_by w activities i (EnterAt l at arguments) in
+    let n = run_by w activities i at in
     MemoryEncodes w activities j (inner (frame_at scope) n) (inner (remembered_at scope) n) after_frames store (set_at here place held)) →
     PassRepresents w activities i unit scope after_frames store copies r (set_at here place held)
 stands_beside w activities i unit scope frames after_frames store copies r here place held beside stands callees =

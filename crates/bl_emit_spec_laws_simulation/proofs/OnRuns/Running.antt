@@ -22,7 +22,11 @@ use Rattle.bl_ctree_laws_confluence.specs.Deeds.Orderly.{AcceptedIsOrderly}
 use Rattle.bl_ctree_laws_confluence.specs.Deeds.Origins.{CalledBy, HasCaller, InstancesHaveCallers}
 use Rattle.bl_ctree_laws_confluence.proofs.OnDeeds.Activities.{AllOf, and_left, and_right, one_a_place_so}
 use Rattle.bl_ctree_laws_traces.proofs.OnProgress.Earlier.{RunsUnit, body_runs}
-use Rattle.bl_ctree_laws_traces.proofs.OnReady.Keys.{Differ, Has, Same, bodies_differ_so}
+use Rattle.bl_ctree_laws_traces.proofs.OnReady.Keys.{
+  Differ,
+  Has,
+  Same,
+}
 use Rattle.bl_ctree_laws_traces.proofs.OnBounded.Callees.{taken_before, typed_at}
 use Rattle.bl_ctree_laws_traces.proofs.OnBounded.Calls.{calls_in, run_of}
 use Rattle.bl_ctree_laws_traces.proofs.OnBounded.Lists.{Among, among_got}
@@ -33,7 +37,8 @@ use Rattle.bl_emit_spec_laws.specs.Calls.Built.{Activities, unit_number}
 use Rattle.bl_emit_spec_laws.specs.Calls.Laws.{CompilationContext}
 use Rattle.bl_emit_spec_laws_nodes.specs.Calling.{RunOf}
 use Rattle.bl_emit_spec_laws.proofs.OnPlaced.Lists.{contains_at}
-use Rattle.bl_emit_spec_laws_simulation.proofs.OnRuns.Entered.{call_there, calls_in_are, entered_at, node_by}
+use Rattle.bl_emit_spec_laws.proofs.OnRunPlaces.Sharing.{calls_share}
+use Rattle.bl_emit_spec_laws.proofs.OnRunPlaces.Entered.{call_there, calls_in_are, entered_at, node_by}
 
 -- ---- lists
 
@@ -130,24 +135,9 @@ module _ (orderly : AcceptedIsOrderly) (callers : InstancesHaveCallers) (structs
     there : slice_get units k ≡ Some unit
     there = unit_there w i unit is
 
-    -- `run`s that are one of a place are one
+    -- `run`s of one place call one unit
     same_units : (s t : Call) → Among s (calls_in body) → Among t (calls_in body) → s.place ≡ t.place → s.unit ≡ t.unit
-    same_units s t one two places =
-        let at = entered_at (nodes_in body) (callees_in body) s
-        (subst (Among s) (sym (calls_in_are false body)) one) in
-        let by = entered_at (nodes_in body) (callees_in body) t
-        (subst (Among t) (sym (calls_in_are false body)) two) in
-        let alone = compiled.text.alone unit ((orderly structs units entry compiled.keeps compiled.passes).each i unit is).is_there in
-        let first : slice_get (nodes_in body) at.position ≡ Some (EnterAt s.label t.place s.arguments) =
-        at.node ∙ ap (λ place. Some (EnterAt s.label place s.arguments)) places in
-        let same : EnterAt s.label t.place s.arguments ≡ EnterAt t.label t.place t.arguments =
-        alone.alone s.label t.label t.place s.arguments t.arguments
-        (contains_at (nodes_in body) at.position (EnterAt s.label t.place s.arguments) first)
-        (contains_at (nodes_in body) by.position (EnterAt t.label t.place t.arguments) by.node) in
-        let position : at.position ≡ by.position =
-        one_place (nodes_in body) (bodies_differ_so unit.body []) at.position by.position (EnterAt t.label t.place t.arguments)
-        (first ∙ ap Some same) by.node in
-        same_Some s.unit t.unit (sym at.unit ∙ (ap (slice_get (callees_in body)) position ∙ by.unit))
+    same_units = calls_share structs units entry compiled.keeps k unit there
 
     module _ (j : ℕ) (s : Call) (within : Among s (calls_in body)) (begins : callee_of w i s.place ≡ Some j) where
       -- a `run` of the body that began the instance

@@ -30,7 +30,7 @@ use Rattle.bl_emit_spec_laws.specs.Registers.Registers.{RegistersApart, Register
 use Rattle.bl_machine.specs.declared.machine.Activity.{Activity as InMachine}
 use Rattle.bl_machine_pass.specs.Registers.{Registers}
 use Rattle.bl_machine_pass_laws_execution.specs.Frames.{Frames}
-use Rattle.bl_emit_spec_laws.specs.Calls.Built.{Activities, activity_at, rank_by, registered, site_at, unit_number}
+use Rattle.bl_emit_spec_laws.specs.Calls.Built.{Activities, activity_at, registered, run_by, site_at, unit_number}
 use Rattle.bl_emit_spec_laws.specs.Calls.Laws.{Midway, PassKeepsFrame}
 use Rattle.bl_emit_spec_laws.specs.Calls.Memories as memories
 use Rattle.bl_emit_spec_laws.specs.Calls.Memories.{MemoryEncodes, Nests, inner}
@@ -117,7 +117,7 @@ module _ (frames_apart : FramesApart) (keep : RegistersKeepApart) (structs : Lis
             (there : Contains (nodes_in (plain_body unit.body)) (EnterAt l at arguments)) (called : callee_of w i at ≡ Some j)
           where
             abbrev n : ℕ
-            n = rank_by w activities i (EnterAt l at arguments)
+            n = run_by w activities i at
 
             abbrev f : Location
             f = inner (frame_at scope) n

@@ -22,7 +22,7 @@ use Rattle.std.proofs.Common.{
 }
 use Rattle.std.proofs.Common.{arith, length, refl, sym, ap, subst, ◌∙◌, codes}
 use Rattle.std.proofs.lemmas.List.Elements.{All-cons, All-nil}
-use Rattle.std.specs.Prelude.{All, filter, option_to_list, slice_get, if◌then◌else◌}
+use Rattle.std.specs.Prelude.{All, filter, nat_eq, option_to_list, slice_get, if◌then◌else◌}
 use Rattle.bl_tree.specs.declared.text.Text.{Text}
 use Rattle.bl_tree.specs.declared.c.CArg.{CArg}
 use Rattle.bl_tree.specs.declared.c.CArg.TheVariants.{Address, Value}
@@ -133,7 +133,7 @@ use Rattle.bl_emit_spec.specs.Activities.{
   view_of,
 }
 use Rattle.bl_emit_spec.specs.Blocks.{
-  is_only,
+  is_greatest,
   NodeCode,
   ActivityView,
   acted,
@@ -162,12 +162,18 @@ use Rattle.bl_emit_spec.specs.Blocks.{
   rested_at,
   rested_by,
   rested_between,
+  rested_from,
   rested_in,
+  rested_since,
+  rested_to,
+  rested_within,
   resumed_code,
   run_args,
   run_code,
   some_test,
   target_code,
+  choice_code,
+  spelled_truth,
   tested,
   turn_code,
   turn_of,
@@ -270,13 +276,22 @@ module _ (weight : Text → ℕ) (prelude : (word : Text) (s : ScalarType) → w
   slots_few view [] = tt
   slots_few view (slot ∷ rest) = (slot_few view slot, slots_few view rest)
 
-  rested_few : (view : ActivityView) (slot : Slot) → ExprFew (rested_at view slot)
-  rested_few view slot = by (is_only view.sizes slot)
+  since_few : (view : ActivityView) (k least : ℕ) → ExprFew (rested_since view k least)
+  since_few view k least = by (nat_eq least 1)
     where
-      by : (only : Bool) → ExprFew (rested_by view slot only)
+      by : (one : Bool) → ExprFew (rested_from view k least one)
       by true =
-          two-light weight prelude n Ne (c_read (rested_place slot.counter)) (counter_value view.sizes slot.counter 0)
-          (reads_few (rested_place slot.counter) (local_few (rested_name slot.counter))) (value_few view slot.counter 0)
+          two-light weight prelude n Ne (c_read (rested_place k)) (counter_value view.sizes k 0)
+          (reads_few (rested_place k) (local_few (rested_name k))) (value_few view k 0)
+      by false =
+          two-light weight prelude n Ge (c_read (rested_place k)) (counter_value view.sizes k least)
+          (reads_few (rested_place k) (local_few (rested_name k))) (value_few view k least)
+
+  rested_few : (view : ActivityView) (slot : Slot) → ExprFew (rested_at view slot)
+  rested_few view slot = by (is_greatest view.sizes slot.counter slot.value)
+    where
+      by : (last : Bool) → ExprFew (rested_by view slot last)
+      by true = since_few view slot.counter slot.value
       by false =
           two-light weight prelude n Eq (c_read (rested_place slot.counter)) (counter_value view.sizes slot.counter slot.value)
           (reads_few (rested_place slot.counter) (local_few (rested_name slot.counter))) (value_few view slot.counter slot.value)
@@ -318,10 +333,17 @@ module _ (weight : Text → ℕ) (prelude : (word : Text) (s : ScalarType) → w
       (compare_few Ge s (c_read (rested_place k)) (counter_value view.sizes k least) here (value_few view k least))
       (compare_few Le s (c_read (rested_place k)) (counter_value view.sizes k most) here (value_few view k most))
 
+  within_few : (view : ActivityView) (k least most : ℕ) → ExprFew (rested_within view k least most)
+  within_few view k least most = by (is_greatest view.sizes k most)
+    where
+      by : (top : Bool) → ExprFew (rested_to view k least most top)
+      by true = since_few view k least
+      by false = between_few view k least most
+
   in_few : (view : ActivityView) (slots : List Slot) → ExprFew (rested_in view slots)
   in_few view [] = truth_few false
   in_few view (slot ∷ []) = rested_few view slot
-  in_few view (slot ∷ more ∷ rest) = between_few view slot.counter slot.value (last_value more.value rest)
+  in_few view (slot ∷ more ∷ rest) = within_few view slot.counter slot.value (last_value more.value rest)
 
   ends_few : (view : ActivityView) (needed : Needed) → ExprFew (ends_test view needed)
   ends_few view needed = by needed.all
@@ -513,10 +535,16 @@ module _ (weight : Text → ℕ) (prelude : (word : Text) (s : ScalarType) → w
         acted_by s (out-StmtKind (out-Stmt s).what) (subst (λ names. Under by n names) (calls_at s (out-StmtKind (out-Stmt s).what) refl) few) refl
 
     tested_few : (e : Expr) (rule : Transition) → Under by n (calls_in_expr e) → CodeFew (tested view (code_made view.site e) rule)
-    tested_few e rule few =
-        one_few weight prelude n (c_if (code_made view.site e) (changes_code view rule.so) (else_code (changes_code view rule.otherwise)))
-        (if_few (code_made view.site e) (changes_code view rule.so) (else_code (changes_code view rule.otherwise)) (code_few e few)
-        (changes_few view rule.so) (else_few (changes_code view rule.otherwise) (changes_few view rule.otherwise)))
+    tested_few e rule few = chosen (spelled_truth (code_made view.site e))
+      where
+        chosen : (truth : Option Bool) →
+            CodeFew (choice_code (code_made view.site e) truth (changes_code view rule.so) (changes_code view rule.otherwise))
+        chosen None =
+            one_few weight prelude n (c_if (code_made view.site e) (changes_code view rule.so) (else_code (changes_code view rule.otherwise)))
+            (if_few (code_made view.site e) (changes_code view rule.so) (else_code (changes_code view rule.otherwise)) (code_few e few)
+            (changes_few view rule.so) (else_few (changes_code view rule.otherwise) (changes_few view rule.otherwise)))
+        chosen (Some true) = changes_few view rule.so
+        chosen (Some false) = changes_few view rule.otherwise
 
     -- ---- runs
 
@@ -596,8 +624,8 @@ module _ (weight : Text → ℕ) (prelude : (word : Text) (s : ScalarType) → w
     node_few a rule (ActAt l s) few = then_few weight prelude n (acted view s) (changes_code view rule.so) (acted_few s few) (changes_few view rule.so)
     node_few a rule (TestAt l at e) few = tested_few e rule few
     node_few a rule (CheckAt l at e) few = tested_few e rule few
-    node_few a rule (EnterAt l at arguments) few = begun_few (view.number (EnterAt l at arguments)) a arguments rule few
-    node_few a rule (ResumeAt l at arguments) few = resumed_few (view.number (EnterAt l at arguments)) a arguments rule few
+    node_few a rule (EnterAt l at arguments) few = begun_few (view.run at) a arguments rule few
+    node_few a rule (ResumeAt l at arguments) few = resumed_few (view.run at) a arguments rule few
     node_few a rule (PauseAt l at) few = changes_few view rule.so
     node_few a rule (HeadAt l at) few = changes_few view rule.so
     node_few a rule (StartAt l at) few = changes_few view rule.so

@@ -8,7 +8,7 @@ use Rattle.bl_tree.specs.declared.text.Text.{Text}
 use Rattle.bl_tree.specs.declared.tree.Unit.{Unit as UnitDef}
 use Rattle.bl_tree.specs.Reduce.{greatest}
 use Rattle.bl_limits_measures.specs.Calls.{calls_of}
-use Rattle.bl_limits_measures.specs.Runs.{runs_of}
+use Rattle.bl_limits_measures.specs.Runs.{activities_run}
 use Rattle.bl_limits_measures.specs.Units.{all_chains, chain_at, chain_by, greatest_at}
 use Rattle.bl_limits_measures.proofs.TableLemmas.{answer_at}
 use Rattle.bl_graph_nodes.specs.Nodes.{nodes_in}
@@ -36,7 +36,7 @@ pub call_few : ((slots : Slots) (body : Block) → map (λ (rule : Transition). 
 call_few nodes a weight by n prelude callees few =
     activity_few weight prelude n a by callees
     (subst (AllUnder by n (callees_in (plain_body a.unit.body))) (sym (nodes a.slots (plain_body a.unit.body)))
-    (body_under by n a.unit (front-under by n (calls_of a.unit) (runs_of a.unit) few) (back-under by n (calls_of a.unit) (runs_of a.unit) few)))
+    (body_under by n a.unit (front-under by n (calls_of a.unit) (activities_run a.unit) few) (back-under by n (calls_of a.unit) (activities_run a.unit) few)))
 
 -- ---- chains
 
@@ -78,16 +78,16 @@ module _ (few : ActivitiesCallFew) (units : List UnitDef) (k : ℕ) (depths : Ta
   pub no_longer : (unit : UnitDef) (a : Activity) → IsOfUnit units k unit a → depth_of_function depths (activity_function a) ≤ chain_at units k
   no_longer unit a of =
       let calls : ℕ = greatest (map by (calls_of unit)) in
-      let runs : ℕ = greatest (map by (runs_of unit)) in
+      let runs : ℕ = greatest (map by (activities_run unit)) in
       let n : ℕ = max calls runs in
       let needs : greatest (map by (needs_of a.unit)) ≤ n =
       subst (λ (u : UnitDef). greatest (map by (needs_of u)) ≤ n) (sym of.is)
-      (both_greatest by n (calls_of unit) (runs_of unit) (omega arith) (omega arith)) in
+      (both_greatest by n (calls_of unit) (activities_run unit) (omega arith) (omega arith)) in
       let all : most depths (calls_in_block (activity_code a)) ≤ n =
       few a weight by n prelude_none
       (λ f. subst (λ (earlier : List UnitDef). weight (name_of_callee (slice_get earlier f)) ≤ by f) (sym of.before)
       (callee_by f (slice_get (take k units) f) refl)) needs in
-      let is : chain_at units k ≡ 1 + max calls (greatest_at (take k (all_chains units)) (runs_of unit)) = chain_is units k unit of.there in
+      let is : chain_at units k ≡ 1 + max calls (greatest_at (take k (all_chains units)) (activities_run unit)) = chain_is units k unit of.there in
       omega (arith, all, is)
 
 pub follow : ActivitiesCallFew → ActivityChainsFollow

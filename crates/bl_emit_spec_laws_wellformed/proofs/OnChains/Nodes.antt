@@ -27,15 +27,16 @@ use Rattle.bl_limits_measures.specs.Calls.{
   stmt_layer_calls,
   target_calls,
 }
-use Rattle.bl_limits_measures.specs.Runs.{
-  arm_runs,
-  branch_runs,
-  kind_runs,
-  runs_in,
-  runs_in_arm,
-  runs_in_branch,
-  runs_of,
-  stmt_layer_runs,
+use Rattle.bl_limits_measures.specs.Runs.{activities_run}
+use Rattle.bl_limits_measures.proofs.RunLemmas.{
+  activities_are,
+  activities_in as runs_in,
+  activities_in_arm as runs_in_arm,
+  activities_in_branch as runs_in_branch,
+  arm_activities as arm_runs,
+  branch_activities as branch_runs,
+  kind_activities as kind_runs,
+  stmt_activities as stmt_layer_runs,
 }
 use Rattle.bl_graph_nodes.specs.Nodes.{
   ActAt,
@@ -384,6 +385,7 @@ module _ (by : ℕ → ℕ) (n : ℕ) where
   }
 
   -- what is called at the nodes of a body is called or run by the body
-  pub body_under : (unit : UnitDef) → Under by n (calls_of unit) → Under by n (runs_of unit) →
+  pub body_under : (unit : UnitDef) → Under by n (calls_of unit) → Under by n (activities_run unit) →
       AllUnder (callees_in (plain_body unit.body)) (nodes_in (plain_body unit.body))
-  body_under unit calls runs = blocks_under unit.body (λ k d within. induct S cases _) calls runs 0 []
+  body_under unit calls runs =
+      blocks_under unit.body (λ k d within. induct S cases _) calls (subst (λ names. Under by n names) (activities_are unit) runs) 0 []

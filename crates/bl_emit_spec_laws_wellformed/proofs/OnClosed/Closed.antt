@@ -28,13 +28,20 @@ use Rattle.std.specs.Prelude.{All, slice_get, unwrap_or, if◌then◌else◌}
 use Rattle.std.specs.List.{list_any}
 use Rattle.bl_tree.specs.declared.tree.StructDef.{StructDef}
 use Rattle.bl_tree.specs.declared.tree.Unit.{Unit as UnitDef}
-use Rattle.bl_tree.specs.Program.{IsWellTyped, is_entry}
+use Rattle.bl_tree.specs.Program.{
+  is_entry,
+}
 use Rattle.bl_machine.specs.Blocks.{up_to}
 use Rattle.bl_limits_measures.specs.Calls.{calls_of}
-use Rattle.bl_limits_measures.specs.Runs.{runs_of}
+use Rattle.bl_limits_measures.specs.Runs.{activities_run}
 use Rattle.bl_limits_measures.specs.Uses.{UsesEarlier}
 use Rattle.bl_limits_measures_laws.specs.Laws.{UnitsUseEarlierOnes}
-use Rattle.bl_emit_spec.specs.Programs.{needed_below, needed_units, needs_at, needs_of, set_from}
+use Rattle.bl_emit_spec.specs.Programs.{
+  needed_below,
+  needs_at,
+  needs_of,
+  set_from,
+}
 use Rattle.bl_emit_spec_laws_wellformed.proofs.OnClosed.Running.{same_number}
 use Rattle.bl_emit_spec_laws_wellformed.specs.Closed.{NeededClosed}
 
@@ -241,10 +248,10 @@ either_of false b h left right = right h
 uses_less : (units : List UnitDef) → UsesEarlier units → (k j : ℕ) (unit : UnitDef) → slice_get units k ≡ Some unit →
     list_any (nat_eq j) (needs_of unit) ≡ true → j < k
 uses_less units earlier k j unit there among =
-    either_of (list_any (nat_eq j) (calls_of unit)) (list_any (nat_eq j) (runs_of unit))
-    (sym (list_any-append (nat_eq j) (calls_of unit) (runs_of unit)) ∙ among)
+    either_of (list_any (nat_eq j) (calls_of unit)) (list_any (nat_eq j) (activities_run unit))
+    (sym (list_any-append (nat_eq j) (calls_of unit) (activities_run unit)) ∙ among)
     (λ h. among_all (λ x. x < k) (calls_of unit) j (earlier k unit there).calls h)
-    (λ h. among_all (λ x. x < k) (runs_of unit) j (earlier k unit there).runs h)
+    (λ h. among_all (λ x. x < k) (activities_run unit) j (earlier k unit there).runs h)
 
 entry_there : (o : Option UnitDef) → is_entry o ≡ true → (unit : UnitDef) × (o ≡ Some unit)
 entry_there None h = absurd (cc)

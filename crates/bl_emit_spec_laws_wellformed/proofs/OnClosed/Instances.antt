@@ -15,9 +15,7 @@ use Rattle.std.proofs.Common.{
   Some,
   None,
   refl,
-  sym,
   ap,
-  subst,
   ◌∙◌,
   arith,
 }
@@ -28,7 +26,7 @@ use Rattle.bl_tree.specs.declared.tree.StructDef.{StructDef}
 use Rattle.bl_tree.specs.declared.tree.Unit.{Unit as UnitDef}
 use Rattle.bl_tree.specs.Program.{IsWellTyped}
 use Rattle.bl_limits_measures.specs.Calls.{calls_of}
-use Rattle.bl_limits_measures.specs.Runs.{runs_of}
+use Rattle.bl_limits_measures.specs.Runs.{activities_run}
 use Rattle.bl_ctree.specs.declared.instance.Instance.{Instance}
 use Rattle.bl_ctree.specs.declared.instance.Origin.{Origin}
 use Rattle.bl_ctree.specs.Instances.{instances_of}
@@ -57,8 +55,8 @@ module _ (structs : List StructDef) (units : List UnitDef) (entry : ℕ) (needed
             let earlier = called.earlier in
             let caller = before origin.caller called.caller (omega (arith, less, earlier)) called.there in
             let among : list_any (nat_eq called.run.unit) (needs_of called.unit) ≡ true =
-            list_any-append (nat_eq called.run.unit) (calls_of called.unit) (runs_of called.unit)
-            ∙ or_right (list_any (nat_eq called.run.unit) (calls_of called.unit)) (list_any (nat_eq called.run.unit) (runs_of called.unit))
+            list_any-append (nat_eq called.run.unit) (calls_of called.unit) (activities_run called.unit)
+            ∙ or_right (list_any (nat_eq called.run.unit) (calls_of called.unit)) (list_any (nat_eq called.run.unit) (activities_run called.unit))
             (run_named called.unit called.run called.runs) in
             ap (slice_get (needed_units units entry)) called.names
             ∙ needed.closed called.caller.unit called.run.unit called.unit keeps called.body caller among

@@ -19,7 +19,15 @@ use Rattle.bl_tree.specs.Reduce.{all_of, joined, total}
 use Rattle.bl_tree.specs.Typing.{TypingContext, arm_fits, branch_fits, fits, is_activity, is_inhabited, is_truth, kind_fits, stmt_fits, type_of}
 use Rattle.bl_tree.proofs.StmtInduction.{Cases, Each, EachArm, EachBranch, induct, stmt}
 use Rattle.bl_eval.proofs.PassLemmas.{and_left, and_right}
-use Rattle.bl_limits_measures.specs.Runs.{arm_runs, branch_runs, kind_runs, runs_in, runs_in_arm, runs_in_branch, stmt_layer_runs}
+use Rattle.bl_limits_measures.proofs.RunLemmas.{
+  activities_in as runs_in,
+  activities_in_arm as runs_in_arm,
+  activities_in_branch as runs_in_branch,
+  arm_activities as arm_runs,
+  branch_activities as branch_runs,
+  kind_activities as kind_runs,
+  stmt_activities as stmt_layer_runs,
+}
 use Rattle.bl_limits_measures.specs.Statements.{arm_cell_statements, branch_cell_statements, cell_statements_in, cell_statements_in_arm, kind_cell_statements}
 use Rattle.bl_limits_measures.specs.Statements.{cell_statements_in_block, cell_statements_in_branch, layer_cell_statements}
 use Rattle.bl_graph_nodes.specs.Nodes.{CheckAt, DepthEndAt, DepthJoinAt, ForkAt, HeadAt, Node, StartAt, SurfaceEndAt, SurfaceJoinAt, TestAt}

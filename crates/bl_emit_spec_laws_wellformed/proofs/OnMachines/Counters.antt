@@ -1,4 +1,4 @@
--- A machine that shares counters has no more counters for a body than the body has resting places.
+-- A machine has no more counters for a body than the body has resting places.
 use Rattle.std.proofs.Common.{◌≡◌, ℕ, zero, suc, ◌+◌, ◌<◌, ◌≤◌, max, List, []}
 use Rattle.std.proofs.Common.{◌∷◌, ◌++◌, map, length, refl, ap, ◌∙◌, subst, sym, arith}
 use Rattle.std.proofs.lemmas.List.{length_push}

@@ -12,13 +12,11 @@ use Rattle.bl_machine.specs.declared.machine.Activity.{Activity as InMachine}
 use Rattle.bl_machine.specs.Layout.{places_in}
 use Rattle.bl_limits_measures.specs.Calls.{calls_of}
 use Rattle.bl_limits_measures.specs.Laws.{CellsAdd}
-use Rattle.bl_limits_measures.specs.Runs.{runs_of}
+use Rattle.bl_limits_measures.specs.Runs.{activities_by_place}
 use Rattle.bl_limits_measures.specs.Statements.{cell_statements_of}
 use Rattle.bl_limits_measures.specs.Units.{cells_at, cells_with, variables_of}
 use Rattle.bl_limits_measures_laws.specs.Laws.{UnitsUseEarlierOnes}
 use Rattle.bl_machine_pass.specs.Numbered.{sizes_of}
-use Rattle.bl_machine_transitions.specs.Shared.{shared_sizes}
-use Rattle.bl_machine_transitions_laws.proofs.Shared.{shared_many}
 use Rattle.bl_graph_nodes.specs.Nodes.{nodes_in}
 use Rattle.bl_graph_nodes.specs.Plain.{plain_body}
 use Rattle.bl_emit_functions_laws_wellformed.specs.Formed.{IsNumbered}
@@ -59,7 +57,7 @@ module _ (structs : List StructDef) (units : List UnitDef) (entry : ℕ) (uses :
         cell_statements_of unit ≤ cells_at structs units k
     statements_less k unit keeps there =
         subst (λ n. cell_statements_of unit ≤ n) (sym (add structs units k unit (uses structs units keeps.units_stand) there))
-        (enough unit.kind (variables_of structs unit) (cell_statements_of unit) (total (map (cells_at structs units) (runs_of unit)))
+        (enough unit.kind (variables_of structs unit) (cell_statements_of unit) (total (map (cells_at structs units) (activities_by_place unit)))
         (greatest (map (cells_at structs units) (calls_of unit))))
 
     numbers : (k : ℕ) (unit : UnitDef) (one : InMachine) → IsWellTyped structs units entry → IsModest structs units k unit one →
@@ -70,17 +68,12 @@ module _ (structs : List StructDef) (units : List UnitDef) (entry : ℕ) (uses :
         (nodes_small (length (nodes_in (plain_body unit.body))) (cell_statements_of unit) (cells_at structs units k) few.nodes
         (statements_less k unit keeps modest.there) modest.cells)
 
-    own_counters : (k : ℕ) (unit : UnitDef) (one : InMachine) → IsWellTyped structs units entry → IsModest structs units k unit one →
+    counters : (k : ℕ) (unit : UnitDef) (one : InMachine) → IsWellTyped structs units entry → IsModest structs units k unit one →
         length (sizes_of one.slots) ≤ 2 ^ 64
-    own_counters k unit one keeps modest =
+    counters k unit one keeps modest =
         let few : IsFew unit = counted k unit keeps modest.there in
         counters_small (length (sizes_of one.slots)) (places_in (plain_body unit.body)) (cell_statements_of unit) (cells_at structs units k)
-        (sizes_few (plain_body unit.body) one.slots modest.shared.slots) few.places (statements_less k unit keeps modest.there) modest.cells
-
-    counters : (k : ℕ) (unit : UnitDef) (one : InMachine) → IsWellTyped structs units entry → IsModest structs units k unit one →
-        length (shared_sizes (joined one.blocks) (plain_body unit.body) one.slots) ≤ 2 ^ 64
-    counters k unit one keeps modest =
-        subst (λ many. many ≤ 2 ^ 64) (sym (shared_many (joined one.blocks) (plain_body unit.body) one.slots)) (own_counters k unit one keeps modest)
+        (sizes_few (plain_body unit.body) one.slots modest.of_unit.slots) few.places (statements_less k unit keeps modest.there) modest.cells
 
     pub spell : RulesFit structs units entry → RulesStand structs units entry → MachinesSpell structs units entry
     spell fit stand k unit one remember keeps modest =
@@ -95,10 +88,10 @@ module _ (structs : List StructDef) (units : List UnitDef) (entry : ℕ) (uses :
           counters = counters k unit one keeps modest;
           numbers = (numbers k unit one keeps modest).few;
           rules = fit k (activity_of structs (take k units) remember unit one) keeps refl refl modest.there
-              (stand k unit (joined one.blocks) one.slots keeps modest.there modest.of_unit.counters
+              (stand k unit one.slots keeps modest.there modest.of_unit.counters
               (places_small (length one.slots) (places_in (plain_body unit.body)) (cell_statements_of unit) (cells_at structs units k)
               modest.of_unit.counters.one_each few.places (statements_less k unit keeps modest.there) modest.cells)
-              (own_counters k unit one keeps modest));
+              (counters k unit one keeps modest));
         }
 
     pub differ : NumbersFollow → MachinesDiffer structs units entry

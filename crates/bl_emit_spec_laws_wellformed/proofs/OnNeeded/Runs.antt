@@ -19,7 +19,16 @@ use Rattle.bl_tree.specs.Typing.{TypingContext, arm_fits, branch_fits, fits, is_
 use Rattle.bl_tree.specs.Typing.{is_truth, kind_fits, run_fits, site_of, stmt_fits, type_of}
 use Rattle.bl_tree.proofs.StmtInduction.{Cases, Each, EachArm, induct, stmt}
 use Rattle.bl_eval.proofs.PassLemmas.{and_left, and_right, both}
-use Rattle.bl_limits_measures.specs.Runs.{arm_runs, branch_runs, kind_runs, runs_in, runs_in_arm, runs_of, stmt_layer_runs}
+use Rattle.bl_limits_measures.specs.Runs.{activities_run}
+use Rattle.bl_limits_measures.proofs.RunLemmas.{
+  activities_are,
+  activities_in as runs_in,
+  activities_in_arm as runs_in_arm,
+  arm_activities as arm_runs,
+  branch_activities as branch_runs,
+  kind_activities as kind_runs,
+  stmt_activities as stmt_layer_runs,
+}
 use Rattle.bl_emit_acts_laws_wellformed.proofs.OnFormed.Units.{body_stands}
 
 module _ (site : TypingContext) (function : is_activity site.kind ≡ false) where
@@ -102,7 +111,8 @@ all_listed test (s ∷ body) all =
 
 -- a function of a typed program runs nothing
 pub runs_nothing : (structs : List StructDef) (units : List UnitDef) (entry : ℕ) → IsWellTyped structs units entry → (k : ℕ) (unit : UnitDef) →
-    slice_get units k ≡ Some unit → is_activity unit.kind ≡ false → runs_of unit ≡ []
+    slice_get units k ≡ Some unit → is_activity unit.kind ≡ false → activities_run unit ≡ []
 runs_nothing structs units entry keeps k unit there function =
-    body_none (site_of structs (take k units) unit) function unit.body
+    activities_are unit
+    ∙ body_none (site_of structs (take k units) unit) function unit.body
     (all_listed (fits (site_of structs (take k units) unit)) unit.body (body_stands structs units entry keeps k unit there))

@@ -19,18 +19,19 @@ use Rattle.bl_tree.specs.Reduce.{greatest, total}
 use Rattle.bl_machine.specs.Blocks.{up_to}
 use Rattle.bl_limits_measures.specs.Calls.{calls_of}
 use Rattle.bl_limits_measures.specs.Laws.{CellsAdd}
-use Rattle.bl_limits_measures.specs.Runs.{runs_of}
+use Rattle.bl_limits_measures.specs.Runs.{activities_by_place, activities_run}
 use Rattle.bl_limits_measures.specs.Statements.{cell_statements_of}
 use Rattle.bl_limits_measures.specs.Units.{cells_at, cells_with, variables_of}
 use Rattle.bl_limits_measures_laws.specs.Laws.{UnitsUseEarlierOnes}
 use Rattle.bl_emit_functions_laws_wellformed.specs.Numbered.{CellsNumber}
 use Rattle.bl_emit_spec.specs.Programs.{needed_below, needs_at, needs_of, set_from}
+use Rattle.bl_emit_spec_laws_wellformed.proofs.OnNeeded.Places.{placed_any}
 use Rattle.bl_emit_spec_laws_wellformed.proofs.OnNeeded.Runs.{runs_nothing}
 use Rattle.bl_emit_spec_laws_wellformed.specs.Needed.{NeededCells, NeededNumbered, NeededSmall}
 
 -- ---- sums and greatest ones
 
-among_total : (f : ℕ → ℕ) (ks : List ℕ) (j : ℕ) → list_any (nat_eq j) ks ≡ true → f j ≤ total (map f ks)
+pub among_total : (f : ℕ → ℕ) (ks : List ℕ) (j : ℕ) → list_any (nat_eq j) ks ≡ true → f j ≤ total (map f ks)
 among_total f [] j h = absurd (cc)
 among_total f (k ∷ ks) j h = by (nat_eq j k) refl h (among_total f ks j)
   where
@@ -62,7 +63,7 @@ calling_less Activity variables statements running calling n le = omega (arith, 
 -- the count of a unit's cells, by those of the units that it runs and calls
 abbrev counted : List StructDef → List UnitDef → UnitDef → ℕ
 counted structs units unit =
-    cells_with unit.kind (variables_of structs unit) (cell_statements_of unit) (total (map (cells_at structs units) (runs_of unit)))
+    cells_with unit.kind (variables_of structs unit) (cell_statements_of unit) (total (map (cells_at structs units) (activities_by_place unit)))
     (greatest (map (cells_at structs units) (calls_of unit)))
 
 less_calls : (structs : List StructDef) (units : List UnitDef) (entry k j : ℕ) (unit : UnitDef) → IsWellTyped structs units entry →
@@ -75,25 +76,26 @@ less_calls structs units entry k j unit keeps earlier add there needed =
     is : cells_at structs units k ≡ counted structs units unit
     is = add structs units k unit (earlier structs units keeps.units_stand) there
 
-    runs : (kind : UnitKind) → unit.kind ≡ kind → list_any (nat_eq j) (runs_of unit) ≡ true →
+    runs : (kind : UnitKind) → unit.kind ≡ kind → list_any (nat_eq j) (activities_run unit) ≡ true →
         cells_at structs units j ≤ counted structs units unit
     runs Activity act among =
-        running_less unit.kind (variables_of structs unit) (cell_statements_of unit) (total (map (cells_at structs units) (runs_of unit)))
+        running_less unit.kind (variables_of structs unit) (cell_statements_of unit) (total (map (cells_at structs units) (activities_by_place unit)))
         (greatest (map (cells_at structs units) (calls_of unit))) (cells_at structs units j) act
-        (among_total (cells_at structs units) (runs_of unit) j among)
+        (among_total (cells_at structs units) (activities_by_place unit) j
+        (placed_any structs units entry keeps k j unit there among))
     runs Function act among =
-        let none : runs_of unit ≡ [] = runs_nothing structs units entry keeps k unit there (ap is_activity act) in
+        let none : activities_run unit ≡ [] = runs_nothing structs units entry keeps k unit there (ap is_activity act) in
         absurd (let no : list_any (nat_eq j) [] ≡ true = sym (ap (list_any (nat_eq j)) none) ∙ among in cc)
 
     by : (b : Bool) → list_any (nat_eq j) (calls_of unit) ≡ b → cells_at structs units j ≤ counted structs units unit
     by true among =
-        calling_less unit.kind (variables_of structs unit) (cell_statements_of unit) (total (map (cells_at structs units) (runs_of unit)))
+        calling_less unit.kind (variables_of structs unit) (cell_statements_of unit) (total (map (cells_at structs units) (activities_by_place unit)))
         (greatest (map (cells_at structs units) (calls_of unit))) (cells_at structs units j)
         (among_greatest (cells_at structs units) (calls_of unit) j among)
     by false other =
         runs unit.kind refl
-        (ap (λ b. b || list_any (nat_eq j) (runs_of unit)) (sym other)
-        ∙ sym (list_any-append (nat_eq j) (calls_of unit) (runs_of unit)) ∙ needed)
+        (ap (λ b. b || list_any (nat_eq j) (activities_run unit)) (sym other)
+        ∙ sym (list_any-append (nat_eq j) (calls_of unit) (activities_run unit)) ∙ needed)
 
 -- ---- what is needed
 

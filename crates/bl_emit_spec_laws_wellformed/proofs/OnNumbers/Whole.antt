@@ -1,6 +1,6 @@
 -- The numbers of flags, marks and `run`s differ where those of nodes do.
 use Rattle.std.proofs.Common.{◌≡◌, ℕ, ◌^◌, Bool, true, false, not, ◌&&◌, ◌||◌}
-use Rattle.std.proofs.Common.{List, [], ◌∷◌, ◌++◌, map, refl, sym, ap, ◌∙◌, subst}
+use Rattle.std.proofs.Common.{List, [], ◌∷◌, ◌++◌, cond, filter, map, refl, sym, ap, ◌∙◌, subst}
 use Rattle.std.proofs.lemmas.List.{map-append}
 use Rattle.std.specs.List.{list_any}
 use Rattle.std.specs.Prelude.{nat_eq, nat_lt, if◌then◌else◌}
@@ -8,7 +8,8 @@ use Rattle.bl_tree.specs.Reduce.{joined}
 use Rattle.bl_graph_nodes.specs.Nodes.{ActAt, CheckAt, DepthEndAt, DepthJoinAt, EnterAt, ForkAt, HeadAt, Node, PauseAt, ResumeAt}
 use Rattle.bl_graph_nodes.specs.Nodes.{StartAt, SurfaceEndAt, SurfaceJoinAt, TestAt}
 use Rattle.bl_machine_pass.specs.Transitions.{Finishes, Transition}
-use Rattle.bl_emit_spec.specs.Activities.{RunAt, body_of, callees_in, is_flagged, rules_at, run_at, runs_at, view_of}
+use Rattle.bl_tree.specs.Rules.{same_place}
+use Rattle.bl_emit_spec.specs.Activities.{RunAt, body_of, callees_in, is_flagged, one_a_place, rules_at, run_at, runs_at, view_of}
 use Rattle.bl_emit_spec_laws_wellformed.specs.Names.{are_numbers, flag_number, mark_numbers}
 use Rattle.bl_emit_spec_laws_wellformed.proofs.OnNodes.Rules.{of_block as nodes_of_block}
 use Rattle.bl_emit_spec_laws_wellformed.specs.Numbers.{NumbersFollow}
@@ -77,6 +78,9 @@ more_of n ns all some (Just_own is) rest =
 fewer_of : (n : ℕ) (all some : List ℕ) → Some_of all some → Some_of (n ∷ all) some
 fewer_of n all some rest = more_of n [] all some (Nothing_of refl) rest
 
+some_then : (all some few : List ℕ) → Some_of all some → Some_of some few → Some_of all few
+some_then all some few one two = record { none = λ k h. two.none k (one.none k h); numbers = λ h. two.numbers (one.numbers h) }
+
 none_of : (all : List ℕ) → Some_of all []
 none_of [] = nothing_of
 none_of (n ∷ all) = fewer_of n all [] (none_of all)
@@ -135,6 +139,25 @@ module _ (number : Node → ℕ) where
       (more_of (number rule.node) (run_numbers (run_at number f rule.node)) (numbers_of rules) (run_numbers (runs_at number callees rules))
       (run_few f rule.node) (runs_some callees rules))
 
+  filtered_some : (test : RunAt → Bool) (runs : List RunAt) → Some_of (run_numbers runs) (run_numbers (filter test runs))
+  filtered_some test [] = nothing_of
+  filtered_some test (run ∷ runs) = by (test run) (filtered_some test runs)
+    where
+      by : (b : Bool) → Some_of (run_numbers runs) (run_numbers (filter test runs)) →
+          Some_of (run_numbers (run ∷ runs)) (run_numbers (cond b (run ∷ filter test runs) (filter test runs)))
+      by true rest =
+          more_of run.number (run.number ∷ []) (run_numbers runs) (run_numbers (filter test runs)) (Just_own refl) rest
+      by false rest = fewer_of run.number (run_numbers runs) (run_numbers (filter test runs)) rest
+
+  -- the first `run`s of places have some of the numbers
+  once_some : (runs : List RunAt) → Some_of (run_numbers runs) (run_numbers (one_a_place runs))
+  once_some [] = nothing_of
+  once_some (run ∷ runs) =
+      let test : RunAt → Bool = λ other. not (same_place run.place other.place) in
+      more_of run.number (run.number ∷ []) (run_numbers runs) (run_numbers (filter test (one_a_place runs))) (Just_own refl)
+      (some_then (run_numbers runs) (run_numbers (one_a_place runs)) (run_numbers (filter test (one_a_place runs))) (once_some runs)
+      (filtered_some test (one_a_place runs)))
+
   by_nodes : (rules : List Transition) → numbers_of rules ≡ map number (map (λ (rule : Transition). rule.node) rules)
   by_nodes [] = refl
   by_nodes (rule ∷ rules) = ap (λ rest. number rule.node ∷ rest) (by_nodes rules)
@@ -150,5 +173,6 @@ follow a variables counters differ =
       counters = counters;
       flags = (flags_some (view_of a).number (rules_at a)).numbers all;
       marks = (marks_some (view_of a).number (rules_at a) (of_block (view_of a).number a.slots (body_of a) Finishes refl)).numbers all;
-      runs = (runs_some (view_of a).number (callees_in (body_of a)) (rules_at a)).numbers all;
+      runs = (once_some (view_of a).number (runs_at (view_of a).number (callees_in (body_of a)) (rules_at a))).numbers
+          ((runs_some (view_of a).number (callees_in (body_of a)) (rules_at a)).numbers all);
     }

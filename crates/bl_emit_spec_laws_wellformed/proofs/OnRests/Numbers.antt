@@ -114,34 +114,6 @@ typed n v below small = by (nat_le n 255) (nat_le n 65535) refl refl
     by false false one two =
         both (int_le (pos 0) (pos v)) (int_le (pos v) (pos 4294967295)) least (le_test v 4294967295 (omega (arith, below, small)))
 
--- each number in the list is one of its counter, which has no more values than there are places
-pub number_low : (list : List Slot) → list ≡ numbered (counters_at list) → (i : ℕ) (x : Slot) → slice_get list i ≡ Some x →
-    (x.counter < length (sizes_of list)) × ((x.value ≤ unwrap_or (slice_get (sizes_of list) x.counter) 0)
-    × (unwrap_or (slice_get (sizes_of list) x.counter) 0 ≤ length list))
-number_low list values i x is =
-    let counters : List ℕ = counters_at list in
-    let counter : slice_get counters i ≡ Some x.counter =
-    slice_get-map (λ (slot : Slot). slot.counter) list i ∙ ap (option_map (λ (slot : Slot). slot.counter)) is in
-    let size : slice_get (sizes_of list) x.counter ≡ Some (times x.counter counters) = size_at counters i x.counter counter in
-    let there : slice_get (numbered counters) i ≡ Some x = ap (λ (all : List Slot). slice_get all i) (sym values) ∙ is in
-    let low : x.value ≤ times x.counter [] + times x.counter counters = values_low [] counters i x there in
-    let many : times x.counter counters ≤ length counters = count_by-le-length (λ other. nat_eq other x.counter) counters in
-    let same : length counters ≡ length list = map_length list in
-    let is_size : unwrap_or (slice_get (sizes_of list) x.counter) 0 ≡ times x.counter counters = ap (λ (o : Option ℕ). unwrap_or o 0) size in (
-      slice_get_within (sizes_of list) x.counter (times x.counter counters) size,
-      (omega (arith, low, is_size), omega (arith, many, same, is_size)),
-    )
-  where
-    map_length : (slots : List Slot) → length (counters_at slots) ≡ length slots
-    map_length [] = refl
-    map_length (slot ∷ slots) = ap suc (map_length slots)
-
--- a number of the only counter fits
-pub one_fits : (m : ℕ) (x : Slot) → x.counter ≡ 0 → x.value ≤ m → m < 2 ^ 32 → slot_fits (m ∷ []) x ≡ true
-one_fits m x first low small =
-    both (nat_lt x.counter (2 ^ 64)) (in_range (counter_type (m ∷ []) x.counter) (pos x.value)) (lt_test x.counter (2 ^ 64) (omega (arith, first)))
-    (subst (λ c. in_range (counter_type (m ∷ []) c) (pos x.value) ≡ true) (sym first) (typed m x.value low small))
-
 -- each number in the list fits
 pub number_fits : (list : List Slot) → list ≡ numbered (counters_at list) → length list < 2 ^ 32 → length (sizes_of list) ≤ 2 ^ 64 →
     (i : ℕ) (x : Slot) → slice_get list i ≡ Some x → slot_fits (sizes_of list) x ≡ true

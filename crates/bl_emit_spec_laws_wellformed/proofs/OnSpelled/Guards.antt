@@ -35,7 +35,7 @@ use Rattle.bl_emit_functions_laws_wellformed.proofs.OnSpelled.Acts.{one-fits}
 use Rattle.bl_emit_functions_laws_wellformed.proofs.OnSpelled.Shapes.{else-fits}
 use Rattle.bl_emit_functions_laws_wellformed.proofs.OnSpelled.Types.{all_append}
 use Rattle.bl_emit_spec.specs.Blocks.{
-  is_only,
+  is_greatest,
   Sizes,
   ActivityView,
   aged_test,
@@ -56,7 +56,11 @@ use Rattle.bl_emit_spec.specs.Blocks.{
   rested_at,
   rested_by,
   rested_between,
+  rested_from,
   rested_in,
+  rested_since,
+  rested_to,
+  rested_within,
   some_test,
   type_for,
 }
@@ -157,16 +161,29 @@ slot-at view slot h =
     (read-fits 2 nowhere (counter_place slot.counter) (counter-fits 2 slot.counter (omega arith) (slot_low view.sizes slot h)))
     (value-fits 2 view.sizes slot.counter slot.value (omega arith) (slot_value view.sizes slot h))
 
+since-fits : (view : ActivityView) (k least : ℕ) → k < 2 ^ 64 → in_range (counter_type view.sizes k) (pos least) ≡ true →
+    expr_fits 3 (rested_since view k least) ≡ true
+since-fits view k least small one = by (nat_eq least 1)
+  where
+    read : expr_fits 2 (c_read (rested_place k)) ≡ true
+    read = read-fits 2 nowhere (rested_place k) (rested-fits 2 k (omega arith) small)
+
+    by : (first : Bool) → expr_fits 3 (rested_from view k least first) ≡ true
+    by true =
+        two-fits 2 3 nowhere Ne (c_read (rested_place k)) (counter_value view.sizes k 0) (omega arith) refl read
+        (nothing-fits 2 view.sizes k (omega arith))
+    by false =
+        two-fits 2 3 nowhere Ge (c_read (rested_place k)) (counter_value view.sizes k least) (omega arith) refl read
+        (value-fits 2 view.sizes k least (omega arith) one)
+
 slot-rested : (view : ActivityView) (slot : Slot) → slot_fits view.sizes slot ≡ true → expr_fits 3 (rested_at view slot) ≡ true
-slot-rested view slot h = by (is_only view.sizes slot)
+slot-rested view slot h = by (is_greatest view.sizes slot.counter slot.value)
   where
     read : expr_fits 2 (c_read (rested_place slot.counter)) ≡ true
     read = read-fits 2 nowhere (rested_place slot.counter) (rested-fits 2 slot.counter (omega arith) (slot_low view.sizes slot h))
 
-    by : (only : Bool) → expr_fits 3 (rested_by view slot only) ≡ true
-    by true =
-        two-fits 2 3 nowhere Ne (c_read (rested_place slot.counter)) (counter_value view.sizes slot.counter 0) (omega arith) refl read
-        (nothing-fits 2 view.sizes slot.counter (omega arith))
+    by : (last : Bool) → expr_fits 3 (rested_by view slot last) ≡ true
+    by true = since-fits view slot.counter slot.value (slot_low view.sizes slot h) (slot_value view.sizes slot h)
     by false =
         two-fits 2 3 nowhere Eq (c_read (rested_place slot.counter)) (counter_value view.sizes slot.counter slot.value) (omega arith) refl read
         (value-fits 2 view.sizes slot.counter slot.value (omega arith) (slot_value view.sizes slot h))
@@ -196,6 +213,14 @@ between-fits view k least greatest small one other =
     (takes_type Ge (unwrap_or (slice_get view.sizes k) 0) refl refl refl) rested (value-fits 2 view.sizes k least (omega arith) one))
     (compare_less s (c_read (rested_place k)) (counter_value view.sizes k greatest)
     (takes_type Le (unwrap_or (slice_get view.sizes k) 0) refl refl refl) rested (value-fits 2 view.sizes k greatest (omega arith) other))
+
+within-fits : (view : ActivityView) (k least greatest : ℕ) → k < 2 ^ 64 → in_range (counter_type view.sizes k) (pos least) ≡ true →
+    in_range (counter_type view.sizes k) (pos greatest) ≡ true → expr_fits 5 (rested_within view k least greatest) ≡ true
+within-fits view k least greatest small one other = by (is_greatest view.sizes k greatest)
+  where
+    by : (top : Bool) → expr_fits 5 (rested_to view k least greatest top) ≡ true
+    by true = expr_fits-more 3 5 (rested_since view k least) (omega arith) (since-fits view k least small one)
+    by false = between-fits view k least greatest small one other
 
 -- ---- many tests
 
@@ -296,7 +321,7 @@ in-fits view (slot ∷ more ∷ rest) h =
     let first : slot_fits view.sizes slot ≡ true = and_left (slot_fits view.sizes slot) (list_all (slot_fits view.sizes) (more ∷ rest)) all in
     let others : list_all (slot_fits view.sizes) (more ∷ rest) ≡ true =
     and_right (slot_fits view.sizes slot) (list_all (slot_fits view.sizes) (more ∷ rest)) all in
-    between-fits view slot.counter slot.value (last_value more.value rest) (slot_low view.sizes slot first) (slot_value view.sizes slot first)
+    within-fits view slot.counter slot.value (last_value more.value rest) (slot_low view.sizes slot first) (slot_value view.sizes slot first)
     (last_fits view.sizes slot.counter slot.value (more ∷ rest) (slot_value view.sizes slot first) others same)
 
 module _ (view : ActivityView) (numbers : (n : Node) → view.number n < 2 ^ 64) where

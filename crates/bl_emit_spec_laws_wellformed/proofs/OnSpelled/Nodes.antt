@@ -10,6 +10,7 @@ use Rattle.bl_tree.specs.declared.c.CArg.TheVariants.{Address}
 use Rattle.bl_tree.specs.declared.c.CExpr.{CExpr}
 use Rattle.bl_tree.specs.declared.c.CStmt.{CStmt}
 use Rattle.bl_tree.specs.declared.scalar.Scalar.{Scalar as ScalarType}
+use Rattle.bl_tree.specs.declared.place.Place.{Place}
 use Rattle.bl_tree.specs.declared.tree.Expr.{Expr}
 use Rattle.bl_tree.specs.declared.tree.Path.{Path}
 use Rattle.bl_tree.specs.declared.tree.Stmt.{Stmt, fold_out-Stmt, out-Stmt}
@@ -63,6 +64,8 @@ use Rattle.bl_emit_spec.specs.Blocks.{
   run_args,
   run_code,
   target_code,
+  choice_code,
+  spelled_truth,
   tested,
   turn_code,
   turn_of,
@@ -153,7 +156,7 @@ returned-fits site exprs s e is h =
     by (Some r) h = same_there (Some (scalar r)) (type_of site e) h
 
 module _ (view : ActivityView) (few : length view.site.vars ≤ 2 ^ 64)
-    (numbers : (n : Node) → view.number n < 2 ^ 64)
+    (numbers : (n : Node) → view.number n < 2 ^ 64) (places : (at : Place) → view.run at < 2 ^ 64)
     (names : list_all words.is_name (map (λ (def : StructDef). def.name) view.site.structs) ≡ true)
     (named : (f : ℕ) (callee : UnitDef) → slice_get view.site.earlier f ≡ Some callee → words.is_name callee.name ≡ true)
     (typed_vars : (k : ℕ) (var : Var) → var_at view.site k ≡ Some var → type_stands (length view.site.structs) var.ty ≡ true)
@@ -325,10 +328,16 @@ module _ (view : ActivityView) (few : length view.site.vars ≤ 2 ^ 64)
 
   tested-fits : (e : Expr) (rule : Transition) → rule_fits view.sizes rule ≡ true → expr_fits 402 (code_made view.site e) ≡ true →
       stmts_fit 404 (tested view (code_made view.site e) rule) ≡ true
-  tested-fits e rule h fit =
-      tested-by (code_made view.site e) (changes_code view rule.so) (changes_code view rule.otherwise) fit
-      (stmts_fit-more 3 402 (changes_code view rule.so) (omega arith) (so-fits rule h))
-      (stmts_fit-more 3 402 (changes_code view rule.otherwise) (omega arith) (otherwise-fits rule h))
+  tested-fits e rule h fit = by (spelled_truth (code_made view.site e))
+    where
+      by : (truth : Option Bool) →
+          stmts_fit 404 (choice_code (code_made view.site e) truth (changes_code view rule.so) (changes_code view rule.otherwise)) ≡ true
+      by None =
+          tested-by (code_made view.site e) (changes_code view rule.so) (changes_code view rule.otherwise) fit
+          (stmts_fit-more 3 402 (changes_code view rule.so) (omega arith) (so-fits rule h))
+          (stmts_fit-more 3 402 (changes_code view rule.otherwise) (omega arith) (otherwise-fits rule h))
+      by (Some true) = stmts_fit-more 3 404 (changes_code view rule.so) (omega arith) (so-fits rule h)
+      by (Some false) = stmts_fit-more 3 404 (changes_code view rule.otherwise) (omega arith) (otherwise-fits rule h)
 
   behind : (code : List CStmt) (rule : Transition) → rule_fits view.sizes rule ≡ true → stmts_fit 404 code ≡ true →
       stmts_fit 404 (code ++ changes_code view rule.so) ≡ true
@@ -368,9 +377,9 @@ module _ (view : ActivityView) (few : length view.site.vars ≤ 2 ^ 64)
   node-is a rule (TestAt l at e) h fit = tested-fits e rule h (test-fits e fit)
   node-is a rule (CheckAt l at e) h fit = tested-fits e rule h (test-fits e fit)
   node-is a rule (EnterAt l at arguments) h fit =
-      begun-fits (view.number (EnterAt l at arguments)) a arguments rule (numbers (EnterAt l at arguments)) h fit
+      begun-fits (view.run at) a arguments rule (places at) h fit
   node-is a rule (ResumeAt l at arguments) h fit =
-      resumed-fits (view.number (EnterAt l at arguments)) a arguments rule (numbers (EnterAt l at arguments)) h fit
+      resumed-fits (view.run at) a arguments rule (places at) h fit
   node-is a rule (PauseAt l at) h fit = only rule h
   node-is a rule (HeadAt l at) h fit = only rule h
   node-is a rule (StartAt l at) h fit = only rule h

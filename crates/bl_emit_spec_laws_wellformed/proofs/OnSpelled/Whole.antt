@@ -1,6 +1,6 @@
 -- The C function of an activity, and its structs, have a spelling.
 use Rattle.std.proofs.Common.{◌≡◌, ℕ, zero, suc, ◌+◌, ◌*◌, ◌^◌, ◌<◌, ◌≤◌, Bool, true, false, ◌&&◌}
-use Rattle.std.proofs.Common.{List, [], ◌∷◌, ◌++◌, map, take, length, Option, Some, None, refl, sym, ap, ◌∙◌, subst, arith, codes}
+use Rattle.std.proofs.Common.{List, [], ◌∷◌, ◌++◌, map, take, length, Option, Some, None, refl, sym, ap, ◌∙◌, subst, arith, codes, cond, not}
 use Rattle.std.proofs.lemmas.Bool.Decides.{nat_tests}
 use Rattle.std.proofs.lemmas.List.Folds.{list_all-append}
 use Rattle.std.proofs.lemmas.Option.{same_Some}
@@ -52,6 +52,8 @@ use Rattle.bl_emit_functions_laws_wellformed.proofs.OnSpelled.Acts.{one-fits, ow
 use Rattle.bl_emit_functions_laws_wellformed.proofs.OnSpelled.Functions.{memory-named}
 use Rattle.bl_emit_functions_laws_wellformed.proofs.OnSpelled.Types.{all_append, scalar_spelled, source_name, struct_names}
 use Rattle.bl_emit_functions_laws_wellformed.proofs.OnSpelled.Functions.{earlier_named, params-spelled, typed}
+use Rattle.bl_tree.specs.Rules.{same_place}
+use Rattle.bl_tree.specs.declared.place.Place.{Place}
 use Rattle.bl_emit_spec.specs.Activities.{
   Activity,
   RunAt,
@@ -67,6 +69,7 @@ use Rattle.bl_emit_spec.specs.Activities.{
   copy_local,
   counter_member,
   counters_read,
+  enters_at,
   entry_code,
   flag_local,
   frame_member,
@@ -77,6 +80,7 @@ use Rattle.bl_emit_spec.specs.Activities.{
   mark_locals,
   memory_member,
   memory_params,
+  one_a_place,
   over_param,
   picked,
   remembered,
@@ -88,6 +92,7 @@ use Rattle.bl_emit_spec.specs.Activities.{
   rules_at,
   run_at,
   run_locals,
+  run_number_in,
   runs_at,
   runs_in_body,
   scalar_local,
@@ -239,8 +244,33 @@ module _ (units : List UnitDef) (entry k : ℕ) (a : Activity) (keeps : IsWellTy
       (one_run f rule.node (and_right (rule_fits a.sizes rule) (node_fits site f rule.node) own))
       (runs_by callees rules (and_right (rule_fits a.sizes rule && node_fits site f rule.node) (all_fit a.sizes site callees rules) all))
 
+  kept_ok : (test : RunAt → Bool) (runs : List RunAt) → list_all run_ok runs ≡ true → list_all run_ok (filter test runs) ≡ true
+  kept_ok test [] all = refl
+  kept_ok test (run ∷ runs) all = by (test run) (kept_ok test runs (and_right (run_ok run) (list_all run_ok runs) all))
+    where
+      by : (b : Bool) → list_all run_ok (filter test runs) ≡ true → list_all run_ok (cond b (run ∷ filter test runs) (filter test runs)) ≡ true
+      by true rest = both (run_ok run) (list_all run_ok (filter test runs)) (and_left (run_ok run) (list_all run_ok runs) all) rest
+      by false rest = rest
+
+  once_ok : (runs : List RunAt) → list_all run_ok runs ≡ true → list_all run_ok (one_a_place runs) ≡ true
+  once_ok [] all = refl
+  once_ok (run ∷ runs) all =
+      both (run_ok run) (list_all run_ok (filter (λ (other : RunAt). not (same_place run.place other.place)) (one_a_place runs)))
+      (and_left (run_ok run) (list_all run_ok runs) all)
+      (kept_ok (λ (other : RunAt). not (same_place run.place other.place)) (one_a_place runs)
+      (once_ok runs (and_right (run_ok run) (list_all run_ok runs) all)))
+
   runs_ok : list_all run_ok (runs_in_body a) ≡ true
-  runs_ok = runs_by (callees_in (body_of a)) (rules_at a) fitted
+  runs_ok = once_ok (runs_at number (callees_in (body_of a)) (rules_at a)) (runs_by (callees_in (body_of a)) (rules_at a) fitted)
+
+  -- the numbers of places are small, as those of nodes
+  place_small : (rules : List Transition) (at : Place) → run_number_in number rules at < 2 ^ 64
+  place_small [] at = omega arith
+  place_small (rule ∷ rules) at = by (enters_at at rule.node) (place_small rules at)
+    where
+      by : (b : Bool) → run_number_in number rules at < 2 ^ 64 → (if b then number rule.node else run_number_in number rules at) < 2 ^ 64
+      by true rest = numbers rule.node
+      by false rest = rest
 
   run_low : (run : RunAt) → run_ok run ≡ true → run.number < 2 ^ 64
   unfolding run_ok
@@ -453,7 +483,7 @@ module _ (units : List UnitDef) (entry k : ℕ) (a : Activity) (keeps : IsWellTy
         (all_filtered (λ j. stmt_fits 406 (c_copied site j)) _ (up_to (length a.unit.vars))
         (all_below (λ j. stmt_fits 406 (c_copied site j)) (length a.unit.vars) copied_is)))
         (blocks-fit (turns_in_source a) a.blocks
-        (turns-fit (view_of a) few numbers names named typed_here exprs paths acts (callees_in (body_of a)) (rules_at a) fitted))))
+        (turns-fit (view_of a) few numbers (place_small (rules_at a)) names named typed_here exprs paths acts (callees_in (body_of a)) (rules_at a) fitted))))
 
     pub activity-fits : func_fits 2000 (activity_function a) ≡ true
     activity-fits =

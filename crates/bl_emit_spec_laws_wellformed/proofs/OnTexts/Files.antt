@@ -192,13 +192,13 @@ module _ (program : Program) (keeps : IsWellTyped program.structs program.units 
       let typed : (var : Var) → type_stands (length program.structs) var.ty ≡ true → spells_type (c_type program.structs var.ty) ≡ true =
       λ var h. types var.ty keeps h in
       let interface : List CStruct = interface_structs program.structs unit remembers in
-      let last : List CFunc = init_function unit.name ∷ tick_function unit remembers ∷ [] in
+      let last : List CFunc = init_function ∷ tick_function unit remembers ∷ [] in
       file-spells (structs_of program ++ (parts.structs ++ interface)) (parts.funcs ++ last)
       (any_behind (structs_of program) (parts.structs ++ interface) (any_behind parts.structs interface refl)) (any_behind parts.funcs last refl)
       (all_append spells_struct (structs_of program) (parts.structs ++ interface) (structs_spelled keeps)
       (all_append spells_struct parts.structs interface spelled.structs (interface-spelled program.structs typed unit remembers named ins outs)))
       (all_append (func_fits 2000) parts.funcs last spelled.funcs
-      (both (func_fits 2000 (init_function unit.name)) (func_fits 2000 (tick_function unit remembers) && true)
+      (both (func_fits 2000 init_function) (func_fits 2000 (tick_function unit remembers) && true)
       (init-fits program.structs typed unit remembers named ins outs)
       (both (func_fits 2000 (tick_function unit remembers)) true (tick-fits program.structs typed unit remembers named ins outs) refl)))
 

@@ -159,16 +159,14 @@ module _ (structs : List StructDef) (typed : (var : Var) → type_stands (length
     param-is : (name of : Text) → is_name name ≡ true → is_struct_name of ≡ true → (spells_type (OfStruct of) && is_name name) ≡ true
     param-is name of one other = both (is_struct_name of) (is_name name) other one
 
-    pub init-fits : func_fits 2000 (init_function unit.name) ≡ true
+    pub init-fits : func_fits 2000 init_function ≡ true
     init-fits =
-        func-fits 1999 2000 (init_function unit.name) (omega arith) (omega arith) refl init-named
+        func-fits 1999 2000 init_function (omega arith) (omega arith) refl init-named
         (both (spells_type (OfStruct (codes "bl_state")) && is_name (codes "s")) true
         (param-is (codes "s") (codes "bl_state") s-named state-named) refl) refl
-        (one-fits 1999 (c_clear (c_place true (codes "s") (c_step (codes "f") ∷ [])) (frame_name unit.name))
-        (clear-fits 1999 (c_place true (codes "s") (c_step (codes "f") ∷ [])) (frame_name unit.name) (omega arith)
-        (name-struct (frame_name unit.name) (frame-named unit.name named))
-        (place-fits 1999 true (codes "s") (c_step (codes "f") ∷ []) (omega arith) s-named
-        (both (step_fits 1999 (c_step (codes "f"))) true (step-fits 1999 (codes "f") frame-letter) refl))))
+        (one-fits 1999 (c_clear (c_place true (codes "s") []) (codes "bl_state"))
+        (clear-fits 1999 (c_place true (codes "s") []) (codes "bl_state") (omega arith) state-named
+        (place-fits 1999 true (codes "s") [] (omega arith) s-named refl)))
 
     input-is : (var : Var) → stands var ≡ true → arg_fits 2 (input_arg var) ≡ true
     input-is var own =

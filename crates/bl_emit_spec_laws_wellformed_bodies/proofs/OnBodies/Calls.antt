@@ -4,6 +4,7 @@ use Rattle.std.proofs.Common.{refl, sym, ap, ◌∙◌, subst, take-add}
 use Rattle.std.proofs.lemmas.List.{map-append}
 use Rattle.std.specs.Prelude.{Contains, is_none, is_some, slice_get}
 use Rattle.std.specs.List.{list_all}
+use Rattle.bl_tree.specs.declared.place.Place.{Place}
 use Rattle.bl_tree.specs.declared.c.CArg.{CArg}
 use Rattle.bl_tree.specs.declared.c.CArg.TheVariants.{Address}
 use Rattle.bl_tree.specs.declared.c.CMember.{CMember}
@@ -203,9 +204,9 @@ module _ (units : List UnitDef) (entry k : ℕ) (a : Activity) (table : Table (T
       (suit-append here (params_for (inputs_of callee)) (params_for (outputs_of callee)) (map arg_of (map (made_of my_site) inputs))
       (map (output_arg my_site) outputs) one other)
 
-  module _ (n u : ℕ) (has : Contains (runs_in_body a) (record { number = n; unit = u })) (arguments : Arguments) where
+  module _ (at : Place) (n u : ℕ) (has : Contains (runs_in_body a) (record { place = at; number = n; unit = u })) (arguments : Arguments) where
     abbrev run : RunAt
-    run = record { number = n; unit = u }
+    run = record { place = at; number = n; unit = u }
 
     memory-suits : (callee : UnitDef) → slice_get a.earlier u ≡ Some callee → (b : Bool) → (view_of a).remembers u ≡ b →
         Suit here (memory_given callee b) (arg_where b (Address (callee_memory n)))

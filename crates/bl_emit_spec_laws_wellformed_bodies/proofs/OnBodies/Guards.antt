@@ -1,6 +1,6 @@
 -- Nothing fails in what a block asks, nor in what changes there.
 use Rattle.std.proofs.Common.{◌≡◌, ℕ, zero, suc, pos, Bool, true, false, ◌&&◌, List, [], ◌∷◌, map, Some, refl, sym, subst}
-use Rattle.std.specs.Prelude.{nat_le, slice_get, unwrap_or, ⊤, if◌then◌else◌}
+use Rattle.std.specs.Prelude.{nat_eq, nat_le, slice_get, unwrap_or, ⊤, if◌then◌else◌}
 use Rattle.std.specs.List.{list_all}
 use Rattle.bl_tree.specs.declared.c.CExpr.{CExpr}
 use Rattle.bl_tree.specs.declared.c.CMember.{CMember}
@@ -34,7 +34,8 @@ use Rattle.bl_emit_acts_laws_wellformed.proofs.OnFormed.Prelude.{type_same}
 use Rattle.bl_emit_functions_laws_wellformed.proofs.OnFormed.Shapes.{if-is}
 use Rattle.bl_emit_spec.specs.Activities.{Activity, view_of}
 use Rattle.bl_emit_spec.specs.Blocks.{ActivityView, all_tests, at_slot, change_code, changes_code, counter_type, counter_value, ends_test, flagged_now}
-use Rattle.bl_emit_spec.specs.Blocks.{forgotten, freed, guard_of, in_pairs, in_tree, is_only, last_value, rested_at, rested_by, rested_in, some_test, type_for}
+use Rattle.bl_emit_spec.specs.Blocks.{forgotten, freed, guard_of, in_pairs, in_tree, is_greatest, last_value, rested_at, rested_by, rested_from}
+use Rattle.bl_emit_spec.specs.Blocks.{rested_in, rested_since, rested_to, rested_within, some_test, type_for}
 use Rattle.bl_emit_spec.specs.Names.{counter_place, flag_place, mark_place, over_place, rested_place}
 use Rattle.bl_emit_spec_laws.specs.Registers.Laws.{asks_its_own, changes_its_own}
 use Rattle.bl_emit_spec_laws.specs.Calls.Built.{registered}
@@ -108,13 +109,22 @@ module _ (units : List UnitDef) (entry k : ℕ) (a : Activity) (table : Table (T
   pub begins-is : (registered a).counters 0 ≡ true → ExprIs here bool_type (c_two Eq (c_read (counter_place 0)) (counter_value a.sizes 0 0))
   begins-is on = equal-is 0 0 (c_read (counter_place 0)) (read-counter 0 on)
 
-  slot-rested : (slot : Slot) → view.is_read slot.counter ≡ true → ExprIs here bool_type (rested_at view slot)
-  slot-rested slot on = by (is_only a.sizes slot)
+  since-is : (c v : ℕ) → view.is_read c ≡ true → ExprIs here bool_type (rested_since view c v)
+  since-is c v on = by (nat_eq v 1)
     where
-      by : (only : Bool) → ExprIs here bool_type (rested_by view slot only)
+      by : (one : Bool) → ExprIs here bool_type (rested_from view c v one)
       by true =
-          two-is here Ne (kind slot.counter) (c_read (rested_place slot.counter)) (counter_value a.sizes slot.counter 0) refl
-          (type_same (kind slot.counter)) (read-rested slot.counter on) (value-is slot.counter 0)
+          two-is here Ne (kind c) (c_read (rested_place c)) (counter_value a.sizes c 0) refl (type_same (kind c)) (read-rested c on) (value-is c 0)
+      by false =
+          two-is here Ge (kind c) (c_read (rested_place c)) (counter_value a.sizes c v)
+          (by_type (λ s. takes Ge (OfScalar s) ≡ true) refl refl refl (unwrap_or (slice_get a.sizes c) 0)) (type_same (kind c)) (read-rested c on)
+          (value-is c v)
+
+  slot-rested : (slot : Slot) → view.is_read slot.counter ≡ true → ExprIs here bool_type (rested_at view slot)
+  slot-rested slot on = by (is_greatest a.sizes slot.counter slot.value)
+    where
+      by : (last : Bool) → ExprIs here bool_type (rested_by view slot last)
+      by true = since-is slot.counter slot.value on
       by false = equal-is slot.counter slot.value (c_read (rested_place slot.counter)) (read-rested slot.counter on)
 
   same_counter : (c : ℕ) → c_scalar (counter_type a.sizes c) ≡ counter_type a.sizes c
@@ -137,16 +147,23 @@ module _ (units : List UnitDef) (entry k : ℕ) (a : Activity) (table : Table (T
       (by_type (λ s. takes_two Le s ≡ true) refl refl refl (unwrap_or (slice_get a.sizes c) 0))
       (as_number c (c_read (rested_place c)) (read-rested c on)) (as_number c (counter_value a.sizes c v) (value-is c v))).1
 
+  between-is : (c least greatest : ℕ) → view.is_read c ≡ true → ExprIs here bool_type (rested_within view c least greatest)
+  between-is c least greatest on = by (is_greatest a.sizes c greatest)
+    where
+      by : (top : Bool) → ExprIs here bool_type (rested_to view c least greatest top)
+      by true = since-is c least on
+      by false =
+          two-is here And bool_type (c_compare Ge (counter_type a.sizes c) (c_read (rested_place c)) (counter_value a.sizes c least))
+          (c_compare Le (counter_type a.sizes c) (c_read (rested_place c)) (counter_value a.sizes c greatest)) refl refl
+          (greater-is c least on) (less-is c greatest on)
+
   in-is : (slots : List Slot) → list_all (λ (slot : Slot). view.is_read slot.counter) slots ≡ true → ExprIs here bool_type (rested_in view slots)
   in-is [] all = truth-is here false
   in-is (slot ∷ []) all = slot-rested slot (and_left (view.is_read slot.counter) true all)
   in-is (slot ∷ more ∷ rest) all =
       let on : view.is_read slot.counter ≡ true =
       and_left (view.is_read slot.counter) (list_all (λ (slot : Slot). view.is_read slot.counter) (more ∷ rest)) all in
-      let s : ScalarType = counter_type a.sizes slot.counter in
-      two-is here And bool_type (c_compare Ge s (c_read (rested_place slot.counter)) (counter_value a.sizes slot.counter slot.value))
-      (c_compare Le s (c_read (rested_place slot.counter)) (counter_value a.sizes slot.counter (last_value more.value rest))) refl refl
-      (greater-is slot.counter slot.value on) (less-is slot.counter (last_value more.value rest) on)
+      between-is slot.counter slot.value (last_value more.value rest) on
 
   ends-are : (slots : List Slot) → list_all (λ (slot : Slot). (registered a).counters slot.counter) slots ≡ true →
       AreTests here (map (at_slot view) slots)

@@ -1,8 +1,8 @@
 -- Nothing fails in the blocks of an activity.
-use Rattle.std.proofs.lemmas.Option.{same_Some}
 use Rattle.std.proofs.Common.{◌≡◌, ℕ, zero, suc, Bool, true, false, ◌&&◌, List, [], ◌∷◌, ◌++◌, map, Option, Some, None, refl}
 use Rattle.std.proofs.Common.{sym, ap, ◌∙◌, subst}
 use Rattle.std.specs.Prelude.{Contains, is_some, option_and_then, option_to_list, slice_get, ⊤, if◌then◌else◌}
+use Rattle.bl_tree.specs.declared.place.Place.{Place}
 use Rattle.bl_tree.specs.declared.c.CExpr.{CExpr}
 use Rattle.bl_tree.specs.declared.c.CMember.{CMember}
 use Rattle.bl_tree.specs.declared.c.CStmt.{CStmt}
@@ -56,6 +56,8 @@ use Rattle.bl_emit_spec.specs.Blocks.{
   resumed_code,
   run_code,
   target_code,
+  choice_code,
+  spelled_truth,
   tested,
   turn_code,
   turn_of,
@@ -226,41 +228,51 @@ module _ (units : List UnitDef) (entry k : ℕ) (a : Activity) (table : Table (T
 
     tested-is : (test : CExpr) → ExprIs here bool_type test → BlockIs here (tested view test rule)
     tested-is test is =
-        let others : List CStmt = changes_code view rule.otherwise in
-        let other : BlockIs here others = changes-are units entry k a table known h rule.otherwise (h.owns.otherwise rule has) in
-        block_one here (c_if test (changes_code view rule.so) (else_code others))
-        (if-is here test (changes_code view rule.so) (else_code others) is so-is (other-is here others other))
+        by (spelled_truth test)
+      where
+        others : List CStmt
+        others = changes_code view rule.otherwise
 
-    begun-is : (n u : ℕ) (arguments : Arguments) → Contains (runs_in_body a) (record { number = n; unit = u }) →
+        other : BlockIs here others
+        other = changes-are units entry k a table known h rule.otherwise (h.owns.otherwise rule has)
+
+        by : (truth : Option Bool) → BlockIs here (choice_code test truth (changes_code view rule.so) others)
+        by None =
+            block_one here (c_if test (changes_code view rule.so) (else_code others))
+            (if-is here test (changes_code view rule.so) (else_code others) is so-is (other-is here others other))
+        by (Some true) = so-is
+        by (Some false) = other
+
+    begun-is : (at : Place) (n u : ℕ) (arguments : Arguments) → Contains (runs_in_body a) (record { place = at; number = n; unit = u }) →
         run_stands view.site u arguments ≡ true → all_of (map (copied_in mine) arguments.inputs) ≡ true →
         BlockIs here (begun_code view n u arguments rule)
-    begun-is n u arguments runs stand named =
-        let run : RunAt = record { number = n; unit = u } in
+    begun-is at n u arguments runs stand named =
+        let run : RunAt = record { place = at; number = n; unit = u } in
         let code : List CStmt = run_code view n u arguments in
         block_cons here (c_clear (callee_frame n) (frame_name (name_in (slice_get a.earlier u)))) (code ++ changes_code view rule.so)
         (clear-is here true (callee_frame n) (frame_name (name_in (slice_get a.earlier u))) (frame_at-is units entry k a table known h run runs)
         (h.stands.frames run runs) refl)
         (block_append here code (changes_code view rule.so)
-        (call-is units entry k a table known h n u runs arguments
+        (call-is units entry k a table known h at n u runs arguments
         (and_left (run_fits view.site arguments.target arguments.inputs arguments.outputs (slice_get a.earlier u)) _ stand) named) so-is)
 
-    resumed-is : (n u : ℕ) (arguments : Arguments) → Contains (runs_in_body a) (record { number = n; unit = u }) →
+    resumed-is : (at : Place) (n u : ℕ) (arguments : Arguments) → Contains (runs_in_body a) (record { place = at; number = n; unit = u }) →
         run_stands view.site u arguments ≡ true → all_of (map (copied_in mine) arguments.inputs) ≡ true →
         BlockIs here (resumed_code view n u arguments rule)
-    resumed-is n u arguments runs stand named =
-        let run : RunAt = record { number = n; unit = u } in
+    resumed-is at n u arguments runs stand named =
+        let run : RunAt = record { place = at; number = n; unit = u } in
         let fitted : run_fits view.site arguments.target arguments.inputs arguments.outputs (slice_get a.earlier u) ≡ true =
         and_left (run_fits view.site arguments.target arguments.inputs arguments.outputs (slice_get a.earlier u)) _ stand in
         let code : List CStmt = target_code view n arguments.target ++ changes_code view rule.so in
         block_append here (run_code view n u arguments) (c_if (c_read (ended_place n)) code None ∷ [])
-        (call-is units entry k a table known h n u runs arguments fitted named)
+        (call-is units entry k a table known h at n u runs arguments fitted named)
         (block_one here (c_if (c_read (ended_place n)) code None)
         (if-is here (c_read (ended_place n)) code None
         (read-is here false bool_type (ended_place n) (ended-is units entry k a table known h run runs))
         (block_append here (target_code view n arguments.target) (changes_code view rule.so)
-        (target-is units entry k a table known h n u runs arguments fitted) so-is) (λ looped. refl)))
+        (target-is units entry k a table known h at n u runs arguments fitted) so-is) (λ looped. refl)))
 
-    node-is : (u : ℕ) (n : Node) → node_fits view.site u n ≡ true → named_there mine n ≡ true → HasRun view.number (runs_in_body a) u n →
+    node-is : (u : ℕ) (n : Node) → node_fits view.site u n ≡ true → named_there mine n ≡ true → HasRun view.run (runs_in_body a) u n →
         BlockIs here (node_code view u rule n)
     node-is u (ActAt l s) fit named runs =
         block_append here (acted view s) (changes_code view rule.so)
@@ -269,8 +281,8 @@ module _ (units : List UnitDef) (entry k : ℕ) (a : Activity) (table : Table (T
         tested-is (code_made view.site e) (test-is e (and_left (is_truth (type_of view.site e)) _ fit) named)
     node-is u (CheckAt l at e) fit named runs =
         tested-is (code_made view.site e) (test-is e (and_left (is_truth (type_of view.site e)) _ fit) named)
-    node-is u (EnterAt l at arguments) fit named runs = begun-is (view.number (EnterAt l at arguments)) u arguments runs fit named
-    node-is u (ResumeAt l at arguments) fit named runs = resumed-is (view.number (EnterAt l at arguments)) u arguments runs fit named
+    node-is u (EnterAt l at arguments) fit named runs = begun-is at (view.run at) u arguments runs fit named
+    node-is u (ResumeAt l at arguments) fit named runs = resumed-is at (view.run at) u arguments runs fit named
     node-is u (PauseAt l at) fit named runs = so-is
     node-is u (HeadAt l at) fit named runs = so-is
     node-is u (StartAt l at) fit named runs = so-is
@@ -280,14 +292,14 @@ module _ (units : List UnitDef) (entry k : ℕ) (a : Activity) (table : Table (T
     node-is u (SurfaceJoinAt l at) fit named runs = so-is
     node-is u (DepthJoinAt l at) fit named runs = so-is
 
-    turn-is : (u : ℕ) → node_fits view.site u rule.node ≡ true → HasRun view.number (runs_in_body a) u rule.node →
+    turn-is : (u : ℕ) → node_fits view.site u rule.node ≡ true → HasRun view.run (runs_in_body a) u rule.node →
         TurnIs here (turn_of view u rule)
     turn-is u fit runs =
         (guard-is units entry k a table known h rule.node rule.asked (h.owns.asks rule has), node-is u rule.node fit (h.copies.named rule has) runs)
 
   -- nothing fails in each turn
   pub turns-in-source-are : (callees : List ℕ) (rules : List Transition) → all_fit a.sizes view.site callees rules ≡ true →
-      Pairs (RuleRuns view.number (runs_in_body a)) callees rules → ((rule : Transition) → Contains rules rule → Contains (rules_at a) rule) →
+      Pairs (RuleRuns view.run (runs_in_body a)) callees rules → ((rule : Transition) → Contains rules rule → Contains (rules_at a) rule) →
       Each here (turns_of view callees rules)
   turns-in-source-are [] rules all runs inside = tt
   turns-in-source-are (u ∷ callees) [] all runs inside = tt

@@ -1,37 +1,33 @@
 -- Both nodes of a `run` belong to one of the `run`s of the activity.
-use Rattle.std.proofs.Common.{◌≡◌, ℕ, suc, Bool, true, false, List, [], ◌∷◌, ◌++◌, map, refl, sym, subst, append_assoc}
-use Rattle.std.proofs.lemmas.List.{append-nil}
-use Rattle.std.specs.Prelude.{Contains, ⊤}
-use Rattle.bl_graph_nodes.specs.Nodes.{EnterAt, ForkAt, Node, ResumeAt, SurfaceEndAt, SurfaceJoinAt, are_instant, arguments_of, is_instant}
-use Rattle.bl_graph_nodes.specs.Nodes.{CheckAt, DepthEndAt, DepthJoinAt, HeadAt, TestAt, entry}
+use Rattle.std.proofs.Common.{◌≡◌, ℕ, suc, List, [], ◌∷◌, map, Some, refl, sym, ap, ◌∙◌}
+use Rattle.std.specs.Prelude.{Contains, slice_get, ⊤}
+use Rattle.bl_tree.specs.declared.place.Place.{Place}
+use Rattle.bl_tree.specs.declared.tree.StructDef.{StructDef}
+use Rattle.bl_tree.specs.declared.tree.Unit.{Unit as UnitDef}
+use Rattle.bl_tree.specs.Program.{IsWellTyped}
+use Rattle.bl_graph_nodes.specs.Nodes.{ActAt, CheckAt, DepthEndAt, DepthJoinAt, EnterAt, ForkAt, HeadAt, Node, PauseAt, ResumeAt, StartAt}
+use Rattle.bl_graph_nodes.specs.Nodes.{SurfaceEndAt, SurfaceJoinAt, TestAt, entry, nodes_in}
 use Rattle.bl_graph_nodes.specs.Plain.{
   Act,
   Again,
   Await,
   Block,
-  Bodies,
-  Body as BodyOf,
   Cobegin,
-  Done,
   If,
-  Label,
-  Last,
   Plain,
   Repeat,
   Run as RunOf,
-  Then,
   Until,
   When,
   While,
 }
 use Rattle.bl_machine.specs.Uses.{Slots}
-use Rattle.bl_machine_pass.specs.Transitions.{Flagged}
-use Rattle.bl_machine_pass.specs.Transitions.{Change, ClearsBoth, Finishes, IsNew, RestedIn, SetsCounter, SetsFlag, Transition, age_of, body_ends, counters_in, enter, fires, flagged, joins}
-use Rattle.bl_machine_pass.specs.Transitions.{once, rests_in, rule_where, rules, rules_in, rules_in_each, rules_of}
-use Rattle.bl_machine_transitions.specs.Callees.{callees_in, callees_in_each, callees_of, zero_where}
-use Rattle.bl_emit_spec.specs.Activities.{RunAt, runs_at}
-use Rattle.std.proofs.lemmas.List.Elements.{Contains-append_right}
+use Rattle.bl_machine_pass.specs.Transitions.{Change, Flagged, Transition, rules, rules_of}
+use Rattle.bl_machine_transitions.specs.Callees.{callees_in}
+use Rattle.bl_emit_spec.specs.Activities.{Activity, RunAt, body_of, rules_at, runs_in_body, view_of}
 use Rattle.bl_emit_spec_laws.proofs.OnOwn.Members.{further, here}
+use Rattle.bl_emit_spec_laws.proofs.OnPlaced.Lists.{mapped_at}
+use Rattle.bl_emit_spec_laws.proofs.OnRunPlaces.Sharing.{resumed_kept, run_kept}
 
 -- what holds of each pair of a list of callees and one of rules
 abbrev pub Pairs : (ℕ → Transition → Type 0) → List ℕ → List Transition → Type 0
@@ -39,125 +35,51 @@ Pairs P [] rules = ⊤
 Pairs P (a ∷ callees) [] = ⊤
 Pairs P (a ∷ callees) (rule ∷ rules) = P a rule × Pairs P callees rules
 
-module _ (number : Node → ℕ) (runs : List RunAt) where
-  -- a node of a `run` that calls this activity has one of the `run`s
+-- what holds at each position holds of all pairs
+pairs-at : (P : ℕ → Transition → Type 0) (callees : List ℕ) (rules : List Transition) →
+    ((p u : ℕ) (rule : Transition) → slice_get callees p ≡ Some u → slice_get rules p ≡ Some rule → P u rule) → Pairs P callees rules
+pairs-at P [] rules each = tt
+pairs-at P (a ∷ callees) [] each = tt
+pairs-at P (a ∷ callees) (rule ∷ rules) each =
+    (each 0 a rule refl refl, pairs-at P callees rules (λ p u other one two. each (suc p) u other one two))
+
+module _ (run : Place → ℕ) (runs : List RunAt) where
+  -- a node of a `run` that calls this activity has one of the `run`s, by its place
   abbrev pub HasRun : ℕ → Node → Type 0
-  HasRun a (EnterAt l at arguments) = Contains runs (record { number = number (EnterAt l at arguments); unit = a })
-  HasRun a (ResumeAt l at arguments) = Contains runs (record { number = number (EnterAt l at arguments); unit = a })
+  HasRun a (EnterAt l at arguments) = Contains runs (record { place = at; number = run at; unit = a })
+  HasRun a (ResumeAt l at arguments) = Contains runs (record { place = at; number = run at; unit = a })
   HasRun a _ = ⊤
 
   abbrev pub RuleRuns : ℕ → Transition → Type 0
   RuleRuns a rule = HasRun a rule.node
 
-  abbrev Inside : List ℕ → List Transition → Type 0
-  Inside callees rules = (run : RunAt) → Contains (runs_at number callees rules) run → Contains runs run
-
-  abbrev Paired : List ℕ → List Transition → Type 0
-  Paired callees rules = Inside callees rules → Pairs RuleRuns callees rules
-
-  moved : (a a' : List ℕ) (r r' : List Transition) → a ≡ a' → r ≡ r' → Paired a' r' → Paired a r
-  moved a a' r r' one other paired =
-      subst (λ a. Paired a r) (sym one) (subst (λ r. Paired a' r) (sym other) paired)
-
-  joined_where : (b : Bool) (rule : Transition) (callees : List ℕ) (rules : List Transition) → ((c : List ℕ) (r : List Transition) → Paired c r → Paired (0
-      ∷ c) (rule ∷ r)) →
-      Paired callees rules → Paired (zero_where b ++ callees) (rule_where b rule ++ rules)
-  joined_where true rule callees rules one rest = one callees rules rest
-  joined_where false rule callees rules one rest = rest
-
-  mutual
-    of_plain : (slots : Slots) (s : Plain) (next : Change) (callees : List ℕ) (rules : List Transition) → Paired callees rules →
-        Paired (callees_of s ++ callees) (rules_of slots s next ++ rules)
-    of_plain slots (Act l s) next callees rules rest inside = (tt, rest inside)
-    of_plain slots (Await l at e) next callees rules rest inside = (tt, (tt, rest inside))
-    of_plain slots (RunOf l at target a inputs outputs) next callees rules rest inside =
-        let own : Contains runs (record { number = number (EnterAt l at (arguments_of target inputs outputs)); unit = a }) =
-        inside (record { number = number (EnterAt l at (arguments_of target inputs outputs)); unit = a })
-        (here (record { number = number (EnterAt l at (arguments_of target inputs outputs)); unit = a }) (runs_at number callees rules)) in (
-          own,
-          (
-            own,
-            rest (λ run there. inside run
-                (Contains-append_right (record { number = number (EnterAt l at (arguments_of target inputs outputs)); unit = a } ∷ [])
-                (runs_at number callees rules) run there)),
-          ),
-        )
-    of_plain slots (If l at e body other) next callees rules rest inside = (
-      tt,
-      moved ((callees_in body ++ callees_in other) ++ callees) (callees_in body ++ (callees_in other ++ callees))
-          ((rules_in slots body next ++ rules_in slots other next) ++ rules) (rules_in slots body next ++ (rules_in slots other next ++ rules))
-          (append_assoc (callees_in body) (callees_in other) callees) (append_assoc (rules_in slots body next) (rules_in slots other next) rules)
-          (of_block slots body next (callees_in other ++ callees) (rules_in slots other next ++ rules) (of_block slots other next callees rules rest)) inside,
-    )
-    of_plain slots (Cobegin l at bodies) next callees rules rest inside =
-        let instant : Bool = is_instant (Cobegin l at bodies) in
-        let first : Transition = joins slots l bodies (IsNew (ForkAt l at)) (SurfaceJoinAt l at) next in
-        let second : Transition = joins slots l bodies (age_of instant (ForkAt l at)) (DepthJoinAt l at) next in (
-          tt,
-          moved ((zero_where instant ++ 0 ∷ callees_in_each bodies) ++ callees) (zero_where instant ++ (0 ∷ (callees_in_each bodies ++ callees)))
-              ((rule_where instant first ++ second ∷ rules_in_each slots l 0 bodies) ++ rules)
-              (rule_where instant first ++ (second ∷ (rules_in_each slots l 0 bodies ++ rules)))
-              (append_assoc (zero_where instant) (0 ∷ callees_in_each bodies) callees)
-              (append_assoc (rule_where instant first) (second ∷ rules_in_each slots l 0 bodies) rules)
-              (joined_where instant first (0 ∷ (callees_in_each bodies ++ callees)) (second ∷ (rules_in_each slots l 0 bodies ++ rules))
-              (λ c r one inside. (tt, one inside))
-              (λ inside. (tt, of_bodies slots l 0 bodies callees rules rest inside))) inside,
-        )
-    of_plain slots (When l at guard e body) next callees rules rest inside =
-        let instant : Bool = are_instant body in
-        let first : Transition = flagged (SurfaceEndAt l at) (next ∷ []) in
-        let second : Transition = record {
-          node = CheckAt l at e;
-          asked = RestedIn (rests_in slots body);
-          so = map ClearsBoth (once (counters_in slots body)) ++ fires guard l at body next ∷ [];
-          otherwise = [];
-        } in
-        let third : Transition = flagged (DepthEndAt l at) (next ∷ []) in
-        let inner : List Transition = rules_in slots body (body_ends l at body) in (
-          tt,
-          moved ((zero_where instant ++ 0 ∷ 0 ∷ callees_in body) ++ callees) (zero_where instant ++ (0 ∷ 0 ∷ (callees_in body ++ callees)))
-              ((rule_where instant first ++ second ∷ third ∷ inner) ++ rules) (rule_where instant first ++ (second ∷ third ∷ (inner ++ rules)))
-              (append_assoc (zero_where instant) (0 ∷ 0 ∷ callees_in body) callees) (append_assoc (rule_where instant first) (second ∷ third
-              ∷ inner) rules)
-              (joined_where instant first (0 ∷ 0 ∷ (callees_in body ++ callees)) (second ∷ third ∷ (inner ++ rules)) (λ c r one inside. (
-                tt,
-                one inside,
-              ))
-              (λ inside. (tt, (tt, of_block slots body (body_ends l at body) callees rules rest inside)))) inside,
-        )
-    of_plain slots (Repeat l at body) next callees rules rest inside = (tt, of_block slots body (SetsFlag (HeadAt l at)) callees rules rest inside)
-    of_plain slots (Until l at body e) next callees rules rest inside = (tt, (tt, of_block slots body (SetsFlag (TestAt l at e)) callees rules rest inside))
-    of_plain slots (While l at e body) next callees rules rest inside = (tt, of_block slots body (SetsFlag (TestAt l at e)) callees rules rest inside)
-    of_plain slots (Again l at body e) next callees rules rest inside = (tt, (tt, of_block slots body (SetsFlag (TestAt l at e)) callees rules rest inside))
-
-    of_block : (slots : Slots) (body : Block) (next : Change) (callees : List ℕ) (rules : List Transition) → Paired callees rules →
-        Paired (callees_in body ++ callees) (rules_in slots body next ++ rules)
-    of_block slots Done next callees rules rest = rest
-    of_block slots (Then s more) next callees rules rest =
-        moved ((callees_of s ++ callees_in more) ++ callees) (callees_of s ++ (callees_in more ++ callees))
-        ((rules_of slots s (enter more next) ++ rules_in slots more next) ++ rules)
-        (rules_of slots s (enter more next) ++ (rules_in slots more next ++ rules))
-        (append_assoc (callees_of s) (callees_in more) callees) (append_assoc (rules_of slots s (enter more next)) (rules_in slots more next) rules)
-        (of_plain slots s (enter more next) (callees_in more ++ callees) (rules_in slots more next ++ rules)
-        (of_block slots more next callees rules rest))
-
-    of_bodies : (slots : Slots) (l : Label) (k : ℕ) (bodies : Bodies) (callees : List ℕ) (rules : List Transition) → Paired callees rules →
-        Paired (callees_in_each bodies ++ callees) (rules_in_each slots l k bodies ++ rules)
-    of_bodies slots l k Last callees rules rest = rest
-    of_bodies slots l k (BodyOf weak body more) callees rules rest =
-        moved ((callees_in body ++ callees_in_each more) ++ callees) (callees_in body ++ (callees_in_each more ++ callees))
-        ((rules_in slots body (SetsCounter (slots.ending l k)) ++ rules_in_each slots l (suc k) more) ++ rules)
-        (rules_in slots body (SetsCounter (slots.ending l k)) ++ (rules_in_each slots l (suc k) more ++ rules))
-        (append_assoc (callees_in body) (callees_in_each more) callees)
-        (append_assoc (rules_in slots body (SetsCounter (slots.ending l k))) (rules_in_each slots l (suc k) more) rules)
-        (of_block slots body (SetsCounter (slots.ending l k)) (callees_in_each more ++ callees) (rules_in_each slots l (suc k) more ++ rules)
-        (of_bodies slots l (suc k) more callees rules rest))
+module _ (nodes : (slots : Slots) (body : Block) → map (λ (rule : Transition). rule.node) (rules slots body) ≡ nodes_in body) (a : Activity)
+    (structs : List StructDef) (units : List UnitDef) (entry : ℕ) (keeps : IsWellTyped structs units entry) (k : ℕ)
+    (there : slice_get units k ≡ Some a.unit) where
+  has-run : (p u : ℕ) (n : Node) → slice_get (nodes_in (body_of a)) p ≡ Some n → slice_get (callees_in (body_of a)) p ≡ Some u →
+      HasRun (view_of a).run (runs_in_body a) u n
+  has-run p u (EnterAt l at arguments) node callee = run_kept nodes a structs units entry keeps k there p u l at arguments node callee
+  has-run p u (ResumeAt l at arguments) node callee = resumed_kept nodes a structs units entry keeps k there p u l at arguments node callee
+  has-run p u (ActAt l s) node callee = tt
+  has-run p u (TestAt l at e) node callee = tt
+  has-run p u (PauseAt l at) node callee = tt
+  has-run p u (HeadAt l at) node callee = tt
+  has-run p u (StartAt l at) node callee = tt
+  has-run p u (CheckAt l at e) node callee = tt
+  has-run p u (SurfaceEndAt l at) node callee = tt
+  has-run p u (DepthEndAt l at) node callee = tt
+  has-run p u (ForkAt l at) node callee = tt
+  has-run p u (SurfaceJoinAt l at) node callee = tt
+  has-run p u (DepthJoinAt l at) node callee = tt
 
   -- the rules of a body, each with the activity that its node calls
-  pub body-runs : (slots : Slots) (body : Block) → Paired (callees_in body) (rules slots body)
-  body-runs slots body =
-      moved (callees_in body) (callees_in body ++ []) (rules slots body) (rules slots body ++ []) (sym (append-nil (callees_in body)))
-      (sym (append-nil (rules slots body))) (of_block slots body Finishes [] [] (λ inside. tt))
+  pub body-runs : Pairs (RuleRuns (view_of a).run (runs_in_body a)) (callees_in (body_of a)) (rules_at a)
+  body-runs =
+      pairs-at (RuleRuns (view_of a).run (runs_in_body a)) (callees_in (body_of a)) (rules_at a)
+      (λ p u rule callee is.
+      has-run p u rule.node
+      (ap (λ (ns : List Node). slice_get ns p) (sym (nodes a.slots (body_of a))) ∙ mapped_at (λ (rule : Transition). rule.node) (rules_at a) p rule is)
+      callee)
 
 -- ---- the entry
 

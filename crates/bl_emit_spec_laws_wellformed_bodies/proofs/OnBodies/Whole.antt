@@ -46,7 +46,6 @@ use Rattle.bl_emit_spec.specs.Activities.{
   is_flagged,
   rested_code,
   rules_at,
-  runs_in_body,
   turns_in_source,
   view_of,
 }
@@ -58,6 +57,7 @@ use Rattle.bl_emit_spec_laws.proofs.OnOwn.Members.{any_true, both_true, further,
 use Rattle.bl_emit_spec_laws_wellformed_bodies.specs.Bodies.{ActivityBodiesWellFormed}
 use Rattle.bl_emit_spec_laws_wellformed_bodies.proofs.OnBodies.Guards.{begins-is, put-is}
 use Rattle.bl_emit_spec_laws_wellformed_bodies.proofs.OnBodies.Nodes.{Each, blocks-are, turns-in-source-are}
+use Rattle.bl_emit_spec_laws_wellformed.proofs.OnNodes.Rules.{of_block}
 use Rattle.bl_emit_spec_laws_wellformed_bodies.proofs.OnBodies.Running.{body-runs, entry-flagged}
 use Rattle.bl_emit_spec_laws_wellformed_bodies.proofs.OnBodies.Variables.{Here, context, copied, counter-is, declared_here, earlier_here, flag-is, plain_here, rested-is}
 use Rattle.bl_emit_spec_laws_wellformed_bodies.proofs.OnBodies.Variables.{typed_here}
@@ -147,7 +147,7 @@ module _ (units : List UnitDef) (entry k : ℕ) (a : Activity) (table : Table (T
   turns : Each here (turns_in_source a)
   turns =
       turns-in-source-are units entry k a table known h acts (callees_in (body_of a)) (rules_at a) h.fitted
-      (body-runs view.number (runs_in_body a) a.slots (body_of a) (λ run there. there)) (λ rule there. there)
+      (body-runs (λ slots body. of_block slots body Finishes) a a.structs units entry h.keeps k h.there) (λ rule there. there)
 
   -- nothing fails in the statements
   pub code-is : BlockIs here (activity_code a)

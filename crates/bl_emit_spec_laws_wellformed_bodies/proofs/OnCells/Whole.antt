@@ -1,5 +1,5 @@
 -- The C of an activity needs no more cells than rule Cells counts for the activity.
-use Rattle.std.proofs.Common.{◌≡◌, ℕ, zero, suc, ◌+◌, ◌*◌, ◌<◌, ◌≤◌, max, Bool, true, false, List, ◌++◌, map, length}
+use Rattle.std.proofs.Common.{◌≡◌, ℕ, zero, suc, ◌+◌, ◌*◌, ◌<◌, ◌≤◌, max, Bool, true, false, nat_eq, List, [], ◌∷◌, ◌++◌, map, length}
 use Rattle.std.proofs.Common.{Some, refl, sym, ap, subst, ◌∙◌, arith, length-append}
 use Rattle.std.proofs.lemmas.List.{length-map, map-append}
 use Rattle.std.proofs.lemmas.List.Elements.{All-contains}
@@ -16,7 +16,12 @@ use Rattle.bl_tree.specs.Types.{type_stands}
 use Rattle.bl_tree.specs.Typing.{is_activity}
 use Rattle.bl_limits_measures.specs.Calls.{calls_of}
 use Rattle.bl_limits_measures.specs.Laws.{CellsAdd}
-use Rattle.bl_limits_measures.specs.Runs.{runs_of}
+use Rattle.bl_emit_spec_laws.proofs.OnOwn.Members.{any_true, further, here}
+use Rattle.bl_emit_spec_laws_wellformed.proofs.OnClosed.Running.{same_number}
+use Rattle.bl_emit_spec_laws_wellformed.proofs.OnNeeded.Places.{placed_any}
+use Rattle.bl_emit_spec_laws_wellformed.proofs.OnNeeded.Whole.{among_total}
+use Rattle.bl_limits_measures.specs.Runs.{activities_by_place, activities_run}
+use Rattle.bl_limits_measures.proofs.RunLemmas.{placed_all, placed_few}
 use Rattle.bl_limits_measures.specs.Statements.{cell_statements_of}
 use Rattle.bl_limits_measures.specs.Units.{cells_at, cells_with, variables_of}
 use Rattle.bl_limits_measures.specs.Uses.{UsesEarlier}
@@ -37,7 +42,15 @@ use Rattle.bl_emit_spec.specs.Names.{frame_name}
 use Rattle.bl_emit_spec_laws_wellformed.specs.Costs.{BodiesCost, extras}
 use Rattle.bl_emit_spec_laws_wellformed_bodies.specs.Signed.{NoneLoops}
 use Rattle.bl_emit_spec_laws_wellformed_bodies.specs.Cells.{ActivityCells, BodiesRun, Sized, cells_of_activity, ports_of}
-use Rattle.bl_emit_spec_laws_wellformed_bodies.proofs.OnCells.Callees.{Fits, all_such, frame_at, frames-are, got_before, greatest-append, greatest-less, greatest-total}
+use Rattle.bl_emit_spec_laws_wellformed_bodies.proofs.OnCells.Callees.{
+  Fits,
+  all_such,
+  frame_at,
+  frames-are,
+  got_before,
+  greatest-append,
+  greatest-less,
+}
 use Rattle.bl_emit_spec_laws_wellformed_bodies.proofs.OnCells.Callees.{memories-few, memories-less, memory_at, sums-less, taken_got}
 use Rattle.bl_emit_spec_laws_wellformed_bodies.proofs.OnCells.Held.{held, held-apart, members-few, members-less, params-less, taken-all}
 use Rattle.bl_emit_spec_laws_wellformed_bodies.proofs.OnCells.Locals.{cells, counters-are, locals-few, one_where, params-are, passed, total-append, up-length}
@@ -116,6 +129,14 @@ active_cells : (kind : UnitKind) → is_activity kind ≡ true → (variables st
 active_cells OfFunction is variables statements running calling = absurd (cc)
 active_cells OfActivity is variables statements running calling = refl
 
+-- the greatest of numbers that are no more than another is no more
+greatest-under : (f : ℕ → ℕ) (n : ℕ) (xs : List ℕ) → ((u : ℕ) → Contains xs u → f u ≤ n) → greatest (map f xs) ≤ n
+greatest-under f n [] each = omega arith
+greatest-under f n (x ∷ xs) each =
+    let own = each x (here x xs) in
+    let rest = greatest-under f n xs (λ u has. each u (further x xs u has)) in
+    omega (arith, own, rest)
+
 -- ---- an activity
 
 module _ (units : List UnitDef) (entry : ℕ) (a : Activity) (keeps : IsWellTyped a.structs units entry) (have : TypesHaveScalars a.structs units entry)
@@ -123,7 +144,10 @@ module _ (units : List UnitDef) (entry : ℕ) (a : Activity) (keeps : IsWellType
     (quiet : NoneLoops) (adds : CellsAdd) (uses : UsesEarlier units) (k : ℕ) (known : Sizes) (reach : ℕ → ℕ)
     (sized : Sized a.structs units k a.unit a known reach) where
   abbrev rs : List ℕ
-  rs = runs_of a.unit
+  rs = activities_by_place a.unit
+
+  abbrev every : List ℕ
+  every = activities_run a.unit
 
   abbrev cs : List ℕ
   cs = calls_of a.unit
@@ -145,7 +169,7 @@ module _ (units : List UnitDef) (entry : ℕ) (a : Activity) (keeps : IsWellType
 
   run_fits : (u : ℕ) → Contains rs u → Fits (frame_at known a) (memory_at known a) reach most u
   run_fits u among =
-      let less : u < k = All-contains (λ j. j < k) rs u (uses k a.unit there).runs among in
+      let less : u < k = All-contains (λ j. j < k) rs u (placed_all (λ j. j < k) a.unit (uses k a.unit there).runs) among in
       let found = got_before units k u a.unit there less in
       let is : slice_get a.earlier u ≡ Some found.0 =
       ap (λ (earlier : List UnitDef). slice_get earlier u) sized.of_unit.before ∙ taken_got units k u less ∙ found.1 in
@@ -197,15 +221,17 @@ module _ (units : List UnitDef) (entry : ℕ) (a : Activity) (keeps : IsWellType
       let as_many = many in
       omega (arith, params, locals, none, as_many)
 
-  calls_so : greatest (map reach (cs ++ rs)) ≤ max (greatest (map most cs)) (total (map reach rs))
+  calls_so : greatest (map reach (cs ++ every)) ≤ max (greatest (map most cs)) (total (map reach rs))
   calls_so =
-      let split = ap greatest (map-append reach cs rs) ∙ greatest-append (map reach cs) (map reach rs) in
+      let split = ap greatest (map-append reach cs every) ∙ greatest-append (map reach cs) (map reach every) in
       let called = greatest-less reach most cs (all_such (λ u. reach u ≤ most u) cs sized.calls) in
-      let run = greatest-total (map reach rs) in
+      let run = greatest-under reach (total (map reach rs)) every
+      (λ u has. among_total reach rs u
+      (placed_any a.structs units entry keeps k u a.unit there (any_true (nat_eq u) every u has (same_number u)))) in
       omega (arith, split, called, run)
 
   counts : Counts (total (map (size_of_member known) (frame_struct a).members)) (total (map (size_of_member known) (remembered a)))
-      (own_cells known (activity_function a)) (greatest (map reach (cs ++ rs))) (length a.sizes) (width_in (plain_body a.unit.body)) (extras (rules_at a))
+      (own_cells known (activity_function a)) (greatest (map reach (cs ++ every))) (length a.sizes) (width_in (plain_body a.unit.body)) (extras (rules_at a))
       (cell_statements_of a.unit) (length rs) (length a.unit.vars) held_cells (ports_of a.structs a.unit) (variables_of a.structs a.unit)
       (passed known (params_from a.structs 0 (parameters_of a.unit))) (one_where (remembers_any a)) (one_where (is_some a.unit.result))
       (total (map (frame_at known a) rs)) (total (map (memory_at known a) rs)) (total (map reach rs)) (total (map most rs)) (greatest (map most cs))
@@ -217,7 +243,7 @@ module _ (units : List UnitDef) (entry : ℕ) (a : Activity) (keeps : IsWellType
     calls = calls_so;
     callees = sums-less (frame_at known a) (memory_at known a) reach most rs
         (all_such (Fits (frame_at known a) (memory_at known a) reach most) rs run_fits);
-    costs = costs k a.unit a.slots keeps there;
+    costs = (let all = costs k a.unit a.slots keeps there in let few = placed_few a.unit in omega (arith, all, few));
     few = sized.counters;
     scalars = (counted k a.unit keeps there).variables;
     apart = held-apart a.structs units entry keeps have known sized.sizes a.earlier a.unit sized.active k there;

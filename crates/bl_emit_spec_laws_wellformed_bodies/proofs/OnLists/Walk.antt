@@ -19,7 +19,7 @@ use Rattle.bl_tree.specs.Typing.{is_activity, is_function, site_of}
 use Rattle.bl_tree.specs.Words.{are_distinct}
 use Rattle.bl_limits.specs.Rules.{Passes}
 use Rattle.bl_limits_measures.specs.Calls.{calls_of}
-use Rattle.bl_limits_measures.specs.Runs.{runs_of}
+use Rattle.bl_limits_measures.specs.Runs.{activities_run}
 use Rattle.bl_limits_measures_laws.specs.Laws.{UnitsUseEarlierOnes}
 use Rattle.bl_graph_nodes.specs.Nodes.{nodes_in}
 use Rattle.bl_graph_nodes.specs.Plain.{Block, plain_body}
@@ -42,7 +42,8 @@ use Rattle.bl_emit_functions_laws_wellformed.proofs.OnFiles.Chains.{code_few, ta
 use Rattle.bl_emit_functions_laws_wellformed.proofs.OnFiles.Growing.{distinct_behind, names, one_place}
 use Rattle.bl_emit_functions_laws_wellformed.proofs.OnFiles.Under.{Under, back-under, front-under}
 use Rattle.bl_emit_functions_laws_wellformed.proofs.OnFiles.Walk.{drop_next, take_next}
-use Rattle.bl_emit_spec.specs.Activities.{Activity, RunAt, activity_function, frame_struct, remembered_struct, remembers_any, rules_at, runs_in_body, view_of}
+use Rattle.bl_emit_spec_laws.proofs.OnRunPlaces.Sharing.{once_in}
+use Rattle.bl_emit_spec.specs.Activities.{Activity, RunAt, activity_function, frame_struct, remembered_struct, remembers_any, rules_at, runs_at, runs_in_body, view_of}
 use Rattle.bl_emit_spec.specs.Blocks.{name_in}
 use Rattle.bl_emit_spec.specs.Names.{frame_name}
 use Rattle.bl_emit_spec.specs.Programs.{
@@ -282,7 +283,7 @@ module _ (structs : List StructDef) (units : List UnitDef) (entry : ℕ) (given 
       earlier_than f has =
           let earlier = given.uses structs units keeps.units_stand k unit there in
           ⊎_elim (λ calls. All-contains (λ j. j < k) (calls_of unit) f earlier.calls calls)
-          (λ runs. All-contains (λ j. j < k) (runs_of unit) f earlier.runs runs) (Contains-append_cases (calls_of unit) (runs_of unit) f has)
+          (λ runs. All-contains (λ j. j < k) (activities_run unit) f earlier.runs runs) (Contains-append_cases (calls_of unit) (activities_run unit) f has)
 
       pub stands-before : (f : ℕ) → Contains (needs_of unit) f → IsBefore units needed k f
       stands-before f has =
@@ -332,7 +333,7 @@ module _ (structs : List StructDef) (units : List UnitDef) (entry : ℕ) (given 
           let short : depth_of_function depths (function_code structs (take k units) unit) ≤ 100 = given.short k unit depths passes there chains in
           same (function_code structs (take k units) unit) depths refl
           (code_few heavy (prelude-light structs units needed remember differ k unit functions knows stands-before) (site_of structs (take k units) unit)
-          by_position (λ f. few_enough (by_position f)) 0 unit (front-under by_position 0 (calls_of unit) (runs_of unit) light))
+          by_position (λ f. few_enough (by_position f)) 0 unit (front-under by_position 0 (calls_of unit) (activities_run unit) light))
           (given.functions k unit table everything depths keeps there function
           (record { declared = types; memory = memory; known = functions_known }) numbered
           (full-new structs remember units differ k unit there) (omega (arith, short)))
@@ -355,14 +356,15 @@ module _ (structs : List StructDef) (units : List UnitDef) (entry : ℕ) (given 
         runs_under : AllUnder (is_need unit) 0 (callees_in (plain_body unit.body)) (map (λ (rule : Transition). rule.node) (rules_at a))
         runs_under =
             subst (AllUnder (is_need unit) 0 (callees_in (plain_body unit.body))) (sym (given.nodes a.slots (plain_body unit.body)))
-            (body_under (is_need unit) 0 unit (front-under (is_need unit) 0 (calls_of unit) (runs_of unit) (needs-counted unit))
-            (back-under (is_need unit) 0 (calls_of unit) (runs_of unit) (needs-counted unit)))
+            (body_under (is_need unit) 0 unit (front-under (is_need unit) 0 (calls_of unit) (activities_run unit) (needs-counted unit))
+            (back-under (is_need unit) 0 (calls_of unit) (activities_run unit) (needs-counted unit)))
 
         frames_stand : FramesStand k → (run : RunAt) → Contains (runs_in_body a) run →
             (callee : UnitDef) → slice_get (take k units) run.unit ≡ Some callee → is_activity callee.kind ≡ true →
             is_some (table (frame_name (name_in (slice_get (take k units) run.unit)))) ≡ true
         frames_stand frames run has callee found active =
-            let need_it = run_needed unit (view_of a).number (callees_in (plain_body unit.body)) (rules_at a) runs_under run has in
+            let need_it = run_needed unit (view_of a).number (callees_in (plain_body unit.body)) (rules_at a) runs_under run
+            (once_in (runs_at (view_of a).number (callees_in (plain_body unit.body)) (rules_at a)) run has) in
             let it = stands-before run.unit need_it in
             let at = taken units k run.unit callee found in
             subst (λ o. is_some (table (frame_name (name_in o))) ≡ true) (sym found)
@@ -389,7 +391,10 @@ module _ (structs : List StructDef) (units : List UnitDef) (entry : ℕ) (given 
             AreDeclared table (parts_of_activity a).structs →
             faults_in_function table functions depths false (activity_function a) ≡ []
         activity-fine depths chains active frames declared =
-            let callees = run_called a.sizes (view_of a).site (view_of a).number (callees_in (plain_body unit.body)) (rules_at a) forms.can.rules in
+            let callees : (run : RunAt) → Contains (runs_in_body a) run →
+            (callee : UnitDef) × ((slice_get (take k units) run.unit ≡ Some callee) × (is_activity callee.kind ≡ true)) =
+            (λ run has. run_called a.sizes (view_of a).site (view_of a).number (callees_in (plain_body unit.body)) (rules_at a)
+            forms.can.rules run (once_in (runs_at (view_of a).number (callees_in (plain_body unit.body)) (rules_at a)) run has)) in
             let short : depth_of_function depths (activity_function a) ≤ 100 = given.low structs units entry k unit a depths passes of_unit chains in
             same (activity_function a) depths refl
             (given.few a heavy by_position 0 (prelude-light structs units needed remember differ k unit functions knows stands-before)

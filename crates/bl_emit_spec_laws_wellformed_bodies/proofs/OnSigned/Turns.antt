@@ -50,7 +50,7 @@ use Rattle.bl_emit_spec.specs.Activities.{
   view_of,
 }
 use Rattle.bl_emit_spec.specs.Blocks.{ActivityView, NodeCode, acted, change_code, changes_code, flagged_now, forgotten, layer_acted, merged_code, node_code}
-use Rattle.bl_emit_spec.specs.Blocks.{run_code, target_code, tested, turn_code, turns_of}
+use Rattle.bl_emit_spec.specs.Blocks.{choice_code, run_code, spelled_truth, target_code, tested, turn_code, turns_of}
 use Rattle.bl_emit_spec_laws_wellformed_bodies.specs.Signed.{NoneLoops}
 
 abbrev what : CStmtKind-F CStmtKind CStmt → CStmt
@@ -207,10 +207,15 @@ module _ (view : ActivityView) where
   target-quiet n (Some path) = set-quiet _ _
 
   tested-quiet : (test : CExpr) (rule : Transition) → Quiet (tested view test rule)
-  tested-quiet test rule =
-      one-quiet (c_if test (changes_code view rule.so) (else_code (changes_code view rule.otherwise)))
-      (if-still test (changes_code view rule.so) (else_code (changes_code view rule.otherwise)) (changes-quiet rule.so)
-      (else-quiet (changes_code view rule.otherwise) (changes-quiet rule.otherwise)))
+  tested-quiet test rule = by (spelled_truth test)
+    where
+      by : (truth : Option Bool) → Quiet (choice_code test truth (changes_code view rule.so) (changes_code view rule.otherwise))
+      by None =
+          one-quiet (c_if test (changes_code view rule.so) (else_code (changes_code view rule.otherwise)))
+          (if-still test (changes_code view rule.so) (else_code (changes_code view rule.otherwise)) (changes-quiet rule.so)
+          (else-quiet (changes_code view rule.otherwise) (changes-quiet rule.otherwise)))
+      by (Some true) = changes-quiet rule.so
+      by (Some false) = changes-quiet rule.otherwise
 
   node-quiet : (u : ℕ) (rule : Transition) (n : Node) → Quiet (node_code view u rule n)
   node-quiet u rule (ActAt l s) =
@@ -218,11 +223,11 @@ module _ (view : ActivityView) where
   node-quiet u rule (TestAt l at e) = tested-quiet _ rule
   node-quiet u rule (CheckAt l at e) = tested-quiet _ rule
   node-quiet u rule (EnterAt l at arguments) =
-      let n : ℕ = view.number (EnterAt l at arguments) in
+      let n : ℕ = view.run at in
       cons-quiet _ (run_code view n u arguments ++ changes_code view rule.so) (clear-still _ _)
       (append-quiet (run_code view n u arguments) (changes_code view rule.so) (run-quiet n u arguments) (changes-quiet rule.so))
   node-quiet u rule (ResumeAt l at arguments) =
-      let n : ℕ = view.number (EnterAt l at arguments) in
+      let n : ℕ = view.run at in
       let code : List CStmt = target_code view n arguments.target ++ changes_code view rule.so in
       append-quiet (run_code view n u arguments) (c_if _ code None ∷ []) (run-quiet n u arguments)
       (one-quiet (c_if _ code None)

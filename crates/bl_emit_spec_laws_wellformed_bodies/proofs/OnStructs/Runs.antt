@@ -7,6 +7,7 @@ use Rattle.std.proofs.lemmas.List.Elements.{Contains-append_cases}
 use Rattle.std.proofs.lemmas.List.Folds.{list_any-append}
 use Rattle.std.specs.List.{list_any}
 use Rattle.std.specs.Prelude.{nat_le, slice_get, slice_index, if◌then◌else◌}
+use Rattle.bl_tree.specs.declared.place.Place.{Place}
 use Rattle.bl_tree.specs.declared.tree.Expr.{Expr}
 use Rattle.bl_tree.specs.declared.tree.Path.{Path}
 use Rattle.bl_tree.specs.declared.tree.StructDef.{StructDef}
@@ -17,7 +18,7 @@ use Rattle.bl_tree.specs.Reduce.{greatest}
 use Rattle.bl_tree.specs.Typing.{TypingContext, arguments_fit, is_activity, run_fits, target_fits}
 use Rattle.bl_eval.proofs.PassLemmas.{and_left, and_right}
 use Rattle.bl_limits_measures.specs.Calls.{calls_of}
-use Rattle.bl_limits_measures.specs.Runs.{runs_of}
+use Rattle.bl_limits_measures.specs.Runs.{activities_run}
 use Rattle.bl_limits_measures.specs.Units.{all_chains, chain_at, chain_by, greatest_at}
 use Rattle.bl_limits_measures.proofs.TableLemmas.{answer_at}
 use Rattle.bl_graph_nodes.specs.Nodes.{ActAt, CheckAt, DepthEndAt, DepthJoinAt, EnterAt, ForkAt, HeadAt, Node, PauseAt, ResumeAt, StartAt}
@@ -27,6 +28,7 @@ use Rattle.bl_machine.specs.Uses.{Slots}
 use Rattle.bl_machine_pass.specs.Transitions.{Transition, rules}
 use Rattle.bl_machine_transitions.specs.Callees.{callees_in}
 use Rattle.bl_emit_functions_laws_wellformed.proofs.OnFiles.Under.{Under, cons-under, head-under, none-under}
+use Rattle.bl_emit_spec_laws.proofs.OnRunPlaces.Sharing.{once_in}
 use Rattle.bl_emit_spec.specs.Activities.{Activity, RunAt, body_of, rules_at, run_at, runs_at, runs_in_body, view_of}
 use Rattle.bl_emit_spec.specs.Blocks.{Sizes}
 use Rattle.bl_emit_spec.specs.Programs.{needs_of}
@@ -65,14 +67,14 @@ few_of unit (x ∷ xs) all =
 few_calls : (unit : UnitDef) → Under (by unit) 0 (calls_of unit)
 few_calls unit =
     few_of unit (calls_of unit)
-    (λ j is. list_any-append (nat_eq j) (calls_of unit) (runs_of unit)
-    ∙ first_holds (list_any (nat_eq j) (calls_of unit)) (list_any (nat_eq j) (runs_of unit)) is)
+    (λ j is. list_any-append (nat_eq j) (calls_of unit) (activities_run unit)
+    ∙ first_holds (list_any (nat_eq j) (calls_of unit)) (list_any (nat_eq j) (activities_run unit)) is)
 
-few_runs : (unit : UnitDef) → Under (by unit) 0 (runs_of unit)
+few_runs : (unit : UnitDef) → Under (by unit) 0 (activities_run unit)
 few_runs unit =
-    few_of unit (runs_of unit)
-    (λ j is. list_any-append (nat_eq j) (calls_of unit) (runs_of unit)
-    ∙ second_holds (list_any (nat_eq j) (calls_of unit)) (list_any (nat_eq j) (runs_of unit)) is)
+    few_of unit (activities_run unit)
+    (λ j is. list_any-append (nat_eq j) (calls_of unit) (activities_run unit)
+    ∙ second_holds (list_any (nat_eq j) (calls_of unit)) (list_any (nat_eq j) (activities_run unit)) is)
 
 -- ---- what a `run` calls
 
@@ -84,10 +86,10 @@ record Called (unit : UnitDef) (site : TypingContext) (r : RunAt) : Type 0 where
   named : list_any (nat_eq r.unit) (needs_of unit) ≡ true
 
 module _ (unit : UnitDef) (site : TypingContext) (number : Node → ℕ) (sizes : Sizes) where
-  callee_of : (c n : ℕ) (target : Option Path) (inputs : List Expr) (outputs : List Path) (o : Option UnitDef) → slice_get site.earlier c ≡ o →
-      run_fits site target inputs outputs o ≡ true → by unit c ≤ 0 → Called unit site (record { number = n; unit = c })
-  callee_of c n target inputs outputs None is fits low = absurd (cc)
-  callee_of c n target inputs outputs (Some callee) is fits low = record {
+  callee_of : (at : Place) (c n : ℕ) (target : Option Path) (inputs : List Expr) (outputs : List Path) (o : Option UnitDef) → slice_get site.earlier c ≡ o →
+      run_fits site target inputs outputs o ≡ true → by unit c ≤ 0 → Called unit site (record { place = at; number = n; unit = c })
+  callee_of at c n target inputs outputs None is fits low = absurd (cc)
+  callee_of at c n target inputs outputs (Some callee) is fits low = record {
     callee = callee;
     own = is;
     active = and_right (is_activity site.kind) (is_activity callee.kind)
@@ -101,7 +103,7 @@ module _ (unit : UnitDef) (site : TypingContext) (number : Node → ℕ) (sizes 
   at_node c (EnterAt l at arguments) fits low r has =
       ⊎_elim
       (λ is. subst (Called unit site) is
-      (callee_of c (number (EnterAt l at arguments)) arguments.target arguments.inputs arguments.outputs (slice_get site.earlier c) refl
+      (callee_of at c (number (EnterAt l at arguments)) arguments.target arguments.inputs arguments.outputs (slice_get site.earlier c) refl
       (and_left (run_fits site arguments.target arguments.inputs arguments.outputs (slice_get site.earlier c))
       (nat_le (max (target_depth arguments.target) (arguments_depth arguments.inputs arguments.outputs)) 200) fits)
       (head-under (by unit) 0 c _ low)))
@@ -157,11 +159,11 @@ chain_less units k j unit there less named =
         among_greatest (slice_index (take k (all_chains units))) (calls_of unit) j called in
         omega (arith, is, same, low)
     of false called is same =
-        let ran : list_any (nat_eq j) (runs_of unit) ≡ true =
-        ap (λ b. b || list_any (nat_eq j) (runs_of unit)) (sym called)
-        ∙ sym (list_any-append (nat_eq j) (calls_of unit) (runs_of unit)) ∙ named in
-        let low : slice_index (take k (all_chains units)) j ≤ greatest_at (take k (all_chains units)) (runs_of unit) =
-        among_greatest (slice_index (take k (all_chains units))) (runs_of unit) j ran in
+        let ran : list_any (nat_eq j) (activities_run unit) ≡ true =
+        ap (λ b. b || list_any (nat_eq j) (activities_run unit)) (sym called)
+        ∙ sym (list_any-append (nat_eq j) (calls_of unit) (activities_run unit)) ∙ named in
+        let low : slice_index (take k (all_chains units)) j ≤ greatest_at (take k (all_chains units)) (activities_run unit) =
+        among_greatest (slice_index (take k (all_chains units))) (activities_run unit) j ran in
         omega (arith, is, same, low)
 
 -- ---- together
@@ -173,7 +175,8 @@ runs_fit nodes structs units entry k a keeps closed can r has =
     let low : AllUnder (by a.unit) 0 (callees_in (body_of a)) (map (λ (rule : Transition). rule.node) (rules_at a)) =
     subst (AllUnder (by a.unit) 0 (callees_in (body_of a))) (sym (nodes a.slots (body_of a)))
     (body_under (by a.unit) 0 a.unit (few_calls a.unit) (few_runs a.unit)) in
-    let called = each_called a.unit (view_of a).site (view_of a).number a.sizes (callees_in (body_of a)) (rules_at a) low can.rules r has in
+    let called = each_called a.unit (view_of a).site (view_of a).number a.sizes (callees_in (body_of a)) (rules_at a) low can.rules r
+    (once_in (runs_at (view_of a).number (callees_in (body_of a)) (rules_at a)) r has) in
     let own : slice_get (take k units) r.unit ≡ Some called.callee =
     subst (λ (earlier : List UnitDef). slice_get earlier r.unit ≡ Some called.callee) can.earlier called.own in
     let taken = get_taken k units r.unit called.callee own in

@@ -23,7 +23,6 @@ use Rattle.bl_emit_structs_laws_wellformed.specs.Formed.{OfVariable}
 use Rattle.bl_emit_functions_laws_wellformed.specs.Formed.{MemoriesHold}
 use Rattle.bl_emit_functions_laws_wellformed.proofs.OnFiles.Growing.{distinct_behind, names}
 use Rattle.bl_emit_spec.specs.Programs.{activity_of, needed_units}
-use Rattle.bl_emit_spec.specs.Shared.{IsSharedActivityOf}
 use Rattle.bl_emit_spec_laws_wellformed.specs.Closed.{NeededClosed}
 use Rattle.bl_emit_spec_laws_wellformed.specs.Names.{FrameDiffers, MemoryDiffers}
 use Rattle.bl_emit_spec_laws_wellformed.specs.Machines.{IsModest, MachinesDiffer, MachinesSpell}
@@ -60,13 +59,13 @@ pub sound : ((slots : Slots) (body : Block) → map (λ (rule : Transition). rul
     (structs : List StructDef) (units : List UnitDef) (entry : ℕ) → TypesDeclared structs units entry → MemoriesHold structs units → FrameDiffers →
     MemoryDiffers → MachinesSpell structs units entry → MachinesDiffer structs units entry → NeededSmall structs units entry →
     NeededNumbered structs units entry → NeededClosed structs units entry → PartsAreSound structs units entry
-sound nodes structs units entry declared hold frames memories spell differ small numbered closed machine keeps limits agrees plain =
+sound nodes structs units entry declared hold frames memories spell differ small numbered closed machine keeps limits agrees =
     let modest : (k : ℕ) (unit : UnitDef) (one : InMachine) (remember : List Bool) → slice_get units k ≡ Some unit → is_activity unit.kind ≡ true →
-    slice_get (needed_units units entry) k ≡ Some true → IsActivityOf unit one → IsSharedActivityOf unit one →
+    slice_get (needed_units units entry) k ≡ Some true → IsActivityOf unit one →
     Modest units entry k (take k units) (activity_of structs (take k units) remember unit one) =
-    λ k unit one remember there active need own single.
+    λ k unit one remember there active need own.
     let is : IsModest structs units k unit one =
-    record { there = there; of_unit = own; shared = single; cells = small k keeps limits need } in
+    record { there = there; of_unit = own; cells = small k keeps limits need } in
     record {
       numbers = differ k unit one remember keeps is;
       runs = runs_fit nodes structs units entry k (activity_of structs (take k units) remember unit one) keeps closed (spell k unit one remember keeps is);
@@ -75,7 +74,7 @@ sound nodes structs units entry declared hold frames memories spell differ small
     (numbered k unit keeps limits there need).variables in
     let known = member_known structs units entry keeps declared in
     let walked = walk structs units entry (type_names structs units) hold frames memories known few modest [] [] units (needed_units units entry)
-    machine (type_names structs units) refl (λ i. ap (slice_get (needed_units units entry)) (behind i (length {A = UnitDef} []) refl)) agrees plain
+    machine (type_names structs units) refl (λ i. ap (slice_get (needed_units units entry)) (behind i (length {A = UnitDef} []) refl)) agrees
     (record {
       long = refl;
       of_types = λ ty is. is;

@@ -44,7 +44,6 @@ use Rattle.bl_emit_spec.specs.Activities.{
 use Rattle.bl_emit_spec.specs.Blocks.{name_in}
 use Rattle.bl_emit_spec.specs.Names.{callee_name, frame_name}
 use Rattle.bl_emit_spec.specs.Programs.{ProgramParts, activity_of, needed_units, parts_from, parts_of_function, parts_of_next, parts_then, where_needed}
-use Rattle.bl_emit_spec.specs.Shared.{IsSharedActivityOf}
 use Rattle.bl_emit_spec_laws_wellformed.specs.Names.{FrameDiffers, MemoryDiffers, NumbersDiffer}
 use Rattle.bl_emit_spec_laws_wellformed_bodies.specs.Structs.Parts.{IsPart, OfNumber, OfPart}
 use Rattle.bl_emit_spec_laws_wellformed_bodies.proofs.OnStructs.Lists.{
@@ -85,7 +84,7 @@ module _ (structs : List StructDef) (units : List UnitDef) (entry : ℕ) (types 
     (few : (k : ℕ) (unit : UnitDef) → slice_get units k ≡ Some unit → slice_get (needed_units units entry) k ≡ Some true →
     length unit.vars ≤ 2 ^ 64)
     (modest : (k : ℕ) (unit : UnitDef) (one : InMachine) (remember : List Bool) → slice_get units k ≡ Some unit → is_activity unit.kind ≡ true →
-    slice_get (needed_units units entry) k ≡ Some true → IsActivityOf unit one → IsSharedActivityOf unit one →
+    slice_get (needed_units units entry) k ≡ Some true → IsActivityOf unit one →
     Modest units entry k (take k units) (activity_of structs (take k units) remember unit one))
   where
     abbrev Needed : ℕ → Type 0
@@ -407,35 +406,35 @@ module _ (structs : List StructDef) (units : List UnitDef) (entry : ℕ) (types 
 
       abbrev Behind : Type 0
       Behind = (names' : List Text) (remember' : List Bool) (machine : List InMachine) → EachTwo IsActivityOf (activities rest) machine →
-          EachTwo IsSharedActivityOf (activities rest) machine → Known names' (suc k) remember' →
+          Known names' (suc k) remember' →
           Walked names' remember' (parts_from structs (earlier ++ unit ∷ []) remember' rest needed machine)
 
       step_by : (active test : Bool) (machine : List InMachine) → is_activity unit.kind ≡ active →
           slice_get (needed_units units entry) k ≡ Some test →
           EachTwo IsActivityOf (cond active (unit ∷ activities rest) (activities rest)) machine →
-          EachTwo IsSharedActivityOf (cond active (unit ∷ activities rest) (activities rest)) machine → Known names k remember → Behind →
+          Known names k remember → Behind →
           Walked names remember (All active test (take k units) machine)
-      step_by true test [] is need own plain known behind = absurd own
-      step_by true true (one ∷ machine) is need own plain known behind =
-          let first = activity_own k remember unit one there need (modest k unit one remember there is need own.0 plain.0) names is known in
-          then_walked names k remember (here true (take k units) (one ∷ machine)) _ first (behind _ _ machine own.1 plain.1 first.next)
-      step_by true false (one ∷ machine) is need own plain known behind =
+      step_by true test [] is need own known behind = absurd own
+      step_by true true (one ∷ machine) is need own known behind =
+          let first = activity_own k remember unit one there need (modest k unit one remember there is need own.0) names is known in
+          then_walked names k remember (here true (take k units) (one ∷ machine)) _ first (behind _ _ machine own.1 first.next)
+      step_by true false (one ∷ machine) is need own known behind =
           let first = none_own names k remember unit (remembers_any (activity_of structs (take k units) remember unit one)) there need known in
           then_walked names k remember (where_needed false (here true (take k units) (one ∷ machine))) _ first
-          (behind _ _ machine own.1 plain.1 first.next)
-      step_by false true machine is need own plain known behind =
+          (behind _ _ machine own.1 first.next)
+      step_by false true machine is need own known behind =
           let first = function_own names k remember unit there is need known in
-          then_walked names k remember (here false (take k units) machine) _ first (behind _ _ machine own plain first.next)
-      step_by false false machine is need own plain known behind =
+          then_walked names k remember (here false (take k units) machine) _ first (behind _ _ machine own first.next)
+      step_by false false machine is need own known behind =
           let first = none_own names k remember unit false there need known in
-          then_walked names k remember (where_needed false (here false (take k units) machine)) _ first (behind _ _ machine own plain first.next)
+          then_walked names k remember (where_needed false (here false (take k units) machine)) _ first (behind _ _ machine own first.next)
 
       step : (test : Bool) (machine : List InMachine) → slice_get (needed_units units entry) k ≡ Some test →
-          EachTwo IsActivityOf (activities (unit ∷ rest)) machine → EachTwo IsSharedActivityOf (activities (unit ∷ rest)) machine →
+          EachTwo IsActivityOf (activities (unit ∷ rest)) machine →
           Known names k remember → Behind → Walked names remember (All (is_activity unit.kind) test earlier machine)
-      step test machine need own plain known behind =
+      step test machine need own known behind =
           subst (λ earlier'. Walked names remember (All (is_activity unit.kind) test earlier' machine)) before
-          (step_by (is_activity unit.kind) test machine refl need own plain known behind)
+          (step_by (is_activity unit.kind) test machine refl need own known behind)
 
     split : (n j : ℕ) → (j < n) ⊎ ((i : ℕ) × (j ≡ n + i))
     split zero j = inr (j, omega arith)
@@ -452,28 +451,28 @@ module _ (structs : List StructDef) (units : List UnitDef) (entry : ℕ) (types 
 
     pub walk : (earlier : List UnitDef) (remember : List Bool) (rest : List UnitDef) (needed : List Bool) (machine : List InMachine)
         (names : List Text) → earlier ++ rest ≡ units → Told (length earlier) needed → EachTwo IsActivityOf (activities rest) machine →
-        EachTwo IsSharedActivityOf (activities rest) machine → Known names (length earlier) remember →
+        Known names (length earlier) remember →
         Walked names remember (parts_from structs earlier remember rest needed machine)
-    walk earlier remember [] needed machine names whole told own plain known =
+    walk earlier remember [] needed machine names whole told own known =
         ended names (length earlier) remember known
         (λ j unit there need.
         subst (λ units. j < length units) (sym whole ∙ append-nil earlier) (below_length units j unit there))
-    walk earlier remember (unit ∷ rest) [] machine names whole told own plain known =
+    walk earlier remember (unit ∷ rest) [] machine names whole told own known =
         ended names (length earlier) remember known
         (λ j unit there need.
         ⊎_elim (λ less. less)
         (λ more. absurd (let no : None ≡ Some true = told more.0 ∙ ap (slice_get (needed_units units entry)) (sym more.1) ∙ need in cc))
         (split (length earlier) j))
-    walk earlier remember (unit ∷ rest) (test ∷ needed) machine names whole told own plain known =
+    walk earlier remember (unit ∷ rest) (test ∷ needed) machine names whole told own known =
         let k : ℕ = length earlier in
         let there : slice_get units k ≡ Some unit = ap (λ units. slice_get units (length earlier)) (sym whole) ∙ get_behind earlier unit rest in
         let before : take k units ≡ earlier = ap (take (length earlier)) (sym whole) ∙ take_front earlier (unit ∷ rest) in
         let none : k + 0 ≡ k = omega arith in
         step k earlier unit rest needed names remember there before test machine
-        (sym (told 0 ∙ ap (slice_get (needed_units units entry)) none)) own plain known
-        (λ names' remember' machine own plain known.
+        (sym (told 0 ∙ ap (slice_get (needed_units units entry)) none)) own known
+        (λ names' remember' machine own known.
         walk (earlier ++ unit ∷ []) remember' rest needed machine names' (append_assoc earlier (unit ∷ []) rest ∙ whole)
-        (λ i. told (suc i) ∙ ap (slice_get (needed_units units entry)) (shifted earlier unit i)) own plain
+        (λ i. told (suc i) ∙ ap (slice_get (needed_units units entry)) (shifted earlier unit i)) own
         (subst (λ n. Known names' n remember') (sym (length_one earlier unit)) known))
       where
         shifted : (earlier : List UnitDef) (unit : UnitDef) (i : ℕ) → length earlier + suc i ≡ length (earlier ++ unit ∷ []) + i

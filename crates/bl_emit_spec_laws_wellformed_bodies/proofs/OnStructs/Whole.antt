@@ -483,7 +483,7 @@ module _ (structs : List StructDef) (units : List UnitDef) (entry : ℕ) (keeps 
 pub files_declare : (program : Program) → NamesDiffer program.structs program.units → MembersDiffer program.structs program.units program.entry →
     UsesEarlier program.structs program.units program.entry → TypesApart program.structs program.units program.entry →
     StructsThere program.structs program.units program.entry → PartsAreSound program.structs program.units program.entry → FilesDeclare program
-files_declare program names members earlier apart at sound machine unit keeps limits agrees plain there =
+files_declare program names members earlier apart at sound machine unit keeps limits agrees there =
     let structs : List StructDef = program.structs in
     let units : List UnitDef = program.units in
     let parts : ProgramParts = parts_of structs units program.entry machine in
@@ -493,7 +493,7 @@ files_declare program names members earlier apart at sound machine unit keeps li
     let entry_so : is_entry (Some unit) ≡ true = ap is_entry (sym there) ∙ keeps.entry_stands in
     let scalars = and_right _ _ (and_right _ _ entry_so) in
     let all = file_structs structs units program.entry keeps apart (nests structs units program.entry limits) (short structs units program.entry limits) parts
-    (sound machine keeps limits agrees plain) unit there (inputs_ports unit scalars named distinct) (outputs_ports unit scalars named distinct)
+    (sound machine keeps limits agrees) unit there (inputs_ports unit scalars named distinct) (outputs_ports unit scalars named distinct)
     names members earlier at in
     subst (λ o. FileStructs structs units (file_at program parts o).structs parts.structs
     (interface_structs structs unit (unwrap_or (slice_get parts.remember program.entry) false))) (sym there) all

@@ -8,7 +8,6 @@ use Rattle.bl_tree.specs.declared.tree.StructDef.{StructDef}
 use Rattle.bl_tree.specs.declared.tree.Unit.{Unit as UnitDef}
 use Rattle.bl_tree.specs.Program.{IsWellTyped}
 use Rattle.bl_tree.specs.Words.{are_distinct}
-use Rattle.bl_cause.specs.Activities.{EachTwo, activities}
 use Rattle.bl_ctext_semantics.specs.Faults.{struct_faults_after, struct_table}
 use Rattle.bl_ctext_semantics.specs.Tables.{no_entries}
 use Rattle.bl_limits.specs.Rules.{Passes}
@@ -20,7 +19,6 @@ use Rattle.bl_emit_structs_laws_wellformed.specs.Names.{are_known, is_known, nam
 use Rattle.bl_emit_functions.specs.Functions.{memory_name}
 use Rattle.bl_emit_spec.specs.Names.{frame_name}
 use Rattle.bl_emit_spec.specs.Programs.{ProgramParts, interface_structs, needed_units, parts_from, written}
-use Rattle.bl_emit_spec.specs.Shared.{IsSharedActivityOf}
 use Rattle.bl_emit_spec_laws_wellformed_bodies.specs.Structs.Parts.{IsPart}
 
 -- what is written of a program's units with a machine
@@ -45,11 +43,11 @@ pub record PartsStand (structs : List StructDef) (units : List UnitDef) (entry :
   pub memory : (unit : UnitDef) → slice_get units entry ≡ Some unit → slice_get parts.remember entry ≡ Some true →
       is_known (type_names structs units ++ names_of parts.structs) (OfStruct (memory_name unit.name)) ≡ true
 
--- the structs of units stand, in a typed program with a machine that shares counters, where rule Cells holds
+-- the structs of units stand, in a typed program with a machine of it, where rule Cells holds
 abbrev pub PartsAreSound : List StructDef → List UnitDef → ℕ → Type 0
 PartsAreSound structs units entry =
     (machine : List InMachine) → IsWellTyped structs units entry → Passes structs units entry → AreActivitiesOf units machine →
-    EachTwo IsSharedActivityOf (activities units) machine → PartsStand structs units entry (parts_of structs units entry machine)
+    PartsStand structs units entry (parts_of structs units entry machine)
 
 -- ---- the whole file
 
@@ -62,12 +60,12 @@ pub record FileStructs (structs : List StructDef) (units : List UnitDef) (file o
   pub parts : AreDeclared (struct_table file) of_units
   pub interface : AreDeclared (struct_table file) last
 
--- the file written of a typed program with a machine that shares counters declares its structs, where rules Frames and Cells hold
+-- the file written of a typed program with a machine of it declares its structs, where rules Frames and Cells hold
 abbrev pub FilesDeclare : Program → Type 0
 FilesDeclare program =
     (machine : List InMachine) (unit : UnitDef) → IsWellTyped program.structs program.units program.entry →
     Passes program.structs program.units program.entry → AreActivitiesOf program.units machine →
-    EachTwo IsSharedActivityOf (activities program.units) machine → slice_get program.units program.entry ≡ Some unit →
+    slice_get program.units program.entry ≡ Some unit →
     let parts = parts_of program.structs program.units program.entry machine in
     FileStructs program.structs program.units (written program machine).structs parts.structs
     (interface_structs program.structs unit (unwrap_or (slice_get parts.remember program.entry) false))

@@ -175,12 +175,12 @@ module _ (w : Setting) (rank : ℕ → Node → ℕ) (slots : ℕ → Slots) (cl
           here h =
           let inner = calls i callee at here called in
           pass_through pass inner (deeds i at (Copies callee arguments.inputs) store true given here inner copied h)
-      node_through (resumes {i = i} {at = at} {arguments = arguments} {store = store} {given = given} {callee = callee} called its began copied pass on)
+      node_through (resumes {i = i} {at = at} {arguments = arguments} {store = store} {given = given} {callee = callee} called began copied pass on)
           here h =
           let inner = calls i callee at here called in
           pass_through pass inner (deeds i at (Copies callee arguments.inputs) store true given here inner copied h)
       node_through (returns {i = i} {at = at} {arguments = arguments} {store = store} {given = given} {ended = ended} {left = left}
-          {callee = callee} called its began copied pass over gives) here h =
+          {callee = callee} called began copied pass over gives) here h =
           let inner = calls i callee at here called in
           deeds i at (Gives callee arguments.target) ended true left here tt gives
           (pass_through pass inner (deeds i at (Copies callee arguments.inputs) store true given here inner copied h))
@@ -210,11 +210,11 @@ module _ (w : Setting) (rank : ℕ → Node → ℕ) (slots : ℕ → Slots) (cl
           let inner = calls i callee at here called in
           let more = pass_counts pass inner in
           λ k outside j. elsewhere callee r'.counters frames' k inner outside j ∙ more k outside j ∙ cleared callee frames inner k outside j
-      node_counts (resumes {i = i} {at = at} {frames' = frames'} {r' = r'} {callee = callee} called its began copied pass on) here =
+      node_counts (resumes {i = i} {at = at} {frames' = frames'} {r' = r'} {callee = callee} called began copied pass on) here =
           let inner = calls i callee at here called in
           let more = pass_counts pass inner in
           λ k outside j. elsewhere callee r'.counters frames' k inner outside j ∙ more k outside j
-      node_counts (returns {i = i} {at = at} {frames' = frames'} {r' = r'} {callee = callee} called its began copied pass over gives) here =
+      node_counts (returns {i = i} {at = at} {frames' = frames'} {r' = r'} {callee = callee} called began copied pass over gives) here =
           let inner = calls i callee at here called in
           let more = pass_counts pass inner in
           λ k outside j. elsewhere callee r'.counters frames' k inner outside j ∙ more k outside j

@@ -42,7 +42,7 @@ use Rattle.bl_machine_pass_laws.specs.Turns.Laws.{FirstCounterTells, answer_of, 
 use Rattle.bl_machine_pass_laws_turns.specs.Turns.{FitsBody, PassesBegin, TreesFitBodies}
 use Rattle.bl_machine_pass_laws_execution.specs.Frames.{AllCallsMatchTree, AllFramesNest, CallsMatchTree, ChangeOnly, Frames, FramesNest}
 use Rattle.bl_machine_pass_laws_execution.specs.Executes as executes
-use Rattle.bl_machine_pass_laws_execution.specs.Executes.{ClearsInside, NodeTraps, PassStart, Performs, begun_registers, deed_at, resumed_registers}
+use Rattle.bl_machine_pass_laws_execution.specs.Executes.{ClearsInside, NodeTraps, Performs, begun_registers, deed_at, resumed_registers}
 use Rattle.bl_machine_pass_laws_execution.specs.Passes.Laws.{Executed, PassesExecute, PointsAreOfNodes, TurnsPerform}
 use Rattle.bl_machine_pass_laws_execution.specs.Passes.Standing.{
   AllCallsRest,
@@ -411,8 +411,7 @@ module _ (runs_apart : AcceptedRunsApart) (nests : ProgramsNest) (begin_live : B
             inner = with_at callee one.registers.counters one.inner;
             performs = subst (λ b. Performs W rank slots clear i (run_node b s.label s.place s.arguments) frames store false
                 (with_at callee one.registers.counters one.inner) left) (sym live.2.has_stood)
-                (executes.resumes live.2.called live.2.is
-                (PassStart.goes_on (resumed_counts frames callee live.0 c live.2.is holds.0 rests.0)) does one.executes
+                (executes.resumes live.2.called (resumed_counts frames callee live.0 c live.2.is holds.0 rests.0) does one.executes
                 (one.over ∙ unended));
             kept = record {
               holds = held;
@@ -458,8 +457,7 @@ module _ (runs_apart : AcceptedRunsApart) (nests : ProgramsNest) (begin_live : B
             inner = with_at callee one.registers.counters one.inner;
             performs = subst (λ b. Performs W rank slots clear i (run_node b s.label s.place s.arguments) frames store true
                 (with_at callee one.registers.counters one.inner) left) (sym live.2.has_stood)
-                (executes.returns live.2.called live.2.is
-                (PassStart.goes_on (resumed_counts frames callee live.0 c live.2.is holds.0 rests.0)) does one.executes one.over gives);
+                (executes.returns live.2.called (resumed_counts frames callee live.0 c live.2.is holds.0 rests.0) does one.executes one.over gives);
             kept = ended W slots (with_at callee one.registers.counters one.inner) (Run s callee Check stood c);
             change = call_changes (λ place. s.place ≡ place) s.place callee one.registers.counters frames one.inner refl live.2.called
                 (λ k outside j. one.change k (λ call. outside (inside_callee W callee k call)) j);
@@ -670,8 +668,7 @@ module _ (runs_apart : AcceptedRunsApart) (nests : ProgramsNest) (begin_live : B
       stop {store = store} (follows.resume_traps {s = s} {callee = callee} {stood = stood} {c = c} {given = fed} does fail) g live frames holds rests
           apart known framed asks fresh =
           subst (λ b. NodeTraps W rank slots clear i (run_node b s.label s.place s.arguments) frames store) (sym live.2.has_stood)
-          (executes.resumed_stops live.2.called live.2.is
-          (PassStart.goes_on (resumed_counts frames callee live.0 c live.2.is holds.0 rests.0)) does
+          (executes.resumed_stops live.2.called (resumed_counts frames callee live.0 c live.2.is holds.0 rests.0) does
           (cut callee live.0 stood frames c (resumed_registers frames callee) fed (locals live.0) (view_at W fed callee).now
           (later_than callee s.place live.2.called)
           (resumed_ready frames callee live.0 stood c live.2.is live.1 holds.0 holds.1 rests.0 rests.1 apart)

@@ -146,6 +146,13 @@ module _ (callers : InstancesHaveCallers) (views : ViewsAreTyped) (placed : Stay
   -- ---- passes
 
   module _ (rank : ℕ → Node → ℕ) (slots : ℕ → Slots) (clear : ℕ → Frames → Frames) where
+    -- the unit of an instance whose nodes have turns
+    unit_of_pass : {i k : ℕ} {frames : Frames} {store : Store} {copies : List Value} {r : Registers} {frames' : Frames} {left : Store}
+        {r' : Registers} → Executes W rank slots clear i k frames store copies r frames' left r' → (unit : UnitDef) × (unit_at W i ≡ Some unit)
+    unit_of_pass (executes.ends {unit = unit} is all) = (unit, is)
+    unit_of_pass (executes.skips {unit = unit} is none rest) = (unit, is)
+    unit_of_pass (executes.acts {unit = unit} is rule has numbered due sees performs rest) = (unit, is)
+
     mutual
       pass_fits : {i k : ℕ} {frames : Frames} {store : Store} {copies : List Value} {r : Registers} {frames' : Frames} {left : Store}
           {r' : Registers} → Executes W rank slots clear i k frames store copies r frames' left r' → StoreFits W store → StoreFits W left
@@ -166,16 +173,17 @@ module _ (callers : InstancesHaveCallers) (views : ViewsAreTyped) (placed : Stay
           unit is fit fits =
           pass_fits pass (copied i unit is at arguments callee other store given fit fits called of does)
       turn_fits
-          (executes.resumes {i = i} {at = at} {arguments = arguments} {store = store} {given = given} {callee = callee} {unit = other}
-          called of starts does pass over)
+          (executes.resumes {i = i} {at = at} {arguments = arguments} {store = store} {given = given} {callee = callee} called runs does pass over)
           unit is fit fits =
-          pass_fits pass (copied i unit is at arguments callee other store given fit fits called of does)
+          let of = unit_of_pass pass in
+          pass_fits pass (copied i unit is at arguments callee of.0 store given fit fits called of.1 does)
       turn_fits
           (executes.returns {i = i} {at = at} {arguments = arguments} {store = store} {given = given} {ended = ended} {left = left} {callee = callee}
-          {unit = other} called of starts does pass over gives)
+          called runs does pass over gives)
           unit is fit fits =
-          returned i unit is at arguments callee other ended left fit
-          (pass_fits pass (copied i unit is at arguments callee other store given fit fits called of does)) called of gives
+          let of = unit_of_pass pass in
+          returned i unit is at arguments callee of.0 ended left fit
+          (pass_fits pass (copied i unit is at arguments callee of.0 store given fit fits called of.1 does)) called of.1 gives
 
   pub turns_keep : TurnsKeepTypes structs units entry
   turns_keep = record {

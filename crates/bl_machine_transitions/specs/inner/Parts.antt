@@ -90,13 +90,13 @@ act s = record {
   rules = λ layout k p next. flagged layout k (Acts s) (next ∷ []) ∷ [];
 }
 
--- a statement that rests at a place, with what is done at its two nodes, where its first node has the number
-abbrev pub pause : (ℕ → Task) → (ℕ → Task) → Part
+-- a statement that rests at a place, with what is done at its two nodes
+abbrev pub pause : Task → Task → Part
 pause first second = record {
   empty = false;
   size = record { nodes = 2; places = 1; instant = false };
   rests = λ layout p. layout.slot p ∷ [];
-  rules = λ layout k p next. paused layout k p (first (layout.number k)) (second (layout.number k)) next;
+  rules = λ layout k p next. paused layout k p first second next;
 }
 
 -- a condition with what is done where it is true, and what else
@@ -230,9 +230,9 @@ abbrev pub kind_part : StmtKind-F (Place → Part) ArmPart BranchPart Part → P
 kind_part (StmtKind-F.Declare k initial) place = act (stmt place (StmtKind-F.Declare k initial))
 kind_part (StmtKind-F.Assign path e) place = act (stmt place (StmtKind-F.Assign path e))
 kind_part (StmtKind-F.Call f inputs outputs) place = act (stmt place (StmtKind-F.Call f inputs outputs))
-kind_part (StmtKind-F.Await e) place = pause (λ n. Nothing) (λ n. Tests e)
+kind_part (StmtKind-F.Await e) place = pause Nothing (Tests e)
 kind_part (StmtKind-F.Run target a inputs outputs) place =
-    pause (λ n. Enters n a (arguments_of target inputs outputs)) (λ n. Resumes n a (arguments_of target inputs outputs))
+    pause (Enters place a (arguments_of target inputs outputs)) (Resumes place a (arguments_of target inputs outputs))
 kind_part (StmtKind-F.If arms other) place = chosen place arms (block other)
 kind_part (StmtKind-F.Cobegin branches) place = cobegin branches
 kind_part (StmtKind-F.When guard e body) place = guarded guard e (block body)

@@ -2,15 +2,16 @@ use Rattle.std.proofs.Common.{◌≡◌, Bool, false, IfOk, List, ap, sym, ◌�
 use Rattle.bl_tree.specs.declared.c.CFunc.{CFunc}
 use Rattle.bl_emit_acts.specs.Sites.{site_in}
 use Rattle.bl_machine.specs.Blocks.{up_to}
+use Rattle.bl_machine_transitions.specs.Runs.{kept_number}
 use Rattle.bl_emit.specs.Kept.{run_in, told_in}
 use Rattle.bl_emit.proofs.ViewLemmas.{function_is}
 use Rattle.bl_emit.proofs.activity.function.Goals as goal
 
 pub returns : goal.returns
-returns c = λ runs_are remembers_is.
+returns c = λ numbers_are runs_are remembers_is.
     subst (λ (f : CFunc). IfOk c.viewed.result (λ made. made ≡ f))
-    (function_is (told_in c.args.told.now) (site_in c.site.result) c.deref-4.result.now c.deref-5.result.now c.deref-6.result.now c.deref-7.result.now
-    c.in_ok-count.count c.in_ok-many.many (map run_in c.args.runs.now) c.args.remembers c.site.ensures (c.deref-4.ensures ∙ c.in_ok-copies.ensures)
+    (function_is (told_in c.args.told.now) (site_in c.site.result) c.deref-4.result.now c.deref-5.result.now (kept_number c.args.numbers.now) c.deref-6.result.now
+    c.deref-7.result.now c.in_ok-count.count c.in_ok-many.many (map run_in c.args.runs.now) c.args.remembers c.site.ensures (c.deref-4.ensures ∙ c.in_ok-copies.ensures) numbers_are
     (λ k. ap (λ (read : List Bool). unwrap_or (slice_get read k) false) c.deref-5.ensures ∙ c.in_ok-read.ensures k)
     (c.deref-6.ensures
     ∙ (c.in_ok-counters.ensures

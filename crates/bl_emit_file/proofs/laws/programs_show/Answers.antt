@@ -11,6 +11,7 @@ returns c machine known =
       runs = c.entry_runs.ensures;
       shows = c.written_shows.ensures;
       formed = c.programs_well_formed.ensures;
+      count = c.files_count.ensures;
       small = c.files_small.ensures;
       own = c.files_own.ensures;
       ifs = c.files_have_ifs.ensures;

@@ -14,7 +14,6 @@ returns c =
       small = c.needed_small.ensures;
       numbered = c.needed_numbered.ensures;
       spots = c.spots_differ.ensures;
-      listed = c.rules_are_listed.ensures;
       nodes = c.trees_stay_placed.ensures.nodes;
       copied = c.nodes_copied.ensures;
       runs = c.runs_copied.ensures;

@@ -5,6 +5,8 @@ use Rattle.bl_tree.specs.Reduce.{greatest}
 use Rattle.bl_graph_nodes.specs.Plain.{plain_body}
 use Rattle.bl_machine.specs.Blocks.{Ordered, up_to}
 use Rattle.bl_machine.specs.inner.Laid.{counters_from, laid, widths}
+use Rattle.bl_machine.specs.Layout.{counters_in}
+use Rattle.bl_machine.specs.Slots.{numbered}
 use Rattle.bl_machine.proofs.ActivityLemmas.{counters_keep, laid_within, slots_are}
 use Rattle.bl_machine.proofs.OrderLemmas.{one_each, ordered_by_rank, single_blocks}
 use Rattle.bl_machine.proofs.activities.activity.Goals as goal
@@ -28,21 +30,21 @@ returns-clause-keeps c =
     let nodes = c.in_ok-nodes.nodes.items in
     let blocks : c.in_ok-blocks.blocks ≡ one_each nodes = c.in_ok-blocks.ensures ∙ ap one_each c.deref-3.ensures.value in record {
       order = subst (Ordered (plain_body body)) (sym blocks)
-          (ordered_by_rank (plain_body body) c.args.graph.now.nodes c.args.graph.now.edges c.args.order.now.ranks nodes c.requires.graph c.requires.order
-          (subst (λ n. IsPermutation (up_to n) nodes) c.len.ensures c.in_ok-nodes.ensures.all) c.in_ok-nodes.ensures.rises);
-      counters = counters_keep (plain_body body) c.in_ok-slots.slots
-          (slots_are c.plain_statements.ensures body c.deref-2.result.now c.in_ok-slots.slots
-          (counters_of_body c.deref-2.result.now _ _ c.deref.result.now body c.deref-2.ensures c.in_ok-width.ensures.counters c.new-counters.ensures
-          c.deref.ensures) c.in_ok-slots.ensures);
+          (ordered_by_rank (plain_body body) c.args.graph.now.nodes c.args.graph.now.edges c.in_ok-nodes.ensures.ordered.ranks nodes
+          c.requires.graph c.in_ok-nodes.ensures.ordered.rise c.in_ok-nodes.ensures.all c.in_ok-nodes.ensures.ordered.sorted);
+      counters = counters_keep (plain_body body) c.in_ok-slots.slots are_numbered;
+      slots = are_numbered;
     }
+  where
+    are_numbered : c.in_ok-slots.slots ≡ numbered (counters_in (plain_body c.args.unit.now.body) 0)
+    are_numbered =
+        slots_are c.plain_statements.ensures c.args.unit.now.body c.deref-2.result.now c.in_ok-slots.slots
+        (counters_of_body c.deref-2.result.now _ _ c.deref.result.now c.args.unit.now.body c.deref-2.ensures c.in_ok-width.ensures.counters
+        c.new-counters.ensures c.deref.ensures) c.in_ok-slots.ensures
 
 pub returns-clause-plain : goal.returns-clause-plain
 returns-clause-plain c =
-    let body = c.args.unit.now.body in
     let nodes = c.in_ok-nodes.nodes.items in
     let blocks : c.in_ok-blocks.blocks ≡ one_each nodes = c.in_ok-blocks.ensures ∙ ap one_each c.deref-3.ensures.value in record {
       single = λ block there. single_blocks nodes block (subst (λ (all : List (List ℕ)). Contains all block) blocks there);
-      slots = slots_are c.plain_statements.ensures body c.deref-2.result.now c.in_ok-slots.slots
-          (counters_of_body c.deref-2.result.now _ _ c.deref.result.now body c.deref-2.ensures c.in_ok-width.ensures.counters c.new-counters.ensures
-          c.deref.ensures) c.in_ok-slots.ensures;
     }
