@@ -83,6 +83,7 @@ activity_merges differ made within from graph to blocks slots unit is_graph is =
   record {
     order = subst (Ordered body) (sym blocks) (ordered body graph is_graph once (begins made unit.body) within from.blocks is.order);
     counters = subst (Counters body) (sym slots) is.counters;
+    slots = slots ∙ is.slots;
   },
   record {
     nodes = ap joined blocks ∙ joined_grouped (follows (ways_of graph.nodes graph.edges)) (joined from.blocks);

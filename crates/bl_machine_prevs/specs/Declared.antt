@@ -1,7 +1,6 @@
--- Where a body asks what a variable was: behind the variable's declaration. And each `run` of a body stands at a place of its own.
+-- Where a body asks what a variable was: behind the variable's declaration.
 use Rattle.std.specs.Prelude.{◌≡◌, ℕ, Bool, true, ◌&&◌, List, [], ◌∷◌, ◌++◌, map, nat_eq, Contains}
 use Rattle.std.specs.List.{list_all, list_any}
-use Rattle.bl_tree.specs.declared.place.Place.{Place}
 use Rattle.bl_tree.specs.declared.tree.Expr.{Expr}
 use Rattle.bl_tree.specs.declared.tree.Stmt.{Stmt, out-Stmt}
 use Rattle.bl_tree.specs.declared.tree.StmtKind.{out-StmtKind}
@@ -10,13 +9,11 @@ use Rattle.bl_tree.specs.declared.tree.Unit.{Unit as UnitDef}
 use Rattle.bl_tree.specs.Reduce.{joined}
 use Rattle.bl_graph_nodes.specs.Nodes.{
   ActAt,
-  Arguments,
   CheckAt,
   EnterAt,
   Node,
   ResumeAt,
   TestAt,
-  nodes_in,
 }
 use Rattle.bl_graph_nodes.specs.Plain.{
   Act,
@@ -28,7 +25,6 @@ use Rattle.bl_graph_nodes.specs.Plain.{
   Cobegin,
   Done,
   If,
-  Label,
   Last,
   Plain,
   Repeat,
@@ -104,16 +100,8 @@ abbrev mutual
 abbrev pub prevs_are_declared : UnitDef → Bool
 prevs_are_declared unit = prevs_stand_in [] (plain_body unit.body)
 
--- ---- runs
-
--- no two `run` statements of a body stand at one place
-pub record RunsStandAlone (body : Block) : Type 0 where
-  pub alone : (l m : Label) (at : Place) (x y : Arguments) → Contains (nodes_in body) (EnterAt l at x) → Contains (nodes_in body) (EnterAt m at y) →
-      EnterAt l at x ≡ EnterAt m at y
-
 -- ---- together
 
 -- what holds of the units of a program that is made of a source text, beside what each typed program keeps
 pub record FromText (units : List UnitDef) : Type 0 where
   pub declared : (unit : UnitDef) → Contains units unit → prevs_are_declared unit ≡ true
-  pub alone : (unit : UnitDef) → Contains units unit → RunsStandAlone (plain_body unit.body)

@@ -1,5 +1,5 @@
-//! The law of programs of accepted trees that a body asks what a variable was only behind its declaration, and that no two of its `run`
-//! statements stand at one place (`FromText` of `bl_machine_prevs`), as the contract of a function that does nothing.
+//! The law of programs of accepted trees that a body asks what a variable was only behind its declaration (`FromText` of `bl_machine_prevs`),
+//! as the contract of a function that does nothing.
 
 ghost use Rattle.bl_tree.specs.declared.program.Program.{Program};
 ghost use Rattle.bl_machine_prevs.specs.Declared.{FromText};

@@ -35,7 +35,7 @@ use Rattle.bl_io.specs.Left.{IsKept}
 use Rattle.bl_types_program.specs.Programs.{typed_of}
 use Rattle.bl_top.specs.Build.{IsBuiltOfProgram}
 use Rattle.bl_top.specs.Built.{BuiltEnds, ran as built_ran, unread as built_unread, want as built_want}
-use Rattle.bl_top.specs.inner.Programs.{IsFileOf}
+use Rattle.bl_top.specs.inner.Programs.{IsFileOfProgram}
 use Rattle.bl_tree.specs.declared.tree.StructDef.{StructDef}
 use Rattle.bl_tree.specs.declared.tree.Unit.{Unit as UnitDef}
 use Rattle.bl_top_args.specs.Jobs.{Word}
@@ -43,7 +43,7 @@ use Rattle.bl_top.proofs.Courses.{BytesFit, LinesFit, course_of_behaviour, fault
 
 -- what spells the file of a program is built of it
 pub text_of_file : (structs : List StructDef) (units : List UnitDef) (entry : ℕ) (file : CFile) (text : List ℕ) → SpellsC file text →
-    IsFileOf structs units entry file → IsBuiltOfProgram structs units entry text
+    IsFileOfProgram structs units entry file → IsBuiltOfProgram structs units entry text
 text_of_file structs units entry file text spells has = record {
   is = record {
     behaviour = behaviour_of (parts_of file);

@@ -14,7 +14,7 @@ use Rattle.bl_ctext.specs.declared.file.CFile.{CFile}
 use Rattle.bl_rows.specs.Reading.{empty_reading, rows_in, rows_of}
 use Rattle.bl_rows.specs.Text.{text_of}
 use Rattle.bl_rows_stream.specs.Streams.{course_of}
-use Rattle.bl_top.specs.inner.Programs.{IsFileOf}
+use Rattle.bl_top.specs.inner.Programs.{IsFileOfProgram}
 use Rattle.bl_tree.specs.Ports.{RowsFit, input_columns}
 use Rattle.bl_tree.specs.declared.place.Place.{Place}
 use Rattle.bl_tree.specs.declared.row.Column.{Column}
@@ -53,7 +53,7 @@ course_of_behaviour structs units entry behaviour is fit so_far = record {
 }
 
 pub course_of_parts : (structs : List StructDef) (units : List UnitDef) (entry : ℕ) (file : CFile) (ready : Parts) →
-    ready ≡ parts_of file → IsFileOf structs units entry file → BytesFit → LinesFit → HasCourse structs units entry (course_of ready)
+    ready ≡ parts_of file → IsFileOfProgram structs units entry file → BytesFit → LinesFit → HasCourse structs units entry (course_of ready)
 course_of_parts structs units entry file ready same is fit so_far =
     subst (λ parts. HasCourse structs units entry (course_of parts)) (sym same)
     (course_of_behaviour structs units entry (behaviour_of (parts_of file)) is.one_trace fit so_far)
@@ -71,7 +71,7 @@ pub not_large : (cells : ℕ) → 1000000 < cells → cells ≤ 1000000 → ⊥
 not_large cells large small = omega (arith, large, small)
 
 pub wants_memory : (file : CFile) (structs : List StructDef) (units : List UnitDef) (entry : ℕ) (fault : LoadFault) →
-    IsFileOf structs units entry file → IsCause (parts_of file) fault →
+    IsFileOfProgram structs units entry file → IsCause (parts_of file) fault →
     fault ≡ load.NoMemory
 wants_memory file structs units entry (load.IllFormed at) is cause = absurd (faultless (parts_of file) at is.well_formed cause)
 wants_memory file structs units entry (load.TooLarge cells) is cause = absurd (not_large (cells_needed (parts_of file)) cause.large is.one_trace.small)

@@ -8,7 +8,7 @@ use Rattle.bl_top_commands.specs.Calls.{Call, Output}
 use Rattle.bl_top_commands.specs.inner.Outcomes.{chosen_line, line_in, lines_in}
 use Rattle.bl_top_commands.specs.Notes.{line_of}
 use Rattle.bl_top_commands.specs.Refusals.{IsNotAccepted}
-use Rattle.bl_top_commands.specs.Sources.{IsProgram}
+use Rattle.bl_top_commands.specs.Sources.{IsProgramOfSource}
 use Rattle.bl_top_commands.specs.declared.answer.Answer.{Answer}
 use Rattle.bl_top_commands.specs.declared.outcome.Outcome.{Outcome}
 use Rattle.bl_top_commands.specs.declared.status.Status.{Status}
@@ -25,8 +25,8 @@ use Rattle.bl_plant_drive_report.specs.declared.report.Report.{Report}
 use Rattle.bl_io.specs.Left.{IsKept}
 use Rattle.bl_types_program.specs.Programs.{typed_of}
 use Rattle.bl_top.specs.Answers.{Answers, drives}
-use Rattle.bl_top.specs.Drive.{DriveEnds, DriveNotes, HasDriven, LeavesPlants, Plants, drove, kept, line_at, setting_of, short, status_at, stopped}
-use Rattle.bl_top.specs.Drive.{unwritten, want, was_driven, whole}
+use Rattle.bl_top.specs.Drive.{DriveEnds, DriveNotes, HasDrivenSource, LeavesDrivenPlants, Plants, drive_line, drive_setting, drive_status}
+use Rattle.bl_top.specs.Drive.{drove, kept, short, stopped, unwritten, want, was_driven, whole}
 use Rattle.bl_top.specs.inner.Driven.{Drives, MayHaveDriven, TellsReport, WritesReport, failed, refused, wrote}
 use Rattle.bl_tree.specs.Ports.{RowsFit, input_columns}
 use Rattle.bl_tree.specs.declared.program.Program.{Program}
@@ -78,7 +78,7 @@ module _ (structs : List StructDef) (units : List UnitDef) (entry : ℕ) (runner
 -- over the rows that were given the parallel meaning allows the trace that was recorded, and no other
 drive_means : (structs : List StructDef) (units : List UnitDef) (entry : ℕ) (plants : Plants) (ticks : ℕ) (names : List ℕ) (parts : Parts)
     (driven : Record) (how : Result (Unit {0}) DriveFault) → OneTrace structs units entry (behaviour_of parts) →
-    IsDriven (setting_of parts plants.before ticks names) plants.after driven how → (shows : Shows) →
+    IsDriven (drive_setting parts plants.before ticks names) plants.after driven how → (shows : Shows) →
     Means structs units entry driven.ins shows ↔ (shows ≡ shown_trace driven.trace)
 drive_means structs units entry plants ticks names parts driven how one is shows =
     subst (λ (t : Trace). Means structs units entry driven.ins shows ↔ (shows ≡ shown_trace t)) (sym is.trace)
@@ -91,7 +91,7 @@ trace_of_tree behaviour structs structs' units units' entry entry' s u e one =
     subst (λ n. OneTrace structs' units' n behaviour) e (subst (λ us. OneTrace structs' us entry behaviour) u
     (subst (λ ss. OneTrace ss units entry behaviour) s one))
 
-module _ (left : Option (List ℕ)) (program : Program) (built : IsProgram left program) (plants : Plants) (ticks : ℕ) (names : List ℕ)
+module _ (left : Option (List ℕ)) (program : Program) (built : IsProgramOfSource left program) (plants : Plants) (ticks : ℕ) (names : List ℕ)
     (parts : Parts) (driven : Record) (how : Result (Unit {0}) DriveFault)
     (drives : Drives program.structs program.units program.entry plants ticks names parts driven how) where
   one_of_tree : OneTrace (typed_of built.has.raw).structs (typed_of built.has.raw).units (typed_of built.has.raw).entry (behaviour_of parts)
@@ -100,7 +100,7 @@ module _ (left : Option (List ℕ)) (program : Program) (built : IsProgram left 
       drives.one_trace
 
   pub source_driven : (text : List ℕ) → text ≡ text_shown (outputs_of parts) driven.trace how →
-      HasDriven left plants ticks names driven how text
+      HasDrivenSource left plants ticks names driven how text
   source_driven text shows = record {
     raw = built.has.raw;
     tree = tree_of_program left program built;
@@ -115,7 +115,7 @@ module _ (left : Option (List ℕ)) (program : Program) (built : IsProgram left 
 -- ---- what is told
 
 -- the line of a status is that of the drive
-line_is : (l : Last) (how : Result (Unit {0}) DriveFault) → chosen_line (status_at (end_at l how)) (line_after how) ≡ line_at how
+line_is : (l : Last) (how : Result (Unit {0}) DriveFault) → chosen_line (drive_status (end_at l how)) (line_after how) ≡ drive_line how
 line_is last.Open (Ok done) = refl
 line_is last.Ended (Ok done) = refl
 line_is last.Trap (Ok done) = refl
@@ -135,11 +135,11 @@ report_written : (outs : List Column) (out : Output) (driven : Record) (how : Re
     IsReportOf outs driven how report → WritesReport report out answer →
     DriveNotes out driven how report.text.items answer.outcome.status (lines_in answer)
 report_written outs out driven how report answer is (wrote grew told ended line) =
-    let status_is : answer.outcome.status ≡ status_at (end_at driven.trace.last how) = ended ∙ ap status_at is.end in
-    let lines_are : lines_in answer ≡ gone_lines driven.gone ++ line_at how =
+    let status_is : answer.outcome.status ≡ drive_status (end_at driven.trace.last how) = ended ∙ ap drive_status is.end in
+    let lines_are : lines_in answer ≡ gone_lines driven.gone ++ drive_line how =
     ap₂ (λ (a b : List ℕ). a ++ b) (told ∙ is.told) (ap₂ chosen_line status_is (line ∙ is.line) ∙ line_is driven.trace.last how) in
     subst (λ (s : Status). DriveNotes out driven how report.text.items s (lines_in answer)) (sym status_is)
-    (subst (λ ls. DriveNotes out driven how report.text.items (status_at (end_at driven.trace.last how)) ls) (sym lines_are) (whole grew))
+    (subst (λ ls. DriveNotes out driven how report.text.items (drive_status (end_at driven.trace.last how)) ls) (sym lines_are) (whole grew))
 report_written outs out driven how report answer is (failed grew risen none e) =
     told_alone out driven how report.text.items answer.told.items answer.outcome.line.items answer.outcome.status status.WriteFault none e
     (unwritten grew risen)
@@ -150,22 +150,22 @@ report_written outs out driven how report answer is (refused grew none e) =
 -- ---- the command
 
 pub drive_drove : (c : Call) (plants : Plants) (source : Word) (ticks : ℕ) (names : List ℕ) (program : Program) (report : Report)
-    (answer : Answer) → IsProgram (c.left source) program → TellsReport program.structs program.units program.entry plants ticks names report →
+    (answer : Answer) → IsProgramOfSource (c.left source) program → TellsReport program.structs program.units program.entry plants ticks names report →
     WritesReport report c.out answer → DriveEnds c plants source ticks names answer.outcome.status (lines_in answer)
 drive_drove c plants source ticks names program report answer built told writes =
     drove told.driven told.how report.text.items
     (source_driven (c.left source) program built plants ticks names told.parts told.driven told.how told.drives report.text.items told.tells.text)
     (report_written (outputs_of told.parts) c.out told.driven told.how report answer told.tells writes)
 
-plants_left : (left : Option (List ℕ)) (plants : Plants) (ticks : ℕ) (names : List ℕ) (program : Program) → IsProgram left program →
-    MayHaveDriven program.structs program.units program.entry plants ticks names → LeavesPlants left plants ticks names
+plants_left : (left : Option (List ℕ)) (plants : Plants) (ticks : ℕ) (names : List ℕ) (program : Program) → IsProgramOfSource left program →
+    MayHaveDriven program.structs program.units program.entry plants ticks names → LeavesDrivenPlants left plants ticks names
 plants_left left plants ticks names program built (inl same) = kept same
 plants_left left plants ticks names program built (inr h) =
     was_driven h.1.0 h.1.1.0 (text_shown (outputs_of h.0) h.1.0.trace h.1.1.0)
     (source_driven left program built plants ticks names h.0 h.1.0 h.1.1.0 h.1.1.1 _ refl)
 
 pub drive_short : (c : Call) (plants : Plants) (source : Word) (ticks : ℕ) (names : List ℕ) (program : Program) (answer : Answer) →
-    IsProgram (c.left source) program → MayHaveDriven program.structs program.units program.entry plants ticks names →
+    IsProgramOfSource (c.left source) program → MayHaveDriven program.structs program.units program.entry plants ticks names →
     answer.outcome.status ≡ status.NoMemory → answer.told.items ≡ [] → IsKept c.out.before c.out.after →
     DriveEnds c plants source ticks names answer.outcome.status (lines_in answer)
 drive_short c plants source ticks names program answer built may e none same =

@@ -14,7 +14,7 @@ use Rattle.bl_top_commands.specs.Reads.{LeftBehind, source_limit}
 use Rattle.bl_top_commands.specs.Refusals.{IsNotAccepted, short as source_short}
 use Rattle.bl_top_commands.specs.Results.{WritesResult, fault, nothing, want, whole}
 use Rattle.bl_top_commands.specs.Rows.{Streams}
-use Rattle.bl_top_commands.specs.Sources.{IsProgram}
+use Rattle.bl_top_commands.specs.Sources.{IsProgramOfSource}
 use Rattle.bl_top_commands.specs.Save.{ResumeEnds, SaveEnds, SaveFromEnds}
 use Rattle.bl_top_commands.specs.Traces.{HasCourse}
 use Rattle.bl_top_commands.specs.Walk.{WalkEnds}
@@ -46,7 +46,7 @@ writes_as P Q out _ turned (fault text is grew risen) = fault text (turned text 
 writes_as P Q out _ turned (want text is grew) = want text (turned text is) grew
 writes_as P Q out _ turned (nothing kept) = nothing kept
 
-pub build_written : (c : Call) (source : Word) (program : Program) (ended : Status) (line : List ℕ) → IsProgram (c.left source) program →
+pub build_written : (c : Call) (source : Word) (program : Program) (ended : Status) (line : List ℕ) → IsProgramOfSource (c.left source) program →
     WritesResult (IsBuiltOfProgram program.structs program.units program.entry) c.out ended → line ≡ line_of ended → BuildEnds c source ended line
 build_written c source program ended line built writes told =
     rw told (written (writes_as (IsBuiltOfProgram program.structs program.units program.entry) (IsBuiltOf (c.left source)) c.out ended
@@ -59,7 +59,7 @@ build_stopped c source ended line stops kept = stopped stops kept
 -- ---- `run`
 
 pub run_ran : ProgramsRunAsTheirSource → FaultsCountFromBefore → (c : Call) (source rows : Word) (program : Program) (course : Course)
-    (between : Word → Option (List ℕ)) (second : ℕ) (ended : Status) (line : List ℕ) → IsProgram (c.left source) program →
+    (between : Word → Option (List ℕ)) (second : ℕ) (ended : Status) (line : List ℕ) → IsProgramOfSource (c.left source) program →
     HasCourse program.structs program.units program.entry course → LeftBehind source_limit source c.left between → (c.file rows).before ≤ second →
     Streams course (between rows) (c.rest rows) (record { before = second; after = (c.file rows).after }) c.out ended line →
     RunEnds c source rows ended line

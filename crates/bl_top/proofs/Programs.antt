@@ -1,7 +1,7 @@
 -- The program of a source, and what is written for it.
 use Rattle.std.proofs.Common.{◌≡◌, ℕ, List, subst}
 use Rattle.std.specs.Prelude.{Option}
-use Rattle.bl_top_commands.specs.Sources.{IsProgram, IsRawTreeOf}
+use Rattle.bl_top_commands.specs.Sources.{IsProgramOfSource, IsRawTreeOf}
 use Rattle.bl_types_program.specs.Programs.{typed_of}
 use Rattle.bl_rules.specs.Accepted.{HasProgram, IsOfTree}
 use Rattle.bl_top.specs.Build.{IsBuiltOf, IsBuiltOfProgram}
@@ -10,10 +10,10 @@ use Rattle.bl_tree.specs.declared.tree.StructDef.{StructDef}
 use Rattle.bl_tree.specs.declared.tree.Unit.{Unit as UnitDef}
 
 pub is_of_tree : ((text : List ℕ) (program : Program) → HasProgram text program → IsOfTree program) → (left : Option (List ℕ)) (program : Program) →
-    IsProgram left program → IsOfTree program
+    IsProgramOfSource left program → IsOfTree program
 is_of_tree of left program is = of is.source program is.has
 
-pub tree_of_program : (left : Option (List ℕ)) (program : Program) (is : IsProgram left program) → IsRawTreeOf left is.has.raw
+pub tree_of_program : (left : Option (List ℕ)) (program : Program) (is : IsProgramOfSource left program) → IsRawTreeOf left is.has.raw
 tree_of_program left program is = record { source = is.source; of_source = is.of_source; has = is.has.has }
 
 -- what is built of the program is built of the tree
@@ -25,7 +25,7 @@ built_of_tree text structs structs' units units' entry entry' s u e is =
     (subst (λ us. IsBuiltOfProgram structs' us entry text) u (subst (λ ss. IsBuiltOfProgram ss units entry text) s is))
 
 -- and so for the source
-pub built_of_source : (left : Option (List ℕ)) (program : Program) (text : List ℕ) → IsProgram left program →
+pub built_of_source : (left : Option (List ℕ)) (program : Program) (text : List ℕ) → IsProgramOfSource left program →
     IsBuiltOfProgram program.structs program.units program.entry text → IsBuiltOf left text
 built_of_source left program text made_of is =
     let made = made_of.has in

@@ -7,19 +7,20 @@ use Rattle.bl_ctree_laws_traces.specs.Traces.OneTrace.{HasOneTrace as MeansOneTr
 use Rattle.bl_emit_file.specs.Shows.{ShowsProgram}
 use Rattle.bl_machine_prevs.specs.Declared.{FromText}
 use Rattle.bl_rules.specs.Accepted.{IsOfTree}
-use Rattle.bl_top.specs.inner.Programs.{IsFileOf}
+use Rattle.bl_top.specs.inner.Programs.{IsFileOfProgram}
 use Rattle.bl_tree.specs.declared.program.Program.{Program}
 use Rattle.bl_tree.specs.declared.tree.StructDef.{StructDef}
 use Rattle.bl_tree.specs.declared.tree.Unit.{Unit as UnitDef}
 
 -- a file that shows a program, every tick of which ends, is one of it
 file_shows : (structs : List StructDef) (units : List UnitDef) (entry : ℕ) (file : CFile) → MeansOneTrace structs units entry →
-    ShowsProgram structs units entry (parts_of file) → IsFileOf structs units entry file
+    ShowsProgram structs units entry (parts_of file) → IsFileOfProgram structs units entry file
 file_shows structs units entry file one shows = record {
   well_formed = shows.well_formed;
   one_trace = record {
     unit = shows.unit;
     is_entry = shows.is_entry;
+    counted = shows.counted;
     small = shows.small;
     inputs = shows.inputs;
     outputs = shows.outputs;
@@ -45,7 +46,7 @@ tree_declares accepted is of_tree declare =
 pub file_of_tree : (accepted : AcceptedProgram) (file : CFile) → IsAccepted accepted → IsOfTree accepted.program →
     ((program : Program) → IsOfTree program → MeansOneTrace program.structs program.units program.entry) →
     ShowsProgram accepted.tree.structs accepted.tree.units accepted.tree.entry (parts_of file) →
-    IsFileOf accepted.program.structs accepted.program.units accepted.program.entry file
+    IsFileOfProgram accepted.program.structs accepted.program.units accepted.program.entry file
 file_of_tree accepted file is of_tree one shows =
     file_shows accepted.program.structs accepted.program.units accepted.program.entry file (one accepted.program of_tree)
     (subst (λ (p : Program). ShowsProgram p.structs p.units p.entry (parts_of file)) (tree_is accepted is) shows)

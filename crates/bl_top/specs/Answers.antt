@@ -6,7 +6,7 @@ use Rattle.bl_top_commands.specs.Check.{CheckEnds}
 use Rattle.bl_top_commands.specs.Count.{CountEnds}
 use Rattle.bl_top_commands.specs.Exec.{ExecEnds}
 use Rattle.bl_top_commands.specs.Gen.{GenEnds}
-use Rattle.bl_top_commands.specs.Notes.{Written, line_of}
+use Rattle.bl_top_commands.specs.Notes.{WritesLines, line_of}
 use Rattle.bl_top_commands.specs.Save.{ResumeEnds, SaveEnds, SaveFromEnds}
 use Rattle.bl_top_commands.specs.declared.status.Status.{Status}
 use Rattle.bl_top_commands.specs.declared.status.Status.TheVariants as status
@@ -53,4 +53,4 @@ pub record Answered (words : List Word) (c : Call) (plants : Plants) (ended : St
   pub meant : Status
   pub lines : List ℕ
   pub answers : Answers c plants (job_of words) meant lines
-  pub written : Written c.notes lines meant ended
+  pub written : WritesLines c.notes lines meant ended

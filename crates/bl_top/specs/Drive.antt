@@ -33,17 +33,17 @@ pub record Plants : Type 0 where
   pub after : List PlantView
 
 -- a C file from its start, plants, the names of those that are asked, and for how many ticks
-abbrev pub setting_of : Parts → List PlantView → ℕ → List ℕ → DriveSetting
-setting_of parts plants ticks names = record { runner = loaded parts; plants = plants; names = names; ticks = ticks }
+abbrev pub drive_setting : Parts → List PlantView → ℕ → List ℕ → DriveSetting
+drive_setting parts plants ticks names = record { runner = loaded parts; plants = plants; names = names; ticks = ticks }
 
 -- a C file with the one trace of a source's program was driven against the plants, with this record and end
-pub record HasDriven (left : Option (List ℕ)) (plants : Plants) (ticks : ℕ) (names : List ℕ) (driven : Driven)
+pub record HasDrivenSource (left : Option (List ℕ)) (plants : Plants) (ticks : ℕ) (names : List ℕ) (driven : Driven)
     (how : Result (Unit {0}) DriveFault) (text : List ℕ) : Type 0 where
   pub raw : Raw
   pub tree : IsRawTreeOf left raw
   pub parts : Parts
   pub one_trace : OneTrace (typed_of raw).structs (typed_of raw).units (typed_of raw).entry (behaviour_of parts)
-  pub is_driven : IsDriven (setting_of parts plants.before ticks names) plants.after driven how
+  pub is_driven : IsDriven (drive_setting parts plants.before ticks names) plants.after driven how
   -- the semantics allows the trace over the rows that the plants gave, and no other
   pub means : (shows : Shows) → Means (typed_of raw).structs (typed_of raw).units (typed_of raw).entry driven.ins shows
       ↔ (shows ≡ shown_trace driven.trace)
@@ -51,38 +51,38 @@ pub record HasDriven (left : Option (List ℕ)) (plants : Plants) (ticks : ℕ) 
   pub shows : text ≡ text_shown (output_columns one_trace.unit) driven.trace how
 
 -- the status of a drive with this end
-abbrev pub status_at : End → Status
-status_at end.Done = status.Ok
-status_at end.Trapped = status.Trapped
-status_at end.PlantFault = status.PlantFault
-status_at end.PlantShape = status.PlantShape
-status_at end.NoMemory = status.NoMemory
+abbrev pub drive_status : End → Status
+drive_status end.Done = status.Ok
+drive_status end.Trapped = status.Trapped
+drive_status end.PlantFault = status.PlantFault
+drive_status end.PlantShape = status.PlantShape
+drive_status end.NoMemory = status.NoMemory
 
 -- the line of what stopped it
-abbrev pub line_at : Result (Unit {0}) DriveFault → List ℕ
-line_at (Err fault.NoMemory) = line_of status.NoMemory
-line_at how = line_after how
+abbrev pub drive_line : Result (Unit {0}) DriveFault → List ℕ
+drive_line (Err fault.NoMemory) = line_of status.NoMemory
+drive_line how = line_after how
 
 -- what a drive shows was to be written: all of it was, and the lines for `notes` tell which plants have finished, and what stopped it
 pub data DriveNotes (out : Output) (driven : Driven) (how : Result (Unit {0}) DriveFault) (text : List ℕ) : Status → List ℕ → Type 0 where
   whole : Appends out.before text out.after →
-      DriveNotes out driven how text (status_at (end_at driven.trace.last how)) (gone_lines driven.gone ++ line_at how)
+      DriveNotes out driven how text (drive_status (end_at driven.trace.last how)) (gone_lines driven.gone ++ drive_line how)
   unwritten : AppendsPart out.before text out.after → HasRisen out.faults → DriveNotes out driven how text status.WriteFault (line_of status.WriteFault)
   want : AppendsPart out.before text out.after → DriveNotes out driven how text status.NoMemory (line_of status.NoMemory)
 
 -- a drive of the source left these plants, or they were kept
-pub data LeavesPlants (left : Option (List ℕ)) (plants : Plants) (ticks : ℕ) (names : List ℕ) : Type 0 where
-  kept : plants.after ≡ plants.before → LeavesPlants left plants ticks names
-  was_driven : (recorded : Driven) (how : Result (Unit {0}) DriveFault) (text : List ℕ) → HasDriven left plants ticks names recorded how text →
-      LeavesPlants left plants ticks names
+pub data LeavesDrivenPlants (left : Option (List ℕ)) (plants : Plants) (ticks : ℕ) (names : List ℕ) : Type 0 where
+  kept : plants.after ≡ plants.before → LeavesDrivenPlants left plants ticks names
+  was_driven : (recorded : Driven) (how : Result (Unit {0}) DriveFault) (text : List ℕ) → HasDrivenSource left plants ticks names recorded how text →
+      LeavesDrivenPlants left plants ticks names
 
 -- the status with which a source is driven against plants, and the lines for `notes`
 pub data DriveEnds (c : Call) (plants : Plants) (source : Word) (ticks : ℕ) (names : List ℕ) : Status → List ℕ → Type 0 where
   drove : {ended : Status} {lines : List ℕ} (driven : Driven) (how : Result (Unit {0}) DriveFault) (text : List ℕ) →
-      HasDriven (c.left source) plants ticks names driven how text → DriveNotes c.out driven how text ended lines →
+      HasDrivenSource (c.left source) plants ticks names driven how text → DriveNotes c.out driven how text ended lines →
       DriveEnds c plants source ticks names ended lines
   -- memory was refused before anything was written
-  short : LeavesPlants (c.left source) plants ticks names → IsKept c.out.before c.out.after →
+  short : LeavesDrivenPlants (c.left source) plants ticks names → IsKept c.out.before c.out.after →
       DriveEnds c plants source ticks names status.NoMemory (line_of status.NoMemory)
   stopped : {ended : Status} {line : List ℕ} → IsNotAccepted (c.left source) (c.file source) ended line → IsKept c.out.before c.out.after →
       plants.after ≡ plants.before → DriveEnds c plants source ticks names ended line

@@ -6,7 +6,7 @@ ghost use Rattle.bl_top_commands.specs.inner.Outcomes.{lines_in};
 ghost use Rattle.bl_top_commands.specs.Reads.{Reads, files_read};
 ghost use Rattle.bl_io.specs.Count.{NeverFell};
 ghost use Rattle.bl_rules.specs.Accepted.{IsOfTree};
-ghost use Rattle.bl_top.specs.Drive.{DriveEnds, status_at};
+ghost use Rattle.bl_top.specs.Drive.{DriveEnds, drive_status};
 ghost use Rattle.bl_top.specs.inner.Driven.{MayHaveDriven, TellsReport, WritesReport};
 ghost use Rattle.bl_top_args.specs.Jobs.{drive};
 
@@ -95,7 +95,7 @@ fn write_report<O: Sink>(alloc: Global, report: Report, out: &mut O) -> Answer
 
 /// The status of a drive that ended so.
 fn status_at(end: End) -> Status
-    ensures { result ≡ status_at end }
+    ensures { result ≡ drive_status end }
 {
     match end {
         End::Done => Status::Ok,

@@ -2,7 +2,7 @@
 
 ghost use Rattle.std.specs.Prelude.{IfOk};
 ghost use Rattle.bl_rules.specs.Accepted.{IsOfTree};
-ghost use Rattle.bl_top.specs.inner.Programs.{IsFileOf};
+ghost use Rattle.bl_top.specs.inner.Programs.{IsFileOfProgram};
 
 use bl_ctext::CFile;
 use bl_rules::Accepted;
@@ -14,7 +14,7 @@ use std::alloc::Global;
 /// The C file of the accepted program of a tree.
 pub fn c_file(alloc: Global, accepted: &Accepted) -> Result<CFile, NoMemory>
     requires { IsOfTree accepted.now.program }
-    ensures { IfOk result (IsFileOf accepted.now.program.structs accepted.now.program.units accepted.now.program.entry) }
+    ensures { IfOk result (IsFileOfProgram accepted.now.program.structs accepted.now.program.units accepted.now.program.entry) }
 {
     accepted_trees_have_one_trace();
     accepted_trees_declare();

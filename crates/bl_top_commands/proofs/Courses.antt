@@ -2,7 +2,7 @@
 use Rattle.std.proofs.Common.{◌≡◌, ◌∙◌, ℕ, List, sym, ap, subst}
 use Rattle.std.specs.Prelude.{Option}
 use Rattle.bl_ctext_semantics.specs.Parts.{Parts}
-use Rattle.bl_top_commands.specs.Sources.{IsProgram, RunsAs}
+use Rattle.bl_top_commands.specs.Sources.{IsProgramOfSource, RunsAs}
 use Rattle.bl_top_commands.specs.Traces.{HasCourse}
 use Rattle.bl_crun.specs.Running.{Running, loaded}
 use Rattle.bl_types_program.specs.Programs.{typed_of}
@@ -32,7 +32,7 @@ course_of_tree course structs structs' units units' entry entry' s u e has =
     subst (λ n. HasCourse structs' units' n course) e (subst (λ us. HasCourse structs' us entry course) u
     (subst (λ ss. HasCourse ss units entry course) s has))
 
-pub runs_as_program : (left : Option (List ℕ)) (program : Program) (course : Course) → IsProgram left program →
+pub runs_as_program : (left : Option (List ℕ)) (program : Program) (course : Course) → IsProgramOfSource left program →
     HasCourse program.structs program.units program.entry course → RunsAs left course
 runs_as_program left program course is has =
     let made = is.has in

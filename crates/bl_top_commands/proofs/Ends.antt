@@ -5,7 +5,7 @@ use Rattle.bl_top_commands.specs.Check.{CheckEnds, accepted, accepted_line, stop
 use Rattle.bl_top_commands.specs.Notes.{line_of}
 use Rattle.bl_top_commands.specs.Refusals.{IsNotAccepted}
 use Rattle.bl_top_commands.specs.Results.{WritesResult, fault, nothing, want, whole}
-use Rattle.bl_top_commands.specs.Sources.{IsProgram}
+use Rattle.bl_top_commands.specs.Sources.{IsProgramOfSource}
 use Rattle.bl_top_commands.specs.declared.status.Status.{Status}
 use Rattle.bl_top_commands.specs.declared.status.Status.TheVariants as status
 use Rattle.bl_io.specs.Held.{Appends, AppendsPart}
@@ -44,7 +44,7 @@ writes_as P Q out _ turned (nothing kept) = nothing kept
 
 -- ---- `check`
 
-pub check_accepted : (c : Call) (source : Word) (program : Program) (ended : Status) (line : List ℕ) → IsProgram (c.left source) program →
+pub check_accepted : (c : Call) (source : Word) (program : Program) (ended : Status) (line : List ℕ) → IsProgramOfSource (c.left source) program →
     WritesResult (λ text. text ≡ accepted_line) c.out ended → line ≡ line_of ended → CheckEnds c source ended line
 check_accepted c source program ended line is writes told = rw told (accepted is.has.raw (tree_of_program (c.left source) program is) writes)
 

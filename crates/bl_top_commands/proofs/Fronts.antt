@@ -15,7 +15,7 @@ use Rattle.bl_top_commands.specs.Refusals.{
   unread,
 }
 use Rattle.bl_top_commands.specs.inner.Outcomes.{IsRefusedBy, chosen_line, line_in}
-use Rattle.bl_top_commands.specs.Sources.{IsProgram, IsRawTreeOf}
+use Rattle.bl_top_commands.specs.Sources.{IsProgramOfSource, IsRawTreeOf}
 use Rattle.bl_io.specs.Left.{GivesUpTo}
 use Rattle.bl_rules.specs.Accepted.{HasProgram}
 use Rattle.bl_rules.specs.Rules.{Fails, FirstFailing, Passes, in_bytes, in_tokens, in_tree}
@@ -49,12 +49,12 @@ whole_of_passing whole got front passes = elim (front_or_long whole got front) [
 
 -- the program of a front is that of the whole
 pub is_program : (before : Option (List ℕ)) (got : List ℕ) (after : Option (List ℕ)) (program : Program) →
-    GivesUpTo source_limit before got after → HasProgram got program → IsProgram before program
+    GivesUpTo source_limit before got after → HasProgram got program → IsProgramOfSource before program
 is_program None got after program read made = record { source = got; of_source = tt; has = made }
 is_program (Some whole) got after program read made =
     record { source = got; of_source = whole_of_passing whole got read.front made.has.passes; has = made }
 
-pub tree_of_program : (left : Option (List ℕ)) (program : Program) (is : IsProgram left program) → IsRawTreeOf left is.has.raw
+pub tree_of_program : (left : Option (List ℕ)) (program : Program) (is : IsProgramOfSource left program) → IsRawTreeOf left is.has.raw
 tree_of_program left program is = record { source = is.source; of_source = is.of_source; has = is.has.has }
 
 -- ---- what is refused

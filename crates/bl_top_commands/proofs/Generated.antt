@@ -1,9 +1,9 @@
 -- How `gen` ends.
 use Rattle.std.proofs.Common.{◌≡◌, ◌≢◌, ◌∙◌, ℕ, ◌<◌, ◌≤◌, ℤ, List, [], ap, inl, inr, refl, subst, sym}
 use Rattle.bl_top_commands.specs.Calls.{Call}
-use Rattle.bl_top_commands.specs.Gen.{GenEnds, IsNotRun, ran, refused as is_refused, short, status_at, stopped, too_large}
+use Rattle.bl_top_commands.specs.Gen.{GenEnds, IsNotRun, last_status, ran, refused as is_refused, short, stopped, too_large}
 use Rattle.bl_top_commands.specs.inner.Outcomes.{IsRefusedBy, IsTold, line_in}
-use Rattle.bl_top_commands.specs.Notes.{Written, line_of, too_large_line}
+use Rattle.bl_top_commands.specs.Notes.{WritesLines, line_of, too_large_line}
 use Rattle.bl_top_commands.specs.declared.outcome.Outcome.{Outcome}
 use Rattle.bl_top_commands.specs.declared.status.Status.{Status}
 use Rattle.bl_top_commands.specs.declared.status.Status.TheVariants as status
@@ -57,7 +57,7 @@ not_run_refused stages refusal.NoMemory outcome why none = rw none short
 -- ---- the end of the command
 
 pub gen_ran : (c : Call) (stages : ℕ) (text : List ℕ) (how : Last) (ended : Status) (line : List ℕ) → IsGeneratedRun stages text how →
-    Written c.out text (status_at how) ended → line ≡ line_of ended → GenEnds c stages ended line
+    WritesLines c.out text (last_status how) ended → line ≡ line_of ended → GenEnds c stages ended line
 gen_ran c stages text how ended line run written told = rw told (ran text how run written)
 
 pub gen_stopped : (c : Call) (stages : ℕ) (ended : Status) (line : List ℕ) → IsNotRun stages ended line → IsKept c.out.before c.out.after →

@@ -29,7 +29,7 @@ use Rattle.std.proofs.lemmas.List.{take-append-le}
 use Rattle.std.proofs.lemmas.Bool.Decides.{nat_tests}
 use Rattle.std.specs.Prelude.{Option, Some, None, ◌==◌}
 use Rattle.bl_top_commands.specs.Calls.{HasRisen, Output}
-use Rattle.bl_top_commands.specs.Notes.{Written, whole, fault, want}
+use Rattle.bl_top_commands.specs.Notes.{WritesLines, whole, fault, want}
 use Rattle.bl_top_commands.specs.declared.status.Status.{Status}
 use Rattle.bl_top_commands.specs.declared.status.Status.TheVariants as status
 use Rattle.bl_io.specs.Held.{Appends, AppendsPart}
@@ -40,16 +40,16 @@ appends_nothing None line e = tt
 appends_nothing (Some bytes) line e = rw e (ap Some (sym (append-nil bytes)))
 
 pub written_whole : (notes : Output) (ended : Status) (told line : List ℕ) → line ≡ told → Appends notes.before line notes.after →
-    Written notes told ended ended
+    WritesLines notes told ended ended
 written_whole notes ended told line e grew = whole (subst (λ l. Appends notes.before l notes.after) e grew)
 
 pub written_fault : (notes : Output) (meant : Status) (told line : List ℕ) → line ≡ told → line ≢ [] →
-    AppendsPart notes.before line notes.after → HasRisen notes.faults → Written notes told meant status.WriteFault
+    AppendsPart notes.before line notes.after → HasRisen notes.faults → WritesLines notes told meant status.WriteFault
 written_fault notes meant told line e some grew risen =
     fault (subst (λ l. l ≢ []) e some) (subst (λ l. AppendsPart notes.before l notes.after) e grew) risen
 
 pub written_want : (notes : Output) (meant : Status) (told line : List ℕ) → line ≡ told → line ≢ [] →
-    AppendsPart notes.before line notes.after → Written notes told meant status.NoMemory
+    AppendsPart notes.before line notes.after → WritesLines notes told meant status.NoMemory
 written_want notes meant told line e some grew =
     want (subst (λ l. l ≢ []) e some) (subst (λ l. AppendsPart notes.before l notes.after) e grew)
 
@@ -103,8 +103,8 @@ some_before (byte ∷ told) line some = λ e. cc
 -- a line was written behind lines that were written
 pub written_behind : (notes : Output) (told line : List ℕ) (middle : ℕ) (held : Option (List ℕ)) (meant ended : Status) →
     notes.faults.before ≤ middle → Appends notes.before told held →
-    Written (record { faults = record { before = middle; after = notes.faults.after }; before = held; after = notes.after }) line meant ended →
-    Written notes (told ++ line) meant ended
+    WritesLines (record { faults = record { before = middle; after = notes.faults.after }; before = held; after = notes.after }) line meant ended →
+    WritesLines notes (told ++ line) meant ended
 written_behind notes told line middle held meant _ below first (whole grew) = whole (appends_both notes.before told line held notes.after first grew)
 written_behind notes told line middle held meant _ below first (fault some grew risen) =
     fault (some_behind told line some) (appends_behind notes.before told line held notes.after first grew)
@@ -114,16 +114,16 @@ written_behind notes told line middle held meant _ below first (want some grew) 
 
 -- or those before it couldn't be written
 pub written_before_fault : (notes : Output) (told line : List ℕ) (meant : Status) → told ≢ [] → AppendsPart notes.before told notes.after →
-    HasRisen notes.faults → Written notes (told ++ line) meant status.WriteFault
+    HasRisen notes.faults → WritesLines notes (told ++ line) meant status.WriteFault
 written_before_fault notes told line meant some grew risen =
     fault (some_before told line some) (appends_front notes.before told line notes.after grew) risen
 
 pub written_before_want : (notes : Output) (told line : List ℕ) (meant : Status) → told ≢ [] → AppendsPart notes.before told notes.after →
-    Written notes (told ++ line) meant status.NoMemory
+    WritesLines notes (told ++ line) meant status.NoMemory
 written_before_want notes told line meant some grew =
     want (some_before told line some) (appends_front notes.before told line notes.after grew)
 
 -- there are none before it
-pub written_alone : (notes : Output) (told line : List ℕ) (meant ended : Status) → told ≡ [] → Written notes line meant ended →
-    Written notes (told ++ line) meant ended
-written_alone notes told line meant ended none written = subst (λ t. Written notes (t ++ line) meant ended) (sym none) written
+pub written_alone : (notes : Output) (told line : List ℕ) (meant ended : Status) → told ≡ [] → WritesLines notes line meant ended →
+    WritesLines notes (told ++ line) meant ended
+written_alone notes told line meant ended none written = subst (λ t. WritesLines notes (t ++ line) meant ended) (sym none) written

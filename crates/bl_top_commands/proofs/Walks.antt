@@ -39,7 +39,7 @@ use Rattle.bl_top_commands.specs.Notes.{line_of}
 use Rattle.bl_top_commands.specs.Reads.{LeftBehind, source_limit}
 use Rattle.bl_top_commands.specs.Refusals.{IsNotAccepted}
 use Rattle.bl_top_commands.specs.Rows.{RanInPart, no_memory, unwritten as streams_unwritten}
-use Rattle.bl_top_commands.specs.Sources.{IsProgram, RunsAs}
+use Rattle.bl_top_commands.specs.Sources.{IsProgramOfSource, RunsAs}
 use Rattle.bl_top_commands.specs.Traces.{HasCourse}
 use Rattle.bl_top_commands.specs.Walk.{WalkEnds, ran, steps, stopped, unwritten, want}
 use Rattle.bl_top_commands.specs.declared.answer.Answer.{Answer}
@@ -322,7 +322,7 @@ entry_from : (found : Option UnitDef) → is_entry found ≡ true → (unit : Un
 entry_from (Some unit) e = (unit, refl)
 entry_from None e = absurd cc
 
-module _ (c : Call) (source rows : Word) (seed : ℕ) (program : Program) (is : IsProgram (c.left source) program)
+module _ (c : Call) (source rows : Word) (seed : ℕ) (program : Program) (is : IsProgramOfSource (c.left source) program)
     (one : HasOneTrace program.structs program.units program.entry) (fit : BytesFit) (so_far : LinesFit) (between : Word → Option (List ℕ))
     (behind : LeftBehind source_limit source c.left between) where
   abbrev course_at : UnitDef → Course

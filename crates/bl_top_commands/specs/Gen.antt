@@ -1,7 +1,7 @@
 -- How `gen` ends.
 use Rattle.std.specs.Prelude.{ℕ, ◌<◌, ◌≤◌, List, Some}
 use Rattle.bl_top_commands.specs.Calls.{Call}
-use Rattle.bl_top_commands.specs.Notes.{Written, line_of, too_large_line}
+use Rattle.bl_top_commands.specs.Notes.{WritesLines, line_of, too_large_line}
 use Rattle.bl_top_commands.specs.Refusals.{RefusedText}
 use Rattle.bl_top_commands.specs.declared.status.Status.{Status}
 use Rattle.bl_top_commands.specs.declared.status.Status.TheVariants as status
@@ -11,11 +11,11 @@ use Rattle.bl_io.specs.Left.{IsKept}
 use Rattle.bl_tree.specs.declared.row.Last.{Last}
 use Rattle.bl_tree.specs.declared.row.Last.TheVariants.{Open, Ended, Trap}
 
--- the status of a generated run with this last state
-abbrev pub status_at : Last → Status
-status_at Open = status.Ok
-status_at Ended = status.Ok
-status_at Trap = status.Trapped
+-- the status of a run that stands so after its rows
+abbrev pub last_status : Last → Status
+last_status Open = status.Ok
+last_status Ended = status.Ok
+last_status Trap = status.Trapped
 
 -- why no program of so many stages is run, with the status and the line
 pub data IsNotRun (stages : ℕ) : Status → List ℕ → Type 0 where
@@ -27,6 +27,6 @@ pub data IsNotRun (stages : ℕ) : Status → List ℕ → Type 0 where
 -- the status with which the program of so many stages is made and run, and the line for `notes`
 pub data GenEnds (c : Call) (stages : ℕ) : Status → List ℕ → Type 0 where
   -- the program ran with its one trace, and what is told of the trace was to be written on `out`
-  ran : {ended : Status} (text : List ℕ) (last : Last) → IsGeneratedRun stages text last → Written c.out text (status_at last) ended →
+  ran : {ended : Status} (text : List ℕ) (last : Last) → IsGeneratedRun stages text last → WritesLines c.out text (last_status last) ended →
       GenEnds c stages ended (line_of ended)
   stopped : {ended : Status} {line : List ℕ} → IsNotRun stages ended line → IsKept c.out.before c.out.after → GenEnds c stages ended line

@@ -3,7 +3,7 @@ use Rattle.std.specs.Prelude.{ℕ, ◌≤◌, List, Option}
 use Rattle.bl_top_commands.specs.Calls.{Output}
 use Rattle.bl_top_commands.specs.Reads.{FileRead, Reads}
 use Rattle.bl_top_commands.specs.Rows.{Streams}
-use Rattle.bl_top_commands.specs.Sources.{IsProgram, RunsAs}
+use Rattle.bl_top_commands.specs.Sources.{IsProgramOfSource, RunsAs}
 use Rattle.bl_top_commands.specs.Traces.{HasCourse}
 use Rattle.bl_top_commands.specs.declared.status.Status.{Status}
 use Rattle.bl_rows_stream.specs.Streams.{Course}
@@ -16,7 +16,7 @@ KeptFilesAreWithinLimits = (files : List FileRead) (left : Word → Option (List
 
 -- what runs the program of a source runs the source
 abbrev pub ProgramsRunAsTheirSource : Type 0
-ProgramsRunAsTheirSource = (left : Option (List ℕ)) (program : Program) (course : Course) → IsProgram left program →
+ProgramsRunAsTheirSource = (left : Option (List ℕ)) (program : Program) (course : Course) → IsProgramOfSource left program →
     HasCourse program.structs program.units program.entry course → RunsAs left course
 
 -- how a run over rows ends holds too where the faults of their file are counted from before it

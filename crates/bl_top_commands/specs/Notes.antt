@@ -7,21 +7,21 @@ use Rattle.bl_io.specs.Held.{Appends, AppendsPart}
 use Rattle.bl_top_args.specs.Usage.{usage_line}
 
 -- the number that the process ends with
-abbrev pub code_of : Status → ℕ
-code_of status.Ok = 0
-code_of status.Refused = 1
-code_of status.Usage = 2
-code_of status.ReadFault = 3
-code_of status.WriteFault = 4
-code_of status.BadRows = 5
-code_of status.Trapped = 6
-code_of status.NoMemory = 7
-code_of status.NotSubset = 8
-code_of status.PlantFault = 9
-code_of status.PlantShape = 10
-code_of status.TooLarge = 11
-code_of status.SaveEnded = 14
-code_of status.BadState = 15
+abbrev pub exit_code_of : Status → ℕ
+exit_code_of status.Ok = 0
+exit_code_of status.Refused = 1
+exit_code_of status.Usage = 2
+exit_code_of status.ReadFault = 3
+exit_code_of status.WriteFault = 4
+exit_code_of status.BadRows = 5
+exit_code_of status.Trapped = 6
+exit_code_of status.NoMemory = 7
+exit_code_of status.NotSubset = 8
+exit_code_of status.PlantFault = 9
+exit_code_of status.PlantShape = 10
+exit_code_of status.TooLarge = 11
+exit_code_of status.SaveEnded = 14
+exit_code_of status.BadState = 15
 
 -- ---- lines, each with its line feed
 
@@ -65,7 +65,7 @@ bad_state_line at = numbered_line (codes "bad state: at ") at
 -- ---- on `notes`
 
 -- the lines of a job with this status were written, or a write failed or wanted memory after a prefix, with the status for that
-pub data Written (notes : Output) (lines : List ℕ) (meant : Status) : Status → Type 0 where
-  whole : Appends notes.before lines notes.after → Written notes lines meant meant
-  fault : lines ≢ [] → AppendsPart notes.before lines notes.after → HasRisen notes.faults → Written notes lines meant status.WriteFault
-  want : lines ≢ [] → AppendsPart notes.before lines notes.after → Written notes lines meant status.NoMemory
+pub data WritesLines (notes : Output) (lines : List ℕ) (meant : Status) : Status → Type 0 where
+  whole : Appends notes.before lines notes.after → WritesLines notes lines meant meant
+  fault : lines ≢ [] → AppendsPart notes.before lines notes.after → HasRisen notes.faults → WritesLines notes lines meant status.WriteFault
+  want : lines ≢ [] → AppendsPart notes.before lines notes.after → WritesLines notes lines meant status.NoMemory

@@ -22,7 +22,7 @@ pub record IsRawTreeOf (left : Option (List ℕ)) (raw : Raw) : Type 0 where
   pub has : HasTree source raw
 
 -- no rule fails for a source, and this is its program
-pub record IsProgram (left : Option (List ℕ)) (program : Program) : Type 0 where
+pub record IsProgramOfSource (left : Option (List ℕ)) (program : Program) : Type 0 where
   pub source : List ℕ
   pub of_source : IsSource left source
   pub has : HasProgram source program

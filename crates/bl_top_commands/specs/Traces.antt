@@ -4,6 +4,7 @@ use Rattle.bl_ctext_semantics_laws_places.specs.Behaviour.{Behaviour}
 use Rattle.bl_ctree.specs.Means.{Means, ShownTrace, shown_trace}
 use Rattle.bl_ctree.specs.Measure.{steps}
 use Rattle.bl_ctree.specs.Reaches.{Bounded, NeverStuck}
+use Rattle.bl_limits_measures.specs.Units.{cells_at}
 use Rattle.bl_rows.specs.Reading.{empty_reading, rows_in, rows_of}
 use Rattle.bl_rows.specs.Text.{text_of}
 use Rattle.bl_rows_stream.specs.Streams.{Course}
@@ -16,6 +17,8 @@ use Rattle.bl_tree.specs.Ports.{RowsFit, input_columns, output_columns}
 pub record OneTrace (structs : List StructDef) (units : List UnitDef) (entry : ℕ) (behaviour : Behaviour) : Type 0 where
   pub unit : UnitDef
   pub is_entry : slice_get units entry ≡ Some unit
+  -- the file needs no more cells than rule Cells counts for the entry
+  pub counted : behaviour.needed ≤ cells_at structs units entry
   -- the file needs no more cells than can be loaded, and its inputs and outputs are those of the entry
   pub small : behaviour.needed ≤ 1000000
   pub inputs : behaviour.inputs ≡ input_columns unit

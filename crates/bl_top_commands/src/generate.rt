@@ -2,9 +2,9 @@
 
 ghost use Rattle.std.specs.Prelude.{◌≡◌, ◌≢◌, ◌≤◌, ℕ, List, [], Option};
 ghost use Rattle.bl_top_commands.specs.Calls.{Count, Output, output_of};
-ghost use Rattle.bl_top_commands.specs.Gen.{GenEnds, IsNotRun, status_at};
+ghost use Rattle.bl_top_commands.specs.Gen.{GenEnds, IsNotRun, last_status};
 ghost use Rattle.bl_top_commands.specs.inner.Outcomes.{line_in};
-ghost use Rattle.bl_top_commands.specs.Notes.{Written, line_of};
+ghost use Rattle.bl_top_commands.specs.Notes.{WritesLines, line_of};
 ghost use Rattle.bl_gen_run.specs.Runs.{IsUnrun};
 ghost use Rattle.bl_top_args.specs.Jobs.{Word};
 
@@ -48,8 +48,8 @@ fn not_run(alloc: Global, unrun: &Unrun) -> Outcome
 /// Writes what is told of a run.
 fn write_run<O: Sink>(alloc: Global, run: &Run, out: &mut O) -> Outcome
     requires { run.now.text.items ≢ [] }
-    ensures written { Written (output_of (O.faults out.old) (O.faults out.new) (O.held out.old) (O.held out.new))
-        run.now.text.items (status_at run.now.last) result.status }
+    ensures written { WritesLines (output_of (O.faults out.old) (O.faults out.new) (O.held out.old) (O.held out.new))
+        run.now.text.items (last_status run.now.last) result.status }
     ensures line { line_in result ≡ line_of result.status }
     ensures out_count { O.faults out.old ≤ O.faults out.new }
 {
@@ -62,7 +62,7 @@ fn write_run<O: Sink>(alloc: Global, run: &Run, out: &mut O) -> Outcome
 
 /// How the job ends of a run that stands so.
 fn end_at(alloc: Global, last: Last) -> Outcome
-    ensures status { result.status ≡ status_at last }
+    ensures status { result.status ≡ last_status last }
     ensures line { line_in result ≡ line_of result.status }
 {
     match last {

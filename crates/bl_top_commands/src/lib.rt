@@ -5,7 +5,7 @@
 //! its bytes (`specs/Refusals.antt`, `IsNotAccepted`). Only the files that the words name are read, each within its
 //! limit (`specs/Reads.antt`, `Reads`). Either a result grew on `out` whole, or a prefix did and the status says why
 //! (`specs/Results.antt`, `WritesResult`). The same holds for the lines of a job on `notes` (`specs/Notes.antt`,
-//! `Written`). `OneTrace` and `HasCourse` (`specs/Traces.antt`) define "has the program's trace" and "prints it as
+//! `WritesLines`). `OneTrace` and `HasCourse` (`specs/Traces.antt`) define "has the program's trace" and "prints it as
 //! `walk` does".
 //!
 //! Laws (`specs/Laws.antt`): unchanged files keep the limits within which a job reads them. What runs the program of a

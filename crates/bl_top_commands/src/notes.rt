@@ -3,7 +3,7 @@
 ghost use Rattle.std.specs.Prelude.{◌≡◌, ◌≤◌};
 ghost use Rattle.bl_top_commands.specs.Calls.{output_of};
 ghost use Rattle.bl_top_commands.specs.inner.Outcomes.{line_in, lines_in};
-ghost use Rattle.bl_top_commands.specs.Notes.{Written, line_of};
+ghost use Rattle.bl_top_commands.specs.Notes.{WritesLines, line_of};
 
 use crate::answer::Answer;
 use crate::outcome::Outcome;
@@ -12,7 +12,7 @@ use bl_io::{IoFault, Sink, write_all};
 
 /// The status after the lines of an answer were written on `notes`: the same, or that of the write.
 pub fn with_notes<N: Sink>(answer: &Answer, notes: &mut N) -> Status
-    ensures written { Written (output_of (N.faults notes.old) (N.faults notes.new) (N.held notes.old) (N.held notes.new))
+    ensures written { WritesLines (output_of (N.faults notes.old) (N.faults notes.new) (N.held notes.old) (N.held notes.new))
         (lines_in answer.now) answer.now.outcome.status result }
     ensures count { N.faults notes.old ≤ N.faults notes.new }
 {
@@ -29,7 +29,7 @@ pub fn with_notes<N: Sink>(answer: &Answer, notes: &mut N) -> Status
 
 /// The status after its line was written on `notes`: the same, or that of the write.
 fn with_note<N: Sink>(outcome: &Outcome, notes: &mut N) -> Status
-    ensures written { Written (output_of (N.faults notes.old) (N.faults notes.new) (N.held notes.old) (N.held notes.new))
+    ensures written { WritesLines (output_of (N.faults notes.old) (N.faults notes.new) (N.held notes.old) (N.held notes.new))
         (line_in outcome.now) outcome.now.status result }
     ensures count { N.faults notes.old ≤ N.faults notes.new }
 {

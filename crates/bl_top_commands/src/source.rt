@@ -4,7 +4,7 @@ ghost use Rattle.std.specs.Prelude.{IfErr, IfOk, OnOk};
 ghost use Rattle.bl_top_commands.specs.inner.Outcomes.{IsRefusedBy, line_in};
 ghost use Rattle.bl_top_commands.specs.Reads.{LeftBehind, source_limit};
 ghost use Rattle.bl_top_commands.specs.Refusals.{IsNotAccepted};
-ghost use Rattle.bl_top_commands.specs.Sources.{IsProgram};
+ghost use Rattle.bl_top_commands.specs.Sources.{IsProgramOfSource};
 ghost use Rattle.bl_io.specs.Count.{NeverFell};
 ghost use Rattle.bl_io.specs.Left.{KeepsOthers, StandsFurther};
 
@@ -25,7 +25,7 @@ pub fn accepted_of<F: Files>(
     source: &str,
     files: &mut F,
 ) -> Result<Accepted, Outcome>
-    ensures program { IfOk result (λ accepted. IsProgram (F.left files.old source.now) accepted.program) }
+    ensures program { IfOk result (λ accepted. IsProgramOfSource (F.left files.old source.now) accepted.program) }
     ensures behind { OnOk result (LeftBehind source_limit source.now (F.left files.old) (F.left files.new)) }
     ensures stopped { IfErr result (λ outcome. IsNotAccepted (F.left files.old source.now)
         (record { before = F.faults files.old source.now; after = F.faults files.new source.now }) outcome.status (line_in outcome)) }

@@ -1,7 +1,7 @@
 //! Statuses of calls.
 
 ghost use Rattle.std.specs.Prelude.{◌≡◌};
-ghost use Rattle.bl_top_commands.specs.Notes.{code_of};
+ghost use Rattle.bl_top_commands.specs.Notes.{exit_code_of};
 
 /// How a call of the program ended (docs/FORMATS.md, "Notes").
 #[derive(Clone, Copy, PartialEq, Eq, Debug)]
@@ -38,7 +38,7 @@ pub enum Status {
 impl Status {
     /// The number that the process ends with.
     pub fn code(self) -> u8
-        ensures { result ≡ code_of self }
+        ensures { result ≡ exit_code_of self }
     {
         match self {
             Status::Ok => 0,

@@ -12,7 +12,7 @@ use Rattle.bl_plant_drive.specs.declared.fault.DriveFault.{DriveFault}
 use Rattle.bl_plant_drive_report.specs.Reports.{IsDriven, IsReportOf}
 use Rattle.bl_plant_drive_report.specs.declared.report.Report.{Report}
 use Rattle.bl_io.specs.Held.{Appends, AppendsPart}
-use Rattle.bl_top.specs.Drive.{Plants, setting_of, status_at}
+use Rattle.bl_top.specs.Drive.{Plants, drive_setting, drive_status}
 use Rattle.bl_tree.specs.declared.tree.StructDef.{StructDef}
 use Rattle.bl_tree.specs.declared.tree.Unit.{Unit as UnitDef}
 
@@ -20,7 +20,7 @@ use Rattle.bl_tree.specs.declared.tree.Unit.{Unit as UnitDef}
 pub record Drives (structs : List StructDef) (units : List UnitDef) (entry : ℕ) (plants : Plants) (ticks : ℕ) (names : List ℕ)
     (parts : Parts) (driven : Driven) (how : Result (Unit {0}) DriveFault) : Type 0 where
   pub one_trace : OneTrace structs units entry (behaviour_of parts)
-  pub is_driven : IsDriven (setting_of parts plants.before ticks names) plants.after driven how
+  pub is_driven : IsDriven (drive_setting parts plants.before ticks names) plants.after driven how
 
 -- the report tells of a C file with the one trace of a program that was driven against the plants
 pub record TellsReport (structs : List StructDef) (units : List UnitDef) (entry : ℕ) (plants : Plants) (ticks : ℕ) (names : List ℕ)
@@ -39,7 +39,7 @@ MayHaveDriven structs units entry plants ticks names = (plants.after ≡ plants.
 -- the text of a report was written, or a prefix where a write failed or memory was refused, with the answer for that
 pub data WritesReport (report : Report) (out : Output) (answer : Answer) : Type 0 where
   wrote : Appends out.before report.text.items out.after → answer.told.items ≡ report.told.items →
-      answer.outcome.status ≡ status_at report.end → answer.outcome.line.items ≡ report.line.items → WritesReport report out answer
+      answer.outcome.status ≡ drive_status report.end → answer.outcome.line.items ≡ report.line.items → WritesReport report out answer
   failed : AppendsPart out.before report.text.items out.after → HasRisen out.faults → answer.told.items ≡ [] →
       answer.outcome.status ≡ status.WriteFault → WritesReport report out answer
   refused : AppendsPart out.before report.text.items out.after → answer.told.items ≡ [] → answer.outcome.status ≡ status.NoMemory →
