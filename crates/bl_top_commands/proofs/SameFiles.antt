@@ -51,14 +51,14 @@ module _ (file other : Parts) (same : behaviour_of file ≡ behaviour_of other) 
   cells_alike rows cells =
       after_ticks file rows cells ∙ ap (λ (b : Behaviour). cells_by b.tick rows cells) same ∙ sym (after_ticks other rows cells)
 
-  starts_alike : starts file ≡ starts other
+  pub starts_alike : starts file ≡ starts other
   starts_alike =
       sym (some_if (starts file) (start_cells file)) ∙ ap (λ (b : Behaviour). is_some b.start) same ∙ some_if (starts other) (start_cells other)
 
   kinds_alike : kinds_of file ≡ kinds_of other
   kinds_alike = ap (λ (b : Behaviour). map (λ cell. cell.kind) b.cells) same
 
-  saved_alike : (numbers : List ℤ) (bytes : List ℕ) → SavedState file numbers bytes → SavedState other numbers bytes
+  pub saved_alike : (numbers : List ℤ) (bytes : List ℕ) → SavedState file numbers bytes → SavedState other numbers bytes
   saved_alike numbers bytes saved = record {
     starts = sym starts_alike ∙ saved.starts;
     fit = ap (λ kinds. in_ranges kinds numbers) (sym kinds_alike) ∙ saved.fit;

@@ -3,26 +3,8 @@ use Rattle.std.proofs.Common.{◌≡◌, ℕ, List, ◌++◌, refl, sym, subst, 
 use Rattle.std.specs.Prelude.{◌⊎◌, Option, Some}
 use Rattle.bl_io.specs.Held.{Appends}
 use Rattle.bl_rules.specs.Rules.{FirstFailing, Passes}
-use Rattle.bl_top.specs.Answers.{
-  Answers,
-  bounds,
-  builds,
-  checks,
-  counts,
-  drives,
-  execs,
-  gens,
-  no_job,
-  resumes,
-  runs,
-  saves,
-  saves_from,
-  short as never_begun,
-  walks,
-}
 use Rattle.bl_top.specs.Build.{BuildEnds, IsBuiltOf, stopped, written}
-use Rattle.bl_top.specs.Drive.{Plants}
-use Rattle.bl_top_args.specs.Jobs.{JobSpec, Word, build}
+use Rattle.bl_top_args.specs.Jobs.{Word, build}
 use Rattle.bl_top_commands.specs.Calls.{Call, Count, HasRisen, Output}
 use Rattle.bl_top_commands.specs.Notes.{WritesLines, fault as notes_fault, want as notes_want, whole as notes_whole}
 use Rattle.bl_top_commands.specs.Refusals.{IsNotAccepted, RefusedText, refused, short, unread}
@@ -37,32 +19,9 @@ use Rattle.bl_top_laws.specs.Correct.{
   NoneRose,
   RefusedBuildsTellFirst,
 }
+use Rattle.bl_top_laws.proofs.Runs.{refused_fails}
+use Rattle.bl_top_laws.proofs.Jobs.{job_ended}
 use Rattle.bl_top_laws.proofs.Texts.{built_correct, told_source, tree_of_source}
-
--- ---- the end of the job
-
--- jobs of one name are of one word
-same_name : (one other : Word) → Some (build one) ≡ Some (build other) → one ≡ other
-same_name one other same = cc
-
--- where the words ask for `build` the job ends as `build` does, or for want of memory
-build_ended : (c : Call) (plants : Plants) (job : Option JobSpec) (name : Word) (ended : Status) (lines : List ℕ) → job ≡ Some (build name) →
-    Answers c plants job ended lines → (ended ≡ status.NoMemory) ⊎ BuildEnds c name ended lines
-build_ended c plants _ name ended lines asks (checks ends) = absurd (cc)
-build_ended c plants _ name ended lines asks (builds {source} ends) =
-    inr (subst (λ n. BuildEnds c n ended lines) (same_name source name asks) ends)
-build_ended c plants _ name ended lines asks (runs ends) = absurd (cc)
-build_ended c plants _ name ended lines asks (walks ends) = absurd (cc)
-build_ended c plants _ name ended lines asks (execs ends) = absurd (cc)
-build_ended c plants _ name ended lines asks (drives ends) = absurd (cc)
-build_ended c plants _ name ended lines asks (gens ends) = absurd (cc)
-build_ended c plants _ name ended lines asks (bounds ends) = absurd (cc)
-build_ended c plants _ name ended lines asks (counts ends) = absurd (cc)
-build_ended c plants _ name ended lines asks (saves ends) = absurd (cc)
-build_ended c plants _ name ended lines asks (saves_from ends) = absurd (cc)
-build_ended c plants _ name ended lines asks (resumes ends) = absurd (cc)
-build_ended c plants _ name _ _ asks (no_job kept) = absurd (cc)
-build_ended c plants job name _ _ asks (never_begun kept same) = inl refl
 
 -- ---- Ok
 
@@ -113,7 +72,7 @@ pub builds_correct : BuildsAreCorrect
 builds_correct words c plants name source before call held =
     let answered = call.answered in
     ended_ok c name source before answered.meant answered.lines call.holds held
-    (build_ended c plants _ name answered.meant answered.lines call.asks answered.answers)
+    (job_ended c plants (build name) _ answered.meant answered.lines call.asks answered.answers)
     (ok_meant c.notes answered.lines answered.meant status.Ok answered.written refl)
 
 -- ---- Refused
@@ -168,7 +127,7 @@ refused_first words c plants name source before call held =
     let is = refused_meant c.notes answered.lines answered.meant status.Refused answered.written refl in
     first_told (c.left name) source before answered.lines c.notes.before c.notes.after call.holds held
     (ended_refused c name answered.meant answered.lines
-    (build_ended c plants _ name answered.meant answered.lines call.asks answered.answers) is.0) is.1
+    (job_ended c plants (build name) _ answered.meant answered.lines call.asks answered.answers) is.0) is.1
 
 -- ---- what else there is
 
@@ -183,13 +142,6 @@ written_decides left source out _ holds none (whole text is grew) = inr (inl ((t
 written_decides left source out _ holds none (fault text is grew risen) = absurd (none risen)
 written_decides left source out _ holds none (want text is grew) = inl refl
 written_decides left source out _ holds none (nothing kept) = inl refl
-
--- a rule fails for a source that is refused
-refused_fails : (left : Option (List ℕ)) (source line : List ℕ) → left ≡ Some source → RefusedText left line → ¬ Passes source
-refused_fails left source line holds why = λ passes.
-    let same = told_source left source why.text holds why.of_source in
-    let first = subst (λ text. FirstFailing text why.rule why.place why.also) (sym same) why.first in
-    passes why.rule why.place why.also first.fails
 
 stopped_decides : (left : Option (List ℕ)) (file : Count) (source : List ℕ) (ended : Status) (line : List ℕ) → left ≡ Some source →
     ¬ HasRisen file → IsNotAccepted left file ended line → Decided source ended
@@ -220,6 +172,6 @@ notes_decide source notes lines meant _ none decided (notes_want some grew) = in
 pub builds_decide : BuildsDecide
 builds_decide words c plants name source ended call none =
     let answered = call.answered in
-    let ends = build_ended c plants _ name answered.meant answered.lines call.asks answered.answers in
+    let ends = job_ended c plants (build name) _ answered.meant answered.lines call.asks answered.answers in
     notes_decide source c.notes answered.lines answered.meant ended none.notes
     (ended_decides c name source answered.meant answered.lines call.holds none ends) answered.written

@@ -1,0 +1,6 @@
+use Rattle.bl_top_laws.proofs.Calls.{calls_end_as_due}
+use Rattle.bl_top_laws.proofs.complete.calls_end_as_due.Goals as goal
+
+pub returns : goal.returns
+returns c =
+    calls_end_as_due c.an_accepted_text_has_one_tree.ensures.one c.bytes_behave_as_their_file.ensures.each c.one_memory.ensures

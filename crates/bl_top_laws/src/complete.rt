@@ -1,0 +1,16 @@
+//! Calls in which nothing fails end as is due, as the contract of a function that does nothing.
+
+ghost use Rattle.bl_top_laws.specs.Complete.{CallsEndAsDue};
+
+use bl_ctext_semantics_laws_places::bytes::bytes_behave_as_their_file;
+use bl_rules::laws::an_accepted_text_has_one_tree;
+use bl_save::laws::one_memory;
+
+/// A call in which no count of faults rises ends with the status that the contents of its files say, want of memory aside.
+pub fn calls_end_as_due()
+    ensures { CallsEndAsDue }
+{
+    an_accepted_text_has_one_tree();
+    bytes_behave_as_their_file();
+    one_memory();
+}
