@@ -1,9 +1,15 @@
 mod Answering
 mod Blocks
+mod Calls
 mod Lining
 mod Moving
+mod Peeling
+mod Places
+mod Programs
 mod Relating
 mod Running
+mod Shapes
 mod Stepping
 mod Stilling
 mod Waking
+mod Whole

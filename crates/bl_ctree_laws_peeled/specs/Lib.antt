@@ -1,4 +1,5 @@
 pub mod Answers
+pub mod Bodies
 pub mod Lines
 pub mod Runs
 pub mod Settings

@@ -8,6 +8,7 @@
 #![tactic(auto)]
 
 pub mod answers;
+pub mod bodies;
 pub mod runs;
 pub mod steps;
 pub mod unrolling;

@@ -1,0 +1,4 @@
+pub mod Count
+pub mod Laws
+pub mod Peeled
+pub mod inner
