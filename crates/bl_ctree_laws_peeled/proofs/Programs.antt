@@ -68,7 +68,8 @@ use Rattle.bl_ctree.specs.Store.{
 use Rattle.bl_ctree.specs.declared.instance.Instance.{Instance}
 use Rattle.bl_ctree.specs.declared.instance.Origin.{Origin}
 use Rattle.bl_peel.specs.Peeled.{peeled}
-use Rattle.bl_ctree_laws_peeled.specs.Bodies.{PeeledIsSameProgram, PeeledRuns, UnitPeels, UnitsPeel, is_peeled, kept, more_units, no_units}
+use Rattle.bl_ctree_laws_peeled.specs.Bodies.{PeeledIsSameProgram, PeeledRuns}
+use Rattle.bl_peel.specs.Units.{UnitPeels, UnitsPeel, is_peeled, kept, more_units, no_units}
 use Rattle.bl_ctree_laws_peeled.specs.Settings.{SameProgram, UnitUnrolls, no_unit, one_unit}
 use Rattle.bl_ctree_laws_peeled.specs.Unrolls.{AnyHead}
 use Rattle.bl_ctree_laws_peeled.proofs.Blocks.{block_same}

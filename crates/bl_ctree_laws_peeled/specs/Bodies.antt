@@ -1,27 +1,17 @@
 -- Programs in which loops that begin branches have first turns, in the bodies of some activities.
-use Rattle.std.specs.Prelude.{ℕ, ℤ, false, List, [], ◌∷◌, ◌≡◌}
+use Rattle.std.specs.Prelude.{ℕ, ℤ, List, ◌≡◌}
 use Rattle.bl_tree.specs.declared.tree.Stmt.{Stmt}
 use Rattle.bl_tree.specs.declared.tree.StructDef.{StructDef}
 use Rattle.bl_tree.specs.declared.tree.Unit.{Unit as UnitDef}
-use Rattle.bl_tree.specs.Typing.{is_function}
 use Rattle.bl_graph_nodes.specs.Plain.{plain_body}
 use Rattle.bl_ctree.specs.Instances.{runs_of, setting_of}
 use Rattle.bl_ctree.specs.Means.{Means, ShownTrace}
 use Rattle.bl_ctree.specs.Reaches.{NeverStuck}
 use Rattle.bl_ctree_laws.specs.Fitted.{Fitted}
 use Rattle.bl_peel.specs.Peeled.{peeled}
+use Rattle.bl_peel.specs.Units.{UnitsPeel}
 use Rattle.bl_ctree_laws_peeled.specs.Settings.{SameProgram}
 use Rattle.bl_ctree_laws_peeled.specs.Unrolls.{AnyHead, Unrolls}
-
--- a unit and what it is in the second program: the unit itself, or an activity with its body peeled
-pub data UnitPeels : UnitDef → UnitDef → Type 0 where
-  kept : {unit : UnitDef} → UnitPeels unit unit
-  is_peeled : {unit : UnitDef} → is_function unit.kind ≡ false → UnitPeels unit (record unit { body = peeled unit.body })
-
--- the units of two programs, one by one
-pub data UnitsPeel : List UnitDef → List UnitDef → Type 0 where
-  no_units : UnitsPeel [] []
-  more_units : {unit tree : UnitDef} {units trees : List UnitDef} → UnitPeels unit tree → UnitsPeel units trees → UnitsPeel (unit ∷ units) (tree ∷ trees)
 
 -- a peeled body is the body with first turns of loops unrolled
 abbrev pub PeeledUnrolls : Type 0
