@@ -52,7 +52,7 @@ use Rattle.bl_ctext_semantics.proofs.Induction.{Optional, StmtCases, induct_stmt
 use Rattle.bl_bound.specs.declared.cost.Cost.{Cost}
 use Rattle.bl_bound.specs.declared.cost.Cost.TheVariants.{Number, Over}
 use Rattle.bl_bound.specs.inner.Capped.{amount, amounts, capped}
-use Rattle.bl_bound.specs.Told.{told}
+use Rattle.bl_bound.specs.Told.{reported_cost}
 use Rattle.bl_bound.proofs.CapLemmas.{AlikeCapped, amount-capped, calls-alike, capped-twice, max-alike, next_of, sum-alike, sum-next, total-alike, with-alike}
 
 -- ---- blocks
@@ -134,17 +134,17 @@ module _ (s t : Costs) (alike : AlikeCapped s t) where
 
 -- ---- what is told
 
-pub told-small : (n : ℕ) → n < 2 ^ 128 → told n ≡ Number n
+pub told-small : (n : ℕ) → n < 2 ^ 128 → reported_cost n ≡ Number n
 told-small n h = ap (λ b. if b then Number n else Over) (lt-ltb n (2 ^ 128) h)
 
-pub told-large : (n : ℕ) → 2 ^ 128 ≤ n → told n ≡ Over
+pub told-large : (n : ℕ) → 2 ^ 128 ≤ n → reported_cost n ≡ Over
 told-large n h = ap (λ b. if b then Number n else Over) (le-ltb n (2 ^ 128) h)
 
 -- what is told of two numbers that costs tell alike
-pub told-alike : (m n : ℕ) → capped m ≡ capped n → told m ≡ told n
+pub told-alike : (m n : ℕ) → capped m ≡ capped n → reported_cost m ≡ reported_cost n
 told-alike m n e =
-    elim (nat_lt m (2 ^ 128)) as (λ small. nat_lt m (2 ^ 128) ≡ small → told m ≡ told n) [
-      | true ↦ λ is. let less = ltb-true m (2 ^ 128) is in let same : m ≡ n = omega (arith, less) in ap told same
+    elim (nat_lt m (2 ^ 128)) as (λ small. nat_lt m (2 ^ 128) ≡ small → reported_cost m ≡ reported_cost n) [
+      | true ↦ λ is. let less = ltb-true m (2 ^ 128) is in let same : m ≡ n = omega (arith, less) in ap reported_cost same
       | false ↦ λ is. let least = ltb-false m (2 ^ 128) is in let other : 2 ^ 128 ≤ n = omega (arith, least) in
           told-large m least ∙ sym (told-large n other)
     ] refl
@@ -155,14 +155,14 @@ Fits (Number n) = n < 2 ^ 128
 Fits Over = Unit {0}
 
 -- what a cost tells that stands for a number
-pub told-of : (cost : Cost) (n : ℕ) → Fits cost → amount cost ≡ capped n → cost ≡ told n
+pub told-of : (cost : Cost) (n : ℕ) → Fits cost → amount cost ≡ capped n → cost ≡ reported_cost n
 told-of (Number m) n fits e = let same : m ≡ n = omega (arith, fits) in ap Number same ∙ sym (told-small n (omega (arith, fits, same)))
 told-of Over n fits e = sym (told-large n (omega arith))
 
 -- the number that is told
-pub amount-told : (n : ℕ) → amount (told n) ≡ capped n
+pub amount-told : (n : ℕ) → amount (reported_cost n) ≡ capped n
 amount-told n =
-    elim (nat_lt n (2 ^ 128)) as (λ small. nat_lt n (2 ^ 128) ≡ small → amount (told n) ≡ capped n) [
+    elim (nat_lt n (2 ^ 128)) as (λ small. nat_lt n (2 ^ 128) ≡ small → amount (reported_cost n) ≡ capped n) [
       | true ↦ λ is. ap amount (told-small n (ltb-true n (2 ^ 128) is))
       | false ↦ λ is. let least = ltb-false n (2 ^ 128) is in
           let full : 2 ^ 128 ≡ capped n = omega (arith, least) in ap amount (told-large n least) ∙ full
@@ -172,14 +172,14 @@ amount-told n =
 
 -- what is told of each of these functions over the costs of earlier ones
 abbrev pub told_after : Costs → List CFunc → List Cost
-told_after known functions = map (λ cost. told cost.1) (costs_after known functions)
+told_after known functions = map (λ cost. reported_cost cost.1) (costs_after known functions)
 
 pub told_after-alike : (s t : Costs) → AlikeCapped s t → (functions : List CFunc) → told_after s functions ≡ told_after t functions
 told_after-alike s t alike [] = refl
 told_after-alike s t alike (f ∷ functions) =
     let same = function-alike s t alike f in
     ap (λ cost. cost ∷ told_after (with_entry s f.name (cost_of_function s f)) functions) (told-alike (cost_of_function s f) (cost_of_function t f) same)
-    ∙ ap (λ rest. told (cost_of_function t f) ∷ rest)
+    ∙ ap (λ rest. reported_cost (cost_of_function t f) ∷ rest)
     (told_after-alike (with_entry s f.name (cost_of_function s f)) (with_entry t f.name (cost_of_function t f))
     (with-alike s t f.name (cost_of_function s f) (cost_of_function t f) alike same) functions)
 
@@ -193,7 +193,7 @@ mapped None false cost = refl
 -- one more function
 pub costs-next : (old new : Table Cost) (functions : List CFunc) (k : ℕ) (f : CFunc) (cost : Cost) (told_so_far more all : List Cost) →
     k < length functions → f ≡ get_or functions k f →
-    cost ≡ told (cost_of_function (amounts old) f) →
+    cost ≡ reported_cost (cost_of_function (amounts old) f) →
     ((asked : Text) → new asked ≡ with_entry old f.name cost asked) → more ≡ told_so_far ++ cost ∷ [] →
     told_so_far ++ told_after (amounts old) (drop k functions) ≡ all →
     more ++ told_after (amounts new) (drop (k + 1) functions) ≡ all
@@ -205,7 +205,7 @@ costs-next old new functions k f cost told_so_far more all within is e add grown
     λ asked. ap (λ c. option_map capped (option_map amount c)) (add asked)
     ∙ ap (option_map capped) (mapped (old asked) (bytes_eq f.name asked) cost)
     ∙ with-alike (amounts old) (amounts old) f.name (amount cost) n (λ a. refl) (ap capped exact ∙ capped-twice n) asked in
-    let whole : told_so_far ++ (told n ∷ told_after (with_entry (amounts old) f.name n) rest) ≡ all =
+    let whole : told_so_far ++ (reported_cost n ∷ told_after (with_entry (amounts old) f.name n) rest) ≡ all =
     subst (λ l. told_so_far ++ told_after (amounts old) l ≡ all) (next_of functions k f within is) h in
     ap (λ l. l ++ told_after (amounts new) rest) grown
     ∙ append_assoc told_so_far (cost ∷ []) (told_after (amounts new) rest)

@@ -6,7 +6,7 @@ use Rattle.bl_tree.specs.declared.c.CFunc.{CFunc}
 use Rattle.bl_ctext_semantics.specs.Cost.{Costs, cost_of_function, costs_after}
 use Rattle.bl_ctext_semantics.specs.Tables.{no_entries, with_entry}
 use Rattle.bl_bound.specs.declared.cost.Cost.{Cost}
-use Rattle.bl_bound.specs.Told.{told, told_costs}
+use Rattle.bl_bound.specs.Told.{reported_cost, told_costs}
 use Rattle.bl_bound.specs.Text.{bound_text, costs_text, line_text}
 use Rattle.bl_bound.proofs.CapLemmas.{next_of}
 use Rattle.bl_bound.proofs.CostLemmas.{told_after}
@@ -20,7 +20,7 @@ lines (f ∷ functions) (cost ∷ costs) = line_text f.name cost ++ lines functi
 lines-after : (known : Costs) (functions : List CFunc) → lines functions (told_after known functions) ≡ costs_text (costs_after known functions)
 lines-after known [] = refl
 lines-after known (f ∷ functions) =
-    ap (λ t. line_text f.name (told (cost_of_function known f)) ++ t)
+    ap (λ t. line_text f.name (reported_cost (cost_of_function known f)) ++ t)
     (lines-after (with_entry known f.name (cost_of_function known f)) functions)
 
 pub lines-told : (functions : List CFunc) → lines functions (told_costs functions) ≡ bound_text functions

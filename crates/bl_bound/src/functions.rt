@@ -3,7 +3,7 @@
 ghost use Rattle.std.specs.Prelude.{◌≡◌, IfOk};
 ghost use Rattle.bl_ctext_semantics.specs.Cost.{cost_of_function};
 ghost use Rattle.bl_bound.specs.inner.Capped.{costs_in};
-ghost use Rattle.bl_bound.specs.Told.{told, told_costs};
+ghost use Rattle.bl_bound.specs.Told.{reported_cost, told_costs};
 
 use crate::calls::Known;
 use crate::cost::Cost;
@@ -25,7 +25,7 @@ pub fn costs(alloc: Global, file: &CFile) -> Result<List<Cost>, NoMemory>
 /// The cost of a function, over those of the functions that are known. A number lies in the range of its type, which the
 /// match shows.
 fn of_function(known: &Known<'_>, function: &CFunc) -> Cost
-    ensures { result ≡ told (cost_of_function (costs_in known.now) function.now) }
+    ensures { result ≡ reported_cost (cost_of_function (costs_in known.now) function.now) }
 {
     match of_block(known, &function.body) {
         Cost::Number(number) => Cost::Number(number),

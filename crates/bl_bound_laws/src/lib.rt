@@ -5,7 +5,7 @@
 
 ghost use Rattle.std.specs.Prelude.{◌≤◌, ℕ, ℤ, List, All};
 ghost use Rattle.bl_ctext.specs.SpellsC.{SpellsC};
-ghost use Rattle.bl_ctext_semantics.specs.Cost.{bound};
+ghost use Rattle.bl_ctext_semantics.specs.Cost.{tick_bound};
 ghost use Rattle.bl_ctext_semantics.specs.Parts.{parts_of};
 ghost use Rattle.bl_ctext_semantics_laws_places.specs.Behaviour.{Behaviour, behaviour_of};
 ghost use Rattle.bl_ctext_semantics_laws_places.specs.Bytes.{Behaves};
@@ -18,7 +18,7 @@ use bl_ctext_semantics_laws_places::bytes::bytes_behave_as_their_file;
 
 /// No tick of a run executes more statements than the file's bound, over all rows.
 pub fn runs_are_bounded(_file: &CFile)
-    ensures runs { (rows : List (List ℤ)) → All (λ n. n ≤ bound (parts_of _file.now)) (counts_of (parts_of _file.now) rows) }
+    ensures runs { (rows : List (List ℤ)) → All (λ n. n ≤ tick_bound (parts_of _file.now)) (counts_of (parts_of _file.now) rows) }
     ensures behaves { IsBounded (behaviour_of (parts_of _file.now)) }
 {
     within_bound(_file);

@@ -55,8 +55,8 @@ use Rattle.bl_cause.specs.inner.Orders.{
   SearchState,
   Sorted,
   advanced,
+  after_entering,
   at_edge,
-  entered,
   entered_unless,
 }
 use Rattle.bl_cause.proofs.ListLemmas.{filter_keeps, reverse_push}
@@ -104,7 +104,7 @@ module _ (edges : List Edge) (rows : List (List Edge)) where
   -- ---- a node is entered
 
   pub keeps_entered : (s : SearchState) (node : ℕ) → node < length s.seen → SearchInvariant edges rows s →
-      ((outer : ℕ) → Open outer (reverse s.stack) → Reaches edges outer node) → SearchInvariant edges rows (entered node s)
+      ((outer : ℕ) → Open outer (reverse s.stack) → Reaches edges outer node) → SearchInvariant edges rows (after_entering node s)
   keeps_entered s node lt h reach =
       elim (get_or s.seen node false) as (λ b. get_or s.seen node false ≡ b → SearchInvariant edges rows (entered_unless b node s)) [
         | true ↦ λ is. h
@@ -265,7 +265,7 @@ module _ (edges : List Edge) (rows : List (List Edge)) where
 
 -- ---- what stays as it is
 
-entered_length : (node : ℕ) (s : SearchState) → length (entered node s).seen ≡ length s.seen
+entered_length : (node : ℕ) (s : SearchState) → length (after_entering node s).seen ≡ length s.seen
 entered_length node s = by (get_or s.seen node false)
   where
     by : (b : Bool) → length (entered_unless b node s).seen ≡ length s.seen
@@ -279,7 +279,7 @@ advanced_length frame row s = by (slice_get row frame.next)
     by None = refl
     by (Some edge) = entered_length edge.to (with_frame s (next_of frame))
 
-entered_seen : (node : ℕ) (s : SearchState) (at : ℕ) → get_or s.seen at false ≡ true → get_or (entered node s).seen at false ≡ true
+entered_seen : (node : ℕ) (s : SearchState) (at : ℕ) → get_or s.seen at false ≡ true → get_or (after_entering node s).seen at false ≡ true
 entered_seen node s at good = by (get_or s.seen node false)
   where
     by : (b : Bool) → get_or (entered_unless b node s).seen at false ≡ true
@@ -302,7 +302,7 @@ frames_push : (count : ℕ) (stack : List Frame) (frame : Frame) → FramesWithi
     FramesWithin count (stack ++ frame ∷ [])
 frames_push count stack frame all lt = All-push (λ frame. frame.node < count) stack frame all lt
 
-entered_frames : (count node : ℕ) (s : SearchState) → node < count → FramesWithin count s.stack → FramesWithin count (entered node s).stack
+entered_frames : (count node : ℕ) (s : SearchState) → node < count → FramesWithin count s.stack → FramesWithin count (after_entering node s).stack
 entered_frames count node s lt all = by (get_or s.seen node false)
   where
     by : (b : Bool) → FramesWithin count (entered_unless b node s).stack
@@ -320,7 +320,7 @@ advanced_frames count frame row s within lt all = by (slice_get row frame.next) 
         let to : edge.to < count = subst (λ it. it.to < count) (get_or_from_slice_get row frame.next edge edge is) end.1 in
         entered_frames count edge.to (with_frame s (next_of frame)) to (frames_push count s.stack (next_of frame) all lt)
 
-entered_order : (node : ℕ) (s : SearchState) → (entered node s).order ≡ s.order
+entered_order : (node : ℕ) (s : SearchState) → (after_entering node s).order ≡ s.order
 entered_order node s = by (get_or s.seen node false)
   where
     by : (b : Bool) → (entered_unless b node s).order ≡ s.order
@@ -508,28 +508,28 @@ searched_first rows = record {
 }
 
 -- a node was entered
-pub entered_going : (rows : List (List Edge)) (k : ℕ) (s next : SearchState) → k < length rows → next ≡ entered k s → Searched rows k s →
+pub entered_going : (rows : List (List Edge)) (k : ℕ) (s next : SearchState) → k < length rows → next ≡ after_entering k s → Searched rows k s →
     (length next.seen ≡ length rows) × FramesWithin (length next.seen) next.stack × All (λ node. node < length next.seen) next.order
 entered_going rows k s next lt is h = subst (λ it. (length it.seen ≡ length rows) × FramesWithin (length it.seen) it.stack × All (λ node.
     node < length it.seen) it.order) (sym is) (
       same,
-      subst (λ n. FramesWithin n (entered k s).stack) (sym same)
+      subst (λ n. FramesWithin n (after_entering k s).stack) (sym same)
           (entered_frames (length rows) k s lt (subst (FramesWithin (length rows)) (sym h.empty) (All-nil (λ frame. frame.node < length rows)))),
-      subst (λ n. All (λ node. node < n) (entered k s).order) (sym same) (subst (λ order. All (λ node.
+      subst (λ n. All (λ node. node < n) (after_entering k s).order) (sym same) (subst (λ order. All (λ node.
           node < length rows) order) (sym (entered_order k s)) h.nodes),
     )
   where
-    same : length (entered k s).seen ≡ length rows
+    same : length (after_entering k s).seen ≡ length rows
     same = entered_length k s ∙ h.length_stays
 
-entered_new : (node : ℕ) (s : SearchState) → node < length s.seen → get_or (entered node s).seen node false ≡ true
+entered_new : (node : ℕ) (s : SearchState) → node < length s.seen → get_or (after_entering node s).seen node false ≡ true
 entered_new node s lt = by (get_or s.seen node false) refl
   where
     by : (b : Bool) → get_or s.seen node false ≡ b → get_or (entered_unless b node s).seen node false ≡ true
     by true is = is
     by false is = seen_new s.seen node lt
 
-pub searched_next : (rows : List (List Edge)) (k : ℕ) (s next last : SearchState) → k < length rows → next ≡ entered k s →
+pub searched_next : (rows : List (List Edge)) (k : ℕ) (s next last : SearchState) → k < length rows → next ≡ after_entering k s →
     length last.seen ≡ length next.seen →
     last.stack ≡ [] → All (λ node. node < length last.seen) last.order →
     ((node : ℕ) → get_or next.seen node false ≡ true → get_or last.seen node false ≡ true) →

@@ -4,7 +4,7 @@ ghost use Rattle.std.specs.Prelude.{◌≡◌, ◌+◌, ◌<◌, ◌≤◌, ◌^
 ghost use Rattle.std.specs.Prelude.{length, replicate, slice_index_or, IfOk, OnOk};
 ghost use Rattle.bl_cause.specs.inner.Found.{InGraphs};
 ghost use Rattle.bl_cause.specs.inner.Lists.{In, RowsWithin, Within};
-ghost use Rattle.bl_cause.specs.inner.Orders.{SearchInvariant, SearchKeepsInvariant, Sorted, advanced, at_edge, entered, state_of};
+ghost use Rattle.bl_cause.specs.inner.Orders.{SearchInvariant, SearchKeepsInvariant, Sorted, advanced, after_entering, at_edge, state_of};
 
 use crate::edges::leaving;
 use bl_tree::graph::Edge;
@@ -77,7 +77,7 @@ impl Search {
     /// Enters the node, unless it was seen before.
     fn enter(&mut self, node: u32) -> Result<(), NoMemory>
         requires { node < length self.old.seen }
-        ensures { OnOk result (state_of self.new ≡ entered node (state_of self.old)) }
+        ensures { OnOk result (state_of self.new ≡ after_entering node (state_of self.old)) }
     {
         if !self.seen[node as usize] {
             self.seen.set(node as usize, true);

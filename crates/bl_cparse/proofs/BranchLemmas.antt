@@ -9,11 +9,11 @@ use Rattle.bl_tree.specs.Reduce.{all_of}
 use Rattle.bl_ctext.specs.Token.{Token}
 use Rattle.bl_ctext.specs.Spelling.{braced, expr_tokens, stmt_kind_tokens, stmt_tokens}
 use Rattle.bl_ctext.specs.Spellable.{spells_expr, spells_stmt, spells_stmt_kind}
-use Rattle.bl_cparse.specs.HasPlaces.{TextSpot, and_then, else_walk, expr_walk, in_turn, made, next, past, stmt_kind_walk, stmt_walk}
+use Rattle.bl_cparse.specs.HasPlaces.{TextSpot, and_then, behind_tokens, else_walk, expr_walk, in_turn, made, next_spot, stmt_kind_walk, stmt_walk}
 
 rolled_walk : (test : CExpr) (block other : List CStmt) (s a b c d e : TextSpot) →
-    made (λ t. t) (codes ")" ∷ codes "{" ∷ []) (expr_walk test (past (codes "if" ∷ codes "(" ∷ []) s)) ≡ (test, a) →
-    made (λ all. all) (codes "}" ∷ []) (in_turn (map stmt_walk block) a) ≡ (block, b) → c ≡ next b → d ≡ next c →
+    made (λ t. t) (codes ")" ∷ codes "{" ∷ []) (expr_walk test (behind_tokens (codes "if" ∷ codes "(" ∷ []) s)) ≡ (test, a) →
+    made (λ all. all) (codes "}" ∷ []) (in_turn (map stmt_walk block) a) ≡ (block, b) → c ≡ next_spot b → d ≡ next_spot c →
     made (λ all. all) (codes "}" ∷ []) (in_turn (map stmt_walk other) d) ≡ (other, e) →
     stmt_kind_walk (roll-CStmtKind (CStmtKind-F.If test block (Some other))) s ≡ (roll-CStmtKind (CStmtKind-F.If test block (Some other)), e)
 rolled_walk test block other s a b c d e front inside first second behind = rw fold-roll-CStmtKind (
@@ -23,11 +23,11 @@ rolled_walk test block other s a b c d e front inside first second behind = rw f
     ∙ (ap (λ walked. and_then (λ (f : CExpr × List CStmt) o. roll-CStmtKind (CStmtKind-F.If f.0 f.1 o)) ((test, walked.0), walked.1)
     (else_walk (Some (map stmt_walk other)))) inside
     ∙ ap (λ walked. (roll-CStmtKind (CStmtKind-F.If test block (Some walked.0)), walked.1))
-    (ap (λ spot. made (λ all. all) (codes "}" ∷ []) (in_turn (map stmt_walk other) spot)) (sym (second ∙ ap next first)) ∙ behind)))
+    (ap (λ spot. made (λ all. all) (codes "}" ∷ []) (in_turn (map stmt_walk other) spot)) (sym (second ∙ ap next_spot first)) ∙ behind)))
 
 pub branches_walk : (test : CExpr) (block other : List CStmt) (s a b c d e : TextSpot) →
-    made (λ t. t) (codes ")" ∷ codes "{" ∷ []) (expr_walk test (past (codes "if" ∷ codes "(" ∷ []) s)) ≡ (test, a) →
-    made (λ all. all) (codes "}" ∷ []) (in_turn (map stmt_walk block) a) ≡ (block, b) → c ≡ next b → d ≡ next c →
+    made (λ t. t) (codes ")" ∷ codes "{" ∷ []) (expr_walk test (behind_tokens (codes "if" ∷ codes "(" ∷ []) s)) ≡ (test, a) →
+    made (λ all. all) (codes "}" ∷ []) (in_turn (map stmt_walk block) a) ≡ (block, b) → c ≡ next_spot b → d ≡ next_spot c →
     made (λ all. all) (codes "}" ∷ []) (in_turn (map stmt_walk other) d) ≡ (other, e) →
     stmt_kind_walk (If test block (Some other)) s ≡ (If test block (Some other), e)
 branches_walk test block other s a b c d e front inside first second behind =

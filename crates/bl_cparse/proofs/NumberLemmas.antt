@@ -49,7 +49,7 @@ use Rattle.bl_ctext.specs.Token.{Token}
 use Rattle.bl_ctext.specs.Spelling.{negatives}
 use Rattle.bl_ctext.proofs.Bytes.{and-fst, and-snd, either}
 use Rattle.bl_cparse_syntax.specs.declared.grammar.Digits.{Digits}
-use Rattle.bl_cparse_syntax.specs.Classes.{least, bound, are_digits, is_number, matches}
+use Rattle.bl_cparse_syntax.specs.Classes.{least, digits_bound, are_digits, spells_number, matches}
 use Rattle.bl_cparse_syntax.specs.Classes.Class.{number}
 use Rattle.bl_cparse_syntax.specs.Pieces.{is_same}
 use Rattle.bl_cparse_syntax.proofs.ClassLemmas.{is_same-self}
@@ -95,19 +95,19 @@ pub record Numeral (of : Digits) (t : Token) : Type 0 where
   pub small : digits_value 10 t < 2 ^ 64
   pub is : t ≡ decimal (digits_value 10 t)
   pub low : least of ≤ digits_value 10 t
-  pub high : digits_value 10 t < bound of
+  pub high : digits_value 10 t < digits_bound of
 
-numeral_of : (of : Digits) (t : Token) → is_number of t ≡ true → Numeral of t
-unfolding is_number
+numeral_of : (of : Digits) (t : Token) → spells_number of t ≡ true → Numeral of t
+unfolding spells_number
 numeral_of of [] h = absurd (cc)
 numeral_of of (b ∷ bs) h =
     let digits = and-fst (are_digits (b ∷ bs)) _ h in
     let range = and-snd (are_digits (b ∷ bs)) _ h in
-    let high : digits_value 10 (b ∷ bs) < bound of = below (digits_value 10 (b ∷ bs)) (bound of) (and-snd _ _ range) in
+    let high : digits_value 10 (b ∷ bs) < digits_bound of = below (digits_value 10 (b ∷ bs)) (digits_bound of) (and-snd _ _ range) in
     let all : all_ascii_digits (b ∷ bs) ≡ true = all_digits (b ∷ bs)
     (and-fst (all_of (map is_ascii_digit (b ∷ bs))) (not (b == 48) || nat_le (length bs) 0) digits) in
     let zero_alone = and-snd (all_of (map is_ascii_digit (b ∷ bs))) (not (b == 48) || nat_le (length bs) 0) digits in
-    let small : digits_value 10 (b ∷ bs) < 2 ^ 64 = wide (digits_value 10 (b ∷ bs)) (bound of) high (bound_le of) in
+    let small : digits_value 10 (b ∷ bs) < 2 ^ 64 = wide (digits_value 10 (b ∷ bs)) (digits_bound of) high (bound_le of) in
     record {
       text = IsUtf8-from_ascii (b ∷ bs) (digits_ascii (b ∷ bs) all);
       digits = all;
@@ -127,7 +127,7 @@ pub parsed : {E : Type 0} (of : Digits) (t : Token) (r : Result ℕ E) → Parse
 parsed of t r p m = let n = numeral of t m in parse_gives digits_own 64 t r p n.digits n.some n.small
 
 -- of a number that the digits spell, that it is in the range
-pub in_range : (of : Digits) (t : Token) (n low high : ℕ) → n < 2 ^ 64 → t ≡ decimal n → least of ≡ low → bound of ≡ high + 1 →
+pub in_range : (of : Digits) (t : Token) (n low high : ℕ) → n < 2 ^ 64 → t ≡ decimal n → least of ≡ low → digits_bound of ≡ high + 1 →
     matches (number of) t ≡ true → (low ≤ n) × (n ≤ high)
 in_range of t n low high small is l h m =
     let k = numeral of t m in

@@ -31,11 +31,11 @@ use Rattle.bl_grammar.specs.declared.symbol.Symbol.TheVariants.{Terminal, Nonter
 use Rattle.bl_grammar.specs.Derivations.Derives.{terminal}
 use Rattle.bl_grammar.proofs.Predictive.{same_some, no_some, not_both, expansion, good_expand, join}
 use Rattle.bl_cparse_syntax.specs.declared.grammar.Part.{Part}
-use Rattle.bl_cparse_syntax.specs.Pieces.{first_of}
+use Rattle.bl_cparse_syntax.specs.Pieces.{first_piece}
 use Rattle.bl_cparse_syntax.specs.Classes.{Class, matches}
 use Rattle.bl_cparse_syntax.specs.Classes.Class.{exactly}
-use Rattle.bl_cparse_syntax.specs.Grammar.{Shape, Wanted, Production, Produces, IsAmong, productions, named, placed}
-use Rattle.bl_cparse_syntax.specs.Tables.{has, firsts, starts, absent, decided, pick, turn_of, wanted_of}
+use Rattle.bl_cparse_syntax.specs.Grammar.{Shape, Wanted, Production, Produces, IsAmong, productions, with_turn_name, wanted_for}
+use Rattle.bl_cparse_syntax.specs.Tables.{has, firsts, starts, absent, decided, pick, turn_name_for, wanted_of}
 use Rattle.bl_cparse_syntax.specs.Stack.{tables}
 use Rattle.bl_cparse_syntax.specs.Expects.{Expects}
 use Rattle.bl_cparse_syntax.proofs.Right.{chosen_of, unpicked}
@@ -51,14 +51,14 @@ use Rattle.bl_cparse.specs.Places.{WantsMemory}
 -- the piece of a class that is expected stands first
 pub record Next (class : Class) (rest : List Wanted) (pieces : List Token) : Type 0 where
   pub left : List Token
-  pub is : pieces ≡ first_of pieces ∷ left
-  pub matched : matches class (first_of pieces) ≡ true
+  pub is : pieces ≡ first_piece pieces ∷ left
+  pub matched : matches class (first_piece pieces) ≡ true
   pub expects : Expects rest left
 
 pub next : {class : Class} {rest : List Wanted} {pieces : List Token} → Expects (Terminal class ∷ rest) pieces → Next class rest pieces
 next {class} {rest} {pieces} e =
     let s = expects_token class rest pieces e in
-    let first : first_of pieces ≡ s.next = ap first_of s.stands in
+    let first : first_piece pieces ≡ s.next = ap first_piece s.stands in
     record {
       left = s.left;
       is = s.stands ∙ ap (λ t. t ∷ s.left) (sym first);
@@ -76,12 +76,12 @@ pub passed : {class : Class} {rest : List Wanted} {old new : List Token} {t : To
 passed {rest = rest} is e = let n = next e in subst (λ (ts : List Token). Expects rest ts) (same_tail (sym n.is ∙ is)) n.expects
 
 -- where a piece of another class stands, none of this one is expected
-pub other_next : {class : Class} {rest : List Wanted} {pieces : List Token} → matches class (first_of pieces) ≡ false →
+pub other_next : {class : Class} {rest : List Wanted} {pieces : List Token} → matches class (first_piece pieces) ≡ false →
     Expects (Terminal class ∷ rest) pieces → ⊥
 other_next off e = not_both _ (next e).matched off
 
-pub sign_next : {word : Token} {rest : List Wanted} {pieces : List Token} → Expects (sign word ∷ rest) pieces → first_of pieces ≡ word
-sign_next {word} {rest} {pieces} e = sym (exactly_is word (first_of pieces) (next e).matched)
+pub sign_next : {word : Token} {rest : List Wanted} {pieces : List Token} → Expects (sign word ∷ rest) pieces → first_piece pieces ≡ word
+sign_next {word} {rest} {pieces} e = sym (exactly_is word (first_piece pieces) (next e).matched)
 
 -- ---- parts
 
@@ -91,20 +91,20 @@ under room (suc around) = room - suc around
 
 -- what stands in a production, in the room that it has there
 abbrev pub seated : ℕ → Token → Shape → Wanted
-seated room own (Terminal class) = Terminal (named own class)
+seated room own (Terminal class) = Terminal (with_turn_name own class)
 seated room own (Nonterminal within) = Nonterminal (record { part = within.part; room = under room within.around })
 
 under_is : (room around : ℕ) → room - around ≡ under room around
 under_is room zero = omega arith
 under_is room (suc around) = refl
 
-seated_is : (room : ℕ) (own : Token) (shape : Shape) → placed room own shape ≡ seated room own shape
+seated_is : (room : ℕ) (own : Token) (shape : Shape) → wanted_for room own shape ≡ seated room own shape
 seated_is room own (Terminal class) = refl
 seated_is room own (Nonterminal within) = ap (λ n. Nonterminal (record { part = within.part; room = n })) (under_is room within.around)
 
-all_seated : (room : ℕ) (own : Token) (shapes : List Shape) → map (placed room own) shapes ≡ map (seated room own) shapes
+all_seated : (room : ℕ) (own : Token) (shapes : List Shape) → map (wanted_for room own) shapes ≡ map (seated room own) shapes
 all_seated room own [] = refl
-all_seated room own (x ∷ xs) = ap (λ w. w ∷ map (placed room own) xs) (seated_is room own x)
+all_seated room own (x ∷ xs) = ap (λ w. w ∷ map (wanted_for room own) xs) (seated_is room own x)
     ∙ ap (λ ws. seated room own x ∷ ws) (all_seated room own xs)
 
 -- of a part one of its productions is expected
@@ -143,18 +143,18 @@ decided_is room t may p wanted e = by_room (nat_le p.needs room) refl e
 -- the production that the next piece begins
 pub begun : {what : Part} {room : ℕ} {rest : List Wanted} {pieces : List Token} (p : Production) → IsAmong p (productions what) →
     has (firsts starts p.shapes) [] ≡ false
-    → has (firsts starts p.shapes) (first_of pieces) ≡ true → Expects (part what room ∷ rest) pieces →
-    (p.needs ≤ room) × Expects (map (seated room (turn_of (first_of pieces))) p.shapes ++ rest) pieces
+    → has (firsts starts p.shapes) (first_piece pieces) ≡ true → Expects (part what room ∷ rest) pieces →
+    (p.needs ≤ room) × Expects (map (seated room (turn_name_for (first_piece pieces))) p.shapes ++ rest) pieces
 unfolding pick
 begun {pieces = []} p among some is e = absurd (not_both _ is some)
 begun {what = what} {room = room} {rest = rest} {pieces = t ∷ ts} p among some is e =
     let h = expects_production (record { part = what; room = room }) rest t ts e in
     let d = decided_is room t (absent what) p h.0 (ap (decided room t (absent what)) (sym (chosen_of what p t among is)) ∙ h.1) in
-    (d.0, subst (λ (w : List Wanted). Expects (w ++ rest) (t ∷ ts)) (sym d.1 ∙ all_seated room (turn_of t) p.shapes) h.2)
+    (d.0, subst (λ (w : List Wanted). Expects (w ++ rest) (t ∷ ts)) (sym d.1 ∙ all_seated room (turn_name_for t) p.shapes) h.2)
 
 -- a part that the next piece doesn't begin is absent
 pub omitted : {what : Part} {room : ℕ} {rest : List Wanted} {pieces : List Token} → absent what ≡ true →
-    has (starts what) (first_of pieces) ≡ false → Expects (part what room ∷ rest) pieces → Expects rest pieces
+    has (starts what) (first_piece pieces) ≡ false → Expects (part what room ∷ rest) pieces → Expects rest pieces
 omitted {what = what} {room = room} {rest = rest} {pieces = []} may off e = (expects_absent (record { part = what; room = room }) rest e).1
 omitted {what = what} {room = room} {rest = rest} {pieces = t ∷ ts} may off e =
     let h = expects_production (record { part = what; room = room }) rest t ts e in
@@ -169,8 +169,8 @@ wanting P (Err x) e is w = subst WantsMemory (sym is) w
 pub some_left : {ts : List Token} → has_any ts ≡ true → ts ≡ [] → ⊥
 some_left h e = not_both _ h (ap has_any e)
 
-pub sign_seen : (word : Token) (pieces : List Token) → matches (exactly word) (first_of pieces) ≡ true → first_of pieces ≡ word
-sign_seen word pieces m = sym (exactly_is word (first_of pieces) m)
+pub sign_seen : (word : Token) (pieces : List Token) → matches (exactly word) (first_piece pieces) ≡ true → first_piece pieces ≡ word
+sign_seen word pieces m = sym (exactly_is word (first_piece pieces) m)
 
 -- what is known where nothing is found, made weaker
 pub widened : {A E : Type 0} {P P' : Type 0} (Q : A → Type 0) (W : E → Type 0) (r : Result (Option A) E) → (P → P') →
@@ -180,13 +180,13 @@ widened Q W (Ok (Some x)) f h = h
 widened Q W (Err e) f h = h
 
 -- what stands next is of another class too
-pub retold : {class other : Class} {rest : List Wanted} {pieces : List Token} → matches other (first_of pieces) ≡ true →
+pub retold : {class other : Class} {rest : List Wanted} {pieces : List Token} → matches other (first_piece pieces) ≡ true →
     Expects (Terminal class ∷ rest) pieces → Expects (Terminal other ∷ rest) pieces
 retold {other = other} {rest = rest} is e =
     let n = next e in
     subst (λ (ts : List Token). Expects (Terminal other ∷ rest) ts) (sym n.is) (record { good = n.expects.good; spells = terminal is n.expects.spells })
 
 -- a test of the next piece, where no piece was passed before it
-pub at_same : {old new : List Token} → new ≡ old → (word : Token) → matches (exactly word) (first_of old) ≡ false →
-    matches (exactly word) (first_of new) ≡ false
-at_same same word off = ap (λ (ts : List Token). matches (exactly word) (first_of ts)) same ∙ off
+pub at_same : {old new : List Token} → new ≡ old → (word : Token) → matches (exactly word) (first_piece old) ≡ false →
+    matches (exactly word) (first_piece new) ≡ false
+at_same same word off = ap (λ (ts : List Token). matches (exactly word) (first_piece ts)) same ∙ off

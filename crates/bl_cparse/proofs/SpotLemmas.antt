@@ -33,10 +33,10 @@ use Rattle.bl_ctext.specs.Token.{Token, is_blank, is_double_sign, is_word_byte}
 use Rattle.std.specs.Prelude.{◌&&◌}
 use Rattle.bl_ctext.specs.Token.{put_before}
 use Rattle.bl_ctext.proofs.Bytes.{joined-not_blank, or-snd}
-use Rattle.bl_cparse_syntax.specs.Pieces.{cut_off, pieces, left_of, first_of}
+use Rattle.bl_cparse_syntax.specs.Pieces.{cut_off, pieces, left_of, first_piece}
 use Rattle.bl_cparse_syntax.proofs.Ranges.{drop_more}
 use Rattle.bl_cparse_syntax.proofs.PieceLemmas.{first_left}
-use Rattle.bl_cparse.specs.HasPlaces.{TextSpot, blanks, next, past}
+use Rattle.bl_cparse.specs.HasPlaces.{TextSpot, behind_tokens, blanks, next_spot}
 
 -- how many of the bytes are no blanks
 abbrev solid : List ℕ → ℕ
@@ -150,25 +150,25 @@ starts text at start inside within same no_blank =
 
 pub ends : (text : List ℕ) (at start end : ℕ) → start ≤ end → end ≤ length text → (start ≡ end → end ≡ length text) →
     left_of text start end ≡ pieces (drop at text) →
-    end ≡ start + length (first_of (pieces (drop at text)))
+    end ≡ start + length (first_piece (pieces (drop at text)))
 ends text at start end in_order inside at_end left =
-    let first : length (first_of (pieces (drop at text))) ≡ end - start =
-    ap (λ ts. length (first_of ts)) (sym left) ∙ (ap length (first_left text start end in_order inside at_end)
+    let first : length (first_piece (pieces (drop at text))) ≡ end - start =
+    ap (λ ts. length (first_piece ts)) (sym left) ∙ (ap length (first_left text start end in_order inside at_end)
     ∙ range_length text start end in_order inside) in
     omega (arith, first, in_order)
 
 -- behind so many pieces
 abbrev pub times : ℕ → TextSpot → TextSpot
 times zero s = s
-times (suc n) s = next (times n s)
+times (suc n) s = next_spot (times n s)
 
-first_time : (n : ℕ) (s : TextSpot) → times n (next s) ≡ times (suc n) s
+first_time : (n : ℕ) (s : TextSpot) → times n (next_spot s) ≡ times (suc n) s
 first_time zero s = refl
-first_time (suc n) s = ap next (first_time n s)
+first_time (suc n) s = ap next_spot (first_time n s)
 
-pub past_times : (tokens : List Token) (s : TextSpot) → past tokens s ≡ times (length tokens) s
+pub past_times : (tokens : List Token) (s : TextSpot) → behind_tokens tokens s ≡ times (length tokens) s
 past_times [] s = refl
-past_times (t ∷ ts) s = past_times ts (next s) ∙ first_time (length ts) s
+past_times (t ∷ ts) s = past_times ts (next_spot s) ∙ first_time (length ts) s
 
-pub one_more : (n : ℕ) (s : TextSpot) → times (n + 1) s ≡ next (times n s)
+pub one_more : (n : ℕ) (s : TextSpot) → times (n + 1) s ≡ next_spot (times n s)
 one_more n s = let e : n + 1 ≡ suc n = omega arith in rw e refl

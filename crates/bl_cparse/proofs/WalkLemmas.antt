@@ -30,7 +30,7 @@ use Rattle.std.proofs.Math.Seq.{map-set_same}
 use Rattle.std.proofs.lemmas.Bool.{eqb-true}
 use Rattle.std.proofs.lemmas.List.{take_more_set}
 use Rattle.bl_ctext.specs.Spelling.{comma_before}
-use Rattle.bl_cparse.specs.HasPlaces.{TextSpot, PlaceWalk, past, in_turn, in_list}
+use Rattle.bl_cparse.specs.HasPlaces.{TextSpot, PlaceWalk, behind_tokens, in_turn, in_list}
 
 first_is : {A : Type 0} (a b : A) (us vs : List A) → a ∷ us ≡ b ∷ vs → a ≡ b
 first_is a b us vs e = cc
@@ -53,24 +53,24 @@ turn_more f (y ∷ xs) x from between behind h k =
 -- behind a part there is a comma before the next
 list_on : {A : Type 0} (f : A → PlaceWalk A) (first : Bool) (y : A) (xs : List A) (x : A) (from between behind : TextSpot) →
     in_list first (map f (y ∷ xs)) from ≡ (y ∷ xs, between) →
-    f x (past (comma_before false) between) ≡ (x, behind) → in_list first (map f ((y ∷ xs) ++ x ∷ [])) from ≡ ((y ∷ xs) ++ x ∷ [], behind)
+    f x (behind_tokens (comma_before false) between) ≡ (x, behind) → in_list first (map f ((y ∷ xs) ++ x ∷ [])) from ≡ ((y ∷ xs) ++ x ∷ [], behind)
 list_on f first y [] x from between behind h k =
-    let walked = f y (past (comma_before first) from) in
+    let walked = f y (behind_tokens (comma_before first) from) in
     let same : walked.0 ≡ y = first_is _ _ _ _ (ap (λ r. r.0) h) in
-    ap (λ r. (walked.0 ∷ r.0 ∷ [], r.1)) (ap (λ s. f x (past (comma_before false) s)) (ap (λ r. r.1) h) ∙ k)
+    ap (λ r. (walked.0 ∷ r.0 ∷ [], r.1)) (ap (λ s. f x (behind_tokens (comma_before false) s)) (ap (λ r. r.1) h) ∙ k)
     ∙ ap (λ z. (z ∷ x ∷ [], behind)) same
 list_on f first y (z ∷ xs) x from between behind h k =
-    let walked = f y (past (comma_before first) from) in
+    let walked = f y (behind_tokens (comma_before first) from) in
     let same : walked.0 ≡ y = first_is _ _ _ _ (ap (λ r. r.0) h) in
     let rest : in_list false (map f (z ∷ xs)) walked.1 ≡ (z ∷ xs, between) = pair_is _ _ _ (rest_is _ _ _ _ (ap (λ r. r.0) h)) (ap (λ r. r.1) h) in
     ap (λ r. (walked.0 ∷ r.0, r.1)) (list_on f false z xs x walked.1 between behind rest k) ∙ ap (λ w. (w ∷ ((z ∷ xs) ++ x ∷ []), behind)) same
 
 pub list_more : {A : Type 0} (f : A → PlaceWalk A) (first : Bool) (xs : List A) (x : A) (from between behind : TextSpot) →
     (first ≡ true → xs ≡ []) → (xs ≡ [] → first ≡ true) →
-    in_list true (map f xs) from ≡ (xs, between) → f x (past (comma_before first) between) ≡ (x, behind) →
+    in_list true (map f xs) from ≡ (xs, between) → f x (behind_tokens (comma_before first) between) ≡ (x, behind) →
     in_list true (map f (xs ++ x ∷ [])) from ≡ (xs ++ x ∷ [], behind)
 list_more f first [] x from between behind none empty h k =
-    ap (λ r. (r.0 ∷ [], r.1)) (ap (f x) (ap (λ r. r.1) h) ∙ (ap (λ c. f x (past (comma_before c) between)) (sym (empty refl)) ∙ k))
+    ap (λ r. (r.0 ∷ [], r.1)) (ap (f x) (ap (λ r. r.1) h) ∙ (ap (λ c. f x (behind_tokens (comma_before c) between)) (sym (empty refl)) ∙ k))
 list_more f true (y ∷ xs) x from between behind none empty h k = absurd (no_cons (none refl))
   where
     no_cons : {A : Type 0} {a : A} {us : List A} → a ∷ us ≡ [] → ⊥
@@ -95,7 +95,7 @@ taken_none (x ∷ xs) (suc k) within h = cc
 
 pub list_set : {A : Type 0} (f : A → PlaceWalk A) (xs : List A) (k : ℕ) (x : A) (from between behind : TextSpot) → k < length xs →
     in_list true (map f (take k xs)) from ≡ (take k xs, between) →
-    f x (past (comma_before (nat_eq k 0)) between) ≡ (x, behind) →
+    f x (behind_tokens (comma_before (nat_eq k 0)) between) ≡ (x, behind) →
     in_list true (map f (take (k + 1) (slice_set xs k x))) from ≡ (take (k + 1) (slice_set xs k x), behind)
 list_set f xs k x from between behind within h step =
     subst (λ ys. in_list true (map f ys) from ≡ (ys, behind)) (sym (take_more_set xs k x within))

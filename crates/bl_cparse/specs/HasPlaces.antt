@@ -55,7 +55,7 @@ use Rattle.bl_ctext.specs.Spelling.{
 }
 use Rattle.bl_ctext.specs.Prelude.{prelude}
 use Rattle.bl_ctext.specs.declared.file.CFile.{CFile}
-use Rattle.bl_cparse_syntax.specs.Pieces.{pieces, first_of}
+use Rattle.bl_cparse_syntax.specs.Pieces.{pieces, first_piece}
 
 -- the position of a walk over the pieces of a text: behind those before this offset
 pub record TextSpot : Type 0 where
@@ -73,15 +73,15 @@ start_of s = s.at + blanks (drop s.at s.text)
 
 -- the offset at which the next piece ends
 unfoldable pub end_of : TextSpot → ℕ
-end_of s = start_of s + length (first_of (pieces (drop s.at s.text)))
+end_of s = start_of s + length (first_piece (pieces (drop s.at s.text)))
 
 -- the walk behind the next piece
-abbrev pub next : TextSpot → TextSpot
-next s = record { text = s.text; at = end_of s }
+abbrev pub next_spot : TextSpot → TextSpot
+next_spot s = record { text = s.text; at = end_of s }
 
 -- behind as many pieces as these tokens
-abbrev pub past : List Token → TextSpot → TextSpot
-past tokens s = fold (λ spot token. next spot) s tokens
+abbrev pub behind_tokens : List Token → TextSpot → TextSpot
+behind_tokens tokens s = fold (λ spot token. next_spot spot) s tokens
 
 -- the place from the start of the next piece up to the other walk's position
 abbrev pub span : TextSpot → TextSpot → Place
@@ -93,7 +93,7 @@ PlaceWalk A = TextSpot → A × TextSpot
 
 -- what is made of the part, and the same behind the tokens that follow it
 abbrev pub made : {A B : Type 0} → (A → B) → List Token → A × TextSpot → B × TextSpot
-made f tokens walked = (f walked.0, past tokens walked.1)
+made f tokens walked = (f walked.0, behind_tokens tokens walked.1)
 
 -- a walk behind a part, and what is made of both
 abbrev pub and_then : {A B C : Type 0} → (A → B → C) → A × TextSpot → PlaceWalk B → C × TextSpot
@@ -107,7 +107,7 @@ in_turn (walk ∷ walks) s = and_then (λ x xs. x ∷ xs) (walk s) (in_turn walk
 -- parts with a comma before each, but none before the first of all
 abbrev pub in_list : {A : Type 0} → Bool → List (PlaceWalk A) → PlaceWalk (List A)
 in_list first [] s = ([], s)
-in_list first (walk ∷ walks) s = and_then (λ x xs. x ∷ xs) (walk (past (comma_before first) s)) (in_list false walks)
+in_list first (walk ∷ walks) s = and_then (λ x xs. x ∷ xs) (walk (behind_tokens (comma_before first) s)) (in_list false walks)
 
 -- a part, or nothing
 abbrev pub if_there : {A : Type 0} → Option (PlaceWalk A) → PlaceWalk (Option A)
@@ -117,22 +117,22 @@ if_there (Some walk) s = made Some [] (walk s)
 -- one step of the fold for each part: a walk over it, where those over its own parts are known
 abbrev pub arg_step : CArg-F (PlaceWalk CArg) (PlaceWalk CExprKind) (PlaceWalk CCall) (PlaceWalk CExpr) (PlaceWalk CIndex) (PlaceWalk CPlace) (PlaceWalk CStep) → PlaceWalk CArg
 arg_step (CArg-F.Value value) s = made (λ e. roll-CArg (CArg-F.Value e)) [] (value s)
-arg_step (CArg-F.Address at) s = made (λ p. roll-CArg (CArg-F.Address p)) [] (at (past (codes "&" ∷ []) s))
+arg_step (CArg-F.Address at) s = made (λ p. roll-CArg (CArg-F.Address p)) [] (at (behind_tokens (codes "&" ∷ []) s))
 
 -- the walk over an expression's form
 abbrev pub kind_step : CExprKind-F (PlaceWalk CArg) (PlaceWalk CExprKind) (PlaceWalk CCall) (PlaceWalk CExpr) (PlaceWalk CIndex) (PlaceWalk CPlace) (PlaceWalk CStep) → PlaceWalk CExprKind
-kind_step (CExprKind-F.Literal scalar n) s = (roll-CExprKind (CExprKind-F.Literal scalar n), past (literal_tokens scalar n) s)
+kind_step (CExprKind-F.Literal scalar n) s = (roll-CExprKind (CExprKind-F.Literal scalar n), behind_tokens (literal_tokens scalar n) s)
 kind_step (CExprKind-F.Read at) s = made (λ p. roll-CExprKind (CExprKind-F.Read p)) [] (at s)
 kind_step (CExprKind-F.Call call) s = made (λ c. roll-CExprKind (CExprKind-F.Call c)) [] (call s)
-kind_step (CExprKind-F.Not operand) s = made (λ e. roll-CExprKind (CExprKind-F.Not e)) (codes ")" ∷ []) (operand (past (codes "(" ∷ codes "!" ∷ []) s))
+kind_step (CExprKind-F.Not operand) s = made (λ e. roll-CExprKind (CExprKind-F.Not e)) (codes ")" ∷ []) (operand (behind_tokens (codes "(" ∷ codes "!" ∷ []) s))
 kind_step (CExprKind-F.Two o left right) s =
     made (λ e. e) (codes ")" ∷ [])
-    (and_then (λ l r. roll-CExprKind (CExprKind-F.Two o l r)) (made (λ e. e) (operator_sign o ∷ []) (left (past (codes "(" ∷ []) s))) right)
+    (and_then (λ l r. roll-CExprKind (CExprKind-F.Two o l r)) (made (λ e. e) (operator_sign o ∷ []) (left (behind_tokens (codes "(" ∷ []) s))) right)
 
 -- the walk over a call: its name, then its arguments with their commas
 abbrev pub call_step : CCall-F (PlaceWalk CArg) (PlaceWalk CExprKind) (PlaceWalk CCall) (PlaceWalk CExpr) (PlaceWalk CIndex) (PlaceWalk CPlace) (PlaceWalk CStep) → PlaceWalk CCall
 call_step c s = made (λ args. roll-CCall (record { name = c.name; args = args })) (codes ")" ∷ [])
-    (in_list true c.args (past (c.name ∷ codes "(" ∷ []) s))
+    (in_list true c.args (behind_tokens (c.name ∷ codes "(" ∷ []) s))
 
 -- an expression, whose place is set
 abbrev pub expr_from : TextSpot → CExprKind × TextSpot → CExpr × TextSpot
@@ -146,16 +146,16 @@ expr_step e s = expr_from s (e.what s)
 abbrev pub index_step : CIndex-F (PlaceWalk CArg) (PlaceWalk CExprKind) (PlaceWalk CCall) (PlaceWalk CExpr) (PlaceWalk CIndex) (PlaceWalk CPlace) (PlaceWalk CStep) → PlaceWalk CIndex
 index_step i s =
     made (λ e. roll-CIndex (record { signed = i.signed; at = e; length = i.length }))
-    (codes "," ∷ decimal i.length ∷ codes ")" ∷ codes "]" ∷ []) (i.at (past (index_front i.signed) s))
+    (codes "," ∷ decimal i.length ∷ codes ")" ∷ codes "]" ∷ []) (i.at (behind_tokens (index_front i.signed) s))
 
 -- the walk over a place: its root, then its steps
 abbrev pub place_step : CPlace-F (PlaceWalk CArg) (PlaceWalk CExprKind) (PlaceWalk CCall) (PlaceWalk CExpr) (PlaceWalk CIndex) (PlaceWalk CPlace) (PlaceWalk CStep) → PlaceWalk CPlace
 place_step p s = made (λ steps. roll-CPlace (record { through = p.through; name = p.name; steps = steps })) []
-    (in_turn p.steps (past (root_tokens p.through p.name) s))
+    (in_turn p.steps (behind_tokens (root_tokens p.through p.name) s))
 
 -- the walk over a step: the member, then its index where there is one
 abbrev pub step_step : CStep-F (PlaceWalk CArg) (PlaceWalk CExprKind) (PlaceWalk CCall) (PlaceWalk CExpr) (PlaceWalk CIndex) (PlaceWalk CPlace) (PlaceWalk CStep) → PlaceWalk CStep
-step_step t s = made (λ index. roll-CStep (record { member = t.member; index = index })) [] (if_there t.index (past (codes "." ∷ t.member ∷ []) s))
+step_step t s = made (λ index. roll-CStep (record { member = t.member; index = index })) [] (if_there t.index (behind_tokens (codes "." ∷ t.member ∷ []) s))
 
 -- the walk over an expression
 abbrev pub expr_walk : CExpr → PlaceWalk CExpr
@@ -188,7 +188,7 @@ arg_walk = fold-CArg _ _ _ _ _ _ _ arg_step kind_step call_step expr_step index_
 -- the walk over an `else` that may be absent
 abbrev pub else_walk : Option (List (PlaceWalk CStmt)) → PlaceWalk (Option (List CStmt))
 else_walk None s = (None, s)
-else_walk (Some parts) s = made Some (codes "}" ∷ []) (in_turn parts (past (codes "else" ∷ codes "{" ∷ []) s))
+else_walk (Some parts) s = made Some (codes "}" ∷ []) (in_turn parts (behind_tokens (codes "else" ∷ codes "{" ∷ []) s))
 
 -- one step of the fold for statements
 abbrev pub stmt_kind_step : CStmtKind-F (PlaceWalk CStmtKind) (PlaceWalk CStmt) → PlaceWalk CStmtKind
@@ -201,15 +201,15 @@ stmt_kind_step (CStmtKind-F.If test then_part else_part) s =
     and_then (λ (front : CExpr × List CStmt) e. roll-CStmtKind (CStmtKind-F.If front.0 front.1 e))
     (made (λ front. front) (codes "}" ∷ [])
     (and_then (λ t stmts. (t, stmts)) (made (λ t. t) (codes ")" ∷ codes "{" ∷ [])
-    (expr_walk test (past (codes "if" ∷ codes "(" ∷ []) s))) (in_turn then_part)))
+    (expr_walk test (behind_tokens (codes "if" ∷ codes "(" ∷ []) s))) (in_turn then_part)))
     (else_walk else_part)
 stmt_kind_step (CStmtKind-F.Loop turn test body) s =
     made (λ k. k) (codes "}" ∷ codes "}" ∷ [])
     (and_then (λ t stmts. roll-CStmtKind (CStmtKind-F.Loop turn t stmts))
-    (made (λ t. t) (codes ")" ∷ turn_counted turn) (expr_walk test (past (turn_declared turn ++ codes "(" ∷ []) s))) (in_turn body))
-stmt_kind_step CStmtKind-F.Break s = (roll-CStmtKind CStmtKind-F.Break, past (codes "break" ∷ codes ";" ∷ []) s)
+    (made (λ t. t) (codes ")" ∷ turn_counted turn) (expr_walk test (behind_tokens (turn_declared turn ++ codes "(" ∷ []) s))) (in_turn body))
+stmt_kind_step CStmtKind-F.Break s = (roll-CStmtKind CStmtKind-F.Break, behind_tokens (codes "break" ∷ codes ";" ∷ []) s)
 stmt_kind_step (CStmtKind-F.Return value) s =
-    made (λ v. roll-CStmtKind (CStmtKind-F.Return v)) (codes ";" ∷ []) (if_there (option_map expr_walk value) (past (codes "return" ∷ []) s))
+    made (λ v. roll-CStmtKind (CStmtKind-F.Return v)) (codes ";" ∷ []) (if_there (option_map expr_walk value) (behind_tokens (codes "return" ∷ []) s))
 
 -- a statement, whose place is set
 abbrev pub stmt_from : TextSpot → CStmtKind × TextSpot → CStmt × TextSpot
@@ -229,7 +229,7 @@ stmt_kind_walk = fold-CStmtKind _ _ stmt_kind_step stmt_step
 
 -- a struct
 abbrev pub struct_walk : CStruct → PlaceWalk CStruct
-struct_walk x s = (record { place = span s (past (struct_tokens x) s); name = x.name; members = x.members }, past (struct_tokens x) s)
+struct_walk x s = (record { place = span s (behind_tokens (struct_tokens x) s); name = x.name; members = x.members }, behind_tokens (struct_tokens x) s)
 
 -- a function up to its statements
 abbrev pub head_tokens : CFunc → List Token
@@ -242,7 +242,7 @@ func_from f s walked =
 
 -- the walk over a function, which sets its place
 abbrev pub func_walk : CFunc → PlaceWalk CFunc
-func_walk f s = func_from f s (made (λ body. body) (codes "}" ∷ []) (in_turn (map stmt_walk f.body) (past (head_tokens f) s)))
+func_walk f s = func_from f s (made (λ body. body) (codes "}" ∷ []) (in_turn (map stmt_walk f.body) (behind_tokens (head_tokens f) s)))
 
 -- the structs and then the functions
 abbrev pub file_walk : CFile → PlaceWalk (List CStruct × List CFunc)

@@ -5,7 +5,7 @@ ghost use Rattle.std.specs.Prelude.{OnOk, MatchResult};
 ghost use Rattle.bl_grammar.specs.declared.symbol.Symbol.{Symbol};
 ghost use Rattle.bl_ctext.specs.Token.{is_word};
 ghost use Rattle.bl_ctext.specs.Spellable.{has_any};
-ghost use Rattle.bl_cparse_syntax.specs.Pieces.{pieces, first_of, is_same};
+ghost use Rattle.bl_cparse_syntax.specs.Pieces.{pieces, first_piece, is_same};
 ghost use Rattle.bl_cparse_syntax.specs.Classes.{Class, matches};
 ghost use Rattle.bl_cparse_syntax.specs.Grammar.{Wanted};
 ghost use Rattle.bl_cparse_syntax.specs.Expects.{Expects};
@@ -75,14 +75,14 @@ impl<'a> Reader<'a> {
 
     /// The bytes of the next piece; no bytes where none is left.
     pub fn piece(&self) -> &[u8]
-        ensures { result.now ≡ first_of self.now }
+        ensures { result.now ≡ first_piece self.now }
     {
         &self.text[self.start..self.end]
     }
 
     pub fn sees(&self, what: &str) -> bool
-        ensures same { result ≡ is_same (first_of self.now) what.now }
-        ensures is { result ≡ matches (Class.exactly what.now) (first_of self.now) }
+        ensures same { result ≡ is_same (first_piece self.now) what.now }
+        ensures is { result ≡ matches (Class.exactly what.now) (first_piece self.now) }
     {
         self.piece() == what.as_bytes()
     }
@@ -98,8 +98,8 @@ impl<'a> Reader<'a> {
 
     /// Goes on behind the next piece, of which there is one.
     pub fn skip(&mut self)
-        requires { IsTrue (has_any (first_of self.old)) }
-        ensures passed { self.old ≡ first_of self.old ∷ self.new }
+        requires { IsTrue (has_any (first_piece self.old)) }
+        ensures passed { self.old ≡ first_piece self.old ∷ self.new }
         ensures follows { (class : Class) (rest : List Wanted) → Expects (Symbol.Terminal class ∷ rest) self.old → Expects rest self.new }
     {
         self.pass();
@@ -110,7 +110,7 @@ impl<'a> Reader<'a> {
         requires { IsTrue (has_any what.now) }
         ensures yes { IsTrue result → self.old ≡ what.now ∷ self.new }
         ensures no { result ≡ false → self.new ≡ self.old }
-        ensures is { result ≡ matches (Class.exactly what.now) (first_of self.old) }
+        ensures is { result ≡ matches (Class.exactly what.now) (first_piece self.old) }
         ensures follows { IsTrue result → (rest : List Wanted) → Expects (sign what.now ∷ rest) self.old → Expects rest self.new }
     {
         let seen = self.sees(what);
@@ -135,7 +135,7 @@ impl<'a> Reader<'a> {
 
     /// Passes the next piece, which is a word, and answers a copy of it.
     pub fn copy(&mut self) -> Result<Text, CRefusal>
-        requires { IsTrue (is_word (first_of self.old)) }
+        requires { IsTrue (is_word (first_piece self.old)) }
         ensures read { IfOk result (λ t. self.old ≡ t ∷ self.new) }
         ensures follows { (class : Class) (rest : List Wanted) → Expects (Symbol.Terminal class ∷ rest) self.old
             → MatchResult result (λ _. Expects rest self.new) WantsMemory }

@@ -7,7 +7,7 @@ use Rattle.bl_grammar.specs.declared.symbol.Symbol.TheVariants.{Terminal, Nonter
 use Rattle.bl_cparse_syntax.specs.declared.grammar.Part.{Part}
 use Rattle.bl_cparse_syntax.specs.declared.grammar.Part.TheVariants.{File}
 use Rattle.bl_cparse_syntax.specs.Pieces.{is_same}
-use Rattle.bl_cparse_syntax.specs.Classes.{Class, is_number, matches}
+use Rattle.bl_cparse_syntax.specs.Classes.{Class, matches, spells_number}
 use Rattle.bl_cparse_syntax.specs.Classes.Class.{turn}
 use Rattle.bl_cparse_syntax.specs.Grammar.{Shape, Production, productions}
 use Rattle.bl_cparse_syntax.specs.Follow.{avoided, height, depth, is_lower}
@@ -90,7 +90,7 @@ starts_are File = refl
 starts_are _ = refl
 
 pub separate : (part : Part) → are_separate (choices part) ≡ true
-unfolding choices starts matches is_same is_among is_name is_turn_name is_number
+unfolding choices starts matches is_same is_among is_name is_turn_name spells_number
 separate File = refl
 separate _ = refl
 
@@ -100,7 +100,7 @@ headed File = refl
 headed _ = refl
 
 pub followed : (part : Part) → list_all (λ production. follows (avoided part) production.shapes) (productions part) ≡ true
-unfolding absent avoided starts matches is_same is_among is_name is_turn_name is_number
+unfolding absent avoided starts matches is_same is_among is_name is_turn_name spells_number
 followed File = refl
 followed _ = refl
 

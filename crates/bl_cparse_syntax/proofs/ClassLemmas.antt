@@ -20,11 +20,11 @@ use Rattle.bl_cparse_syntax.specs.declared.grammar.Group.TheVariants.{
 }
 use Rattle.bl_cparse_syntax.specs.declared.grammar.Digits.TheVariants.{Elements, Int, Negated, Unsigned}
 use Rattle.bl_cparse_syntax.specs.Pieces.{is_same}
-use Rattle.bl_cparse_syntax.specs.Classes.{Class, words_of, is_number, matches}
+use Rattle.bl_cparse_syntax.specs.Classes.{Class, words_of, spells_number, matches}
 use Rattle.bl_cparse_syntax.specs.Classes.Class.{exactly, one_of, a_name, number, turn}
-use Rattle.bl_cparse_syntax.specs.Tables.{turn_of}
+use Rattle.bl_cparse_syntax.specs.Tables.{turn_name_for}
 use Rattle.bl_cparse_syntax.specs.Stack.{sample}
-use Rattle.bl_cparse_syntax.specs.Grammar.{named}
+use Rattle.bl_cparse_syntax.specs.Grammar.{with_turn_name}
 use Rattle.bl_cparse_syntax.proofs.SameLemmas.{is_same-same}
 
 pub not_true : (b : Bool) → (b ≡ true → ⊥) → b ≡ false
@@ -153,7 +153,7 @@ same_is _ _ e = absurd (not_both _ e refl)
 
 -- names of turns
 
-pub named_of : (name : Token) (class : Class) (piece : Token) → is_turn_name name ≡ true → matches (named name class) piece ≡ true →
+pub named_of : (name : Token) (class : Class) (piece : Token) → is_turn_name name ≡ true → matches (with_turn_name name class) piece ≡ true →
     matches class piece ≡ true
 unfolding matches
 named_of name (exactly word) piece is m = m
@@ -170,20 +170,20 @@ first_turn : is_turn_name (codes "t0") ≡ true
 unfolding is_turn_name
 first_turn = refl
 
-pub turn_of_is : (piece : Token) → is_turn_name (turn_of piece) ≡ true
+pub turn_of_is : (piece : Token) → is_turn_name (turn_name_for piece) ≡ true
 turn_of_is piece = by_turn (is_turn_name piece) refl
   where
     by_turn : (b : Bool) → is_turn_name piece ≡ b → is_turn_name (cond b piece (codes "t0")) ≡ true
     by_turn true e = e
     by_turn false e = first_turn
 
-pub turn_of_turn : (piece : Token) → is_turn_name piece ≡ true → turn_of piece ≡ piece
+pub turn_of_turn : (piece : Token) → is_turn_name piece ≡ true → turn_name_for piece ≡ piece
 turn_of_turn piece is = rw is refl
 
 -- samples
 
 pub sampled : (class : Class) → matches class (sample class) ≡ true
-unfolding matches sample is_same is_among is_name is_number is_turn_name
+unfolding matches sample is_same is_among is_name spells_number is_turn_name
 sampled (exactly word) = same_self word
 sampled (one_of ScalarTypes) = refl
 sampled (one_of PlainLiterals) = refl

@@ -8,7 +8,7 @@ use Rattle.bl_grammar.specs.Derivations.Derives.{done, terminal}
 use Rattle.bl_grammar.proofs.Predictive.{and_left, and_right, good_expand, step, vanish_end, spells_end}
 use Rattle.bl_cparse_syntax.specs.declared.grammar.Roomed.{Roomed}
 use Rattle.bl_cparse_syntax.specs.Classes.{Class, matches}
-use Rattle.bl_cparse_syntax.specs.Grammar.{Wanted, whole, Produces, CDerives, SpellText}
+use Rattle.bl_cparse_syntax.specs.Grammar.{Wanted, whole_text, Produces, CDerives, SpellText}
 use Rattle.bl_cparse_syntax.specs.Tables.{absent, pick}
 use Rattle.bl_cparse_syntax.specs.Stack.{tables}
 use Rattle.bl_cparse_syntax.specs.Expects.{CContinuesWith, Expects}
@@ -16,7 +16,7 @@ use Rattle.bl_cparse_syntax.proofs.Predictive.{predictive}
 use Rattle.bl_cparse_syntax.proofs.Reading.{start}
 
 -- at the beginning a text is expected
-pub expects_text : (pieces : List Token) → SpellText pieces → Expects (whole ∷ []) pieces
+pub expects_text : (pieces : List Token) → SpellText pieces → Expects (whole_text ∷ []) pieces
 expects_text pieces spells = record { good = start.good; spells = spells }
 
 -- of a part, the production that the next piece decides on is expected

@@ -37,7 +37,7 @@ use Rattle.bl_cparse_syntax.proofs.Ranges.{drop_more, range_cons, range_snoc, ra
 use Rattle.bl_tree.specs.Reduce.{all_of}
 use Rattle.bl_ctext.specs.Token.{is_blank, is_word_byte, is_double_sign, is_word}
 use Rattle.bl_ctext.proofs.Bytes.{word_byte-not_blank, joined-not_blank, and-fst, and-snd, both, or-snd}
-use Rattle.bl_cparse_syntax.specs.Pieces.{cut_off, pieces, left_of, first_of}
+use Rattle.bl_cparse_syntax.specs.Pieces.{cut_off, pieces, left_of, first_piece}
 
 pub blank_first : (b : ℕ) (bs : List ℕ) → is_blank b ≡ true → pieces (b ∷ bs) ≡ pieces bs
 blank_first b [] h = rw h refl
@@ -108,7 +108,7 @@ module _ (text : List ℕ) where
   nothing_left : (end : ℕ) → end ≡ length text → drop end text ≡ []
   nothing_left end e = drop_all end text (omega (arith, e))
 
-  at_the_end : (start end : ℕ) → start ≡ end → end ≡ length text → first_of (left_of text start end) ≡ slice_range text start end
+  at_the_end : (start end : ℕ) → start ≡ end → end ≡ length text → first_piece (left_of text start end) ≡ slice_range text start end
   at_the_end start end same e = rw (range_none text start end (omega (arith, same)), nothing_left end e) refl
 
   nothing_behind : (start end : ℕ) → start ≡ end → end ≡ length text → drop 1 (left_of text start end) ≡ pieces (drop end text)
@@ -185,8 +185,8 @@ module _ (text : List ℕ) where
 
   -- the first of what is left is the piece between the offsets, also at the end
   pub first_left : (start end : ℕ) → start ≤ end → end ≤ length text → (start ≡ end → end ≡ length text) →
-      first_of (left_of text start end) ≡ slice_range text start end
-  first_left start end order inside at_end = ⊎_elim (λ less. ap first_of (left_cut start end less inside))
+      first_piece (left_of text start end) ≡ slice_range text start end
+  first_left start end order inside at_end = ⊎_elim (λ less. ap first_piece (left_cut start end less inside))
       (λ more. at_the_end start end (omega (arith, order, more)) (at_end (omega (arith, order, more)))) (order_of start end)
 
   pub behind_left : (start end : ℕ) → start ≤ end → end ≤ length text → (start ≡ end → end ≡ length text) →

@@ -32,9 +32,9 @@ use Rattle.bl_grammar.proofs.Predictive.{or_left, and_left, and_right, not_both,
 use Rattle.bl_cparse_syntax.specs.declared.grammar.Roomed.{Roomed}
 use Rattle.bl_cparse_syntax.specs.Classes.{Class, matches}
 use Rattle.bl_cparse_syntax.specs.Classes.Class.{exactly, one_of, a_name, number, turn}
-use Rattle.bl_cparse_syntax.specs.Grammar.{Shape, Wanted, Production, productions, named, placed, IsAmong, Produces}
+use Rattle.bl_cparse_syntax.specs.Grammar.{Shape, Wanted, Production, productions, with_turn_name, wanted_for, IsAmong, Produces}
 use Rattle.bl_cparse_syntax.specs.Grammar.IsAmong.{here, later}
-use Rattle.bl_cparse_syntax.specs.Tables.{has, firsts, starts, absent, choices, chosen, turn_of, wanted_of, decided, pick}
+use Rattle.bl_cparse_syntax.specs.Tables.{has, firsts, starts, absent, choices, decided_production, turn_name_for, wanted_of, decided, pick}
 use Rattle.bl_cparse_syntax.specs.Follow.{avoided, height, depth, are_lower, is_lower, lower_of}
 use Rattle.bl_cparse_syntax.specs.Stack.{tables}
 use Rattle.bl_cparse_syntax.proofs.ClassLemmas.{not_true, not_false, named_of, exactly_is, turn_of_is, turn_of_turn, sampled}
@@ -59,7 +59,7 @@ use Rattle.bl_cparse_syntax.proofs.Right.{apart, within, has_append, all_among, 
 
 -- one of the part's productions in its room, where this is the name of the loop's turns
 abbrev in_room : Roomed → Token → List Shape → List Wanted
-in_room A name shapes = map (placed A.room name) shapes
+in_room A name shapes = map (wanted_for A.room name) shapes
 
 -- what a production begins with is what the tables say
 
@@ -86,7 +86,7 @@ module _ (A : Roomed) (p : Production) (among : IsAmong p (productions A.part)) 
       (all_among (λ q. names_first q.shapes) (productions A.part) p (named_first A.part) among)
 
   -- where no other name is to stand, the name is any
-  any_class : (k : Class) (other : Token) → is_turn k ≡ false → named name k ≡ named other k
+  any_class : (k : Class) (other : Token) → is_turn k ≡ false → with_turn_name name k ≡ with_turn_name other k
   any_class (exactly w) other none = refl
   any_class (one_of g) other none = refl
   any_class a_name other none = refl
@@ -96,34 +96,34 @@ module _ (A : Roomed) (p : Production) (among : IsAmong p (productions A.part)) 
   any_name : (shapes : List Shape) (other : Token) → has_no_turn shapes ≡ true → in_room A name shapes ≡ in_room A other shapes
   any_name [] other none = refl
   any_name (Terminal k ∷ q) other none =
-      let first : named name k ≡ named other k = any_class k other (not_false _ (and_left _ _ none)) in
+      let first : with_turn_name name k ≡ with_turn_name other k = any_class k other (not_false _ (and_left _ _ none)) in
       let rest : in_room A name q ≡ in_room A other q = any_name q other (and_right (not (is_turn k)) _ none) in
       rw (first, rest) refl
-  any_name (Nonterminal B ∷ q) other none = ap (λ (ws : List Wanted). placed A.room name (Nonterminal B) ∷ ws) (any_name q other none)
+  any_name (Nonterminal B ∷ q) other none = ap (λ (ws : List Wanted). wanted_for A.room name (Nonterminal B) ∷ ws) (any_name q other none)
 
-  by_first : (k : Class) (q : List Shape) (t : Token) → is_turn k || has_no_turn q ≡ true → matches (named name k) t ≡ true →
-      in_room A name (Terminal k ∷ q) ≡ in_room A (turn_of t) (Terminal k ∷ q)
+  by_first : (k : Class) (q : List Shape) (t : Token) → is_turn k || has_no_turn q ≡ true → matches (with_turn_name name k) t ≡ true →
+      in_room A name (Terminal k ∷ q) ≡ in_room A (turn_name_for t) (Terminal k ∷ q)
   by_first turn q t first m =
       let same : name ≡ t = exactly_is name t m in
-      let own : turn_of t ≡ t = turn_of_turn t (subst (λ n. is_turn_name n ≡ true) same is) in
+      let own : turn_name_for t ≡ t = turn_of_turn t (subst (λ n. is_turn_name n ≡ true) same is) in
       ap (λ n. in_room A n (Terminal turn ∷ q)) (same ∙ sym own)
-  by_first (exactly w) q t first m = ap (λ (ws : List Wanted). Terminal (exactly w) ∷ ws) (any_name q (turn_of t) first)
-  by_first (one_of g) q t first m = ap (λ (ws : List Wanted). Terminal (one_of g) ∷ ws) (any_name q (turn_of t) first)
-  by_first a_name q t first m = ap (λ (ws : List Wanted). Terminal a_name ∷ ws) (any_name q (turn_of t) first)
-  by_first (number of) q t first m = ap (λ (ws : List Wanted). Terminal (number of) ∷ ws) (any_name q (turn_of t) first)
+  by_first (exactly w) q t first m = ap (λ (ws : List Wanted). Terminal (exactly w) ∷ ws) (any_name q (turn_name_for t) first)
+  by_first (one_of g) q t first m = ap (λ (ws : List Wanted). Terminal (one_of g) ∷ ws) (any_name q (turn_name_for t) first)
+  by_first a_name q t first m = ap (λ (ws : List Wanted). Terminal a_name ∷ ws) (any_name q (turn_name_for t) first)
+  by_first (number of) q t first m = ap (λ (ws : List Wanted). Terminal (number of) ∷ ws) (any_name q (turn_name_for t) first)
 
   pick_at : (shapes : List Shape) → p.shapes ≡ shapes → (t : Token) → has (firsts starts shapes) t ≡ true →
-      in_room A name shapes ≡ in_room A (turn_of t) shapes → pick A t ≡ Some (in_room A name shapes)
+      in_room A name shapes ≡ in_room A (turn_name_for t) shapes → pick A t ≡ Some (in_room A name shapes)
   pick_at shapes e t on same =
       pick_of A p t among has_room (subst (λ (ss : List Shape). has (firsts starts ss) t ≡ true) (sym e) on)
-      ∙ ap (λ (ws : List Wanted). Some ws) (ap (in_room A (turn_of t)) e ∙ sym same)
+      ∙ ap (λ (ws : List Wanted). Some ws) (ap (in_room A (turn_name_for t)) e ∙ sym same)
 
   forced_at : (t : Token) (shapes : List Shape) → p.shapes ≡ shapes → Predictive.IsForced Produces matches tables A t (in_room A name shapes)
   forced_at t [] e = λ none. empty_pick A t (absent_of [] e refl) none
   forced_at t (Terminal k ∷ q) e = λ m. pick_at (Terminal k ∷ q) e t (or_left _ _ (named_of name k t is m))
       (by_first k q t (names_at (Terminal k ∷ q) e) m)
   forced_at t (Nonterminal B ∷ q) e = λ b. pick_at (Nonterminal B ∷ q) e t b
-      (any_name (Nonterminal B ∷ q) (turn_of t) (names_at (Nonterminal B ∷ q) e))
+      (any_name (Nonterminal B ∷ q) (turn_name_for t) (names_at (Nonterminal B ∷ q) e))
 
   descends_at : (shapes : List Shape) → p.shapes ≡ shapes → Predictive.Descends Produces matches tables A (in_room A name shapes)
   descends_at [] e = absent_of [] e refl
@@ -145,20 +145,20 @@ module _ (A : Roomed) (p : Production) (among : IsAmong p (productions A.part)) 
 -- what follows
 
 heads_has : (room : ℕ) (name : Token) → is_turn_name name ≡ true → (q : List Shape) (t : Token) →
-    Predictive.heads Produces matches tables (map (placed room name) q) t ≡ true → has (heads_of q) t ≡ true
+    Predictive.heads Produces matches tables (map (wanted_for room name) q) t ≡ true → has (heads_of q) t ≡ true
 heads_has room name is [] t h = h
 heads_has room name is (Terminal k ∷ q) t h = or_left _ _ (named_of name k t is h)
 heads_has room name is (Nonterminal B ∷ q) t h =
     has_append (starts B.part) (cond (absent B.part) (heads_of q) []) t ∙ by_start (has (starts B.part) t) (absent B.part) h (heads_has room name is q t)
   where
-    by_start : (on gone : Bool) → on || (gone && Predictive.heads Produces matches tables (map (placed room name) q) t) ≡ true
-        → (Predictive.heads Produces matches tables (map (placed room name) q) t ≡ true → has (heads_of q) t ≡ true) →
+    by_start : (on gone : Bool) → on || (gone && Predictive.heads Produces matches tables (map (wanted_for room name) q) t) ≡ true
+        → (Predictive.heads Produces matches tables (map (wanted_for room name) q) t ≡ true → has (heads_of q) t ≡ true) →
         on || has (cond gone (heads_of q) []) t ≡ true
     by_start true gone h rest = refl
     by_start false true h rest = rest h
     by_start false false h rest = absurd (not_both false h refl)
 
-vanish_same : (room : ℕ) (name : Token) (q : List Shape) → Predictive.vanish Produces matches tables (map (placed room name) q) ≡ may_vanish q
+vanish_same : (room : ℕ) (name : Token) (q : List Shape) → Predictive.vanish Produces matches tables (map (wanted_for room name) q) ≡ may_vanish q
 vanish_same room name [] = refl
 vanish_same room name (Terminal k ∷ q) = refl
 vanish_same room name (Nonterminal B ∷ q) = ap (λ b. absent B.part && b) (vanish_same room name q)
@@ -169,7 +169,7 @@ none_within xs ys true vanishes t h e v none = not_true _ (λ on. not_both _ (wi
 none_within xs ys false vanishes t h e v none = absurd (not_both _ v e)
 
 follow_at : (A : Roomed) (room : ℕ) (name : Token) → is_turn_name name ≡ true → (q : List Shape) →
-    follows (avoided A.part) q ≡ true → Predictive.Follow Produces matches tables A (map (placed room name) q)
+    follows (avoided A.part) q ≡ true → Predictive.Follow Produces matches tables A (map (wanted_for room name) q)
 follow_at A room name is [] h = tt
 follow_at A room name is (Terminal k ∷ q) h = follow_at A room name is q h
 follow_at A room name is (Nonterminal B ∷ q) h =
@@ -189,9 +189,9 @@ module _ (A : Roomed) (t : Token) (wanted : List Wanted) where
         production = h.production;
         is_one = h.among;
         has_room = omega (arith, free_of A.part h.production h.among h.none);
-        name = turn_of t;
+        name = turn_name_for t;
         is_turn = turn_of_is t;
-        made = sym (same_some _ _ is) ∙ sym (ap (map (placed A.room (turn_of t))) h.none);
+        made = sym (same_some _ _ is) ∙ sym (ap (map (wanted_for A.room (turn_name_for t))) h.none);
       }
   none_made false e is = absurd (no_some wanted is)
 
@@ -201,14 +201,14 @@ module _ (A : Roomed) (t : Token) (wanted : List Wanted) where
     production = p;
     is_one = among;
     has_room = leb-true _ _ room;
-    name = turn_of t;
+    name = turn_name_for t;
     is_turn =
         turn_of_is t;
     made = sym (same_some _ _ is);
   }
   one_made p among false room is = absurd (no_some wanted is)
 
-  picked_by : (found : Option Production) → chosen (choices A.part) t ≡ found →
+  picked_by : (found : Option Production) → decided_production (choices A.part) t ≡ found →
       decided A.room t (absent A.part) found ≡ Some wanted → Produces A (Some t) wanted
   unfolding choices
   picked_by (Some p) e is = one_made p (chosen_among (productions A.part) t p e) (nat_le p.needs A.room) refl is
@@ -216,7 +216,7 @@ module _ (A : Roomed) (t : Token) (wanted : List Wanted) where
 
   picked_made : pick A t ≡ Some wanted → Produces A (Some t) wanted
   unfolding pick
-  picked_made is = picked_by (chosen (choices A.part) t) refl is
+  picked_made is = picked_by (decided_production (choices A.part) t) refl is
 
 -- ends
 
@@ -227,9 +227,9 @@ at_end A may =
       production = h.production;
       is_one = h.among;
       has_room = omega (arith, free_of A.part h.production h.among h.none);
-      name = turn_of (codes "t0");
+      name = turn_name_for (codes "t0");
       is_turn = turn_of_is (codes "t0");
-      made = sym (ap (map (placed A.room (turn_of (codes "t0")))) h.none);
+      made = sym (ap (map (wanted_for A.room (turn_name_for (codes "t0")))) h.none);
     }
 
 lower_among : (high : ℕ) (ps : List Production) → has_lower high ps ≡ true →
@@ -244,7 +244,7 @@ lower_among high (p ∷ ps) is = by_here (is_lower high p) refl is (lower_among 
     by_here false e is rest = let h = rest is in (later h.0, h.1)
 
 lower_shapes : (high room : ℕ) (name : Token) (q : List Shape) → are_lower high q ≡ true →
-    Predictive.AreLower Produces matches tables high (map (placed room name) q)
+    Predictive.AreLower Produces matches tables high (map (wanted_for room name) q)
 lower_shapes high room name [] is = tt
 lower_shapes high room name (Terminal k ∷ q) is = lower_shapes high room name q is
 lower_shapes high room name (Nonterminal B ∷ q) is =
@@ -264,14 +264,14 @@ module _ (A : Roomed) where
         production = easiest;
         is_one = easy_is.0;
         has_room = omega (arith, few);
-        name = turn_of (codes "t0");
+        name = turn_name_for (codes "t0");
         is_turn =
             turn_of_is (codes "t0");
         made = refl;
       }
 
   easy_lower : Predictive.AreLower Produces matches tables (height A.part) (wanted_of A.room (codes "t0") easiest)
-  easy_lower = lower_shapes (height A.part) A.room (turn_of (codes "t0")) easiest.shapes (and_right (nat_le easiest.needs 0) _ easy_is.1)
+  easy_lower = lower_shapes (height A.part) A.room (turn_name_for (codes "t0")) easiest.shapes (and_right (nat_le easiest.needs 0) _ easy_is.1)
 
   ranked_of : (0 < depth A.part) × (0 < 32) × (depth A.part ≤ 32)
   ranked_of =

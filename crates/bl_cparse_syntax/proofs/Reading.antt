@@ -30,7 +30,7 @@ use Rattle.bl_grammar.proofs.Runs as RunLaws
 use Rattle.bl_cparse_syntax.specs.declared.grammar.Class.{Class as Row}
 use Rattle.bl_cparse_syntax.specs.declared.grammar.Roomed.{Roomed}
 use Rattle.bl_cparse_syntax.specs.Classes.{Class, matches}
-use Rattle.bl_cparse_syntax.specs.Grammar.{Wanted, whole, Produces, SpellText}
+use Rattle.bl_cparse_syntax.specs.Grammar.{Wanted, whole_text, Produces, SpellText}
 use Rattle.bl_cparse_syntax.specs.Tables.{absent, pick}
 use Rattle.bl_cparse_syntax.specs.Stack.{tables, file, IsGood, CStackCompletes}
 use Rattle.bl_cparse_syntax.specs.inner.Stacks.{StackExpands, StackAnswers, level, vanish, may_vanish, shown, class_shown}
@@ -39,7 +39,7 @@ use Rattle.bl_cparse_syntax.proofs.Predictive.{predictive}
 
 -- the stack
 
-pub start : CStackCompletes [] (whole ∷ [])
+pub start : CStackCompletes [] (whole_text ∷ [])
 start = RunLaws.starts Produces matches tables predictive file
 
 pub opened : (next : Token) (stack : List Wanted) → IsGood stack → StackExpands next stack stack

@@ -32,7 +32,8 @@ use Rattle.bl_cparse_syntax.specs.declared.grammar.Roomed.{Roomed}
 use Rattle.bl_cparse_syntax.specs.Classes.{Class, matches}
 use Rattle.bl_cparse_syntax.specs.Grammar.{Shape, Production, productions, IsAmong}
 use Rattle.bl_cparse_syntax.specs.Grammar.IsAmong.{here, later}
-use Rattle.bl_cparse_syntax.specs.Tables.{has, firsts, starts, absent, is_none, has_empty, Choice, choice_before, choices_of, choices, chosen, wanted_of, pick}
+use Rattle.bl_cparse_syntax.specs.Tables.{has, firsts, starts, absent, is_none, has_empty, Choice, choice_before, choices_of, choices, decided_production}
+use Rattle.bl_cparse_syntax.specs.Tables.{wanted_of, pick}
 use Rattle.bl_cparse_syntax.specs.Follow.{avoided}
 use Rattle.bl_cparse_syntax.proofs.ClassLemmas.{not_true, class_apart, apart_of, same_class, same_is}
 use Rattle.bl_cparse_syntax.proofs.Checks.{are_apart, are_within, all_on, are_separate, is_free, starts_are, separate, own_avoided, free}
@@ -129,7 +130,7 @@ on_choice (r ∷ ps) p t here is = before_on p p.shapes (choices_of ps) t is
 on_choice (r ∷ ps) p t (later among) is = later_on r r.shapes (choices_of ps) t (on_choice ps p t among is)
 
 chosen_here : (p : Production) (ss : List Shape) (cs : List Choice) (t : Token) → has (firsts starts ss) t ≡ true →
-    chosen (choice_before p ss cs) t ≡ Some p
+    decided_production (choice_before p ss cs) t ≡ Some p
 chosen_here p [] cs t is = absurd (not_both false is refl)
 chosen_here p (x ∷ q) cs t is = rw is refl
 
@@ -138,7 +139,7 @@ separate_later p [] cs e = e
 separate_later p (x ∷ q) cs e = and_right (are_apart (firsts starts (x ∷ q)) (all_on cs)) _ e
 
 chosen_later : (p : Production) (ss : List Shape) (cs : List Choice) (t : Token) → are_separate (choice_before p ss cs) ≡ true →
-    has (all_on cs) t ≡ true → chosen (choice_before p ss cs) t ≡ chosen cs t
+    has (all_on cs) t ≡ true → decided_production (choice_before p ss cs) t ≡ decided_production cs t
 chosen_later p [] cs t e is = refl
 chosen_later p (x ∷ q) cs t e is =
     let other : has (firsts starts (x ∷ q)) t ≡ false =
@@ -146,32 +147,32 @@ chosen_later p (x ∷ q) cs t e is =
     rw other refl
 
 pub chosen_choice : (ps : List Production) (p : Production) (t : Token) → are_separate (choices_of ps) ≡ true → IsAmong p ps →
-    has (firsts starts p.shapes) t ≡ true → chosen (choices_of ps) t ≡ Some p
+    has (firsts starts p.shapes) t ≡ true → decided_production (choices_of ps) t ≡ Some p
 chosen_choice [] p t e among is = elim among [ ]
 chosen_choice (r ∷ ps) p t e here is = chosen_here p p.shapes (choices_of ps) t is
 chosen_choice (r ∷ ps) p t e (later among) is =
     chosen_later r r.shapes (choices_of ps) t e (on_choice ps p t among is)
     ∙ chosen_choice ps p t (separate_later r r.shapes (choices_of ps) e) among is
 
-pub chosen_none : (cs : List Choice) (t : Token) → has (all_on cs) t ≡ false → chosen cs t ≡ None
+pub chosen_none : (cs : List Choice) (t : Token) → has (all_on cs) t ≡ false → decided_production cs t ≡ None
 chosen_none [] t none = refl
 chosen_none (x ∷ cs) t none = by_here (has x.on t) (has (all_on cs) t) refl (sym (has_append x.on (all_on cs) t) ∙ none) (chosen_none cs t)
   where
-    by_here : (a b : Bool) → has (all_on cs) t ≡ b → a || b ≡ false → (has (all_on cs) t ≡ false → chosen cs t ≡ None) →
-        cond a (Some x.production) (chosen cs t) ≡ None
+    by_here : (a b : Bool) → has (all_on cs) t ≡ b → a || b ≡ false → (has (all_on cs) t ≡ false → decided_production cs t ≡ None) →
+        cond a (Some x.production) (decided_production cs t) ≡ None
     by_here true b eb none rest = absurd (not_both true refl none)
     by_here false b eb none rest = rest (eb ∙ none)
 
 chosen_first : (r : Production) (ss : List Shape) (cs : List Choice) (t : Token) (p : Production) →
-    chosen (choice_before r ss cs) t ≡ Some p → (r ≡ p) ⊎ (chosen cs t ≡ Some p)
+    decided_production (choice_before r ss cs) t ≡ Some p → (r ≡ p) ⊎ (decided_production cs t ≡ Some p)
 chosen_first r [] cs t p is = inr is
 chosen_first r (x ∷ q) cs t p is = by_here (has (firsts starts (x ∷ q)) t) is
   where
-    by_here : (b : Bool) → cond b (Some r) (chosen cs t) ≡ Some p → (r ≡ p) ⊎ (chosen cs t ≡ Some p)
+    by_here : (b : Bool) → cond b (Some r) (decided_production cs t) ≡ Some p → (r ≡ p) ⊎ (decided_production cs t ≡ Some p)
     by_here true is = inl (same_some _ _ is)
     by_here false is = inr is
 
-pub chosen_among : (ps : List Production) (t : Token) (p : Production) → chosen (choices_of ps) t ≡ Some p → IsAmong p ps
+pub chosen_among : (ps : List Production) (t : Token) (p : Production) → decided_production (choices_of ps) t ≡ Some p → IsAmong p ps
 chosen_among [] t p is = absurd (no_some p is)
 chosen_among (r ∷ ps) t p is =
     ⊎_elim (λ e. subst (λ (q : Production). IsAmong q (r ∷ ps)) e here) (λ e. later (chosen_among ps t p e))
@@ -180,7 +181,7 @@ chosen_among (r ∷ ps) t p is =
 -- the parts of the grammar
 
 pub chosen_of : (A : Part) (p : Production) (t : Token) → IsAmong p (productions A) → has (firsts starts p.shapes) t ≡ true →
-    chosen (choices A) t ≡ Some p
+    decided_production (choices A) t ≡ Some p
 unfolding choices
 chosen_of A p t among is = chosen_choice (productions A) p t (separate A) among is
 

@@ -5,7 +5,7 @@ use Rattle.std.specs.Cmp.Lexicographic.{pointwise}
 use Rattle.bl_ctext.specs.Token.{Token}
 use Rattle.bl_ctext.specs.Spellable.{has_any}
 use Rattle.bl_ctext.proofs.Bytes.{and-fst, and-snd}
-use Rattle.bl_cparse_syntax.specs.Pieces.{first_of, is_same}
+use Rattle.bl_cparse_syntax.specs.Pieces.{first_piece, is_same}
 
 same_number : (x y : ℕ) → nat_eq x y ≡ true → x ≡ y
 same_number x y h = grind (arith, nat_tests)
@@ -24,9 +24,9 @@ unfolding is_same
 is_same-same xs ys h = same_bytes xs ys h
 
 -- where the first piece has a byte, it stands first
-pub first_is : (ts : List Token) (what : Token) → first_of ts ≡ what → has_any what ≡ true → ts ≡ what ∷ drop 1 ts
+pub first_is : (ts : List Token) (what : Token) → first_piece ts ≡ what → has_any what ≡ true → ts ≡ what ∷ drop 1 ts
 first_is [] what e h = cc
 first_is (t ∷ ts) what e h = rw e refl
 
-pub seen : (ts : List Token) (what : Token) → is_same (first_of ts) what ≡ true → has_any what ≡ true → ts ≡ what ∷ drop 1 ts
-seen ts what same h = first_is ts what (is_same-same (first_of ts) what same) h
+pub seen : (ts : List Token) (what : Token) → is_same (first_piece ts) what ≡ true → has_any what ≡ true → ts ≡ what ∷ drop 1 ts
+seen ts what same h = first_is ts what (is_same-same (first_piece ts) what same) h

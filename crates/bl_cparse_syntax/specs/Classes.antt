@@ -48,11 +48,11 @@ least (Negated w) = 1
 least (Unsigned w) = 0
 
 -- the bound that the digits' number must be below
-abbrev pub bound : Digits → ℕ
-bound Elements = 65537
-bound (Int w) = negatives w
-bound (Negated w) = negatives w
-bound (Unsigned w) = 2 * negatives w
+abbrev pub digits_bound : Digits → ℕ
+digits_bound Elements = 65537
+digits_bound (Int w) = negatives w
+digits_bound (Negated w) = negatives w
+digits_bound (Unsigned w) = 2 * negatives w
 
 -- one or more decimal digits, and no zero before others
 abbrev pub are_digits : Token → Bool
@@ -60,13 +60,13 @@ are_digits [] = false
 are_digits (b ∷ bs) = all_of (map is_ascii_digit (b ∷ bs)) && (not (b == 48) || nat_le (length bs) 0)
 
 -- the digits of a number that they may spell
-unfoldable pub is_number : Digits → Token → Bool
-is_number of piece = are_digits piece && (nat_le (least of) (digits_value 10 piece) && nat_lt (digits_value 10 piece) (bound of))
+unfoldable pub spells_number : Digits → Token → Bool
+spells_number of piece = are_digits piece && (nat_le (least of) (digits_value 10 piece) && nat_lt (digits_value 10 piece) (digits_bound of))
 
 -- the piece is of the class
 unfoldable pub matches : Class → Token → Bool
 matches (exactly word) piece = is_same word piece
 matches (one_of group) piece = is_among piece (words_of group)
 matches a_name piece = is_name piece
-matches (number of) piece = is_number of piece
+matches (number of) piece = spells_number of piece
 matches turn piece = is_turn_name piece

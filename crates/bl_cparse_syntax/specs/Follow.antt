@@ -41,7 +41,7 @@ use Rattle.bl_cparse_syntax.specs.declared.grammar.Part.TheVariants.{
 }
 use Rattle.bl_cparse_syntax.specs.Classes.{Class}
 use Rattle.bl_cparse_syntax.specs.Classes.Class.{exactly, one_of, a_name}
-use Rattle.bl_cparse_syntax.specs.Grammar.{Shape, Production, plain, productions}
+use Rattle.bl_cparse_syntax.specs.Grammar.{Shape, Production, needing_none, productions}
 
 -- the classes that a function begins with
 abbrev pub function_starts : List Class
@@ -124,15 +124,15 @@ height Place = 1
 height _ = 0
 
 -- the greatest number of productions in turn that begin a production, where those of the parts are known
-abbrev pub begun : (Part → ℕ) → List Shape → ℕ
-begun known [] = 1
-begun known (Terminal class ∷ rest) = 1
-begun known (Nonterminal within ∷ rest) = known within.part + 1
+abbrev pub leading_productions : (Part → ℕ) → List Shape → ℕ
+leading_productions known [] = 1
+leading_productions known (Terminal class ∷ rest) = 1
+leading_productions known (Nonterminal within ∷ rest) = known within.part + 1
 
 -- the depth of a part with these productions, where the depths of parts are known so far
 abbrev pub depth_of : (Part → ℕ) → List Production → ℕ
 depth_of known [] = 1
-depth_of known (production ∷ others) = max (begun known production.shapes) (depth_of known others)
+depth_of known (production ∷ others) = max (leading_productions known production.shapes) (depth_of known others)
 
 -- the depth of a part, as far as n steps through its productions show it
 abbrev pub depth_within : ℕ → Part → ℕ
@@ -155,5 +155,5 @@ is_lower high production = nat_le production.needs 0 && are_lower high productio
 
 -- the first production that needs no room and whose parts have less height
 abbrev pub lower_of : ℕ → List Production → Production
-lower_of high [] = plain []
+lower_of high [] = needing_none []
 lower_of high (production ∷ others) = cond (is_lower high production) production (lower_of high others)

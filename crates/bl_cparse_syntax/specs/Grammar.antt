@@ -95,8 +95,8 @@ abbrev pub the : Part → Shape
 the part = Nonterminal (record { part = part; around = 0 })
 
 -- a part that stands in so many of its brackets
-abbrev pub inside : ℕ → Part → Shape
-inside around part = Nonterminal (record { part = part; around = around })
+abbrev pub within_brackets : ℕ → Part → Shape
+within_brackets around part = Nonterminal (record { part = part; around = around })
 
 -- a production of a part, and how many brackets must still be allowed so that it and its parts can be completed
 pub record Production : Type 0 where
@@ -104,8 +104,8 @@ pub record Production : Type 0 where
   pub shapes : List Shape
 
 -- a production that needs no open bracket
-abbrev pub plain : List Shape → Production
-plain shapes = record { needs = 0; shapes = shapes }
+abbrev pub needing_none : List Shape → Production
+needing_none shapes = record { needs = 0; shapes = shapes }
 
 -- a production that needs room for so many open brackets
 abbrev pub needing : ℕ → List Shape → Production
@@ -116,111 +116,111 @@ abbrev pub constant : Token → Digits → List Shape
 constant bytes of = word bytes ∷ word (codes "(") ∷ digits of ∷ word (codes ")") ∷ []
 
 -- the symbols of a loop behind its brace and the type of its turns. Two of its brackets are open around its condition and its statements
-abbrev pub turns : List Shape
-turns =
-    turn_name ∷ word (codes "=") ∷ word (codes "0") ∷ word (codes ";") ∷ word (codes "while") ∷ word (codes "(") ∷ inside 2 Expr
+abbrev pub loop_shapes : List Shape
+loop_shapes =
+    turn_name ∷ word (codes "=") ∷ word (codes "0") ∷ word (codes ";") ∷ word (codes "while") ∷ word (codes "(") ∷ within_brackets 2 Expr
     ∷ word (codes ")") ∷
     word (codes "{") ∷ turn_name ∷ word (codes "=") ∷ word (codes "bl_turn") ∷ word (codes "(") ∷ turn_name ∷ word (codes ")")
     ∷ word (codes ";") ∷
-    inside 2 Stmts ∷ word (codes "}") ∷ word (codes "}") ∷ []
+    within_brackets 2 Stmts ∷ word (codes "}") ∷ word (codes "}") ∷ []
 
--- the productions of each part; `plain []` says that the part may be absent
+-- the productions of each part; `needing_none []` says that the part may be absent
 abbrev pub productions : Part → List Production
-productions File = plain (the Struct ∷ the Structs ∷ the Func ∷ the Funcs ∷ []) ∷ []
-productions Structs = plain (the Struct ∷ the Structs ∷ []) ∷ plain [] ∷ []
-productions Struct = plain (word (codes "struct") ∷ the StructName ∷ word (codes "{") ∷ inside 1 Member ∷ inside 1 Members
+productions File = needing_none (the Struct ∷ the Structs ∷ the Func ∷ the Funcs ∷ []) ∷ []
+productions Structs = needing_none (the Struct ∷ the Structs ∷ []) ∷ needing_none [] ∷ []
+productions Struct = needing_none (word (codes "struct") ∷ the StructName ∷ word (codes "{") ∷ within_brackets 1 Member ∷ within_brackets 1 Members
     ∷ word (codes "}") ∷ word (codes ";") ∷ []) ∷ []
-productions StructName = plain (name ∷ []) ∷ plain (Terminal (one_of StructWords) ∷ []) ∷ []
-productions Members = plain (the Member ∷ the Members ∷ []) ∷ plain [] ∷ []
-productions Member = plain (the TypeName ∷ name ∷ the Length ∷ word (codes ";") ∷ []) ∷ []
-productions TypeName = plain (Terminal (one_of ScalarTypes) ∷ []) ∷ plain (word (codes "struct") ∷ the StructName ∷ []) ∷ []
-productions Length = plain (word (codes "[") ∷ digits Elements ∷ word (codes "]") ∷ []) ∷ plain [] ∷ []
-productions Funcs = plain (the Func ∷ the Funcs ∷ []) ∷ plain [] ∷ []
-productions Func = plain (word (codes "static") ∷ the PlainFunc ∷ []) ∷ plain (the PlainFunc ∷ []) ∷ []
-productions PlainFunc = plain (word (codes "void") ∷ the FuncRest ∷ []) ∷ plain (Terminal (one_of ScalarTypes) ∷ the FuncRest ∷ []) ∷ []
+productions StructName = needing_none (name ∷ []) ∷ needing_none (Terminal (one_of StructWords) ∷ []) ∷ []
+productions Members = needing_none (the Member ∷ the Members ∷ []) ∷ needing_none [] ∷ []
+productions Member = needing_none (the TypeName ∷ name ∷ the Length ∷ word (codes ";") ∷ []) ∷ []
+productions TypeName = needing_none (Terminal (one_of ScalarTypes) ∷ []) ∷ needing_none (word (codes "struct") ∷ the StructName ∷ []) ∷ []
+productions Length = needing_none (word (codes "[") ∷ digits Elements ∷ word (codes "]") ∷ []) ∷ needing_none [] ∷ []
+productions Funcs = needing_none (the Func ∷ the Funcs ∷ []) ∷ needing_none [] ∷ []
+productions Func = needing_none (word (codes "static") ∷ the PlainFunc ∷ []) ∷ needing_none (the PlainFunc ∷ []) ∷ []
+productions PlainFunc = needing_none (word (codes "void") ∷ the FuncRest ∷ []) ∷ needing_none (Terminal (one_of ScalarTypes) ∷ the FuncRest ∷ []) ∷ []
 productions FuncRest =
-    plain (the FuncName ∷ word (codes "(") ∷ inside 1 Params ∷ word (codes ")") ∷ word (codes "{") ∷ inside 1 Locals
-    ∷ inside 1 Stmts ∷ word (codes "}") ∷ []) ∷ []
-productions FuncName = plain (name ∷ []) ∷ plain (Terminal (one_of FunctionWords) ∷ []) ∷ []
-productions Params = plain (the Param ∷ the ParamRest ∷ []) ∷ plain [] ∷ []
-productions ParamRest = plain (word (codes ",") ∷ the Param ∷ the ParamRest ∷ []) ∷ plain [] ∷ []
-productions Param = plain (the TypeName ∷ the Star ∷ name ∷ []) ∷ []
-productions Star = plain (word (codes "*") ∷ []) ∷ plain [] ∷ []
-productions Locals = plain (the Local ∷ the Locals ∷ []) ∷ plain [] ∷ []
+    needing_none (the FuncName ∷ word (codes "(") ∷ within_brackets 1 Params ∷ word (codes ")") ∷ word (codes "{") ∷ within_brackets 1 Locals
+    ∷ within_brackets 1 Stmts ∷ word (codes "}") ∷ []) ∷ []
+productions FuncName = needing_none (name ∷ []) ∷ needing_none (Terminal (one_of FunctionWords) ∷ []) ∷ []
+productions Params = needing_none (the Param ∷ the ParamRest ∷ []) ∷ needing_none [] ∷ []
+productions ParamRest = needing_none (word (codes ",") ∷ the Param ∷ the ParamRest ∷ []) ∷ needing_none [] ∷ []
+productions Param = needing_none (the TypeName ∷ the Star ∷ name ∷ []) ∷ []
+productions Star = needing_none (word (codes "*") ∷ []) ∷ needing_none [] ∷ []
+productions Locals = needing_none (the Local ∷ the Locals ∷ []) ∷ needing_none [] ∷ []
 productions Local =
-    plain (Terminal (one_of ScalarTypes) ∷ name ∷ word (codes "=") ∷ word (codes "0") ∷ word (codes ";") ∷ []) ∷
-    plain (word (codes "struct") ∷ the StructName ∷ name ∷ word (codes "=") ∷ word (codes "{") ∷ word (codes "0") ∷ word (codes "}")
+    needing_none (Terminal (one_of ScalarTypes) ∷ name ∷ word (codes "=") ∷ word (codes "0") ∷ word (codes ";") ∷ []) ∷
+    needing_none (word (codes "struct") ∷ the StructName ∷ name ∷ word (codes "=") ∷ word (codes "{") ∷ word (codes "0") ∷ word (codes "}")
     ∷ word (codes ";") ∷ []) ∷ []
-productions Stmts = plain (the Stmt ∷ the Stmts ∷ []) ∷ plain [] ∷ []
+productions Stmts = needing_none (the Stmt ∷ the Stmts ∷ []) ∷ needing_none [] ∷ []
 productions Stmt =
-    plain (name ∷ the AfterName ∷ []) ∷
-    needing 1 (Terminal (one_of PreludeFunctions) ∷ word (codes "(") ∷ inside 1 Args ∷ word (codes ")") ∷ word (codes ";") ∷ []) ∷
+    needing_none (name ∷ the AfterName ∷ []) ∷
+    needing 1 (Terminal (one_of PreludeFunctions) ∷ word (codes "(") ∷ within_brackets 1 Args ∷ word (codes ")") ∷ word (codes ";") ∷ []) ∷
     needing 1 (word (codes "(") ∷ word (codes "*") ∷ name ∷ word (codes ")") ∷ the AssignTail ∷ []) ∷
-    needing 1 (word (codes "if") ∷ word (codes "(") ∷ inside 1 Expr ∷ word (codes ")") ∷ word (codes "{") ∷ inside 1 Stmts
+    needing 1 (word (codes "if") ∷ word (codes "(") ∷ within_brackets 1 Expr ∷ word (codes ")") ∷ word (codes "{") ∷ within_brackets 1 Stmts
     ∷ word (codes "}") ∷ the Else ∷ []) ∷
     needing 3 (word (codes "{") ∷ word (codes "uint32_t") ∷ the Turns ∷ []) ∷
-    plain (word (codes "break") ∷ word (codes ";") ∷ []) ∷
-    plain (word (codes "return") ∷ the Result ∷ []) ∷ []
-productions Else = plain (word (codes "else") ∷ word (codes "{") ∷ inside 1 Stmts ∷ word (codes "}") ∷ []) ∷ plain [] ∷ []
-productions Turns = plain turns ∷ []
+    needing_none (word (codes "break") ∷ word (codes ";") ∷ []) ∷
+    needing_none (word (codes "return") ∷ the Result ∷ []) ∷ []
+productions Else = needing_none (word (codes "else") ∷ word (codes "{") ∷ within_brackets 1 Stmts ∷ word (codes "}") ∷ []) ∷ needing_none [] ∷ []
+productions Turns = needing_none loop_shapes ∷ []
 productions AfterName =
-    needing 1 (word (codes "(") ∷ inside 1 Args ∷ word (codes ")") ∷ word (codes ";") ∷ []) ∷
-    plain (the AssignTail ∷ []) ∷ []
+    needing 1 (word (codes "(") ∷ within_brackets 1 Args ∷ word (codes ")") ∷ word (codes ";") ∷ []) ∷
+    needing_none (the AssignTail ∷ []) ∷ []
 productions AssignTail =
-    plain (word (codes "=") ∷ the Value ∷ word (codes ";") ∷ []) ∷
-    plain (word (codes ".") ∷ name ∷ the Index ∷ the AssignTail ∷ []) ∷ []
-productions Value = needing 1 (word (codes "(") ∷ the AfterOpen ∷ []) ∷ plain (the Simple ∷ []) ∷ []
+    needing_none (word (codes "=") ∷ the Value ∷ word (codes ";") ∷ []) ∷
+    needing_none (word (codes ".") ∷ name ∷ the Index ∷ the AssignTail ∷ []) ∷ []
+productions Value = needing 1 (word (codes "(") ∷ the AfterOpen ∷ []) ∷ needing_none (the Simple ∷ []) ∷ []
 productions AfterOpen =
-    plain (word (codes "struct") ∷ the StructName ∷ word (codes ")") ∷ word (codes "{") ∷ word (codes "0") ∷ word (codes "}") ∷ []) ∷
-    plain (the Inside ∷ []) ∷ []
-productions Result = plain (word (codes ";") ∷ []) ∷ plain (the Expr ∷ word (codes ";") ∷ []) ∷ []
-productions Expr = needing 1 (word (codes "(") ∷ the Inside ∷ []) ∷ plain (the Simple ∷ []) ∷ []
+    needing_none (word (codes "struct") ∷ the StructName ∷ word (codes ")") ∷ word (codes "{") ∷ word (codes "0") ∷ word (codes "}") ∷ []) ∷
+    needing_none (the Inside ∷ []) ∷ []
+productions Result = needing_none (word (codes ";") ∷ []) ∷ needing_none (the Expr ∷ word (codes ";") ∷ []) ∷ []
+productions Expr = needing 1 (word (codes "(") ∷ the Inside ∷ []) ∷ needing_none (the Simple ∷ []) ∷ []
 productions Simple =
-    plain (name ∷ the NameUse ∷ []) ∷
-    needing 1 (Terminal (one_of PreludeFunctions) ∷ word (codes "(") ∷ inside 1 Args ∷ word (codes ")") ∷ []) ∷
-    plain (Terminal (one_of PlainLiterals) ∷ []) ∷
+    needing_none (name ∷ the NameUse ∷ []) ∷
+    needing 1 (Terminal (one_of PreludeFunctions) ∷ word (codes "(") ∷ within_brackets 1 Args ∷ word (codes ")") ∷ []) ∷
+    needing_none (Terminal (one_of PlainLiterals) ∷ []) ∷
     needing 1 (the Constant ∷ []) ∷ []
 productions Constant =
-    plain (constant (codes "INT8_C") (Int W8)) ∷ plain (constant (codes "INT16_C") (Int W16))
-    ∷ plain (constant (codes "INT32_C") (Int W32)) ∷ plain (constant (codes "INT64_C") (Int W64)) ∷
-    plain (constant (codes "UINT8_C") (Unsigned W8)) ∷ plain (constant (codes "UINT16_C") (Unsigned W16))
-    ∷ plain (constant (codes "UINT32_C") (Unsigned W32)) ∷ plain (constant (codes "UINT64_C") (Unsigned W64)) ∷ []
+    needing_none (constant (codes "INT8_C") (Int W8)) ∷ needing_none (constant (codes "INT16_C") (Int W16))
+    ∷ needing_none (constant (codes "INT32_C") (Int W32)) ∷ needing_none (constant (codes "INT64_C") (Int W64)) ∷
+    needing_none (constant (codes "UINT8_C") (Unsigned W8)) ∷ needing_none (constant (codes "UINT16_C") (Unsigned W16))
+    ∷ needing_none (constant (codes "UINT32_C") (Unsigned W32)) ∷ needing_none (constant (codes "UINT64_C") (Unsigned W64)) ∷ []
 -- an expression behind its parenthesis, which is the first of its brackets
 productions Inside =
-    plain (word (codes "*") ∷ name ∷ word (codes ")") ∷ the Steps ∷ []) ∷
-    plain (word (codes "!") ∷ inside 1 Expr ∷ word (codes ")") ∷ []) ∷
+    needing_none (word (codes "*") ∷ name ∷ word (codes ")") ∷ the Steps ∷ []) ∷
+    needing_none (word (codes "!") ∷ within_brackets 1 Expr ∷ word (codes ")") ∷ []) ∷
     needing 2 (word (codes "-") ∷ the Negative ∷ word (codes ")") ∷ []) ∷
-    plain (inside 1 Expr ∷ Terminal (one_of Operators) ∷ inside 1 Expr ∷ word (codes ")") ∷ []) ∷ []
+    needing_none (within_brackets 1 Expr ∷ Terminal (one_of Operators) ∷ within_brackets 1 Expr ∷ word (codes ")") ∷ []) ∷ []
 productions Negative =
-    plain (constant (codes "INT8_C") (Negated W8)) ∷ plain (constant (codes "INT16_C") (Negated W16))
-    ∷ plain (constant (codes "INT32_C") (Negated W32)) ∷ plain (constant (codes "INT64_C") (Negated W64)) ∷ []
+    needing_none (constant (codes "INT8_C") (Negated W8)) ∷ needing_none (constant (codes "INT16_C") (Negated W16))
+    ∷ needing_none (constant (codes "INT32_C") (Negated W32)) ∷ needing_none (constant (codes "INT64_C") (Negated W64)) ∷ []
 productions NameUse =
-    needing 1 (word (codes "(") ∷ inside 1 Args ∷ word (codes ")") ∷ []) ∷
-    plain (word (codes ".") ∷ name ∷ the Index ∷ the Steps ∷ []) ∷
-    plain [] ∷ []
-productions Steps = plain (word (codes ".") ∷ name ∷ the Index ∷ the Steps ∷ []) ∷ plain [] ∷ []
+    needing 1 (word (codes "(") ∷ within_brackets 1 Args ∷ word (codes ")") ∷ []) ∷
+    needing_none (word (codes ".") ∷ name ∷ the Index ∷ the Steps ∷ []) ∷
+    needing_none [] ∷ []
+productions Steps = needing_none (word (codes ".") ∷ name ∷ the Index ∷ the Steps ∷ []) ∷ needing_none [] ∷ []
 productions Index =
-    needing 2 (word (codes "[") ∷ Terminal (one_of IndexFunctions) ∷ word (codes "(") ∷ inside 2 Expr ∷ word (codes ",")
+    needing 2 (word (codes "[") ∷ Terminal (one_of IndexFunctions) ∷ word (codes "(") ∷ within_brackets 2 Expr ∷ word (codes ",")
     ∷ digits Elements ∷ word (codes ")") ∷ word (codes "]") ∷ []) ∷
-    plain [] ∷ []
-productions Args = plain (the Arg ∷ the ArgRest ∷ []) ∷ plain [] ∷ []
-productions ArgRest = plain (word (codes ",") ∷ the Arg ∷ the ArgRest ∷ []) ∷ plain [] ∷ []
-productions Arg = plain (word (codes "&") ∷ the Place ∷ []) ∷ plain (the Expr ∷ []) ∷ []
-productions Place = plain (name ∷ the Steps ∷ []) ∷ needing 1
+    needing_none [] ∷ []
+productions Args = needing_none (the Arg ∷ the ArgRest ∷ []) ∷ needing_none [] ∷ []
+productions ArgRest = needing_none (word (codes ",") ∷ the Arg ∷ the ArgRest ∷ []) ∷ needing_none [] ∷ []
+productions Arg = needing_none (word (codes "&") ∷ the Place ∷ []) ∷ needing_none (the Expr ∷ []) ∷ []
+productions Place = needing_none (name ∷ the Steps ∷ []) ∷ needing 1
     (word (codes "(") ∷ word (codes "*") ∷ name ∷ word (codes ")") ∷ the Steps ∷ []) ∷ []
 
 -- the class, with the name of the loop's turns for the class of such names
-abbrev pub named : Token → Class → Class
-named own turn = exactly own
-named own (exactly bytes) = exactly bytes
-named own (one_of group) = one_of group
-named own a_name = a_name
-named own (number of) = number of
+abbrev pub with_turn_name : Token → Class → Class
+with_turn_name own turn = exactly own
+with_turn_name own (exactly bytes) = exactly bytes
+with_turn_name own (one_of group) = one_of group
+with_turn_name own a_name = a_name
+with_turn_name own (number of) = number of
 
 -- the symbol of a production's shape, with the brackets that may still be opened and the name of the loop's turns
-abbrev pub placed : ℕ → Token → Shape → Wanted
-placed room own (Terminal class) = Terminal (named own class)
-placed room own (Nonterminal within) = Nonterminal (record { part = within.part; room = room - within.around })
+abbrev pub wanted_for : ℕ → Token → Shape → Wanted
+wanted_for room own (Terminal class) = Terminal (with_turn_name own class)
+wanted_for room own (Nonterminal within) = Nonterminal (record { part = within.part; room = room - within.around })
 
 -- the production is in the list
 pub data IsAmong (production : Production) : List Production → Type 0 where
@@ -234,7 +234,7 @@ pub record Produces (whole : Roomed) (next : Option Token) (wanted : List Wanted
   pub has_room : production.needs ≤ whole.room
   pub name : Token
   pub is_turn : is_turn_name name ≡ true
-  pub made : wanted ≡ map (placed whole.room name) production.shapes
+  pub made : wanted ≡ map (wanted_for whole.room name) production.shapes
 
 -- the classes and parts derive the pieces up to those that are left
 abbrev pub CDerives : List Wanted → List Token → List Token → Type 0
@@ -245,9 +245,9 @@ abbrev pub most_open : ℕ
 most_open = 2000
 
 -- a whole text, behind its prelude
-abbrev pub whole : Wanted
-whole = Nonterminal (record { part = File; room = most_open })
+abbrev pub whole_text : Wanted
+whole_text = Nonterminal (record { part = File; room = most_open })
 
 -- the pieces spell a text of the subset
 abbrev pub SpellText : List Token → Type 0
-SpellText pieces = CDerives (whole ∷ []) pieces []
+SpellText pieces = CDerives (whole_text ∷ []) pieces []

@@ -27,9 +27,9 @@ abbrev pub left_of : List ℕ → ℕ → ℕ → List Token
 left_of text start end = put (slice_range text start end) (pieces (drop end text))
 
 -- the first piece, and no bytes where there is none
-abbrev pub first_of : List Token → Token
-first_of [] = []
-first_of (t ∷ ts) = t
+abbrev pub first_piece : List Token → Token
+first_piece [] = []
+first_piece (t ∷ ts) = t
 
 -- whether two runs of bytes are the same
 unfoldable pub is_same : List ℕ → List ℕ → Bool

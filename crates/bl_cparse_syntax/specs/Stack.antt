@@ -7,7 +7,7 @@ use Rattle.bl_cparse_syntax.specs.declared.grammar.Part.TheVariants.{File}
 use Rattle.bl_cparse_syntax.specs.declared.grammar.Roomed.{Roomed}
 use Rattle.bl_cparse_syntax.specs.Classes.{Class, words_of, matches}
 use Rattle.bl_cparse_syntax.specs.Classes.Class.{exactly, one_of, a_name, number, turn}
-use Rattle.bl_cparse_syntax.specs.Pieces.{first_of}
+use Rattle.bl_cparse_syntax.specs.Pieces.{first_piece}
 use Rattle.bl_cparse_syntax.specs.Grammar.{Wanted, Produces, most_open, productions}
 use Rattle.bl_cparse_syntax.specs.Tables.{has, starts, absent, wanted_of, pick}
 use Rattle.bl_cparse_syntax.specs.Follow.{avoided, height, depth, lower_of}
@@ -17,7 +17,7 @@ use Rattle.bl_grammar.specs.Runs
 -- a piece of the class
 unfoldable pub sample : Class → Token
 sample (exactly word) = word
-sample (one_of group) = first_of (words_of group)
+sample (one_of group) = first_piece (words_of group)
 sample a_name = codes "x"
 sample (number Elements) = codes "1"
 sample (number (Int w)) = codes "0"

@@ -7,7 +7,7 @@ use Rattle.bl_grammar.specs.declared.symbol.Symbol.TheVariants.{Terminal, Nonter
 use Rattle.bl_cparse_syntax.specs.declared.grammar.Part.{Part}
 use Rattle.bl_cparse_syntax.specs.declared.grammar.Roomed.{Roomed}
 use Rattle.bl_cparse_syntax.specs.Classes.{Class, matches}
-use Rattle.bl_cparse_syntax.specs.Grammar.{Shape, Wanted, Production, productions, placed}
+use Rattle.bl_cparse_syntax.specs.Grammar.{Shape, Wanted, Production, productions, wanted_for}
 
 -- the piece is of one of these classes
 abbrev pub has : List Class → Token → Bool
@@ -67,17 +67,17 @@ unfoldable pub absent : Part → Bool
 absent part = has_empty (productions part)
 
 -- the production of the first choice that the piece decides on
-abbrev pub chosen : List Choice → Token → Option Production
-chosen [] piece = None
-chosen (choice ∷ others) piece = cond (has choice.on piece) (Some choice.production) (chosen others piece)
+abbrev pub decided_production : List Choice → Token → Option Production
+decided_production [] piece = None
+decided_production (choice ∷ others) piece = cond (has choice.on piece) (Some choice.production) (decided_production others piece)
 
 -- the piece, if it can name the turns of a loop, and else some such name
-abbrev pub turn_of : Token → Token
-turn_of piece = cond (is_turn_name piece) piece (codes "t0")
+abbrev pub turn_name_for : Token → Token
+turn_name_for piece = cond (is_turn_name piece) piece (codes "t0")
 
 -- the symbols of the production in this room, where the piece comes next
 abbrev pub wanted_of : ℕ → Token → Production → List Wanted
-wanted_of room piece production = map (placed room (turn_of piece)) production.shapes
+wanted_of room piece production = map (wanted_for room (turn_name_for piece)) production.shapes
 
 -- the production where there is room for it, or else nothing where the part may be absent
 abbrev pub decided : ℕ → Token → Bool → Option Production → Option (List Wanted)
@@ -87,4 +87,4 @@ decided room piece false None = None
 
 -- the symbols on which the next piece decides
 unfoldable pub pick : Roomed → Token → Option (List Wanted)
-pick whole piece = decided whole.room piece (absent whole.part) (chosen (choices whole.part) piece)
+pick whole piece = decided whole.room piece (absent whole.part) (decided_production (choices whole.part) piece)

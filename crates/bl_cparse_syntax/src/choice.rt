@@ -2,7 +2,7 @@
 
 ghost use Rattle.std.specs.Prelude.{◌≡◌, ℕ, List, Bool, true, false, None, Some, map, option_map};
 ghost use Rattle.bl_cparse_syntax.specs.Classes.{matches};
-ghost use Rattle.bl_cparse_syntax.specs.Tables.{choices, chosen, has, absent, decided, pick};
+ghost use Rattle.bl_cparse_syntax.specs.Tables.{choices, decided_production, has, absent, decided, pick};
 ghost use Rattle.bl_cparse_syntax.specs.inner.Stacks.{class_shown};
 ghost use Rattle.bl_cparse_syntax.specs.inner.Rows.{choice_shown, wanted_from, production_shown};
 
@@ -62,7 +62,7 @@ fn empty_if(absent: bool) -> Option<&'static [Shape]>
 }
 
 fn chosen(choices: &'static [Choice], piece: &Seen<'_>) -> Option<Choice>
-    ensures { option_map production_shown result ≡ chosen (map choice_shown choices.now) piece.now }
+    ensures { option_map production_shown result ≡ decided_production (map choice_shown choices.now) piece.now }
 {
     for choice in choices {
         if has(choice.on, piece) {

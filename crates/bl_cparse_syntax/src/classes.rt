@@ -6,7 +6,7 @@ ghost use Rattle.std.specs.Str.Parse.{digits_value};
 ghost use Rattle.bl_ctext.specs.Names.{is_among};
 ghost use Rattle.bl_ctext.specs.Spelling.{negatives};
 ghost use Rattle.bl_cparse_syntax.specs.Pieces.{is_same};
-ghost use Rattle.bl_cparse_syntax.specs.Classes.{words_of, least, bound, are_digits, is_number, matches};
+ghost use Rattle.bl_cparse_syntax.specs.Classes.{words_of, least, digits_bound, are_digits, spells_number, matches};
 ghost use Rattle.bl_cparse_syntax.specs.inner.Stacks.{class_shown};
 
 use crate::grammar::{Class, Digits, Group};
@@ -60,9 +60,9 @@ fn words_of(group: Group) -> &'static [&'static str]
     }
 }
 
-#[tactic(auto, unfolding(crate::specs::Classes::is_number))]
+#[tactic(auto, unfolding(crate::specs::Classes::spells_number))]
 fn is_number(digits: Digits, piece: &[u8]) -> bool
-    ensures { result ≡ is_number digits piece.now }
+    ensures { result ≡ spells_number digits piece.now }
 {
     are_digits(piece) && is_within(digits, piece)
 }
@@ -80,7 +80,7 @@ fn are_digits(piece: &[u8]) -> bool
 /// The number of the digits is one that they may spell.
 fn is_within(digits: Digits, piece: &[u8]) -> bool
     requires { are_digits piece.now ≡ true }
-    ensures { result ≡ nat_le (least digits) (digits_value 10 piece.now) && nat_lt (digits_value 10 piece.now) (bound digits) }
+    ensures { result ≡ nat_le (least digits) (digits_value 10 piece.now) && nat_lt (digits_value 10 piece.now) (digits_bound digits) }
 {
     match value_of(piece) {
         Some(value) => least(digits) <= value && value <= greatest(digits),
@@ -124,7 +124,7 @@ fn least(digits: Digits) -> u64
 }
 
 fn greatest(digits: Digits) -> u64
-    ensures { result + 1 ≡ bound digits }
+    ensures { result + 1 ≡ digits_bound digits }
 {
     match digits {
         Digits::Elements => 65_536,

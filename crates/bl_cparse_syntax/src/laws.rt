@@ -5,7 +5,7 @@ ghost use Rattle.bl_grammar.specs.declared.symbol.Symbol.{Symbol};
 ghost use Rattle.bl_ctext.specs.Token.{Token};
 ghost use Rattle.bl_cparse_syntax.specs.declared.grammar.Roomed.{Roomed};
 ghost use Rattle.bl_cparse_syntax.specs.Classes.{Class};
-ghost use Rattle.bl_cparse_syntax.specs.Grammar.{Wanted, whole, CDerives, SpellText};
+ghost use Rattle.bl_cparse_syntax.specs.Grammar.{Wanted, whole_text, CDerives, SpellText};
 ghost use Rattle.bl_cparse_syntax.specs.Tables.{absent, pick};
 ghost use Rattle.bl_cparse_syntax.specs.Expects.{CContinuesWith, Expects};
 ghost use Rattle.bl_cparse_syntax.specs.Stack.{CStackCompletes};
@@ -25,7 +25,7 @@ pub fn a_text_is_read_in_one_way()
 
 /// What a reader that goes down the parts of a text knows of the pieces that are left.
 pub fn a_reader_knows_what_follows()
-    ensures text { (pieces : List Token) → SpellText pieces → Expects (whole ∷ []) pieces }
+    ensures text { (pieces : List Token) → SpellText pieces → Expects (whole_text ∷ []) pieces }
     ensures production { (part : Roomed) (rest : List Wanted) (next : Token) (pieces : List Token)
         → Expects (Symbol.Nonterminal part ∷ rest) (next ∷ pieces)
         → (production : List Wanted) × (pick part next ≡ Some production) × Expects (production ++ rest) (next ∷ pieces) }

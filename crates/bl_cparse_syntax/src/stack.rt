@@ -2,8 +2,8 @@
 
 ghost use Rattle.std.specs.Prelude.{◌≡◌, ℕ, true, List, [], ◌∷◌, ◌++◌, map, reverse, IfOk, OnOk};
 ghost use Rattle.std.specs.List.{list_all};
-ghost use Rattle.bl_cparse_syntax.specs.Grammar.{placed, named};
-ghost use Rattle.bl_cparse_syntax.specs.Tables.{turn_of};
+ghost use Rattle.bl_cparse_syntax.specs.Grammar.{wanted_for, with_turn_name};
+ghost use Rattle.bl_cparse_syntax.specs.Tables.{turn_name_for};
 ghost use Rattle.bl_cparse_syntax.specs.inner.Rows.{shape_shown};
 ghost use Rattle.bl_cparse_syntax.specs.Stack.{CStackCompletes, IsGood};
 ghost use Rattle.bl_cparse_syntax.specs.inner.Stacks.{StackAnswers, may_vanish, class_shown, shown};
@@ -92,14 +92,14 @@ fn may_vanish(wanted: Wanted<'_>) -> bool
 
 /// The piece, where it can name the turns of a loop, and else some such name.
 fn turn_of(piece: &[u8]) -> &[u8]
-    ensures { result.now ≡ turn_of piece.now }
+    ensures { result.now ≡ turn_name_for piece.now }
 {
     if is_turn_name(piece) { piece } else { b"t0" }
 }
 
 /// What stands in a production, where so many brackets may still be opened around it.
 fn placed<'a>(shape: Shape, room: u16, turn: &'a [u8]) -> Wanted<'a>
-    ensures { shown result ≡ placed room turn.now (shape_shown shape.entry) }
+    ensures { shown result ≡ wanted_for room turn.now (shape_shown shape.entry) }
 {
     match shape {
         Symbol::Terminal(class) => Symbol::Terminal(named(class, turn)),
@@ -112,7 +112,7 @@ fn placed<'a>(shape: Shape, room: u16, turn: &'a [u8]) -> Wanted<'a>
 
 /// The class, where this is the name of the loop's turns.
 fn named<'a>(class: Class<'static>, turn: &'a [u8]) -> Class<'a>
-    ensures { class_shown result ≡ named turn.now (class_shown class.entry) }
+    ensures { class_shown result ≡ with_turn_name turn.now (class_shown class.entry) }
 {
     match class {
         Class::Exactly(word) => Class::Exactly(word),
@@ -132,7 +132,7 @@ fn push_all<'a>(
     turn: &'a [u8],
 ) -> Result<(), NoMemory>
     ensures { OnOk result (reverse (map shown wanted.new.items)
-        ≡ map (placed room turn.now) (map shape_shown shapes.now) ++ reverse (map shown wanted.old.items)) }
+        ≡ map (wanted_for room turn.now) (map shape_shown shapes.now) ++ reverse (map shown wanted.old.items)) }
 {
     let mut left = shapes.len();
     while left > 0 {

@@ -102,9 +102,9 @@ use Rattle.bl_cparse_syntax.specs.declared.grammar.Part.TheVariants.{
 }
 use Rattle.bl_cparse_syntax.specs.declared.grammar.Roomed.{Roomed}
 use Rattle.bl_cparse_syntax.specs.declared.grammar.Within.{Within}
-use Rattle.bl_cparse_syntax.specs.Classes.{Class, words_of, bound, matches}
+use Rattle.bl_cparse_syntax.specs.Classes.{Class, words_of, digits_bound, matches}
 use Rattle.bl_cparse_syntax.specs.Classes.Class.{exactly, one_of, a_name, number, turn}
-use Rattle.bl_cparse_syntax.specs.Grammar.{Shape, Wanted, Production, productions, placed, IsAmong, Produces, CDerives, SpellText, whole}
+use Rattle.bl_cparse_syntax.specs.Grammar.{Shape, Wanted, Production, productions, wanted_for, IsAmong, Produces, CDerives, SpellText, whole_text}
 use Rattle.bl_cparse_syntax.specs.Grammar.IsAmong.{here, later}
 use Rattle.bl_cparse_syntax.proofs.ClassLemmas.{among_all}
 use Rattle.bl_cparse_syntax_laws.proofs.Pieces.{word_is, name_is, number_is, bound_le, Spelled}
@@ -256,7 +256,8 @@ number_plain of t m = by_spelled (number_is of t m)
   where
     by_spelled : Spelled of t → plain t ≡ true
     by_spelled s = subst (λ t. plain t ≡ true) (sym s.is)
-        (by_both (decimal s.n) (decimal-token s.n (wide s.n (bound of) s.high (bound_le of))) (decimal-plain s.n (wide s.n (bound of) s.high (bound_le of))))
+        (by_both (decimal s.n) (decimal-token s.n (wide s.n (digits_bound of) s.high (bound_le of)))
+        (decimal-plain s.n (wide s.n (digits_bound of) s.high (bound_le of))))
 
 turn_plain : (own t : Token) → is_turn_name own ≡ true → matches (exactly own) t ≡ true → plain t ≡ true
 turn_plain own t h m = subst (λ t. plain t ≡ true) (word_is m) (by_both own (turn_name-token own h) (turn_name-plain own h))
@@ -406,13 +407,13 @@ by_last room opened within a same none other kept =
     no_less : (n : ℕ) → n ≡ 0 → room - n ≡ room
     no_less n e = omega (arith, e)
 
-last_is : (shapes : List Shape) (room : ℕ) (own : Token) (b : List Token) → is_last shapes ≡ true → Marks (map (placed room own) shapes) b → b ≡ []
+last_is : (shapes : List Shape) (room : ℕ) (own : Token) (b : List Token) → is_last shapes ≡ true → Marks (map (wanted_for room own) shapes) b → b ≡ []
 last_is [] room own b h r = r
 last_is (shape ∷ shapes) room own b h r = cc
 
 kept_shapes : (m room : ℕ) → m ≤ room → (own : Token) → is_turn_name own ≡ true → (shapes : List Shape) (opened : ℕ) →
     sound m opened shapes ≡ true → opened ≤ m → (ts : List Token)
-    → Marks (map (placed room own) shapes) ts → Kept opened room ts
+    → Marks (map (wanted_for room own) shapes) ts → Kept opened room ts
 kept_shapes m room le own turned [] opened h k ts r =
     subst (λ n. Kept n room ts) (sym (the_same opened 0 h)) (kept_as r (record { closes = closes-nil room; tokens = refl }))
 kept_shapes m room le own turned (Terminal (exactly w) ∷ shapes) opened h k ts (t, (b, (e, (is, r)))) =
@@ -502,9 +503,9 @@ all_bare Arg = refl
 all_bare Place = refl
 
 terminals_alike : (room other : ℕ) (own : Token) (shapes : List Shape) → are_terminals shapes ≡ true →
-    map (placed room own) shapes ≡ map (placed other own) shapes
+    map (wanted_for room own) shapes ≡ map (wanted_for other own) shapes
 terminals_alike room other own [] h = refl
-terminals_alike room other own (Terminal class ∷ shapes) h = ap (λ ws. placed other own (Terminal class) ∷ ws) (terminals_alike room other own shapes h)
+terminals_alike room other own (Terminal class ∷ shapes) h = ap (λ ws. wanted_for other own (Terminal class) ∷ ws) (terminals_alike room other own shapes h)
 terminals_alike room other own (Nonterminal within ∷ shapes) h = cc
 
 inner_le : (of : Part) → nat_le (inner of) (cond (is_constant of) (own_depth of) (least_room of)) ≡ true
@@ -560,7 +561,7 @@ same_le n = omega arith
 
 kept_production : (whole : Roomed) (p : Production) → IsAmong p (productions whole.part) → p.needs ≤ whole.room → (own : Token) →
     is_turn_name own ≡ true → (ts : List Token)
-    → Marks (map (placed whole.room own) p.shapes) ts → Held whole ts
+    → Marks (map (wanted_for whole.room own) p.shapes) ts → Held whole ts
 kept_production whole p one needs own turned ts marks room = by_test (is_constant whole.part) refl
   where
     checked : sound_in whole.part p ≡ true
@@ -592,13 +593,13 @@ pub marks : {wanted : List Wanted} {pieces left : List Token} → CDerives wante
     (ts : List Token) × ((pieces ≡ ts ++ left) × Marks wanted ts)
 marks done = ([], (refl, refl))
 marks (terminal {token = t} m r) = let h = marks r in (t ∷ h.0, (ap (λ us. t ∷ us) h.1.0, (t, (h.0, (refl, (m, h.1.1))))))
-marks (part {A = whole} {production = production} {symbols = wanted} {tokens = pieces} {between = between} {left = left} made inner r) =
+marks (part {A = whole_text} {production = production} {symbols = wanted} {tokens = pieces} {between = between} {left = left} made inner r) =
     let h = marks inner in
     let k = marks r in (
       h.0 ++ k.0,
       (
         h.1.0 ∙ (ap (λ us. h.0 ++ us) k.1.0 ∙ sym (append_assoc h.0 k.0 left)),
-        (h.0, (k.0, (refl, (held whole _ production made h.0 h.1.1, k.1.1)))),
+        (h.0, (k.0, (refl, (held whole_text _ production made h.0 h.1.1, k.1.1)))),
       ),
     )
 
@@ -606,7 +607,7 @@ marks (part {A = whole} {production = production} {symbols = wanted} {tokens = p
 pub text_kept : (pieces : List Token) → SpellText pieces → (are_tokens pieces ≡ true) × (most_open 0 pieces ≤ 2000)
 text_kept pieces spells = by_marks (marks spells)
   where
-    by_marks : (ts : List Token) × ((pieces ≡ ts ++ []) × Marks (whole ∷ []) ts) → (are_tokens pieces ≡ true) × (most_open 0 pieces ≤ 2000)
+    by_marks : (ts : List Token) × ((pieces ≡ ts ++ []) × Marks (whole_text ∷ []) ts) → (are_tokens pieces ≡ true) × (most_open 0 pieces ≤ 2000)
     by_marks (ts, (e, (a, (b, (f, (held, r)))))) =
         let kept : Kept 0 2000 a = held (omega arith) in
         let same : pieces ≡ a = e ∙ (append-nil ts ∙ (f ∙ (ap (λ b. a ++ b) r ∙ append-nil a))) in

@@ -57,7 +57,7 @@ use Rattle.bl_ctext.specs.Spellable.{
   spells_call,
   spells_arg,
 }
-use Rattle.bl_cparse_syntax_laws.specs.Placeless.{nowhere, placeless_expr, placeless_place, placeless_call}
+use Rattle.bl_cparse_syntax_laws.specs.Placeless.{any_place, placeless_expr, placeless_place, placeless_call}
 use Rattle.bl_cparse_syntax_laws.specs.inner.Placeless.{placeless_kind, placeless_step, placeless_index, placeless_arg}
 use Rattle.bl_cparse_syntax_laws.proofs.Rows.{Only}
 
@@ -131,7 +131,7 @@ abbrev pub expr_ok : Exprs → Bool
 expr_ok e = spells_kind e.what
 
 abbrev pub expr_bare : Exprs → CExpr
-expr_bare e = roll-CExpr (record { place = nowhere; what = placeless_kind e.what })
+expr_bare e = roll-CExpr (record { place = any_place; what = placeless_kind e.what })
 
 abbrev pub index_level : Indices → List Token
 index_level i = index_front i.signed ++ (expr_tokens i.at ++ codes "," ∷ decimal i.length ∷ codes ")" ∷ codes "]" ∷ [])

@@ -52,9 +52,9 @@ use Rattle.bl_cparse_syntax.specs.declared.grammar.Digits.{Digits}
 use Rattle.bl_cparse_syntax.specs.declared.grammar.Digits.TheVariants.{Elements, Int, Negated, Unsigned}
 use Rattle.bl_cparse_syntax.specs.declared.grammar.Part.{Part}
 use Rattle.bl_cparse_syntax.specs.declared.grammar.Part.TheVariants.{Simple, Constant, Inside, Negative}
-use Rattle.bl_cparse_syntax.specs.Classes.{least, bound, are_digits, is_number, matches}
+use Rattle.bl_cparse_syntax.specs.Classes.{least, digits_bound, are_digits, spells_number, matches}
 use Rattle.bl_cparse_syntax.specs.Classes.Class.{one_of, number}
-use Rattle.bl_cparse_syntax.specs.Grammar.{Wanted, productions, plain, constant, IsAmong}
+use Rattle.bl_cparse_syntax.specs.Grammar.{Wanted, productions, needing_none, constant, IsAmong}
 use Rattle.bl_cparse_syntax.specs.Grammar.IsAmong.{here, later}
 use Rattle.bl_cparse_syntax_laws.proofs.Shallow.{Goes, at, roomed, free, open_then, close_then, class_then, word_then, one_behind}
 
@@ -66,7 +66,7 @@ negatives-le W16 = omega arith
 negatives-le W32 = omega arith
 negatives-le W64 = omega arith
 
-bound-le : (of : Digits) → bound of ≤ 2 ^ 64
+bound-le : (of : Digits) → digits_bound of ≤ 2 ^ 64
 bound-le Elements = omega arith
 bound-le (Int w) = omega (arith, negatives-le w)
 bound-le (Negated w) = omega (arith, negatives-le w)
@@ -92,39 +92,39 @@ decimal_digits (suc n) h =
     let k = decimal_is_IsNumeral (suc n) h in
     digits_are (decimal (suc n)) k.0.0 (all_bytes (decimal (suc n)) k.0.1) (λ some. first_decimal (suc n) (omega arith) h)
 
-pub number_is : (of : Digits) (n : ℕ) → least of ≤ n → n < bound of → matches (number of) (decimal n) ≡ true
-unfolding matches is_number
+pub number_is : (of : Digits) (n : ℕ) → least of ≤ n → n < digits_bound of → matches (number of) (decimal n) ≡ true
+unfolding matches spells_number
 number_is of n low high =
     let small : n < 2 ^ 64 = omega (arith, high, bound-le of) in
     let value : digits_value 10 (decimal n) ≡ n = (decimal_is_IsNumeral n small).1 in
-    rw (decimal_digits n small, value, le-leb (least of) n low, lt-ltb n (bound of) high) refl
+    rw (decimal_digits n small, value, le-leb (least of) n low, lt-ltb n (digits_bound of) high) refl
 
-pub number_plain : (of : Digits) (n : ℕ) → n < bound of → is_bracket (decimal n) ≡ false
+pub number_plain : (of : Digits) (n : ℕ) → n < digits_bound of → is_bracket (decimal n) ≡ false
 number_plain of n high = decimal-plain n (omega (arith, high, bound-le of))
 
 -- constants
 
 constant_goes : (k j : ℕ) (part : Part) (bytes : Token) (of : Digits) (n : ℕ) (ss : List Wanted) (ts : List Token) →
-    IsAmong (plain (constant bytes of)) (productions part)
-    → is_bracket bytes ≡ false → least of ≤ n → n < bound of → Goes k ss ts → Goes k (at j part ∷ ss) (constant_tokens bytes n ++ ts)
+    IsAmong (needing_none (constant bytes of)) (productions part)
+    → is_bracket bytes ≡ false → least of ≤ n → n < digits_bound of → Goes k ss ts → Goes k (at j part ∷ ss) (constant_tokens bytes n ++ ts)
 constant_goes k j part bytes of n ss ts among h low high go =
     free k j part ss (bytes ∷ codes "(" ∷ decimal n ∷ codes ")" ∷ ts) among (omega arith)
     (word_then k bytes _ _ h (open_then k _ _ _ refl (class_then (number of) (k + 1) (decimal n) _ _ (number_is of n low high)
     (number_plain of n high) (close_then k _ _ _ refl refl go))))
 
-int_among : (w : Width) → IsAmong (plain (constant (constant_word (codes "INT") w) (Int w))) (productions Constant)
+int_among : (w : Width) → IsAmong (needing_none (constant (constant_word (codes "INT") w) (Int w))) (productions Constant)
 int_among W8 = here
 int_among W16 = later here
 int_among W32 = later (later here)
 int_among W64 = later (later (later here))
 
-unsigned_among : (w : Width) → IsAmong (plain (constant (constant_word (codes "UINT") w) (Unsigned w))) (productions Constant)
+unsigned_among : (w : Width) → IsAmong (needing_none (constant (constant_word (codes "UINT") w) (Unsigned w))) (productions Constant)
 unsigned_among W8 = later (later (later (later here)))
 unsigned_among W16 = later (later (later (later (later here))))
 unsigned_among W32 = later (later (later (later (later (later here)))))
 unsigned_among W64 = later (later (later (later (later (later (later here))))))
 
-negated_among : (w : Width) → IsAmong (plain (constant (constant_word (codes "INT") w) (Negated w))) (productions Negative)
+negated_among : (w : Width) → IsAmong (needing_none (constant (constant_word (codes "INT") w) (Negated w))) (productions Negative)
 negated_among W8 = here
 negated_among W16 = later here
 negated_among W32 = later (later here)
@@ -144,8 +144,8 @@ unsigned_plain W64 = refl
 
 -- a constant as an expression
 simple_constant : (k : ℕ) (bytes : Token) (of : Digits) (n : ℕ) (ss : List Wanted) (ts : List Token) →
-    IsAmong (plain (constant bytes of)) (productions Constant)
-    → is_bracket bytes ≡ false → least of ≤ n → n < bound of → Goes k ss ts → Goes k (at k Simple ∷ ss) (constant_tokens bytes n ++ ts)
+    IsAmong (needing_none (constant bytes of)) (productions Constant)
+    → is_bracket bytes ≡ false → least of ≤ n → n < digits_bound of → Goes k ss ts → Goes k (at k Simple ∷ ss) (constant_tokens bytes n ++ ts)
 simple_constant k bytes of n ss ts among h low high go =
     roomed k k Simple ss (constant_tokens bytes n ++ ts) (later (later (later here))) (λ few. one_behind k bytes (decimal n ∷ codes ")" ∷ ts) h few)
     (constant_goes k k Constant bytes of n ss ts among h low high go)

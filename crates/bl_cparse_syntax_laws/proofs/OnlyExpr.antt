@@ -82,7 +82,7 @@ use Rattle.bl_ctext.specs.Spellable.{
 }
 use Rattle.bl_ctext.proofs.Bytes.{and-fst, and-snd}
 use Rattle.bl_ctext.proofs.PrefixedNames.{name-callee}
-use Rattle.bl_cparse_syntax_laws.specs.Placeless.{nowhere, placeless_expr, placeless_place, placeless_call}
+use Rattle.bl_cparse_syntax_laws.specs.Placeless.{any_place, placeless_expr, placeless_place, placeless_call}
 use Rattle.bl_cparse_syntax_laws.specs.inner.Placeless.{placeless_kind, placeless_step, placeless_index, placeless_arg}
 use Rattle.bl_cparse_syntax_laws.proofs.Tests.{is, among, are_reserved, first, tail, second, no_truth, lacks, callee_off, name_off}
 use Rattle.bl_cparse_syntax_laws.proofs.Rows.{Only, InRow, InCommas, stands, each_shown, rows_same, commas_same}
@@ -509,7 +509,7 @@ call_same name args z h k a b s t e =
     (by_call (ap first e) m.0, m.1)
 
 expr_same : (place : TextPlace) (what : Kind) → OnlyLevel expr_level expr_bare expr_ok ends (record { place = place; what = what.0 })
-expr_same place what z h k a b s t e = let m = what.1 h z.what k a b s t e in (ap (λ k. roll-CExpr (record { place = nowhere; what = k })) m.0, m.1)
+expr_same place what z h k a b s t e = let m = what.1 h z.what k a b s t e in (ap (λ k. roll-CExpr (record { place = any_place; what = k })) m.0, m.1)
 
 pub short : (n : ℕ) → is_length n ≡ true → n < 2 ^ 64
 short n h = let most : nat_le n 65536 ≡ true = and-snd (nat_le 1 n) (nat_le n 65536) h in grind (arith, nat_tests)

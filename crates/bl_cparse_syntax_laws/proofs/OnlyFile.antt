@@ -78,7 +78,7 @@ use Rattle.bl_ctext.specs.Spellable.{
   spells_stmt,
 }
 use Rattle.bl_ctext.proofs.Bytes.{and-fst, and-snd}
-use Rattle.bl_cparse_syntax_laws.specs.Placeless.{nowhere, placeless_stmt, placeless_struct, placeless_func, SameButPlaces}
+use Rattle.bl_cparse_syntax_laws.specs.Placeless.{any_place, placeless_stmt, placeless_struct, placeless_func, SameButPlaces}
 use Rattle.bl_cparse_syntax_laws.proofs.Tests.{is, among, first, tail, second, no_truth, lacks, fewer_lacks, name_off}
 use Rattle.bl_cparse_syntax_laws.proofs.Rows.{Only, InRow, InCommas, stands, each_by, rows_same, commas_same, closed_same, braced_same}
 use Rattle.bl_cparse_syntax_laws.proofs.Unique.{one_list}
@@ -197,7 +197,7 @@ same_list : {A : Type 0} (xs ys : List A) → map (λ x. x) xs ≡ map (λ x. x)
 same_list xs ys e = sym (map_self xs) ∙ (e ∙ map_self ys)
 
 abbrev structure : List ℕ → List CMember → CStruct
-structure n xs = record { place = nowhere; name = n; members = xs }
+structure n xs = record { place = any_place; name = n; members = xs }
 
 by_struct : {n m : List ℕ} {xs ys : List CMember} → n ≡ m → xs ≡ ys → structure n xs ≡ structure m ys
 by_struct e f = cc
@@ -307,7 +307,7 @@ front_parts f more a =
     ∙ ap (λ ts. static_if f.fixed ++ ts) (append_assoc (returned_tokens f.result) (f.name ∷ codes "(" ∷ []) (more ++ a)))
 
 abbrev function : Bool → Option Scalar → List ℕ → List CParam → List CLocal → List CStmt → CFunc
-function p s n xs us ss = record { place = nowhere; fixed = p; result = s; name = n; params = xs; locals = us; body = ss }
+function p s n xs us ss = record { place = any_place; fixed = p; result = s; name = n; params = xs; locals = us; body = ss }
 
 by_func : {p q : Bool} {s t : Option Scalar} {n m : List ℕ} {xs ys : List CParam} {us vs : List CLocal} {ss ts : List CStmt} →
     p ≡ q → s ≡ t → n ≡ m → xs ≡ ys → us ≡ vs → ss ≡ ts

@@ -67,7 +67,7 @@ use Rattle.bl_ctext.specs.Spelling.{
 }
 use Rattle.bl_ctext.specs.Spellable.{is_literal, spells_expr, spells_kind, spells_place, spells_step, spells_call, spells_result, spells_stmt, spells_stmt_kind}
 use Rattle.bl_ctext.proofs.Bytes.{and-fst, and-snd}
-use Rattle.bl_cparse_syntax_laws.specs.Placeless.{nowhere, placeless_expr, placeless_place, placeless_call, placeless_result, placeless_stmt}
+use Rattle.bl_cparse_syntax_laws.specs.Placeless.{any_place, placeless_expr, placeless_place, placeless_call, placeless_result, placeless_stmt}
 use Rattle.bl_cparse_syntax_laws.specs.inner.Placeless.{placeless_stmt_kind}
 use Rattle.bl_cparse_syntax_laws.proofs.Tests.{is, among, first, tail, second, no_truth, lacks, callee_off, name_off}
 use Rattle.bl_cparse_syntax_laws.proofs.Rows.{Only, InRow, stands, stands_is, each_shown, closed_same, braced_same}
@@ -186,7 +186,7 @@ abbrev pub whole_ok : Stmts → Bool
 whole_ok s = spells_stmt_kind s.what
 
 abbrev pub whole_bare : Stmts → CStmt
-whole_bare s = roll-CStmt (record { place = nowhere; what = placeless_stmt_kind s.what })
+whole_bare s = roll-CStmt (record { place = any_place; what = placeless_stmt_kind s.what })
 
 pub stmt_levels : (z : Stmts) → Levels stmt_tokens placeless_stmt spells_stmt roll-CStmt whole_level whole_bare whole_ok z
 stmt_levels z = record { tokens_are = rw fold-roll-CStmt refl; bare_is = rw fold-roll-CStmt refl; ok_is = rw fold-roll-CStmt refl }
@@ -537,7 +537,7 @@ kind_same : (x : CStmtKind-F Kind Stmt) → OnlyLevel stmt_level stmt_bare stmt_
 kind_same x z h k a b s t e = by_sort x z (sym (sort_is (plain_kind x) h a) ∙ (ap sort_in e ∙ sort_is z k b)) h k a b s t e
 
 stmt_same : (place : TextPlace) (what : Kind) → OnlyLevel whole_level whole_bare whole_ok no_else (record { place = place; what = what.0 })
-stmt_same place what z h k a b s t e = let m = what.1 h z.what k a b s t e in (ap (λ k. roll-CStmt (record { place = nowhere; what = k })) m.0, m.1)
+stmt_same place what z h k a b s t e = let m = what.1 h z.what k a b s t e in (ap (λ k. roll-CStmt (record { place = any_place; what = k })) m.0, m.1)
 
 kind_only : (x : CStmtKind-F Kind Stmt) → OfKind (roll-CStmtKind (plain_kind x))
 kind_only x = only_whole stmt_kind_tokens placeless_stmt_kind spells_stmt_kind no_else roll-CStmtKind stmt_level stmt_bare stmt_ok

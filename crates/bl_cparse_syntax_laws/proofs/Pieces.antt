@@ -48,7 +48,7 @@ use Rattle.bl_cparse_syntax.specs.declared.grammar.Group.{Group}
 use Rattle.bl_cparse_syntax.specs.declared.grammar.Group.TheVariants.{ScalarTypes, Operators, StructWords, FunctionWords, PreludeFunctions}
 use Rattle.bl_cparse_syntax.specs.declared.grammar.Digits.{Digits}
 use Rattle.bl_cparse_syntax.specs.declared.grammar.Digits.TheVariants.{Elements, Int, Negated, Unsigned}
-use Rattle.bl_cparse_syntax.specs.Classes.{words_of, least, bound, are_digits, is_number, matches}
+use Rattle.bl_cparse_syntax.specs.Classes.{words_of, least, digits_bound, are_digits, spells_number, matches}
 use Rattle.bl_cparse_syntax.specs.Classes.Class.{exactly, one_of, a_name, number}
 use Rattle.bl_cparse_syntax.proofs.ClassLemmas.{exactly_is}
 use Rattle.bl_cparse_syntax_laws.proofs.Tests.{is_same}
@@ -106,13 +106,13 @@ pub record Spelled (of : Digits) (t : Token) : Type 0 where
   pub n : ℕ
   pub is : t ≡ decimal n
   pub low : least of ≤ n
-  pub high : n < bound of
+  pub high : n < digits_bound of
 
 lone : (b : ℕ) (bs : List ℕ) → (not (b == 48) || nat_le (length bs) 0) ≡ true → b ≡ 48 → suc (length bs) ≡ 1
 lone b bs h e = elim (either (not (b == 48)) (nat_le (length bs) 0) h)
     [ inl differs ↦ absurd (grind (arith, nat_tests)) | inr short ↦ grind (arith, nat_tests) ]
 
-pub bound_le : (of : Digits) → bound of ≤ 2 ^ 64
+pub bound_le : (of : Digits) → digits_bound of ≤ 2 ^ 64
 bound_le Elements = omega arith
 bound_le (Int w) = omega (arith, negatives_le w)
 bound_le (Negated w) = omega (arith, negatives_le w)
@@ -130,20 +130,20 @@ has_some bs = omega arith
 wide : (a b : ℕ) → a < b → b ≤ 2 ^ 64 → a < 2 ^ 64
 wide a b h k = omega (arith, h, k)
 
-number_of : (of : Digits) (t : Token) → is_number of t ≡ true → Spelled of t
-unfolding is_number
+number_of : (of : Digits) (t : Token) → spells_number of t ≡ true → Spelled of t
+unfolding spells_number
 number_of of [] h = absurd (cc)
 number_of of (b ∷ bs) h =
     let digits = and-fst (are_digits (b ∷ bs)) _ h in
     let range = and-snd (are_digits (b ∷ bs)) _ h in
     let low = at_least (least of) (digits_value 10 (b ∷ bs)) (and-fst _ _ range) in
-    let high = below (digits_value 10 (b ∷ bs)) (bound of) (and-snd _ _ range) in
+    let high = below (digits_value 10 (b ∷ bs)) (digits_bound of) (and-snd _ _ range) in
     let all = all_digits (b ∷ bs) (and-fst (all_of (map is_ascii_digit (b ∷ bs))) (not (b == 48) || nat_le (length bs) 0) digits) in
     let zero_alone = and-snd (all_of (map is_ascii_digit (b ∷ bs))) (not (b == 48) || nat_le (length bs) 0) digits in
     record {
       n = digits_value 10 (b ∷ bs);
       is = sym (decimal-digits_value digits_own (b ∷ bs) all (has_some bs) (λ (e : b ≡ 48). lone b bs zero_alone e)
-          (wide (digits_value 10 (b ∷ bs)) (bound of) high (bound_le of)));
+          (wide (digits_value 10 (b ∷ bs)) (digits_bound of) high (bound_le of)));
       low = low;
       high = high;
     }

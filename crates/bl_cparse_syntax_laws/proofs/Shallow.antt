@@ -34,7 +34,7 @@ use Rattle.bl_grammar.proofs.Predictive.{fold_in}
 use Rattle.bl_cparse_syntax.specs.declared.grammar.Part.{Part}
 use Rattle.bl_cparse_syntax.specs.Classes.{Class, matches}
 use Rattle.bl_cparse_syntax.specs.Classes.Class.{exactly}
-use Rattle.bl_cparse_syntax.specs.Grammar.{Shape, Wanted, Production, productions, named, placed, IsAmong, Produces, CDerives}
+use Rattle.bl_cparse_syntax.specs.Grammar.{Shape, Wanted, Production, productions, with_turn_name, wanted_for, IsAmong, Produces, CDerives}
 use Rattle.bl_cparse_syntax.proofs.ClassLemmas.{is_same-self}
 
 -- the pieces spell what is wanted, up to the end
@@ -56,18 +56,18 @@ deeper (suc a) k = deeper a (k + 1)
 
 -- what stands in a production before which so many brackets are open
 abbrev pub put : ℕ → Token → Shape → Wanted
-put k own (Terminal class) = Terminal (named own class)
+put k own (Terminal class) = Terminal (with_turn_name own class)
 put k own (Nonterminal within) = at (deeper within.around k) within.part
 
 deeper_is : (a k : ℕ) → 2000 - deeper a k ≡ 2000 - k - a
 deeper_is zero k = omega arith
 deeper_is (suc a) k = let e : 2000 - (k + 1) - a ≡ 2000 - k - suc a = omega arith in deeper_is a (k + 1) ∙ e
 
-put_is : (k : ℕ) (own : Token) (shapes : List Shape) → map (placed (2000 - k) own) shapes ≡ map (put k own) shapes
+put_is : (k : ℕ) (own : Token) (shapes : List Shape) → map (wanted_for (2000 - k) own) shapes ≡ map (put k own) shapes
 put_is k own [] = refl
-put_is k own (Terminal class ∷ rest) = ap (λ (ws : List Wanted). Terminal (named own class) ∷ ws) (put_is k own rest)
+put_is k own (Terminal class ∷ rest) = ap (λ (ws : List Wanted). Terminal (with_turn_name own class) ∷ ws) (put_is k own rest)
 put_is k own (Nonterminal within ∷ rest) =
-    ap (λ n. Nonterminal (record { part = within.part; room = n }) ∷ map (placed (2000 - k) own) rest) (sym (deeper_is within.around k))
+    ap (λ n. Nonterminal (record { part = within.part; room = n }) ∷ map (wanted_for (2000 - k) own) rest) (sym (deeper_is within.around k))
     ∙ ap (λ (ws : List Wanted). at (deeper within.around k) within.part ∷ ws) (put_is k own rest)
 
 -- a production of a part

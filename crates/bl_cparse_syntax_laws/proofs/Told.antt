@@ -151,7 +151,7 @@ use Rattle.bl_cparse_syntax.specs.declared.grammar.Part.TheVariants.{
 use Rattle.bl_cparse_syntax.specs.declared.grammar.Group.TheVariants.{PlainLiterals, IndexFunctions}
 use Rattle.bl_cparse_syntax.specs.declared.grammar.Digits.TheVariants.{Elements, Int, Negated, Unsigned}
 use Rattle.bl_cparse_syntax.specs.Classes.{words_of}
-use Rattle.bl_cparse_syntax_laws.specs.Placeless.{nowhere}
+use Rattle.bl_cparse_syntax_laws.specs.Placeless.{any_place}
 use Rattle.bl_cparse_syntax_laws.proofs.Rows.{braces}
 use Rattle.bl_cparse_syntax_laws.proofs.Layers.{
   Levels,
@@ -289,7 +289,7 @@ whole_kind : {ts : List Token} → Told kind_level kind_ok ts → Told kind_toke
 whole_kind h = rolled _ _ _ _ _ _ _ kind_levels h
 
 at_expr : {ts : List Token} → Told kind_tokens spells_kind ts → Told expr_level expr_ok ts
-at_expr (k, (e, h)) = (record { place = nowhere; what = k }, (e, h))
+at_expr (k, (e, h)) = (record { place = any_place; what = k }, (e, h))
 
 pub kind_from : {ts : List Token} → Told kind_level kind_ok ts → Told expr_tokens spells_expr ts
 kind_from h = rolled _ _ _ _ _ _ _ expr_levels (at_expr (whole_kind h))
@@ -307,7 +307,7 @@ whole_stmt : {ts : List Token} → Told stmt_level stmt_ok ts → Told stmt_kind
 whole_stmt h = rolled _ _ _ _ _ _ _ stmt_kind_levels h
 
 at_stmt : {ts : List Token} → Told stmt_kind_tokens spells_stmt_kind ts → Told whole_level whole_ok ts
-at_stmt (k, (e, h)) = (record { place = nowhere; what = k }, (e, h))
+at_stmt (k, (e, h)) = (record { place = any_place; what = k }, (e, h))
 
 pub stmt_from : {ts : List Token} → Told stmt_level stmt_ok ts → Told stmt_tokens spells_stmt ts
 stmt_from h = rolled _ _ _ _ _ _ _ stmt_levels (at_stmt (whole_stmt h))
@@ -571,7 +571,7 @@ pub structure_told : {n a b : List Token} → Told alone is_struct_name n → To
     → Told struct_tokens spells_struct (codes "struct" ∷ (n ++ (codes "{" ∷ (a ++ (b ++ (codes "}" ∷ codes ";" ∷ []))))))
 structure_told {n} {a} {b} (name, (f, g)) (x, (i, h)) (xs, (j, k)) =
     let ms = joined (map member_tokens xs) in (
-      record { place = nowhere; name = name; members = x ∷ xs },
+      record { place = any_place; name = name; members = x ∷ xs },
       (
         ap (λ n. codes "struct" ∷ (n ++ (codes "{" ∷ (a ++ (b ++ (codes "}" ∷ codes ";" ∷ [])))))) f
             ∙ ap (λ us. codes "struct" ∷ name ∷ codes "{" ∷ us)
@@ -632,7 +632,7 @@ function_told fixed result returned {n} {a} {b} {c} (name, (g, h)) (ps, (i, p)) 
     ∙ (ap (λ b. name ∷ codes "(" ∷ (with_commas (map param_tokens ps) ++ (codes ")" ∷ codes "{" ∷ (b ++ (c ++ codes "}" ∷ []))))) j
     ∙ ap (λ c. name ∷ codes "(" ∷ (with_commas (map param_tokens ps)
     ++ (codes ")" ∷ codes "{" ∷ (joined (map local_tokens ls) ++ (c ++ codes "}" ∷ []))))) k)) in (
-      record { place = nowhere; fixed = fixed; result = result; name = name; params = ps; locals = ls; body = ss },
+      record { place = any_place; fixed = fixed; result = result; name = name; params = ps; locals = ls; body = ss },
       (
         ap (λ ts. static_if fixed ++ (ret ++ ts)) inner
             ∙ (ap (λ us. static_if fixed ++ us) (sym (append_assoc ret (name ∷ codes "(" ∷ []) rest))

@@ -79,7 +79,7 @@ use Rattle.bl_cparse_syntax.specs.declared.grammar.Part.TheVariants.{
 use Rattle.bl_cparse_syntax.specs.declared.grammar.Group.TheVariants.{ScalarTypes, PlainLiterals, Operators, IndexFunctions}
 use Rattle.bl_cparse_syntax.specs.declared.grammar.Roomed.{Roomed}
 use Rattle.bl_cparse_syntax.specs.Classes.{Class, matches}
-use Rattle.bl_cparse_syntax.specs.Grammar.{Wanted, Production, productions, placed, IsAmong, Produces, CDerives}
+use Rattle.bl_cparse_syntax.specs.Grammar.{Wanted, Production, productions, wanted_for, IsAmong, Produces, CDerives}
 use Rattle.bl_cparse_syntax.specs.Grammar.IsAmong.{here, later}
 use Rattle.bl_cparse_syntax.specs.Classes.Class.{exactly, one_of, a_name, number, turn}
 use Rattle.bl_cparse_syntax.specs.declared.grammar.Group.{Group}
@@ -151,7 +151,7 @@ pub data Trees : List Wanted → List Token → Type 0 where
 -- the tokens of each production are those of its part
 abbrev Case : Part → Type 0
 Case of = (p : Production) → IsAmong p (productions of) → (room : ℕ) (own : Token) → is_turn_name own ≡ true → (ts : List Token) →
-    Trees (map (placed room own) p.shapes) ts → Tree of ts
+    Trees (map (wanted_for room own) p.shapes) ts → Tree of ts
 
 file_of : Case File
 file_of p here room own turns ts (Trees.tree _ x (Trees.tree _ xs (Trees.tree _ f (Trees.last fs)))) = file_told x xs f fs

@@ -15,12 +15,12 @@ use Rattle.bl_tree.specs.declared.c.CStmtKind.{CStmtKind, CStmtKind-F, roll-CStm
 use Rattle.bl_ctext.specs.declared.file.CFile.{CFile}
 
 -- the place that stands for all places
-abbrev pub nowhere : Place
-nowhere = record { start = 0; end = 0 }
+abbrev pub any_place : Place
+any_place = record { start = 0; end = 0 }
 
 -- one level of an expression, where the expressions in it have no places
 abbrev pub expr_aside : CExpr-F CArg CExprKind CCall CExpr CIndex CPlace CStep → CExpr
-expr_aside e = roll-CExpr (record { place = nowhere; what = e.what })
+expr_aside e = roll-CExpr (record { place = any_place; what = e.what })
 
 -- an expression without places in it
 abbrev pub placeless_expr : CExpr → CExpr
@@ -51,7 +51,7 @@ stmt_kind_aside (CStmtKind-F.Return value) = roll-CStmtKind (CStmtKind-F.Return 
 
 -- one level of a statement that is given the one place
 abbrev pub stmt_aside : CStmt-F CStmtKind CStmt → CStmt
-stmt_aside s = roll-CStmt (record { place = nowhere; what = s.what })
+stmt_aside s = roll-CStmt (record { place = any_place; what = s.what })
 
 -- a statement without places in it
 abbrev pub placeless_stmt : CStmt → CStmt
@@ -59,12 +59,12 @@ placeless_stmt = fold-CStmt _ _ stmt_kind_aside stmt_aside
 
 -- a struct without its place
 abbrev pub placeless_struct : CStruct → CStruct
-placeless_struct s = record { place = nowhere; name = s.name; members = s.members }
+placeless_struct s = record { place = any_place; name = s.name; members = s.members }
 
 -- a function without places in it
 abbrev pub placeless_func : CFunc → CFunc
 placeless_func f = record {
-  place = nowhere;
+  place = any_place;
   fixed = f.fixed;
   result = f.result;
   name = f.name;

@@ -4,7 +4,7 @@ use Rattle.std.specs.Prelude.{option_map}
 use Rattle.bl_tree.specs.declared.text.Text.{Text}
 use Rattle.bl_crun_bytecode.specs.Code.{Code, Entry}
 use Rattle.bl_crun_bytecode.specs.Laws.{Arrives, BothDo, code_of_file, ended, ended_as, entry_in_file, entry_state, routine_in_file}
-use Rattle.bl_crun_bytecode.specs.Vm.{Room, StepResult, StepsInRoom, VmState, Waiting, returned}
+use Rattle.bl_crun_bytecode.specs.Vm.{Room, StepResult, StepsInRoom, VmState, Waiting, caller_resumed}
 use Rattle.bl_crun_bytecode.proofs.Files.{named-functions-run}
 use Rattle.bl_crun_bytecode_compiler.specs.Entries.{entry_for}
 use Rattle.bl_crun_bytecode_compiler.specs.declared.here.Entry.{Entry as CodeEntry}
@@ -99,7 +99,7 @@ is-end : (s : VmState) (o : Option ℤ) → s.waiting ≡ [] → IsEnd (ended s 
 is-end s None is = tt
 is-end s (Some n) is = put s.waiting is
   where
-    put : (w : List Waiting) → w ≡ [] → IsEnd (returned s n w)
+    put : (w : List Waiting) → w ≡ [] → IsEnd (caller_resumed s n w)
     put [] is = tt
     put (x ∷ xs) is = cc
 
@@ -136,7 +136,7 @@ end-says s cells count None None before after w c n e =
 end-says s cells count None (Some a) before after w c n e = absurd e
 end-says s cells count (Some r) answer before after w c n e = put s.waiting w answer e
   where
-    put : (w : List Waiting) → w ≡ [] → (answer : Option ℤ) → Ended before (returned s r w) answer after →
+    put : (w : List Waiting) → w ≡ [] → (answer : Option ℤ) → Ended before (caller_resumed s r w) answer after →
         (answer ≡ Some r) × Over cells count before.numbers before.calls after
     put [] w None e = absurd e
     put [] w (Some a) e =

@@ -32,7 +32,7 @@ use Rattle.bl_tree.specs.declared.c.CType.TheVariants.{Scalar as OfScalar, Struc
 use Rattle.bl_ctext_semantics.specs.Cells.{Cell, Inner, cells_at, cells_of, inner_of, memory_of, numbers_of}
 use Rattle.bl_ctext_semantics.specs.Faults.{WellFormed, faults_in, function_faults_after, interface_structs, last_place, struct_faults_after, struct_table}
 use Rattle.bl_ctext_semantics.specs.Memory.{Projection, member, element, Root, state_object, input_object, output_object, variable, Location, Memory, CValue}
-use Rattle.bl_ctext_semantics.specs.Memory.{left_after, number_in, number_or, same_part, same_root, scalar, set_at, value_at, with_part}
+use Rattle.bl_ctext_semantics.specs.Memory.{left_after, number_or, same_part, same_root, scalar, scalar_number, set_at, value_at, with_part}
 use Rattle.bl_ctext_semantics.specs.Parts.{Parts}
 use Rattle.bl_ctext_semantics.specs.Sizes.{sizes}
 use Rattle.bl_ctext_semantics.specs.Tables.{no_entries}
@@ -63,7 +63,7 @@ way-kept value false parts way n h = refl
 way-kept value true parts way n h = number-kept (left_after parts way) n (value way) h
 
 set-spares : (memory : Memory) (l : Location) (n : ℤ) (c : Cell) → spared l c ≡ true →
-    number_in (value_at (set_at memory l (scalar n)) c.location) ≡ number_in (value_at memory c.location)
+    scalar_number (value_at (set_at memory l (scalar n)) c.location) ≡ scalar_number (value_at memory c.location)
 set-spares memory l n c h =
     ap (set_at memory l (scalar n) c.location.root) (append-nil c.location.parts)
     ∙ way-kept (memory c.location.root) (same_root l.root c.location.root) l.parts c.location.parts n h
@@ -88,7 +88,7 @@ nothing-left [] = refl
 nothing-left (p ∷ ps) = chosen-true (same_part p p) (left_after ps ps) None (same-part p) ∙ nothing-left ps
 
 -- what was set is there
-set-there : (memory : Memory) (l : Location) (n : ℤ) → number_in (value_at (set_at memory l (scalar n)) l) ≡ n
+set-there : (memory : Memory) (l : Location) (n : ℤ) → scalar_number (value_at (set_at memory l (scalar n)) l) ≡ n
 set-there memory l n =
     ap (set_at memory l (scalar n) l.root) (append-nil l.parts)
     ∙ ap (λ (v : CValue). v l.parts) (chosen-true (same_root l.root l.root) (with_part (memory l.root) l.parts (scalar n))
@@ -107,7 +107,7 @@ numbers-spared : (cs : List Cell) (memory : Memory) (l : Location) (n : ℤ) →
 numbers-spared [] memory l n h = refl
 numbers-spared (c ∷ cs) memory l n h =
     ap (λ x. x ∷ numbers_of cs (set_at memory l (scalar n))) (set-spares memory l n c (and-left (spared l c) _ h))
-    ∙ ap (λ xs. number_in (value_at memory c.location) ∷ xs) (numbers-spared cs memory l n (and-right (spared l c) _ h))
+    ∙ ap (λ xs. scalar_number (value_at memory c.location) ∷ xs) (numbers-spared cs memory l n (and-right (spared l c) _ h))
 
 -- the numbers with which a memory was made
 pub numbers-made : (cs : List Cell) (ns : List ℤ) → Separate cs → length ns ≡ length cs → numbers_of cs (memory_of cs ns) ≡ ns
@@ -133,12 +133,12 @@ numbers-set [] k c memory n apart there = cc
 numbers-set (d ∷ cs) zero c memory n apart there =
     let same : d ≡ c = some_is d c there in
     ap (λ x. x ∷ numbers_of cs (set_at memory c.location (scalar n)))
-    (ap (λ e. number_in (value_at (set_at memory c.location (scalar n)) e.location)) same ∙ set-there memory c.location n)
+    (ap (λ e. scalar_number (value_at (set_at memory c.location (scalar n)) e.location)) same ∙ set-there memory c.location n)
     ∙ ap (λ xs. n ∷ xs) (numbers-spared cs memory c.location n (ap (λ e. list_all (spared e.location) cs) (sym same) ∙ apart.0))
 numbers-set (d ∷ cs) (suc k) c memory n apart there =
     ap (λ x. x ∷ numbers_of cs (set_at memory c.location (scalar n)))
     (set-spares memory c.location n d (all-at (λ e. spared e.location d) cs k c apart.1.0 there))
-    ∙ ap (λ xs. number_in (value_at memory d.location) ∷ xs) (numbers-set cs k c memory n apart.1.1 there)
+    ∙ ap (λ xs. scalar_number (value_at memory d.location) ∷ xs) (numbers-set cs k c memory n apart.1.1 there)
 
 -- ---- cells of different objects
 

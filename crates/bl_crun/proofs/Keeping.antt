@@ -33,7 +33,7 @@ use Rattle.bl_crun_bytecode_vm.specs.Steps.{holding}
 use Rattle.bl_ctext_semantics.specs.Cells.{cells_of, inputs_of, outputs_of}
 use Rattle.bl_ctext_semantics.specs.Parts.{Parts}
 use Rattle.bl_ctext_semantics.specs.Sizes.{cells_needed}
-use Rattle.bl_ctext_semantics.specs.Trace.{reply_of, start_cells, starts}
+use Rattle.bl_ctext_semantics.specs.Trace.{reply_of, start_cells, start_succeeds}
 use Rattle.bl_crun_ports.specs.Layout.{kinds_of}
 use Rattle.bl_crun_ports.specs.Ports.{PortsStand, inputs_start, outputs_start}
 use Rattle.std.proofs.lemmas.List.{length-map}
@@ -42,7 +42,7 @@ use Rattle.bl_crun.specs.declared.call.Called.{Called}
 use Rattle.bl_crun.specs.declared.prepared.Prepared.{Prepared}
 use Rattle.bl_crun.specs.Done.{CellsKeep, first_cells}
 use Rattle.bl_crun.specs.inner.CallsDone.{CallDone, Comes, IsStart, IsTick}
-use Rattle.bl_crun.specs.Prepared.{PreparedInvariant, numbers_in}
+use Rattle.bl_crun.specs.Prepared.{PreparedInvariant, cell_numbers}
 use Rattle.bl_crun.specs.inner.Ticked.{Ticked}
 use Rattle.bl_crun.proofs.Calls.{file-comes, steps_of}
 use Rattle.bl_crun.proofs.Cells.{cells-long, input-start, output-start}
@@ -67,7 +67,7 @@ kept file p m k n c cells = record {
   cells = cells;
 }
 
-first-numbers : (file : Parts) (p : Prepared) (m : VmView) → PreparedInvariant file p → numbers_in (record p { machine = m }) ≡ first_cells file m.state.cells
+first-numbers : (file : Parts) (p : Prepared) (m : VmView) → PreparedInvariant file p → cell_numbers (record p { machine = m }) ≡ first_cells file m.state.cells
 first-numbers file p m k = ap (λ ts. take (length ts) m.state.cells) k.kinds
 
 -- ---- what is prepared at first
@@ -101,12 +101,12 @@ module _ (file : Parts) (p : Prepared) (k : PreparedInvariant file p) (agrees : 
   started = start-is file k.runs agrees p.machine.state.cells cleared
 
   pub start-keeps : PreparedInvariant file (record p { machine = after })
-  start-keeps = kept file p after k done.numbers done.calls (subst (CellsKeep file) (sym done.cells) started.keeps)
+  start-keeps = kept file p after k done.numbers done.calls (subst (CellsKeep file) (sym done.cells) started.cells_kept)
 
-  pub start-ready : is_some called.answer ≡ starts file
+  pub start-ready : is_some called.answer ≡ start_succeeds file
   start-ready = ap is_some done.answer ∙ started.ready
 
-  pub start-numbers : numbers_in (record p { machine = after }) ≡ start_cells file
+  pub start-numbers : cell_numbers (record p { machine = after }) ≡ start_cells file
   start-numbers = first-numbers file p after k ∙ ap (first_cells file) done.cells ∙ started.cells
 
 -- ---- ticks
@@ -184,10 +184,10 @@ module _ (file : Parts) (p : Prepared) (k : PreparedInvariant file p) (agrees : 
   abbrev Left-of : FlatAnswer ℤ
   Left-of = entered_flat file (codes "bl_tick") (pos 0 ∷ pos p.input_at ∷ pos p.output_at ∷ []) m.state.cells
 
-  numbers : numbers_in p ≡ first_cells file p.machine.state.cells
+  numbers : cell_numbers p ≡ first_cells file p.machine.state.cells
   numbers = first-numbers file p p.machine k
 
-  ticks : IsTick file (numbers_in p) ins (entered_flat file (codes "bl_tick") (pos 0 ∷ pos p.input_at ∷ pos p.output_at ∷ []) m.state.cells)
+  ticks : IsTick file (cell_numbers p) ins (entered_flat file (codes "bl_tick") (pos 0 ∷ pos p.input_at ∷ pos p.output_at ∷ []) m.state.cells)
   ticks =
       let formed = k.runs.formed in
       let in-at : inputs_start file.structs ≡ p.input_at = sym k.input_at in
@@ -210,9 +210,9 @@ module _ (file : Parts) (p : Prepared) (k : PreparedInvariant file p) (agrees : 
   pub tick-keeps : PreparedInvariant file (record p { machine = after })
   tick-keeps =
       kept file p after k (done.numbers ∙ ap (λ (x : VmView). x.numbers) is) (done.calls ∙ ap (λ (x : VmView). x.calls) is)
-      (subst (CellsKeep file) (sym done.cells) ticks.keeps)
+      (subst (CellsKeep file) (sym done.cells) ticks.cells_kept)
 
-  pub tick-ticked : Ticked file (numbers_in p) ins called (record p { machine = after })
+  pub tick-ticked : Ticked file (cell_numbers p) ins called (record p { machine = after })
   tick-ticked = record {
     reply = ap reply_of done.answer ∙ ticks.reply;
     count = done.count ∙ ap (λ n. min n (2 ^ 128 - 1)) ticks.count;
@@ -229,6 +229,6 @@ module _ (file : Parts) (p : Prepared) (k : PreparedInvariant file p) (agrees : 
     within = λ j low.
         let at = k.output_at in
         let long : length p.outputs ≡ length (outputs_of file) = ap length k.outputs in
-        let h = outputs-within file k.runs stand after.state.cells (subst (CellsKeep file) (sym done.cells) ticks.keeps).room j (omega arith) in
+        let h = outputs-within file k.runs stand after.state.cells (subst (CellsKeep file) (sym done.cells) ticks.cells_kept).room j (omega arith) in
         omega arith;
   }

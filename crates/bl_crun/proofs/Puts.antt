@@ -36,7 +36,7 @@ use Rattle.bl_ctext_semantics.specs.Parts.{Parts}
 use Rattle.bl_crun_ports.specs.Layout.{kinds_of}
 use Rattle.bl_crun.specs.declared.prepared.Prepared.{Prepared}
 use Rattle.bl_crun.specs.Done.{first_cells}
-use Rattle.bl_crun.specs.Prepared.{PreparedInvariant, numbers_in}
+use Rattle.bl_crun.specs.Prepared.{PreparedInvariant, cell_numbers}
 use Rattle.bl_crun.proofs.Cells.{cells-long}
 use Rattle.bl_crun.proofs.Keeping.{kept}
 use Rattle.bl_crun.proofs.Rows.{ranges-at, ranges-set, set-taken}
@@ -68,7 +68,7 @@ module _ (file : Parts) (p : Prepared) (keeps : PreparedInvariant file p) where
   cell-within k h = let a = cells-long file keeps.runs.formed in let b = keeps.cells.room in omega arith
 
   pub cell-number : (k : ℕ) (n : ℤ) → k < length (cells_of file) → slice_get p.machine.state.cells k ≡ Some n →
-      slice_get (numbers_in p) k ≡ Some n
+      slice_get (cell_numbers p) k ≡ Some n
   cell-number k n h there =
       let long : length p.kinds.items ≡ length (cells_of file) = ap length keeps.kinds ∙ kinds-long in
       get-taken (length p.kinds.items) p.machine.state.cells k (omega arith) ∙ there
@@ -91,15 +91,15 @@ module _ (file : Parts) (p : Prepared) (keeps : PreparedInvariant file p) where
             ∙ ranges-set (kinds_of file) (first_cells file p.machine.state.cells) k t.0 n keeps.cells.ranges t.1 (fits t.0 t.1);
       })
 
-  pub put-numbers : (k : ℕ) (n : ℤ) → numbers_in (record p { machine = holding p.machine (slice_set p.machine.state.cells k n) })
-      ≡ slice_set (numbers_in p) k n
+  pub put-numbers : (k : ℕ) (n : ℤ) → cell_numbers (record p { machine = holding p.machine (slice_set p.machine.state.cells k n) })
+      ≡ slice_set (cell_numbers p) k n
   put-numbers k n = set-taken (length p.kinds.items) p.machine.state.cells k n
 
 -- ---- the same, as a runner shows it
 
 -- a runner of a file, from what it keeps of it
 abbrev pub shown : Parts → Prepared → Bool → Bool → Running
-shown file p ready live = record { parts = file; cells = numbers_in p; ready = ready; live = live }
+shown file p ready live = record { parts = file; cells = cell_numbers p; ready = ready; live = live }
 
 module _ (file : Parts) (p : Prepared) (keeps : PreparedInvariant file p) (ready live : Bool) (r : Running) (is : shown file p ready live ≡ r) where
   shown-within : (k : ℕ) → k < length (cells_of r.parts) → k < length (cells_of file)

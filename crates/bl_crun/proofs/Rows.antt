@@ -34,7 +34,7 @@ use Rattle.bl_tree.specs.declared.c.CType.{CType}
 use Rattle.bl_tree.specs.declared.c.CType.TheVariants.{Scalar as OfScalar, Struct as OfStruct}
 use Rattle.bl_tree.specs.Scalar.{in_range}
 use Rattle.bl_ctext_semantics.specs.Cells.{Cell, column_of, column_typed, numbers_of, outputs_in, port, with_inputs}
-use Rattle.bl_ctext_semantics.specs.Memory.{Root, input_object, output_object, Memory, number_in, scalar, set_at, value_at}
+use Rattle.bl_ctext_semantics.specs.Memory.{Root, input_object, output_object, Memory, scalar_number, scalar, set_at, value_at}
 use Rattle.bl_ctext_semantics_laws.specs.Fitting.{cell_holds}
 use Rattle.bl_ctext_semantics_laws.proofs.Lists.{and-both, and-left, and-right}
 use Rattle.bl_ctext_semantics_laws.specs.Flat.{with_args}
@@ -70,7 +70,7 @@ within-taken (suc n) at m xs fits =
 
 pub ranges-are : (cs : List Cell) (memory : Memory) → list_all (cell_holds memory) cs ≡ in_ranges (map (λ c. c.kind) cs) (numbers_of cs memory)
 ranges-are [] memory = refl
-ranges-are (c ∷ cs) memory = ap (λ b. in_range c.kind (number_in (value_at memory c.location)) && b) (ranges-are cs memory)
+ranges-are (c ∷ cs) memory = ap (λ b. in_range c.kind (scalar_number (value_at memory c.location)) && b) (ranges-are cs memory)
 
 pub ranges-long : (ts : List Scalar) (ns : List ℤ) → in_ranges ts ns ≡ true → length ns ≡ length ts
 ranges-long [] [] h = refl
@@ -138,15 +138,15 @@ pub outputs-taken : (cs : List Cell) (at : ℕ) (ms : List CMember) (memory : Me
 outputs-taken cs at [] memory stand = refl
 outputs-taken cs at (m ∷ ms) memory stand =
     let p = stand-first cs at output_object m ms stand in
-    let there : slice_get (numbers_of cs memory) at ≡ Some (number_in (value_at memory (port output_object m))) =
-    slice_get-map (λ (c : Cell). number_in (value_at memory c.location)) cs at
-    ∙ ap (option_map (λ (c : Cell). number_in (value_at memory c.location))) p.1.1 in
-    let is = get_or_from_slice_get (numbers_of cs memory) at (number_in (value_at memory (port output_object m))) (pos 0) there in
+    let there : slice_get (numbers_of cs memory) at ≡ Some (scalar_number (value_at memory (port output_object m))) =
+    slice_get-map (λ (c : Cell). scalar_number (value_at memory c.location)) cs at
+    ∙ ap (option_map (λ (c : Cell). scalar_number (value_at memory c.location))) p.1.1 in
+    let is = get_or_from_slice_get (numbers_of cs memory) at (scalar_number (value_at memory (port output_object m))) (pos 0) there in
     ap (λ x. x ∷ outputs_in ms memory) (sym is)
     ∙ ap (λ l. get_or (numbers_of cs memory) at (pos 0) ∷ l) (outputs-taken cs (suc at) ms memory (stand-later cs at output_object m ms stand))
     ∙ ap (take (suc (length ms)))
     (sym (drop-cons (numbers_of cs memory) at (pos 0)
-    (slice_get_within (numbers_of cs memory) at (number_in (value_at memory (port output_object m))) there)))
+    (slice_get_within (numbers_of cs memory) at (scalar_number (value_at memory (port output_object m))) there)))
 
 -- ---- columns
 

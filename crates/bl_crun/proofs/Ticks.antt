@@ -41,7 +41,7 @@ use Rattle.bl_ctext_semantics.specs.Meaning.{CallResult}
 use Rattle.bl_ctext_semantics.specs.Memory.{Memory, cleared, state_object, input_object, output_object}
 use Rattle.bl_ctext_semantics.specs.Parts.{Parts}
 use Rattle.bl_ctext_semantics.specs.Sizes.{cells_needed}
-use Rattle.bl_ctext_semantics.specs.Trace.{entered, object, reply_of, started, tick_c}
+use Rattle.bl_ctext_semantics.specs.Trace.{call_from_outside, object, reply_of, started, tick_c}
 use Rattle.bl_crun_ports.specs.Layout.{kinds_of}
 use Rattle.bl_crun_ports.specs.Ports.{PortsStand, inputs_start, outputs_start}
 use Rattle.bl_crun.specs.Cause.{IsRunnable}
@@ -124,11 +124,12 @@ module _ (file : Parts) (runs : IsRunnable file) where
   unfolding started
   start-is agrees cells is =
       let keeps = zeros-keep cells is in
-      let same = call-agrees (codes "bl_init") (entered file (codes "bl_init") (object state_object ∷ [])) (pos 0 ∷ []) agrees cleared cells keeps.room
+      let same = call-agrees (codes "bl_init") (call_from_outside file (codes "bl_init") (object state_object ∷ []))
+      (pos 0 ∷ []) agrees cleared cells keeps.room
       (zeros-there (cells_of file) ∙ sym (zeros-begin cells is)) (ap (λ n. in_ranges (kinds_of file) (take n cells)) (sym kinds-long) ∙ keeps.ranges) in
-      let c : CallResult = entered file (codes "bl_init") (object state_object ∷ []) cleared in
+      let c : CallResult = call_from_outside file (codes "bl_init") (object state_object ∷ []) cleared in
       let l : FlatAnswer ℤ = entered_flat file (codes "bl_init") (pos 0 ∷ []) cells in
-      record { ready = ap is_some (sym same.answer); cells = first-are c l same; keeps = call-keeps c l same }
+      record { ready = ap is_some (sym same.answer); cells = first-are c l same; cells_kept = call-keeps c l same }
 
   -- ---- ticks
 
@@ -202,9 +203,10 @@ module _ (file : Parts) (runs : IsRunnable file) where
         ∙ inputs-fit (cells_of file) ins_at in_ports ins (take n cells) ports.0 fits (ap (in_ranges (kinds_of file)) (sym short) ∙ keeps.ranges) in
         let room : cells_needed file ≤ length (with_args ins_at ins cells) =
         subst (λ k. cells_needed file ≤ k) (sym (length-args ins_at ins cells)) keeps.room in
-        let same = call-agrees (codes "bl_tick") (entered file (codes "bl_tick") (object state_object ∷ object input_object ∷ object output_object ∷ []))
+        let same = call-agrees (codes "bl_tick") (call_from_outside file (codes "bl_tick")
+        (object state_object ∷ object input_object ∷ object output_object ∷ []))
         (pos 0 ∷ pos (input_at file) ∷ pos (output_at file) ∷ []) agrees memory (with_args ins_at ins cells) room begin ranges in
-        let c : CallResult = entered file (codes "bl_tick") (object state_object ∷ object input_object ∷ object output_object ∷ []) memory in
+        let c : CallResult = call_from_outside file (codes "bl_tick") (object state_object ∷ object input_object ∷ object output_object ∷ []) memory in
         let l : FlatAnswer ℤ = entered_flat file (codes "bl_tick") (pos 0 ∷ pos (input_at file) ∷ pos (output_at file) ∷ []) (with_args ins_at ins cells) in
         record {
           reply = ap reply_of (sym same.answer);
@@ -212,7 +214,7 @@ module _ (file : Parts) (runs : IsRunnable file) where
           ranges = outs-fit c l same;
           after = first-are c l same;
           count = sym same.count;
-          keeps = call-keeps c l same;
+          cells_kept = call-keeps c l same;
         }
       where
         outs-fit : (c : CallResult) (l : FlatAnswer ℤ) → SameCall file c l → in_ranges (types_of (outputs_of file)) (outputs_in out_ports c.memory) ≡ true

@@ -28,5 +28,5 @@ pub record PreparedInvariant (file : Parts) (p : Prepared) : Type 0 where
   pub cells : CellsKeep file p.machine.state.cells
 
 -- the numbers of the cells
-abbrev pub numbers_in : Prepared → List ℤ
-numbers_in p = take (length p.kinds.items) p.machine.state.cells
+abbrev pub cell_numbers : Prepared → List ℤ
+cell_numbers p = take (length p.kinds.items) p.machine.state.cells

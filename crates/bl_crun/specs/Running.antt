@@ -2,7 +2,7 @@
 use Rattle.std.specs.Prelude.{◌≡◌, ℕ, ◌-◌, ◌^◌, min, ℤ, Bool, true, false, List, [], slice_set, Option}
 use Rattle.bl_tree.specs.declared.row.Column.{Column}
 use Rattle.bl_ctext_semantics.specs.Parts.{Parts}
-use Rattle.bl_ctext_semantics.specs.Trace.{Reply, row, ended, trapped, TickOfFile as CTick, cells_if, start_cells, starts, tick_c}
+use Rattle.bl_ctext_semantics.specs.Trace.{Reply, row, ended, trapped, TickOfFile as CTick, cells_if, start_cells, start_succeeds, tick_c}
 use Rattle.bl_tree.specs.Ports.{row_fits}
 use Rattle.bl_crun.specs.declared.tick.TickAnswer.{TickAnswer}
 use Rattle.bl_crun.specs.declared.tick.TickAnswer.TheVariants.{Row, Ended, Trap}
@@ -20,7 +20,7 @@ pub record Running : Type 0 where
 
 -- a runner of a file before its first tick
 abbrev pub loaded : Parts → Running
-loaded parts = record { parts = parts; cells = start_cells parts; ready = starts parts; live = true }
+loaded parts = record { parts = parts; cells = start_cells parts; ready = start_succeeds parts; live = true }
 
 -- the numbers from which its ticks go on: none where its start has trapped
 abbrev pub state_in : Running → Option (List ℤ)

@@ -5,9 +5,9 @@ ghost use Rattle.bl_tree.specs.Ports.{row_fits};
 ghost use Rattle.bl_ctext_semantics.specs.Cells.{inputs_of};
 ghost use Rattle.bl_ctext_semantics.specs.Parts.{parts_of};
 ghost use Rattle.bl_ctext_semantics.specs.Sizes.{cells_needed};
-ghost use Rattle.bl_ctext_semantics.specs.Trace.{start_cells, starts};
+ghost use Rattle.bl_ctext_semantics.specs.Trace.{start_cells, start_succeeds};
 ghost use Rattle.bl_crun.specs.Cause.{IsCause, IsRunnable};
-ghost use Rattle.bl_crun.specs.Prepared.{PreparedInvariant, numbers_in};
+ghost use Rattle.bl_crun.specs.Prepared.{PreparedInvariant, cell_numbers};
 ghost use Rattle.bl_crun.specs.inner.Ticked.{Ticked, outputs_in};
 ghost use Rattle.bl_crun.specs.Running.{OutputsFit, unless_trapped};
 
@@ -97,8 +97,8 @@ pub fn start(file: &CFile, prepared: &mut Prepared) -> bool
     requires keeps { PreparedInvariant (parts_of file.now) prepared.old }
     requires cleared { prepared.old.machine.state.cells ≡ replicate (cells_needed (parts_of file.now)) (pos 0) }
     ensures keeps { PreparedInvariant (parts_of file.now) prepared.new }
-    ensures ready { result ≡ starts (parts_of file.now) }
-    ensures cells { numbers_in prepared.new ≡ start_cells (parts_of file.now) }
+    ensures ready { result ≡ start_succeeds (parts_of file.now) }
+    ensures cells { cell_numbers prepared.new ≡ start_cells (parts_of file.now) }
 {
     starts_agree(file);
     let called = call(
@@ -124,7 +124,7 @@ pub fn do_tick(file: &CFile, prepared: &mut Prepared, ins: &Row) -> Called
     requires keeps { PreparedInvariant (parts_of file.now) prepared.old }
     requires fits { row_fits (inputs_of (parts_of file.now)) ins.now ≡ true }
     ensures keeps { PreparedInvariant (parts_of file.now) prepared.new }
-    ensures ticked { Ticked (parts_of file.now) (numbers_in prepared.old) ins.now result prepared.new }
+    ensures ticked { Ticked (parts_of file.now) (cell_numbers prepared.old) ins.now result prepared.new }
 {
     ticks_agree(file);
     ports_stand(file);

@@ -31,14 +31,14 @@ impl Model for Runner {
     ghost use Rattle.bl_tree.specs.contracts.c.CStmt as stmt;
     ghost use Rattle.bl_tree.specs.contracts.c.CStmtKind as kind;
     ghost use Rattle.bl_ctext_semantics.specs.Parts.{parts_of};
-    ghost use Rattle.bl_crun.specs.Prepared.{PreparedInvariant, numbers_in};
+    ghost use Rattle.bl_crun.specs.Prepared.{PreparedInvariant, cell_numbers};
     ghost use Rattle.bl_crun.specs.Running.{Running};
 
     ghost Value = { Running };
 
     ghost coded = { Prim.hlevel (codes, stmt.the_row.coded, kind.the_row.coded) };
 
-    ghost view = { λ r. record { parts = parts_of r.file; cells = numbers_in r.prepared; ready = r.ready; live = r.live } };
+    ghost view = { λ r. record { parts = parts_of r.file; cells = cell_numbers r.prepared; ready = r.ready; live = r.live } };
 
     ghost invariant = { λ r. PreparedInvariant (parts_of r.file) r.prepared };
 }

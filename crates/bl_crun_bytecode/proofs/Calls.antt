@@ -28,13 +28,13 @@ use Rattle.bl_tree.specs.declared.text.Text.{Text}
 use Rattle.bl_tree.specs.Reduce.{joined}
 use Rattle.bl_ctext_semantics.specs.Tables.{Table}
 use Rattle.bl_ctext.specs.declared.builtin.Builtin.{Builtin}
-use Rattle.bl_ctext_semantics_laws.specs.Flat.{Cells, Evaluates, FlatAnswer, Routine, called_as, each_of, flat_answer, frame_begun, going_on, next, prelude_value}
+use Rattle.bl_ctext_semantics_laws.specs.Flat.{Cells, Evaluates, FlatAnswer, Routine, called_as, each_of, flat_answer, flat_next, frame_begun, going_on, prelude_value}
 use Rattle.bl_ctext_semantics_laws.specs.Layout.{capped}
 use Rattle.bl_ctext_semantics_laws.specs.Reaching.{Ground}
 use Rattle.bl_crun_bytecode.specs.declared.instruction.Callee.{Callee}
 use Rattle.bl_crun_bytecode.specs.declared.instruction.Instruction.TheVariants as ins
 use Rattle.bl_crun_bytecode.specs.Code.{Code, Entry, call_as}
-use Rattle.bl_crun_bytecode.specs.Vm.{Has, Room, VmState, Waiting, args_on, goes, on_number, returned, step_with, trapped}
+use Rattle.bl_crun_bytecode.specs.Vm.{Has, Room, VmState, Waiting, args_on, caller_resumed, goes, on_number, step_with, trapped}
 use Rattle.bl_crun_bytecode.specs.Laws.{Arrives, BothDo, ImplementsRoutine, ended, entry_state, waiting_height}
 use Rattle.bl_crun_bytecode.proofs.Runs.{Span, ends-as, goes-on, span-back, span-end, span-first, span-front, span-none}
 use Rattle.bl_crun_bytecode.proofs.Evaluations.{Fits, answered, answers, answers-map, at-once, by-instruction, fits-fewer, fits-has, fits-to, gives, moved, sequence}
@@ -90,7 +90,7 @@ each-many [] base cells = refl
 each-many (evaluate ∷ rest) base cells =
     let first : FlatAnswer ℤ = evaluate base cells in
     first-many (suc (length rest)) first.cells first.count first.answer
-    (λ after a. next (each_of rest base after) (λ last others. flat_answer last (Some (a ∷ others))))
+    (λ after a. flat_next (each_of rest base after) (λ last others. flat_answer last (Some (a ∷ others))))
     (λ after a.
     let others : FlatAnswer (List ℤ) = each_of rest base after in
     rest-many (length rest) a others.cells others.count others.answer (each-many rest base after))
@@ -135,7 +135,7 @@ back-in : (s : VmState) (e : VmState) (stack : List ℤ) (at : ℕ) (cells : Cel
     ended (record e { cells = cells; count = e.count + n }) answer ≡ answered s at (λ v. v ∷ stack) cells n answer
 back-in s e stack at cells n None is counts waits = ap (λ c. trapped cells (c + n)) counts
 back-in s e stack at cells n (Some v) is counts waits =
-    ap (λ w. returned (record e { cells = cells; count = e.count + n }) v w) waits
+    ap (λ w. caller_resumed (record e { cells = cells; count = e.count + n }) v w) waits
     ∙ ap (λ p. goes (record { at = p; base = s.base; cells = cells; stack = v ∷ stack; waiting = s.waiting; count = e.count + n })) is
     ∙ ap (λ c. goes (record { at = at; base = s.base; cells = cells; stack = v ∷ stack; waiting = s.waiting; count = c + n })) counts
 
@@ -219,7 +219,7 @@ module _ (code : Code) (room : Room) (top calls : ℕ) where
       let long : length (part ++ tail) ≡ length part + length tail = length-append part tail in
       let some : 1 ≤ length part = h.filled in
       sequence code room s m at (λ n. n ∷ s.stack) (λ ns. piled ns stack) e
-      (λ after a. next (each_of all' s.base after) (λ last others. flat_answer last (Some (a ∷ others))))
+      (λ after a. flat_next (each_of all' s.base after) (λ last others. flat_answer last (Some (a ∷ others))))
       (h.runs s m (span-front code s.at part tail at span) (fits-fewer room top calls s _ _ fits (omega arith)))
       (λ a found same.
       let t : VmState = moved s m e.cells (a ∷ s.stack) e.count in
@@ -232,7 +232,7 @@ module _ (code : Code) (room : Room) (top calls : ℕ) where
       length parts ≡ n →
       (builtin : Option Builtin) (entry : Option Entry) (routine : Option Routine) → BothDo code room top calls entry routine →
       Pushes code room top calls (joined parts ++ call_as here n builtin entry ∷ [])
-      (λ base cells. next (each_of all base cells) (λ after args. called_as builtin routine (capped (base + here.frame)) args after))
+      (λ base cells. flat_next (each_of all base cells) (λ after args. called_as builtin routine (capped (base + here.frame)) args after))
   calling-runs here parts all h n long builtin entry routine matches = record {
     filled = omega (arith, length-append (joined parts) (call_as here n builtin entry ∷ []));
     runs = λ s at span fits.

@@ -19,12 +19,12 @@ use Rattle.std.proofs.Common.{
   add-zero,
   arith,
 }
-use Rattle.bl_ctext_semantics.specs.Course.{End, Outcome, after, breaks, ended_by, following, following_end, goes_on, going, returns, traps}
+use Rattle.bl_ctext_semantics.specs.Course.{End, Outcome, after_statements, breaks, ended_by, following, following_end, goes_on, going, returns, traps}
 use Rattle.bl_ctext_semantics_laws.specs.Flat.{Cells, FlatAnswer, executed}
 use Rattle.bl_crun_bytecode.specs.declared.instruction.Instruction.{Instruction}
 use Rattle.bl_crun_bytecode.specs.declared.instruction.Instruction.TheVariants as ins
 use Rattle.bl_crun_bytecode.specs.Code.{Code}
-use Rattle.bl_crun_bytecode.specs.Vm.{Has, Room, StepResult, VmState, Waiting, done, goes, returned, step_with, trapped}
+use Rattle.bl_crun_bytecode.specs.Vm.{Has, Room, StepResult, VmState, Waiting, caller_resumed, done, goes, step_with, trapped}
 use Rattle.bl_crun_bytecode.specs.Laws.{Arrives}
 use Rattle.bl_crun_bytecode.proofs.Runs.{Span, and-then, cells-stay, ends-as, ends-at, goes-on, span-end, span-first, stays}
 use Rattle.bl_crun_bytecode.proofs.Evaluations.{answered, answers, moved}
@@ -34,7 +34,7 @@ abbrev pub back_to : List Waiting → Cells → ℕ → ℤ → StepResult
 back_to [] cells count result = done cells count result
 back_to (w ∷ rest) cells count result = goes (record { at = w.back; base = w.base; cells = cells; stack = result ∷ w.stack; waiting = rest; count = count })
 
-pub returned-is : (s : VmState) (result : ℤ) (waiting : List Waiting) → returned s result waiting ≡ back_to waiting s.cells s.count result
+pub returned-is : (s : VmState) (result : ℤ) (waiting : List Waiting) → caller_resumed s result waiting ≡ back_to waiting s.cells s.count result
 returned-is s result [] = refl
 returned-is s result (w ∷ rest) = refl
 
@@ -59,18 +59,18 @@ ran-later s m before held n at left stack cells k traps = ap (trapped cells) (ad
 
 -- from a later state on
 pub later : (s : VmState) (m : ℕ) (before : Cells) (held : List ℤ) (n at left : ℕ) (stack : List ℤ) (r : Outcome Cells) →
-    runs_to (moved s m before held n) at left stack r ≡ runs_to s at left stack (after n r)
+    runs_to (moved s m before held n) at left stack r ≡ runs_to s at left stack (after_statements n r)
 later s m before held n at left stack r = ran-later s m before held n at left stack r.memory r.count r.end
 
 executed-at : {A : Type 0} (own : ℕ) (cells : Cells) (n : ℕ) (answer : Option A) (rest : A → Outcome Cells) →
-    ended_by cells (own + n) answer rest ≡ after own (ended_by cells (0 + n) answer rest)
+    ended_by cells (own + n) answer rest ≡ after_statements own (ended_by cells (0 + n) answer rest)
 executed-at own cells n None rest = let e : own + n ≡ own + (0 + n) = omega arith in ap (λ k. record { memory = cells; end = traps; count = k }) e
 executed-at own cells n (Some a) rest =
     let e : own + n + (rest a).count ≡ own + (0 + n + (rest a).count) = omega arith in
     ap (λ k. record { memory = (rest a).memory; end = (rest a).end; count = k }) e
 
 -- a statement that counts itself
-pub executed-is : {A : Type 0} (own : ℕ) (l : FlatAnswer A) (rest : Cells → A → Outcome Cells) → executed own l rest ≡ after own (executed 0 l rest)
+pub executed-is : {A : Type 0} (own : ℕ) (l : FlatAnswer A) (rest : Cells → A → Outcome Cells) → executed own l rest ≡ after_statements own (executed 0 l rest)
 executed-is own l rest = executed-at own l.cells l.count l.answer (rest l.cells)
 
 module _ (code : Code) (room : Room) where
@@ -94,7 +94,7 @@ module _ (code : Code) (room : Room) where
   pub after-state : (s : VmState) (m : ℕ) (before : Cells) (held : List ℤ) (n at left : ℕ) (stack : List ℤ) (r : Outcome Cells) →
       Arrives code room s (goes (moved s m before held n)) →
       Arrives code room (moved s m before held n) (runs_to (moved s m before held n) at left stack r) →
-      Arrives code room s (runs_to s at left stack (after n r))
+      Arrives code room s (runs_to s at left stack (after_statements n r))
   after-state s m before held n at left stack r first rest =
       and-then code room s (moved s m before held n) _ first (ends-as code room (moved s m before held n) _ _ (later s m before held n at left stack r) rest)
 
@@ -125,7 +125,7 @@ module _ (code : Code) (room : Room) where
   -- a statement begins
   pub counted : (s : VmState) (at left : ℕ) (stack : List ℤ) (part : Code) (r : Outcome Cells) → Has room s → Span code s.at (ins.Count ∷ part) at →
       Arrives code room (moved s (s.at + 1) s.cells s.stack 1) (runs_to (moved s (s.at + 1) s.cells s.stack 1) at left stack r) →
-      Arrives code room s (runs_to s at left stack (after 1 r))
+      Arrives code room s (runs_to s at left stack (after_statements 1 r))
   counted s at left stack part r has span rest =
       goes-on code room s (moved s (s.at + 1) s.cells s.stack 1) ins.Count _ has (span-first code s.at ins.Count part at span) refl
       (ends-as code room (moved s (s.at + 1) s.cells s.stack 1) _ _ (later s (s.at + 1) s.cells s.stack 1 at left stack r) rest)

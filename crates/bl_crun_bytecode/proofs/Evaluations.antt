@@ -22,10 +22,10 @@ use Rattle.std.proofs.Common.{
   add-zero,
   arith,
 }
-use Rattle.bl_ctext_semantics_laws.specs.Flat.{Cells, FlatAnswer, flat_answer, going_on, next}
+use Rattle.bl_ctext_semantics_laws.specs.Flat.{Cells, FlatAnswer, flat_answer, flat_next, going_on}
 use Rattle.bl_crun_bytecode.specs.declared.instruction.Instruction.{Instruction}
 use Rattle.bl_crun_bytecode.specs.Code.{Code}
-use Rattle.bl_crun_bytecode.specs.Vm.{Has, Room, StepResult, VmState, goes, height, step_with, trapped}
+use Rattle.bl_crun_bytecode.specs.Vm.{Has, Room, StepResult, VmState, goes, stacked_numbers, step_with, trapped}
 use Rattle.bl_crun_bytecode.specs.Laws.{Arrives, waiting_height}
 use Rattle.bl_crun_bytecode.proofs.Runs.{Span, span-first, span-end, and-then, ends-at, ends-as, stays, cells-stay}
 
@@ -46,13 +46,13 @@ answers s at onto l = answered s at onto l.cells l.count l.answer
 
 -- there is room for so many numbers more, besides those of the functions before the running one, and for those that may be called
 pub record Fits (room : Room) (top calls : ℕ) (s : VmState) (k : ℕ) : Type 0 where
-  pub numbers : height s + k + top ≤ room.numbers
+  pub numbers : stacked_numbers s + k + top ≤ room.numbers
   pub chain : suc (length s.waiting + calls) ≤ room.calls
   pub cells : length s.cells ≡ room.cells
 
 pub fits-has : (room : Room) (top calls : ℕ) (s : VmState) (k : ℕ) → Fits room top calls s k → Has room s
 fits-has room top calls s k h = record {
-  numbers = let n : height s + k + top ≤ room.numbers = h.numbers in omega arith;
+  numbers = let n : stacked_numbers s + k + top ≤ room.numbers = h.numbers in omega arith;
   calls = let n : suc (length s.waiting + calls) ≤ room.calls = h.chain in omega arith;
   cells = h.cells;
 }
@@ -90,7 +90,7 @@ answered-map s at onto f cells n None = refl
 answered-map s at onto f cells n (Some a) = ap (λ k. goes (moved s at cells (onto (f a)) k)) (add-zero n)
 
 pub answers-map : {A B : Type 0} (s : VmState) (at : ℕ) (onto : B → List ℤ) (f : A → B) (l : FlatAnswer A) →
-    answers s at onto (next l (λ c a. flat_answer c (Some (f a)))) ≡ answers s at (λ a. onto (f a)) l
+    answers s at onto (flat_next l (λ c a. flat_answer c (Some (f a)))) ≡ answers s at (λ a. onto (f a)) l
 answers-map s at onto f l = answered-map s at onto f l.cells l.count l.answer
 
 -- what an instruction alone comes to
@@ -140,5 +140,5 @@ module _ (code : Code) (room : Room) where
       Arrives code room s (answers s m onto first) →
       ((a : A) → first.answer ≡ Some a → length first.cells ≡ length s.cells →
       Arrives code room (moved s m first.cells (onto a) first.count) (answers (moved s m first.cells (onto a) first.count) at over (rest first.cells a))) →
-      Arrives code room s (answers s at over (next first rest))
+      Arrives code room s (answers s at over (flat_next first rest))
   sequence s m at onto over first rest before after = sequence-at s m at onto over first.cells first.count first.answer rest before after

@@ -44,14 +44,14 @@ use Rattle.bl_ctext_semantics.specs.Builtin.{builtin_of}
 use Rattle.bl_ctext_semantics.specs.Sizes.{Sizes, size_of_type}
 use Rattle.bl_ctext_semantics.specs.Tables.{Table}
 use Rattle.bl_ctext_semantics.proofs.Induction.{Optional, ExprCases, induct_call, induct_expr, induct_place}
-use Rattle.bl_ctext_semantics_laws.specs.Flat.{Evaluates, FlatAnswer, Routine, address_of, at_once, call_flat, cell_at, compared, flat_answer, next, reach_flat, read_at}
+use Rattle.bl_ctext_semantics_laws.specs.Flat.{Evaluates, FlatAnswer, Routine, address_of, at_once, call_flat, cell_at, compared, flat_answer, flat_next, reach_flat, read_at}
 use Rattle.bl_ctext_semantics_laws.specs.Flat.{two_values, value_flat}
 use Rattle.bl_ctext_semantics_laws.specs.Layout.{Layouts, MemberOffset, Slot, capped}
-use Rattle.bl_ctext_semantics_laws.specs.Reaching.{Ground, Index, Reach, laid_in, near, nowhere, onward, reach_along, reach_member, start_of_slot, through}
+use Rattle.bl_ctext_semantics_laws.specs.Reaching.{Ground, Index, Reach, laid_in, near, no_reach, onward, reach_along, reach_member, start_of_slot, through}
 use Rattle.bl_ctext_semantics_laws.proofs.Folds.{arg_flat, index_flat, kind_flat, step_flat}
-use Rattle.bl_crun_bytecode.specs.Code.{Code, Entry, arg_code, code_of, code_of_call, fetch_code, reach_code, reach_of, two_code}
+use Rattle.bl_crun_bytecode.specs.Code.{Code, Entry, arg_code, code_of, code_of_call, fetch_code, reach_code, reach_of_place, two_code}
 use Rattle.bl_crun_bytecode.specs.declared.instruction.Instruction.TheVariants as ins
-use Rattle.bl_crun_bytecode.specs.Vm.{Room, VmState, goes, on, on_number, past, step_with}
+use Rattle.bl_crun_bytecode.specs.Vm.{Room, VmState, goes, moved_on, on, on_number, step_with}
 use Rattle.bl_crun_bytecode.specs.Laws.{Arrives}
 use Rattle.bl_crun_bytecode.proofs.Folds.{index_code, kind_code, step_code}
 use Rattle.bl_crun_bytecode.proofs.Runs.{Span, ends-as, goes-on, ends-at, span-back, span-first, span-front, span-tail}
@@ -82,7 +82,7 @@ module _ (code : Code) (room : Room) (top calls : ℕ) where
 
   -- the address of a place
   address-runs : (r : Reach Code) (u : Reach (Evaluates ℤ)) → Leads P r u →
-      P (reach_code r) (λ base cells. next (address_of u base cells) (λ after k. flat_answer after (Some (pos k))))
+      P (reach_code r) (λ base cells. flat_next (address_of u base cells) (λ after k. flat_answer after (Some (pos k))))
   address-runs r u way = record {
     filled = omega arith;
     runs = λ s at span fits.
@@ -91,7 +91,7 @@ module _ (code : Code) (room : Room) (top calls : ℕ) where
   }
 
   fetched : (r : Reach Code) (u : Reach (Evaluates ℤ)) → Leads P r u →
-      P (reach_code r ++ ins.Fetch ∷ []) (λ base cells. next (address_of u base cells) (λ after k. flat_answer after (Some (cell_at after k))))
+      P (reach_code r ++ ins.Fetch ∷ []) (λ base cells. flat_next (address_of u base cells) (λ after k. flat_answer after (Some (cell_at after k))))
   fetched r u way = record {
     filled = omega arith;
     runs = λ s at span fits.
@@ -115,18 +115,18 @@ module _ (code : Code) (room : Room) (top calls : ℕ) where
   bare part evaluates h = subst (λ c. P c evaluates) (sym (append-nil part)) h
 
   read-runs : (r : Reach Code) (u : Reach (Evaluates ℤ)) → Leads P r u → (ty : Option CType) →
-      P (reach_code r ++ fetch_code ty) (λ base cells. next (address_of u base cells) (λ after k. flat_answer after (Some (read_at ty after k))))
+      P (reach_code r ++ fetch_code ty) (λ base cells. flat_next (address_of u base cells) (λ after k. flat_answer after (Some (read_at ty after k))))
   read-runs r u way None = bare _ _ (address-runs r u way)
   read-runs r u way (Some (OfScalar s)) = fetched r u way
   read-runs r u way (Some (OfStruct name)) = bare _ _ (address-runs r u way)
 
   -- a place that has the same type by code and by evaluations
   place-read : (r : Reach Code) (u : Reach (Evaluates ℤ)) → Leads P r u →
-      P (reach_code r ++ fetch_code r.ty) (λ base cells. next (address_of u base cells) (λ after k. flat_answer after (Some (read_at u.ty after k))))
+      P (reach_code r ++ fetch_code r.ty) (λ base cells. flat_next (address_of u base cells) (λ after k. flat_answer after (Some (read_at u.ty after k))))
   place-read r u (Leads.leads start passed ts us ty terms) = read-runs _ _ (Leads.leads start passed ts us ty terms) ty
 
   negation-runs : (part : Code) (evaluates : Evaluates ℤ) → P part evaluates →
-      P (part ++ ins.Negate ∷ []) (λ base cells. next (evaluates base cells) (λ after a. flat_answer after (Some (number_of (if is_one a then false else true)))))
+      P (part ++ ins.Negate ∷ []) (λ base cells. flat_next (evaluates base cells) (λ after a. flat_answer after (Some (number_of (if is_one a then false else true)))))
   negation-runs part evaluates h = record {
     filled = omega (arith, length-append part (ins.Negate ∷ []));
     runs = λ s at span fits.
@@ -145,7 +145,8 @@ module _ (code : Code) (room : Room) (top calls : ℕ) where
 
   -- both operands, and then the operator
   plain-runs : (op : Op) (a b : Code) (f g : Evaluates ℤ) → P a f → P b g →
-      P (a ++ (b ++ ins.Two op ∷ [])) (λ base cells. next (f base cells) (λ after x. next (g base after) (λ last y. flat_answer last (compared op x y))))
+      P (a ++ (b ++ ins.Two op ∷ [])) (λ base cells. flat_next (f base cells)
+      (λ after x. flat_next (g base after) (λ last y. flat_answer last (compared op x y))))
   plain-runs op a b f g h k = record {
     filled = omega (arith, length-append a (b ++ ins.Two op ∷ []), h.filled);
     runs = λ s at span fits.
@@ -158,7 +159,7 @@ module _ (code : Code) (room : Room) (top calls : ℕ) where
         let long : length (b ++ last) ≡ length b + 1 = length-append b last in
         let longer : length (a ++ (b ++ last)) ≡ length a + length (b ++ last) = length-append a (b ++ last) in
         let back : Span code m (b ++ last) at = span-back code s.at a (b ++ last) at span in
-        sequence code room s m at (λ n. n ∷ s.stack) (λ v. v ∷ s.stack) e (λ after x. next (g s.base after) (λ last y. flat_answer last (compared op x y)))
+        sequence code room s m at (λ n. n ∷ s.stack) (λ v. v ∷ s.stack) e (λ after x. flat_next (g s.base after) (λ last y. flat_answer last (compared op x y)))
         (h.runs s m (span-front code s.at a (b ++ last) at span) (fits-fewer room top calls s _ _ fits (omega arith)))
         (λ x found same.
         let t : VmState = moved s m e.cells (x ∷ s.stack) e.count in
@@ -176,13 +177,13 @@ module _ (code : Code) (room : Room) (top calls : ℕ) where
 
   -- a left operand that decides
   past-is : (t : VmState) (n at : ℕ) (v : ℤ) (stack : List ℤ) → t.at + 1 + n ≡ at →
-      past n t (v ∷ stack) ≡ answers t at (λ w. w ∷ stack) (at_once v t.base t.cells)
+      moved_on n t (v ∷ stack) ≡ answers t at (λ w. w ∷ stack) (at_once v t.base t.cells)
   past-is t n at v stack is =
       ap (λ p. goes (record t { at = p; stack = v ∷ stack })) is
       ∙ ap (λ c. goes (record t { at = at; stack = v ∷ stack; count = c })) (sym (add-zero t.count))
 
   both-last : (c : Bool) (t : VmState) (stack : List ℤ) (b : Code) (g : Evaluates ℤ) (at : ℕ) → P b g →
-      step_with t (ins.Both (length b)) t.stack ≡ (if c then on t stack else past (length b) t (pos 0 ∷ stack)) →
+      step_with t (ins.Both (length b)) t.stack ≡ (if c then on t stack else moved_on (length b) t (pos 0 ∷ stack)) →
       Span code t.at (ins.Both (length b) ∷ b) at → Fits room top calls t (length b) → length stack ≤ length t.stack →
       Arrives code room t (answers t at (λ v. v ∷ stack) ((if c then g else at_once (pos 0)) t.base t.cells))
   both-last true t stack b g at k comes span fits fewer =
@@ -195,7 +196,7 @@ module _ (code : Code) (room : Room) (top calls : ℕ) where
       (comes ∙ past-is t (length b) at (pos 0) stack tail.ends)
 
   either-last : (c : Bool) (t : VmState) (stack : List ℤ) (b : Code) (g : Evaluates ℤ) (at : ℕ) → P b g →
-      step_with t (ins.Either (length b)) t.stack ≡ (if c then past (length b) t (pos 1 ∷ stack) else on t stack) →
+      step_with t (ins.Either (length b)) t.stack ≡ (if c then moved_on (length b) t (pos 1 ∷ stack) else on t stack) →
       Span code t.at (ins.Either (length b) ∷ b) at → Fits room top calls t (length b) → length stack ≤ length t.stack →
       Arrives code room t (answers t at (λ v. v ∷ stack) ((if c then at_once (pos 1) else g) t.base t.cells))
   either-last true t stack b g at k comes span fits fewer =
@@ -253,7 +254,7 @@ pub data SameIndex (P : Code → Evaluates ℤ → Type 0) : Index Code → Inde
   same_index : (length : ℕ) (part : Code) (evaluates : Evaluates ℤ) → P part evaluates →
       SameIndex P (record { length = length; index = part }) (record { length = length; index = evaluates })
 
-nowhere-leads : (P : Code → Evaluates ℤ → Type 0) → Leads P nowhere nowhere
+nowhere-leads : (P : Code → Evaluates ℤ → Type 0) → Leads P no_reach no_reach
 nowhere-leads P = Leads.leads (near 0) 0 [] [] None Terms.none
 
 start-leads : (P : Code → Evaluates ℤ → Type 0) (slot : Option Slot) → Leads P (start_of_slot slot) (start_of_slot slot)
@@ -310,7 +311,7 @@ module _ (code : Code) (room : Room) (top calls : ℕ) (sizes : Sizes) (structs 
   OfIndex i = SameIndex Q (index_code i by_code) (index_flat i by_value)
 
   abbrev OfPlace : CPlace → Type 0
-  OfPlace p = Leads Q (reach_of p by_code) (reach_flat p by_value)
+  OfPlace p = Leads Q (reach_of_place p by_code) (reach_flat p by_value)
 
   abbrev OfStep : CStep → Type 0
   OfStep s = (ty : Option CType) → Leads Q (step_code s by_code ty) (step_flat s by_value ty)
@@ -347,9 +348,9 @@ module _ (code : Code) (room : Room) (top calls : ℕ) (sizes : Sizes) (structs 
   cases : ExprCases OfArg OfKind OfCall OfExpr OfIndex OfPlace OfStep
   cases = record {
     value = λ e h. rw (fold-roll-CArg, fold-roll-CArg) h;
-    address = λ p h. rw (fold-roll-CArg, fold-roll-CArg) (address-runs code room top calls (reach_of p by_code) (reach_flat p by_value) h);
+    address = λ p h. rw (fold-roll-CArg, fold-roll-CArg) (address-runs code room top calls (reach_of_place p by_code) (reach_flat p by_value) h);
     literal = λ t n. rw (fold-roll-CExprKind, fold-roll-CExprKind) (literal-runs code room top calls n);
-    read = λ p h. rw (fold-roll-CExprKind, fold-roll-CExprKind) (place-read code room top calls (reach_of p by_code) (reach_flat p by_value) h);
+    read = λ p h. rw (fold-roll-CExprKind, fold-roll-CExprKind) (place-read code room top calls (reach_of_place p by_code) (reach_flat p by_value) h);
     call = λ c h. rw (fold-roll-CExprKind, fold-roll-CExprKind) h;
     negation = λ e h. rw (fold-roll-CExprKind, fold-roll-CExprKind) (negation-runs code room top calls (code_of e by_code) (value_flat e by_value) h);
     two = λ op a b h k. rw (fold-roll-CExprKind, fold-roll-CExprKind)
@@ -371,7 +372,7 @@ module _ (code : Code) (room : Room) (top calls : ℕ) (sizes : Sizes) (structs 
   expr-runs = induct_expr OfArg OfKind OfCall OfExpr OfIndex OfPlace OfStep cases
 
   -- a place
-  pub place-leads : (p : CPlace) → Leads (Pushes code room top calls) (reach_of p by_code) (reach_flat p by_value)
+  pub place-leads : (p : CPlace) → Leads (Pushes code room top calls) (reach_of_place p by_code) (reach_flat p by_value)
   place-leads = induct_place OfArg OfKind OfCall OfExpr OfIndex OfPlace OfStep cases
 
   -- a call

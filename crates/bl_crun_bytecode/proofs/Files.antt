@@ -44,7 +44,7 @@ use Rattle.bl_ctext_semantics_laws.specs.Layout.{Layouts, Slot, capped_sizes, fr
 use Rattle.bl_ctext_semantics_laws.specs.Reaching.{Ground}
 use Rattle.bl_crun_bytecode.specs.declared.instruction.Instruction.TheVariants as ins
 use Rattle.bl_crun_bytecode.specs.Code.{Code, Entry, block_code, code_of, code_of_block, code_of_call, code_of_stmt, entries_from, entry_of, function_code}
-use Rattle.bl_crun_bytecode.specs.Code.{functions_code, reach_of}
+use Rattle.bl_crun_bytecode.specs.Code.{functions_code, reach_of_place}
 use Rattle.bl_crun_bytecode.specs.Vm.{Room, VmState, goes}
 use Rattle.bl_crun_bytecode.specs.Laws.{Arrives, BothDo, ImplementsRoutine, EachDoes, FunctionsRun, NamedFunctionsRun, code_of_file, entry_in_file, routine_in_file, entry_state, ended}
 use Rattle.bl_crun_bytecode.proofs.Runs.{Span, and-then, cells-stay, ends-as, frame-keeps, span-back, span-front, span-none}
@@ -118,12 +118,12 @@ module _ (code : Code) (room : Room) (top calls : ℕ) (sizes : Sizes) (structs 
   stmt-cases = record {
     set = λ at p e left.
         rw (fold-roll-CStmt, fold-roll-CStmt, fold-roll-CStmtKind, fold-roll-CStmtKind)
-        (set-runs code room top calls left sizes (reach_of p Here) (reach_flat p There)
+        (set-runs code room top calls left sizes (reach_of_place p Here) (reach_flat p There)
         (place-leads code room top calls sizes structs slots frame entries routines knows p)
         (code_of e Here) (value_flat e There) (expr-runs code room top calls sizes structs slots frame entries routines knows e));
     clear = λ at p name left.
         rw (fold-roll-CStmt, fold-roll-CStmt, fold-roll-CStmtKind, fold-roll-CStmtKind)
-        (clear-runs code room top calls left (entry_or 0 sizes name) (reach_of p Here) (reach_flat p There)
+        (clear-runs code room top calls left (entry_or 0 sizes name) (reach_of_place p Here) (reach_flat p There)
         (place-leads code room top calls sizes structs slots frame entries routines knows p));
     call = λ at c left.
         rw (fold-roll-CStmt, fold-roll-CStmt, fold-roll-CStmtKind, fold-roll-CStmtKind)

@@ -27,11 +27,12 @@ use Rattle.std.proofs.Common.{◌∙◌, subst, add-zero, length-append, arith}
 use Rattle.std.specs.Prelude.{◌+ℤ◌, ltb, if◌then◌else◌}
 use Rattle.std.proofs.lemmas.Bool.Decides.{Decides-ltb}
 use Rattle.bl_tree.specs.Numbers.{is_one}
-use Rattle.bl_ctext_semantics.specs.Course.{End, Outcome, after, breaks, ending, goes_on, returns, traps, turn_end, turn_limit, turn_or_none, turns}
+use Rattle.bl_ctext_semantics.specs.Course.{End, Outcome, after_statements, breaks, ending, goes_on, loop_with_turns, returns, traps, turn_end, turn_limit}
+use Rattle.bl_ctext_semantics.specs.Course.{turn_or_none}
 use Rattle.bl_ctext_semantics_laws.specs.Flat.{Cells, Evaluates, FlatAnswer, once_more}
 use Rattle.bl_crun_bytecode.specs.declared.instruction.Instruction.TheVariants as ins
 use Rattle.bl_crun_bytecode.specs.Code.{Code, loop_code}
-use Rattle.bl_crun_bytecode.specs.Vm.{Room, VmState, goes, next_turn, on, on_number, past, step_with, trapped}
+use Rattle.bl_crun_bytecode.specs.Vm.{Room, VmState, goes, moved_on, next_turn, on, on_number, step_with, trapped}
 use Rattle.bl_crun_bytecode.specs.Laws.{Arrives}
 use Rattle.bl_crun_bytecode.proofs.Runs.{Span, and-then, cells-stay, ends-at, goes-on, span-back, span-end, span-first, span-front, span-tail}
 use Rattle.bl_crun_bytecode.proofs.Evaluations.{Fits, fits-fewer, fits-has, fits-to, moved}
@@ -89,7 +90,7 @@ module _ (code : Code) (room : Room) (top calls : ℕ) (part body : Code) (f : E
 
   -- the test at the head of a loop, and the statement that it counts
   tested : (left at : ℕ) (next : Cells → Outcome Cells) (stack : List ℤ) (n : ℤ) (d : Bool) (t : VmState) →
-      step_with t (ins.Unless (length body + 3)) t.stack ≡ (if d then on t (n ∷ stack) else past (length body + 3) t (n ∷ stack)) →
+      step_with t (ins.Unless (length body + 3)) t.stack ≡ (if d then on t (n ∷ stack) else moved_on (length body + 3) t (n ∷ stack)) →
       Span code t.at Tested at → Fits room top calls t 0 → suc (length stack) ≤ length t.stack →
       Arrives code room (record t { at = t.at + 1 + 1; stack = n ∷ stack; count = t.count + 1 })
       (runs_to (record t { at = t.at + 1 + 1; stack = n ∷ stack; count = t.count + 1 }) at left stack (next t.cells)) →
@@ -131,7 +132,7 @@ module _ (code : Code) (room : Room) (top calls : ℕ) (part body : Code) (f : E
       (condition.runs s m (span-front code s.at part Tested at span) (fits-fewer room top calls s _ (length part) fits (omega arith)))
       (λ v found same.
       let t : VmState = moved s m l.cells (v ∷ s.stack) l.count in
-      tested left at next stack (pos k) (is_one v) t (ap (λ st. if is_one v then on t st else past (length body + 3) t st) stands)
+      tested left at next stack (pos k) (is_one v) t (ap (λ st. if is_one v then on t st else moved_on (length body + 3) t st) stands)
       (span-back code s.at part Tested at span) (fits-to room top calls s t _ 0 fits refl same (omega arith)) (omega arith)
       (h l.cells (t.count + 1) same))
 
@@ -196,25 +197,25 @@ module _ (code : Code) (room : Room) (top calls : ℕ) (part body : Code) (f : E
   -- a loop that may begin so many turns more
   turns-run : (n k : ℕ) → n + k ≡ 65536 → (left at : ℕ) (s : VmState) (stack : List ℤ) → s.stack ≡ pos k ∷ stack → Span code s.at Loop at →
       Fits room top calls s (length Loop) →
-      Arrives code room s (runs_to s at left stack (turns n (once_more f s.base) (B s.base) s.cells))
-  unfolding turns
+      Arrives code room s (runs_to s at left stack (loop_with_turns n (once_more f s.base) (B s.base) s.cells))
+  unfolding loop_with_turns
   turns-run zero k is left at s stack stands span fits = no-more left at k (omega arith) s stack stands span fits
   turns-run (suc n) k is left at s stack stands span fits =
       let deep : length s.stack ≡ suc (length stack) = ap length stands in
-      a-turn left at k (omega arith) (turns n (once_more f s.base) (B s.base)) s stack stands span fits
+      a-turn left at k (omega arith) (loop_with_turns n (once_more f s.base) (B s.base)) s stack stands span fits
       (λ cells count same.
       let y : VmState = record s { cells = cells; stack = pos (k + 1) ∷ stack; count = count } in
       turns-run n (k + 1) (omega arith) left at y stack refl span (fits-to room top calls s y _ (length Loop) fits refl same (omega arith)))
 
   pub loop-runs : (left : ℕ) → Performs code room top calls left (loop_code part body)
-      (λ base cells. after 1 (turns turn_limit (once_more f base) (B base) cells))
+      (λ base cells. after_statements 1 (loop_with_turns turn_limit (once_more f base) (B base) cells))
   loop-runs left = record {
     runs = λ s at span fits.
         let t : VmState = moved s (s.at + 1) s.cells s.stack 1 in
         let w : VmState = record t { at = s.at + 1 + 1; stack = pos 0 ∷ s.stack } in
         let limit : turn_limit ≡ 65536 = limit-is in
         let tail : Span code (s.at + 1) (ins.Turns ∷ Loop) at = span-tail code s.at ins.Count (ins.Turns ∷ Loop) at span in
-        counted code room s at left s.stack (ins.Turns ∷ Loop) (turns turn_limit (once_more f s.base) (B s.base) s.cells)
+        counted code room s at left s.stack (ins.Turns ∷ Loop) (loop_with_turns turn_limit (once_more f s.base) (B s.base) s.cells)
         (fits-has room top calls s _ fits) span
         (goes-on code room t w ins.Turns _ (fits-has room top calls t 0 (fits-to room top calls s t _ 0 fits refl refl (omega arith)))
         (span-first code (s.at + 1) ins.Turns Loop at tail) refl

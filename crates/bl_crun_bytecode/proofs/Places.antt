@@ -28,7 +28,7 @@ use Rattle.std.specs.Prelude.{option_map}
 use Rattle.bl_tree.specs.Reduce.{joined}
 use Rattle.bl_tree.specs.declared.c.CType.{CType}
 use Rattle.bl_ctext_semantics.specs.Builtin.{index_within}
-use Rattle.bl_ctext_semantics_laws.specs.Flat.{Cells, Evaluates, FlatAnswer, address_along, address_of, cell_number, element_address, flat_answer, next, going_on, start_address}
+use Rattle.bl_ctext_semantics_laws.specs.Flat.{Cells, Evaluates, FlatAnswer, address_along, address_of, cell_number, element_address, flat_answer, flat_next, going_on, start_address}
 use Rattle.bl_ctext_semantics_laws.specs.Layout.{capped}
 use Rattle.bl_ctext_semantics_laws.specs.Reaching.{Reach, Start, Term, near, through}
 use Rattle.bl_crun_bytecode.specs.declared.instruction.Instruction.TheVariants as ins
@@ -66,7 +66,7 @@ along-capped : (terms : List (Term (Evaluates ℤ))) (at base : ℕ) (cells : Ce
 along-capped [] at base cells is = is
 along-capped (term ∷ terms) at base cells is =
     going_on-capped (term.index base cells).cells (term.index base cells).count (term.index base cells).answer
-    (λ after i. next (flat_answer after (element_address term at i)) (λ same k. address_along terms k base same))
+    (λ after i. flat_next (flat_answer after (element_address term at i)) (λ same k. address_along terms k base same))
     (λ after i found. going_on-capped after 0 (element_address term at i) (λ same k. address_along terms k base same)
     (λ same k here. along-capped terms k base same (element-capped at term.size (index_within i (pos term.length)) k here)))
 
@@ -143,7 +143,7 @@ module _ (code : Code) (room : Room) (top calls : ℕ) where
       let some : 1 ≤ length part = h.filled in
       let fits' : Fits room top calls s (length part) = fits-fewer room top calls s _ _ fits (omega arith) in
       sequence code room s m at (λ n. n ∷ s.stack) (λ n. pos n ∷ stack) e
-      (λ after i. next (flat_answer after (element_address term k i)) (λ same j. address_along us' j s.base same))
+      (λ after i. flat_next (flat_answer after (element_address term k i)) (λ same j. address_along us' j s.base same))
       (h.runs s m (span-front code s.at part element m' front) fits')
       (λ i found same.
       let t : VmState = moved s m e.cells (i ∷ s.stack) e.count in

@@ -33,7 +33,8 @@ use Rattle.bl_ctext_semantics_laws.specs.Layout.{capped}
 use Rattle.bl_crun_bytecode.specs.declared.instruction.Instruction.{Instruction}
 use Rattle.bl_crun_bytecode.specs.declared.instruction.Instruction.TheVariants as ins
 use Rattle.bl_crun_bytecode.specs.Code.{Code}
-use Rattle.bl_crun_bytecode.specs.Vm.{Has, Room, StepsInRoom, VmState, StepResult, Waiting, args_on, done, element, goes, next_turn, on_number, on, returned}
+use Rattle.bl_crun_bytecode.specs.Vm.{Has, Room, StepsInRoom, VmState, StepResult, Waiting, args_on, done, element, goes, next_turn, on_number, on}
+use Rattle.bl_crun_bytecode.specs.Vm.{caller_resumed}
 use Rattle.bl_crun_bytecode.specs.Vm.{step, step_at, step_with, trapped}
 use Rattle.bl_crun_bytecode.specs.Laws.{Arrives}
 
@@ -154,7 +155,7 @@ choice-keeps : (n : ℕ) (b : Bool) (x y : StepResult) → Keeps n x → Keeps n
 choice-keeps n true x y h k = h
 choice-keeps n false x y h k = k
 
-return-keeps : (s : VmState) (n : ℤ) (waiting : List Waiting) → Keeps (length s.cells) (returned s n waiting)
+return-keeps : (s : VmState) (n : ℤ) (waiting : List Waiting) → Keeps (length s.cells) (caller_resumed s n waiting)
 return-keeps s n [] = tt
 return-keeps s n (w ∷ rest) = refl
 

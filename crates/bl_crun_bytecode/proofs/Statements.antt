@@ -32,13 +32,13 @@ use Rattle.bl_ctext_semantics.specs.Course.{Outcome, breaks, ending, going, retu
 use Rattle.bl_ctext_semantics.specs.Sizes.{Sizes}
 use Rattle.bl_ctext_semantics.specs.Tables.{entry_or}
 use Rattle.bl_ctext_semantics_laws.specs.Flat.{Cells, Evaluates, FlatAnswer, FlatStmtMeaning, Routine, address_of, cell_number, copied, executed}
-use Rattle.bl_ctext_semantics_laws.specs.Flat.{flat_answer as left_with, next, written_at, zeroed}
+use Rattle.bl_ctext_semantics_laws.specs.Flat.{flat_answer as left_with, flat_next, written_at, zeroed}
 use Rattle.bl_ctext_semantics_laws.specs.Layout.{capped}
 use Rattle.bl_ctext_semantics_laws.specs.Reaching.{Ground, Reach}
 use Rattle.bl_crun_bytecode.specs.declared.instruction.Instruction.{Instruction}
 use Rattle.bl_crun_bytecode.specs.declared.instruction.Instruction.TheVariants as ins
 use Rattle.bl_crun_bytecode.specs.Code.{Code, if_code, reach_code, write_code}
-use Rattle.bl_crun_bytecode.specs.Vm.{Has, Room, VmState, goes, on, past, step_with}
+use Rattle.bl_crun_bytecode.specs.Vm.{Has, Room, VmState, goes, moved_on, on, step_with}
 use Rattle.bl_crun_bytecode.specs.Laws.{Arrives}
 use Rattle.bl_crun_bytecode.proofs.Runs.{Span, ends-as, ends-at, goes-on, span-back, span-end, span-first, span-front, span-tail}
 use Rattle.bl_crun_bytecode.proofs.Evaluations.{Fits, answers, by-instruction, fits-fewer, fits-has, fits-to, gives, moved, sequence}
@@ -82,7 +82,7 @@ module _ (code : Code) (room : Room) (top calls : ℕ) where
       (s : VmState) (at : ℕ) → Span code s.at (reach_code r ++ (part ++ write_code known ty ∷ [])) at →
       Fits room top calls s (length (reach_code r ++ (part ++ write_code known ty ∷ []))) →
       Arrives code room s (answers s at (λ (n : ℤ). s.stack)
-      (next (address_of u s.base s.cells) (λ c k. next (g s.base c) (λ d v. left_with (written_at known ty k v d) (Some v)))))
+      (flat_next (address_of u s.base s.cells) (λ c k. flat_next (g s.base c) (λ d v. left_with (written_at known ty k v d) (Some v)))))
   written known ty r u way part g h s at span fits =
       let first : Code = reach_code r in
       let last : Code = write_code known ty ∷ [] in
@@ -95,7 +95,7 @@ module _ (code : Code) (room : Room) (top calls : ℕ) where
       let back : Span code m (part ++ last) at = span-back code s.at first (part ++ last) at span in
       let filled : 1 ≤ length first = omega arith in
       sequence code room s m at (λ k. pos k ∷ s.stack) (λ (n : ℤ). s.stack) e
-      (λ c k. next (g s.base c) (λ d v. left_with (written_at known ty k v d) (Some v)))
+      (λ c k. flat_next (g s.base c) (λ d v. left_with (written_at known ty k v d) (Some v)))
       (reach-runs code room top calls r u way s m (span-front code s.at first (part ++ last) at span) (fits-fewer room top calls s _ _ fits (omega arith)))
       (λ k found same.
       let t : VmState = moved s m e.cells (pos k ∷ s.stack) e.count in
@@ -115,13 +115,14 @@ module _ (code : Code) (room : Room) (top calls : ℕ) where
       (part : Code) (g : Evaluates ℤ) →
       P part g →
       S left (ins.Count ∷ (reach_code r ++ (part ++ write_code known ty ∷ [])))
-      (λ base cells. executed 1 (next (address_of u base cells) (λ c k. next (g base c) (λ d v. left_with (written_at known ty k v d) (Some v))))
+      (λ base cells. executed 1 (flat_next (address_of u base cells) (λ c k. flat_next (g base c) (λ d v. left_with (written_at known ty k v d) (Some v))))
       (λ c v. going c))
   set-at left known ty r u way part g h = record {
     runs = λ s at span fits.
         let body : Code = reach_code r ++ (part ++ write_code known ty ∷ []) in
         let t : VmState = moved s (s.at + 1) s.cells s.stack 1 in
-        let l : FlatAnswer ℤ = next (address_of u s.base s.cells) (λ c k. next (g s.base c) (λ d v. left_with (written_at known ty k v d) (Some v))) in
+        let l : FlatAnswer ℤ = flat_next (address_of u s.base s.cells)
+        (λ c k. flat_next (g s.base c) (λ d v. left_with (written_at known ty k v d) (Some v))) in
         let there : Fits room top calls t (length body) = fits-to room top calls s t _ (length body) fits refl refl (omega arith) in
         begins left s at body l (λ c v. going c) span (fits-has room top calls s _ fits)
         (execution code room t at at left (λ (n : ℤ). s.stack) s.stack l (λ c v. going c)
@@ -134,7 +135,7 @@ module _ (code : Code) (room : Room) (top calls : ℕ) where
   pub set-runs : (left : ℕ) (known : Sizes) (r : Reach Code) (u : Reach (Evaluates ℤ)) → Leads P r u →
       (part : Code) (g : Evaluates ℤ) → P part g →
       S left (ins.Count ∷ (reach_code r ++ (part ++ write_code known r.ty ∷ [])))
-      (λ base cells. executed 1 (next (address_of u base cells) (λ c k. next (g base c) (λ d v. left_with (written_at known u.ty k v d) (Some v))))
+      (λ base cells. executed 1 (flat_next (address_of u base cells) (λ c k. flat_next (g base c) (λ d v. left_with (written_at known u.ty k v d) (Some v))))
       (λ c v. going c))
   set-runs left known r u (Leads.leads start passed ts us ty terms) part g h = set-at left known ty _ _ (Leads.leads start passed ts us ty terms) part g h
 
@@ -249,7 +250,7 @@ module _ (code : Code) (room : Room) (top calls : ℕ) where
     Rest = b ++ ins.Skip (length o) ∷ o
 
     chosen : (d : Bool) (t : VmState) (stack : List ℤ) (at : ℕ) →
-        step_with t (ins.Unless (length b + 1)) t.stack ≡ (if d then on t stack else past (length b + 1) t stack) →
+        step_with t (ins.Unless (length b + 1)) t.stack ≡ (if d then on t stack else moved_on (length b + 1) t stack) →
         Span code t.at (ins.Unless (length b + 1) ∷ Rest) at → Fits room top calls t (length b + length o) → length stack ≤ length t.stack →
         Arrives code room t (runs_to t at left stack ((if d then B else O) here t.base t.cells))
     chosen true t stack at comes span fits fewer =

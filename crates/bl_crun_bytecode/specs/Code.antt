@@ -124,8 +124,8 @@ abbrev pub arg_code : CArg → Coded Code
 arg_code = fold-CArg _ _ _ _ _ _ _ arg_step kind_step call_step expr_step index_step place_step step_step
 
 -- how a place is reached
-abbrev pub reach_of : CPlace → Coded (Reach Code)
-reach_of = fold-CPlace _ _ _ _ _ _ _ arg_step kind_step call_step expr_step index_step place_step step_step
+abbrev pub reach_of_place : CPlace → Coded (Reach Code)
+reach_of_place = fold-CPlace _ _ _ _ _ _ _ arg_step kind_step call_step expr_step index_step place_step step_step
 
 -- code that pushes what a call gives
 abbrev pub code_of_call : CCall → Coded Code
@@ -165,8 +165,8 @@ loop_code condition body =
 -- one step of the fold for statements
 abbrev pub stmt_kind_code : CStmtKind-F StmtCode StmtCode → StmtCode
 stmt_kind_code (CStmtKind-F.Set place expr) here left =
-    ins.Count ∷ (reach_code (reach_of place here) ++ (code_of expr here ++ write_code here.sizes (reach_of place here).ty ∷ []))
-stmt_kind_code (CStmtKind-F.Clear place name) here left = ins.Count ∷ (reach_code (reach_of place here) ++ ins.Zero (entry_or 0 here.sizes name) ∷ [])
+    ins.Count ∷ (reach_code (reach_of_place place here) ++ (code_of expr here ++ write_code here.sizes (reach_of_place place here).ty ∷ []))
+stmt_kind_code (CStmtKind-F.Clear place name) here left = ins.Count ∷ (reach_code (reach_of_place place here) ++ ins.Zero (entry_or 0 here.sizes name) ∷ [])
 stmt_kind_code (CStmtKind-F.Call call) here left = ins.Count ∷ (code_of_call call here ++ ins.Drop ∷ [])
 stmt_kind_code (CStmtKind-F.If condition block other) here left =
     if_code (code_of condition here) (block_code block here (1 + length (other_code other here left) + left)) (other_code other here left)

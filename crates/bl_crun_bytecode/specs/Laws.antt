@@ -9,7 +9,7 @@ use Rattle.bl_ctext_semantics.specs.Tables.{Table, no_entries, table_of, with_en
 use Rattle.bl_ctext_semantics_laws.specs.Flat.{Cells, FlatAnswer, Routine, frame_begun, routine_flat, routines_after}
 use Rattle.bl_ctext_semantics_laws.specs.Layout.{Layouts, capped_sizes, layouts}
 use Rattle.bl_crun_bytecode.specs.Code.{Code, Entry, entries_from, entry_of, function_code, functions_code}
-use Rattle.bl_crun_bytecode.specs.Vm.{Room, StepResult, StepsInRoom, VmState, Waiting, returned, stops}
+use Rattle.bl_crun_bytecode.specs.Vm.{Room, StepResult, StepsInRoom, VmState, Waiting, caller_resumed, stops}
 
 -- the machine comes from the state to the result in some number of steps, and never takes more room than there is
 pub record Arrives (code : Code) (room : Room) (s : VmState) (end : StepResult) : Type 0 where
@@ -28,7 +28,7 @@ entry_state entry base args cells waiting count =
 -- a running function ends with its result, or traps
 abbrev pub ended : VmState → Option ℤ → StepResult
 ended s None = stops s
-ended s (Some result) = returned s result s.waiting
+ended s (Some result) = caller_resumed s result s.waiting
 
 -- a function that began in a state ends as its routine does
 abbrev pub ended_as : VmState → FlatAnswer ℤ → StepResult

@@ -61,8 +61,8 @@ abbrev pub on : VmState → List ℤ → StepResult
 on s stack = goes (record s { at = s.at + 1; stack = stack })
 
 -- a state so many instructions behind the next one, with another stack
-abbrev pub past : ℕ → VmState → List ℤ → StepResult
-past n s stack = goes (record s { at = s.at + 1 + n; stack = stack })
+abbrev pub moved_on : ℕ → VmState → List ℤ → StepResult
+moved_on n s stack = goes (record s { at = s.at + 1 + n; stack = stack })
 
 -- the machine traps, with its cells and its count as they stand
 abbrev pub stops : VmState → StepResult
@@ -94,9 +94,9 @@ abbrev pub args_on : ℕ → List ℤ → List ℤ
 args_on n stack = reverse (take n stack)
 
 -- the waiting function goes on with a result
-abbrev pub returned : VmState → ℤ → List Waiting → StepResult
-returned s result [] = done s.cells s.count result
-returned s result (w ∷ rest) = goes (record { at = w.back; base = w.base; cells = s.cells; stack = result ∷ w.stack; waiting = rest; count = s.count })
+abbrev pub caller_resumed : VmState → ℤ → List Waiting → StepResult
+caller_resumed s result [] = done s.cells s.count result
+caller_resumed s result (w ∷ rest) = goes (record { at = w.back; base = w.base; cells = s.cells; stack = result ∷ w.stack; waiting = rest; count = s.count })
 
 -- a function begins
 abbrev pub entering : VmState → Callee → StepResult
@@ -125,17 +125,17 @@ step_with s (ins.Zero size) (at ∷ stack) = with_cells s (zeroed size (cell_num
 step_with s ins.Negate (n ∷ stack) = on s (number_of (not (is_one n)) ∷ stack)
 step_with s (ins.Two op) (b ∷ a ∷ stack) = on_number s stack (compared op a b)
 step_with s (ins.Prelude builtin n) stack = on_number s (drop n stack) (prelude_value builtin (args_on n stack))
-step_with s (ins.Skip n) stack = past n s stack
-step_with s (ins.Unless n) (c ∷ stack) = if is_one c then on s stack else past n s stack
-step_with s (ins.Both n) (c ∷ stack) = if is_one c then on s stack else past n s (pos 0 ∷ stack)
-step_with s (ins.Either n) (c ∷ stack) = if is_one c then past n s (pos 1 ∷ stack) else on s stack
+step_with s (ins.Skip n) stack = moved_on n s stack
+step_with s (ins.Unless n) (c ∷ stack) = if is_one c then on s stack else moved_on n s stack
+step_with s (ins.Both n) (c ∷ stack) = if is_one c then on s stack else moved_on n s (pos 0 ∷ stack)
+step_with s (ins.Either n) (c ∷ stack) = if is_one c then moved_on n s (pos 1 ∷ stack) else on s stack
 step_with s (ins.Call callee) stack = entering s callee
 step_with s ins.Drop (n ∷ stack) = on s stack
 step_with s ins.Turns stack = on s (pos 0 ∷ stack)
 step_with s ins.Turn (n ∷ stack) = on_number s stack (next_turn n)
 step_with s (ins.Again n) stack = goes (record s { at = s.at - n })
 step_with s ins.Over (n ∷ stack) = on s stack
-step_with s ins.Return (n ∷ stack) = returned s n s.waiting
+step_with s ins.Return (n ∷ stack) = caller_resumed s n s.waiting
 step_with s _ stack = stops s
 
 -- the step of an instruction, which traps where there is none
@@ -156,12 +156,12 @@ pub record Room : Type 0 where
   pub cells : ℕ
 
 -- how many numbers stand on all stacks
-abbrev pub height : VmState → ℕ
-height s = length s.stack + total (map (λ w. length w.stack) s.waiting)
+abbrev pub stacked_numbers : VmState → ℕ
+stacked_numbers s = length s.stack + total (map (λ w. length w.stack) s.waiting)
 
 -- a state has no more than there is room for
 pub record Has (room : Room) (s : VmState) : Type 0 where
-  pub numbers : height s ≤ room.numbers
+  pub numbers : stacked_numbers s ≤ room.numbers
   pub calls : length s.waiting ≤ room.calls
   pub cells : length s.cells ≡ room.cells
 

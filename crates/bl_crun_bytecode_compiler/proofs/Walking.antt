@@ -36,7 +36,7 @@ use Rattle.bl_tree.specs.declared.c.CCall.{CCall, fold-roll-CCall, out-CCall, ro
 use Rattle.bl_ctext_semantics.specs.Builtin.{builtin_of}
 use Rattle.bl_ctext_semantics_laws.specs.Layout.{MemberOffset, capped}
 use Rattle.bl_ctext_semantics_laws.specs.Reaching.{Ground, Index, Reach, Term, laid_in, onward, reach_along, reach_member, start_of_slot}
-use Rattle.bl_crun_bytecode.specs.Code.{Code, Entry, arg_code, call_as, code_of, code_of_call, reach_code, reach_of, start_code, term_code}
+use Rattle.bl_crun_bytecode.specs.Code.{Code, Entry, arg_code, call_as, code_of, code_of_call, reach_code, reach_of_place, start_code, term_code}
 use Rattle.bl_crun_bytecode.proofs.Folds.{index_code, step_code}
 use Rattle.bl_crun_bytecode_compiler.specs.declared.place.Root.{Root}
 use Rattle.bl_crun_bytecode_compiler.specs.declared.place.Walk.{Walk}
@@ -113,16 +113,16 @@ module _ (here : Ground Entry) where
       (append_assoc r.terms (term_if here found (out-CStep s).index) (terms_along here steps more))
 
   -- a place that begins so
-  reach-is : (p : CPlace) (r : Reach Code) → r ≡ start_of_slot (here.slots (out-CPlace p).name) → reach_of p here ≡ record {
+  reach-is : (p : CPlace) (r : Reach Code) → r ≡ start_of_slot (here.slots (out-CPlace p).name) → reach_of_place p here ≡ record {
     start = r.start;
     passed = passed_along r.passed (found_along here (out-CPlace p).steps r.ty);
     terms = r.terms ++ terms_along here (out-CPlace p).steps (found_along here (out-CPlace p).steps r.ty);
     ty = type_along r.ty (found_along here (out-CPlace p).steps r.ty);
   }
   reach-is p r is =
-      let level : reach_of (roll-CPlace (out-CPlace p)) here
+      let level : reach_of_place (roll-CPlace (out-CPlace p)) here
       ≡ reach_along (map step_code (out-CPlace p).steps) here (start_of_slot (here.slots (out-CPlace p).name)) = rw fold-roll-CPlace refl in
-      ap (λ x. reach_of x here) (sym (roll-out-CPlace p)) ∙ level ∙ ap (reach_along (map step_code (out-CPlace p).steps) here) (sym is)
+      ap (λ x. reach_of_place x here) (sym (roll-out-CPlace p)) ∙ level ∙ ap (reach_along (map step_code (out-CPlace p).steps) here) (sym is)
       ∙ walked (out-CPlace p).steps r
 
   found-long : (steps : List CStep) (ty : Option CType) → length (found_along here steps ty) ≡ length steps
@@ -195,7 +195,7 @@ step-down here p walk is-walk n k s f old before new next h is are so_far more =
 pub place-done : (here : Ground Entry) (p : CPlace) (walk : Walk) (k : ℕ) (old before new : Code) → IsWalk here p walk → k ≡ 0 →
     before ≡ joined (map term_code (terms_along here (drop k (out-CPlace p).steps) (drop k (founds_of walk.found.items)))) ++ old →
     new ≡ walk.start ∷ before →
-    new ≡ reach_code (reach_of p here) ++ old
+    new ≡ reach_code (reach_of_place p here) ++ old
 place-done here p walk k old before new is none so_far put =
     let steps : List CStep = (out-CPlace p).steps in
     let found : List (Option MemberOffset) = founds_of walk.found.items in
@@ -203,7 +203,7 @@ place-done here p walk k old before new is none so_far put =
     so_far ∙ ap (λ n. joined (map term_code (terms_along here (drop n steps) (drop n found))) ++ old) none in
     put ∙ ap (λ c. walk.start ∷ c) whole
     ∙ ap (λ i. i ∷ (joined (map term_code (terms_along here steps found)) ++ old)) is.start
-    ∙ ap (λ ts. start_code (reach_of p here).start (reach_of p here).passed ∷ (joined (map term_code ts) ++ old)) (sym is.found)
+    ∙ ap (λ ts. start_code (reach_of_place p here).start (reach_of_place p here).passed ∷ (joined (map term_code ts) ++ old)) (sym is.found)
 
 -- ---- calls
 

@@ -3,7 +3,7 @@
 ghost use Rattle.std.specs.Prelude.{◌≡◌, ◌++◌, IfOk, length, map, OnOk, option_map};
 ghost use Rattle.bl_tree.specs.Reduce.{joined};
 ghost use Rattle.bl_ctext_semantics.specs.Builtin.{builtin_of};
-ghost use Rattle.bl_crun_bytecode.specs.Code.{arg_code, call_as, code_of, code_of_call, fetch_code, reach_code, reach_of, term_code};
+ghost use Rattle.bl_crun_bytecode.specs.Code.{arg_code, call_as, code_of, code_of_call, fetch_code, reach_code, reach_of_place, term_code};
 ghost use Rattle.bl_crun_bytecode_compiler.specs.inner.Views.{ground_of, laid_of};
 ghost use Rattle.bl_crun_bytecode_compiler.specs.inner.Walks.{IsWalk, term_if};
 
@@ -58,7 +58,7 @@ fn fetch(code: &mut Front, ty: Option<&CType>) -> Result<(), NoMemory>
 
 #[cycle(expressions)]
 fn read(here: &Here<'_, '_>, code: &mut Front, at: &CPlace) -> Result<(), NoMemory>
-    ensures { OnOk result (code.new ≡ (reach_code (reach_of at.now (ground_of here.now)) ++ fetch_code (reach_of at.now (ground_of here.now)).ty)
+    ensures { OnOk result (code.new ≡ (reach_code (reach_of_place at.now (ground_of here.now)) ++ fetch_code (reach_of_place at.now (ground_of here.now)).ty)
         ++ code.old) }
 {
     let walk = walk_to(here, at)?;
@@ -107,7 +107,7 @@ pub fn place(
     walk: &Walk<'_>,
 ) -> Result<(), NoMemory>
     requires { IsWalk (ground_of here.now) at.now walk.now }
-    ensures { OnOk result (code.new ≡ reach_code (reach_of at.now (ground_of here.now)) ++ code.old) }
+    ensures { OnOk result (code.new ≡ reach_code (reach_of_place at.now (ground_of here.now)) ++ code.old) }
 {
     for k in (0..at.steps.len()).rev() {
         element(here, code, &at.steps[k].index, walk.found[k])?;

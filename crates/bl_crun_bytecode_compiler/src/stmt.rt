@@ -1,7 +1,7 @@
 //! The code of statements.
 
 ghost use Rattle.std.specs.Prelude.{◌≡◌, ◌≤◌, ◌<◌, ◌-◌, [], ◌∷◌, ◌++◌, IfOk, length, List, OnOk, option_map};
-ghost use Rattle.bl_crun_bytecode.specs.Code.{code_of, code_of_block, code_of_call, code_of_stmt, reach_code, reach_of, write_code};
+ghost use Rattle.bl_crun_bytecode.specs.Code.{code_of, code_of_block, code_of_call, code_of_stmt, reach_code, reach_of_place, write_code};
 ghost use Rattle.bl_crun_bytecode.specs.declared.instruction.Instruction.{Instruction as Step};
 ghost use Rattle.bl_crun_bytecode.specs.declared.instruction.Instruction.TheVariants as ins;
 ghost use Rattle.bl_ctext_semantics.specs.Tables.{entry_or};
@@ -70,8 +70,9 @@ fn writing(sizes: &Sizes<'_>, ty: Option<&CType>) -> Result<Instruction, NoMemor
 }
 
 fn set(here: &Here<'_, '_>, code: &mut Front, at: &CPlace, value: &CExpr) -> Result<(), NoMemory>
-    ensures { OnOk result (code.new ≡ (ins.Count ∷ (reach_code (reach_of at.now (ground_of here.now))
-        ++ (code_of value.now (ground_of here.now) ++ write_code (ground_of here.now).sizes (reach_of at.now (ground_of here.now)).ty ∷ []))) ++ code.old) }
+    ensures { OnOk result (code.new ≡ (ins.Count ∷ (reach_code (reach_of_place at.now (ground_of here.now))
+        ++ (code_of value.now (ground_of here.now) ++ write_code (ground_of here.now).sizes (reach_of_place at.now (ground_of here.now)).ty ∷ [])))
+        ++ code.old) }
 {
     let walk = walk_to(here, at)?;
     code.put(writing(here.sizes, walk.ty)?)?;
@@ -81,7 +82,7 @@ fn set(here: &Here<'_, '_>, code: &mut Front, at: &CPlace, value: &CExpr) -> Res
 }
 
 fn clear(here: &Here<'_, '_>, code: &mut Front, at: &CPlace, name: &str) -> Result<(), NoMemory>
-    ensures { OnOk result (code.new ≡ (ins.Count ∷ (reach_code (reach_of at.now (ground_of here.now))
+    ensures { OnOk result (code.new ≡ (ins.Count ∷ (reach_code (reach_of_place at.now (ground_of here.now))
         ++ ins.Zero (entry_or 0 (ground_of here.now).sizes name.now) ∷ [])) ++ code.old) }
 {
     let walk = walk_to(here, at)?;

@@ -30,7 +30,8 @@ use Rattle.bl_crun_bytecode.specs.declared.instruction.Callee.{Callee}
 use Rattle.bl_crun_bytecode.specs.declared.instruction.Instruction.{Instruction}
 use Rattle.bl_crun_bytecode.specs.declared.instruction.Instruction.TheVariants as ins
 use Rattle.bl_crun_bytecode.specs.Code.{Code}
-use Rattle.bl_crun_bytecode.specs.Vm.{StepResult, VmState, Waiting, args_on, done, element, goes, next_turn, on, on_number, past, returned, step, step_at}
+use Rattle.bl_crun_bytecode.specs.Vm.{StepResult, VmState, Waiting, args_on, caller_resumed, done, element, goes, moved_on, next_turn, on, on_number, step}
+use Rattle.bl_crun_bytecode.specs.Vm.{step_at}
 use Rattle.bl_crun_bytecode.specs.Vm.{step_with, trapped}
 use Rattle.bl_crun_bytecode_vm.specs.declared.flow.Flow.{Flow}
 use Rattle.bl_crun_bytecode_vm.specs.declared.flow.Flow.TheVariants as flow
@@ -60,11 +61,11 @@ number-alike n k s stack (Some x) h = ap (λ (c : ℕ). record s { at = s.at + 1
 on-alike : (n k : ℕ) (s : VmState) (stack : List ℤ) → Beside n k → Alike (on (counting n s) stack) (on (counting k s) stack)
 on-alike n k s stack h = ap (λ (c : ℕ). record s { at = s.at + 1; stack = stack; count = c }) h
 
-past-alike : (n k : ℕ) (s : VmState) (far : ℕ) (stack : List ℤ) → Beside n k → Alike (past far (counting n s) stack) (past far (counting k s) stack)
+past-alike : (n k : ℕ) (s : VmState) (far : ℕ) (stack : List ℤ) → Beside n k → Alike (moved_on far (counting n s) stack) (moved_on far (counting k s) stack)
 past-alike n k s far stack h = ap (λ (c : ℕ). record s { at = s.at + 1 + far; stack = stack; count = c }) h
 
 returned-alike : (n k : ℕ) (s : VmState) (r : ℤ) (waiting : List Waiting) → Beside n k →
-    Alike (returned (counting n s) r waiting) (returned (counting k s) r waiting)
+    Alike (caller_resumed (counting n s) r waiting) (caller_resumed (counting k s) r waiting)
 returned-alike n k s r [] h = (refl, h, refl)
 returned-alike n k s r (w ∷ rest) h = ap (λ (c : ℕ).
     record { at = w.back; base = w.base; cells = s.cells; stack = r ∷ w.stack; waiting = rest; count = c }) h

@@ -6,14 +6,14 @@ use Rattle.bl_crun_bytecode.specs.Code.{Code}
 use Rattle.bl_crun_bytecode.specs.Vm.{Has, Room, StepsInRoom, last, more, VmState, StepResult, done, goes, step, trapped}
 use Rattle.bl_crun_bytecode_vm.specs.Shown.{VmView}
 use Rattle.bl_crun_bytecode_vm.specs.Ends.{Halts, IsEnd}
-use Rattle.bl_crun_bytecode_vm.specs.inner.Halting.{halts_after, halts_in, has}
+use Rattle.bl_crun_bytecode_vm.specs.inner.Halting.{fits_room, halts_after, halts_in}
 
 record Found (code : Code) (room : Room) (n : ℕ) (s : VmState) : Type 0 where
   end : StepResult
   over : IsEnd end
   runs : StepsInRoom code room n s end
 
-has-room : (room : Room) (s : VmState) → has room s ≡ true → Has room s
+has-room : (room : Room) (s : VmState) → fits_room room s ≡ true → Has room s
 has-room room s h = record { numbers = grind (arith, nat_tests); calls = grind (arith, nat_tests); cells = grind (arith, nat_tests) }
 
 both-true : (a b : Bool) → (a && b) ≡ true → (a ≡ true) × (b ≡ true)
@@ -37,8 +37,8 @@ found-after code room n s (trapped c m) h e rec k =
 found : (code : Code) (room : Room) (n : ℕ) (s : VmState) → halts_in n code room s ≡ true → Found code room n s
 found code room zero s h = absurd (cc)
 found code room (suc n) s h =
-    let b : (has room s ≡ true) × (halts_after (nat_eq n 0) (λ t. halts_in n code room t) (step code s) ≡ true) =
-    both-true (has room s) (halts_after (nat_eq n 0) (λ t. halts_in n code room t) (step code s)) h in
+    let b : (fits_room room s ≡ true) × (halts_after (nat_eq n 0) (λ t. halts_in n code room t) (step code s) ≡ true) =
+    both-true (fits_room room s) (halts_after (nat_eq n 0) (λ t. halts_in n code room t) (step code s)) h in
     found-after code room n s (step code s) (has-room room s b.0) refl (λ t k. found code room n t k) b.1
 
 pub halts : (code : Code) (room : Room) (n : ℕ) (first begun : VmState) (m : VmView) → halts_in n code room first ≡ true → first ≡ begun →

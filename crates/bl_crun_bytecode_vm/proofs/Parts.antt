@@ -29,7 +29,7 @@ use Rattle.bl_tree.specs.Reduce.{total}
 use Rattle.bl_ctext_semantics_laws.specs.Flat.{Cells, frame_begun}
 use Rattle.bl_ctext_semantics_laws.specs.Layout.{capped}
 use Rattle.bl_crun_bytecode.specs.declared.instruction.Callee.{Callee}
-use Rattle.bl_crun_bytecode.specs.Vm.{VmState, Waiting, args_on, entering, returned}
+use Rattle.bl_crun_bytecode.specs.Vm.{VmState, Waiting, args_on, caller_resumed, entering}
 use Rattle.bl_crun_bytecode_vm.specs.declared.caller.Caller.{Caller}
 use Rattle.bl_crun_bytecode_vm.specs.declared.flow.Flow.TheVariants as flow
 use Rattle.bl_crun_bytecode_vm.specs.Shown.{StacksStand, VmInvariant, VmView, state_of, waiting_of}
@@ -155,17 +155,17 @@ pub back-room : (at base floor count : ℕ) (cells : Cells) (numbers : List ℤ)
     (c : Caller) (x : ℤ) →
     view_of at base floor count cells numbers callers numbers_room calls_room ≡ m → VmInvariant floor numbers callers numbers_room calls_room →
     callers ≡ rest ++ c ∷ [] →
-    Roomy m (returned m.state x m.state.waiting) → floor < numbers_room
+    Roomy m (caller_resumed m.state x m.state.waiting) → floor < numbers_room
 back-room at base floor count cells numbers callers rest numbers_room calls_room m c x v k e h =
     let t : reverse callers ≡ c ∷ reverse rest = ap reverse e ∙ reverse-append rest (c ∷ []) in
     let stands : StacksStand floor (c ∷ reverse rest) = subst (λ (cs : List Caller). StacksStand floor cs) t k.stands in
     let there : Suffices numbers_room calls_room
-    (returned (state_of at base floor count cells numbers callers) x (waiting_of (take floor numbers) (reverse callers))) =
-    subst (λ (y : VmView). Roomy y (returned y.state x y.state.waiting)) (sym v) h in
+    (caller_resumed (state_of at base floor count cells numbers callers) x (waiting_of (take floor numbers) (reverse callers))) =
+    subst (λ (y : VmView). Roomy y (caller_resumed y.state x y.state.waiting)) (sym v) h in
     let back : Suffices numbers_room calls_room
-    (returned (state_of at base floor count cells numbers callers) x (waiting_of (take floor numbers) (c ∷ reverse rest))) =
+    (caller_resumed (state_of at base floor count cells numbers callers) x (waiting_of (take floor numbers) (c ∷ reverse rest))) =
     subst (λ (cs : List Caller). Suffices numbers_room calls_room
-    (returned (state_of at base floor count cells numbers callers) x (waiting_of (take floor numbers) cs))) t there in
+    (caller_resumed (state_of at base floor count cells numbers callers) x (waiting_of (take floor numbers) cs))) t there in
     let front : length (take floor numbers) ≡ floor = omega (arith, length-take floor numbers, k.within) in
     let below : total (map (λ (w : Waiting). length w.stack) (waiting_of (take floor numbers) (c ∷ reverse rest))) ≡ floor =
     waiting-height (c ∷ reverse rest) floor (take floor numbers) front stands in
@@ -188,7 +188,7 @@ pub back-shown : (at base floor count : ℕ) (cells : Cells) (numbers : List ℤ
     view_of at base floor count cells numbers callers numbers_room calls_room ≡ m → VmInvariant floor numbers callers numbers_room calls_room →
     callers ≡ rest ++ c ∷ [] →
     new ≡ take floor numbers ++ x ∷ [] → room ≡ numbers_room → calls ≡ calls_room →
-    After m (returned m.state x m.state.waiting) flow.Goes (view_of c.back c.base c.floor count cells new rest room calls)
+    After m (caller_resumed m.state x m.state.waiting) flow.Goes (view_of c.back c.base c.floor count cells new rest room calls)
 back-shown at base floor count cells numbers callers rest numbers_room calls_room m c x new room calls v k e f r q =
     let t : reverse callers ≡ c ∷ reverse rest = ap reverse e ∙ reverse-append rest (c ∷ []) in
     let stands : StacksStand floor (c ∷ reverse rest) = subst (λ (cs : List Caller). StacksStand floor cs) t k.stands in
@@ -203,16 +203,16 @@ back-shown at base floor count cells numbers callers rest numbers_room calls_roo
     ∙ (ap (λ (y : List ℤ). made y (take c.floor (take floor numbers ++ x ∷ []))) top
     ∙ ap (λ (y : List ℤ). made (x ∷ reverse (drop c.floor (take floor numbers))) y) (take-append-le c.floor (take floor numbers) (x ∷ []) low)) in
     let went : After (view_of at base floor count cells numbers callers numbers_room calls_room)
-    (returned (state_of at base floor count cells numbers callers) x (waiting_of (take floor numbers) (c ∷ reverse rest))) flow.Goes
+    (caller_resumed (state_of at base floor count cells numbers callers) x (waiting_of (take floor numbers) (c ∷ reverse rest))) flow.Goes
     (view_of c.back c.base c.floor count cells new rest room calls) =
     record { state_is = ap as_shown is; numbers_stay = r; calls_stay = q } in
     let there : After (view_of at base floor count cells numbers callers numbers_room calls_room)
-    (returned (state_of at base floor count cells numbers callers) x (waiting_of (take floor numbers) (reverse callers))) flow.Goes
+    (caller_resumed (state_of at base floor count cells numbers callers) x (waiting_of (take floor numbers) (reverse callers))) flow.Goes
     (view_of c.back c.base c.floor count cells new rest room calls) =
     subst (λ (cs : List Caller). After (view_of at base floor count cells numbers callers numbers_room calls_room)
-    (returned (state_of at base floor count cells numbers callers) x (waiting_of (take floor numbers) cs)) flow.Goes
+    (caller_resumed (state_of at base floor count cells numbers callers) x (waiting_of (take floor numbers) cs)) flow.Goes
     (view_of c.back c.base c.floor count cells new rest room calls)) (sym t) went in
-    subst (λ (y : VmView). After y (returned y.state x y.state.waiting) flow.Goes (view_of c.back c.base c.floor count cells new rest room calls)) v there
+    subst (λ (y : VmView). After y (caller_resumed y.state x y.state.waiting) flow.Goes (view_of c.back c.base c.floor count cells new rest room calls)) v there
 
 -- the end of a slice
 pub tail-is : (first : ℕ) (ys xs : List ℤ) → ys ≡ xs → take (length ys - first) (drop first ys) ≡ drop first xs

@@ -2,7 +2,7 @@
 use Rattle.std.proofs.Common.{◌≡◌, ℕ, suc, zero, ◌≤◌, ◌<◌, ℤ, length, Option, Some, None, arith, sym, ◌∙◌, ap, subst, refl}
 use Rattle.bl_crun_bytecode.specs.Code.{Code}
 use Rattle.bl_crun_bytecode.specs.Laws.{Arrives}
-use Rattle.bl_crun_bytecode.specs.Vm.{Has, Room, StepsInRoom, here, last, more, VmState, StepResult, done, goes, height, step, trapped}
+use Rattle.bl_crun_bytecode.specs.Vm.{Has, Room, StepsInRoom, here, last, more, VmState, StepResult, done, goes, stacked_numbers, step, trapped}
 use Rattle.bl_crun_bytecode_vm.specs.declared.flow.Flow.{Flow}
 use Rattle.bl_crun_bytecode_vm.specs.declared.flow.Flow.TheVariants as flow
 use Rattle.bl_crun_bytecode_vm.specs.Shown.{VmView}
@@ -129,7 +129,7 @@ suffices-goes : (room : Room) (numbers calls : ℕ) (t : VmState) (b : StepResul
     room.calls ≤ calls → Alike (goes t) b →
     Suffices numbers calls b
 suffices-goes room numbers calls t (goes u) has f g h =
-    let a : height t ≡ height u = ap (λ (x : VmState). height x) h in
+    let a : stacked_numbers t ≡ stacked_numbers u = ap (λ (x : VmState). stacked_numbers x) h in
     let b : length t.waiting ≡ length u.waiting = ap (λ (x : VmState). length x.waiting) h in
     (omega (arith, has.numbers), omega (arith, has.calls))
 suffices-goes room numbers calls t (done d n q) has f g h = tt

@@ -29,7 +29,7 @@ use Rattle.std.proofs.str.Laws.{order}
 use Rattle.std.proofs.Math.Seq.{drop-append_seam, take-append_seam}
 use Rattle.bl_tree.specs.Reduce.{total}
 use Rattle.bl_ctext_semantics_laws.specs.Flat.{Cells}
-use Rattle.bl_crun_bytecode.specs.Vm.{Waiting, height, args_on}
+use Rattle.bl_crun_bytecode.specs.Vm.{Waiting, stacked_numbers, args_on}
 use Rattle.bl_crun_bytecode_vm.specs.declared.caller.Caller.{Caller}
 use Rattle.bl_crun_bytecode_vm.specs.Shown.{StacksStand, VmInvariant, VmView, state_of, waiting_of}
 use Rattle.bl_crun_bytecode_vm.specs.inner.Stepping.{IsRoomy}
@@ -47,7 +47,7 @@ waiting-height (c ∷ callers) floor numbers l h =
     omega (arith, length-reverse (drop c.floor numbers), length-drop c.floor numbers)
 
 pub state-height : (at base floor count : ℕ) (cells : Cells) (numbers : List ℤ) (callers : List Caller) (numbers_room calls_room : ℕ) →
-    VmInvariant floor numbers callers numbers_room calls_room → height (state_of at base floor count cells numbers callers) ≡ length numbers
+    VmInvariant floor numbers callers numbers_room calls_room → stacked_numbers (state_of at base floor count cells numbers callers) ≡ length numbers
 state-height at base floor count cells numbers callers numbers_room calls_room k =
     let w : floor ≤ length numbers = k.within in
     let front : length (take floor numbers) ≡ floor = omega (arith, length-take floor numbers) in
@@ -61,7 +61,7 @@ pub room-there : (at base floor count : ℕ) (cells : Cells) (numbers : List ℤ
     record { state = state_of at base floor count cells numbers callers; numbers = numbers_room; calls = calls_room } ≡ m →
     IsRoomy m → length numbers < numbers_room
 room-there at base floor count cells numbers callers numbers_room calls_room m k e r =
-    let h : height (state_of at base floor count cells numbers callers) + 1 ≤ numbers_room = subst IsRoomy (sym e) r in
+    let h : stacked_numbers (state_of at base floor count cells numbers callers) + 1 ≤ numbers_room = subst IsRoomy (sym e) r in
     omega (arith, state-height at base floor count cells numbers callers numbers_room calls_room k)
 
 -- ---- the last numbers of a stack

@@ -6,7 +6,7 @@ use crate::flow::Flow;
 use crate::vm::Vm;
 
 impl Vm {
-    ghost use Rattle.bl_crun_bytecode.specs.Vm.{past};
+    ghost use Rattle.bl_crun_bytecode.specs.Vm.{moved_on};
     ghost use Rattle.bl_crun_bytecode_vm.specs.inner.Stepping.{After, StepDone, IsNear, StepReady};
 
     pub(crate) fn begin_statement(&mut self) -> Flow
@@ -20,7 +20,7 @@ impl Vm {
     /// Goes on so many instructions behind the next.
     fn go_past(&mut self, n: u32) -> Flow
         requires { IsNear self.old }
-        ensures { After self.old (past n self.old.state self.old.state.stack) result self.new }
+        ensures { After self.old (moved_on n self.old.state self.old.state.stack) result self.new }
     {
         self.pass(1 + n as usize);
         Flow::Goes

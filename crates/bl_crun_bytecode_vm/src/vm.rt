@@ -3,7 +3,7 @@
 ghost use Rattle.std.specs.Prelude.{◌≡◌, ◌+◌, ◌-◌, ◌^◌, ◌<◌, pos, [], ◌∷◌, drop, replicate, slice_set, IfOk};
 ghost use Rattle.bl_ctext_semantics_laws.specs.Flat.{cell_at, copied, prelude_value, zeroed};
 ghost use Rattle.bl_crun_bytecode.specs.Laws.{entry_state};
-ghost use Rattle.bl_crun_bytecode.specs.Vm.{args_on, entering, returned};
+ghost use Rattle.bl_crun_bytecode.specs.Vm.{args_on, caller_resumed, entering};
 
 use crate::caller::Caller;
 use crate::flow::Flow;
@@ -233,8 +233,8 @@ impl Vm {
 
     /// The running function ends with a result, and the last that waits goes on.
     pub(crate) fn leave(&mut self, answer: i128) -> Flow
-        requires { Roomy self.old (returned self.old.state answer self.old.state.waiting) }
-        ensures { After self.old (returned self.old.state answer self.old.state.waiting) result self.new }
+        requires { Roomy self.old (caller_resumed self.old.state answer self.old.state.waiting) }
+        ensures { After self.old (caller_resumed self.old.state answer self.old.state.waiting) result self.new }
     {
         match self.callers.pop() {
             None => Flow::Done(answer),

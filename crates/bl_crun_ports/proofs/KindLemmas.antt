@@ -33,14 +33,14 @@ use Rattle.bl_tree.specs.declared.c.CMember.{CMember}
 use Rattle.bl_tree.specs.declared.c.CStruct.{CStruct}
 use Rattle.bl_ctext_semantics.specs.Memory.{Projection, member, element, Root}
 use Rattle.bl_ctext_semantics.specs.Tables.{Table, found, no_entries, with_entry}
-use Rattle.bl_ctext_semantics.specs.Cells.{Inner, below, inside, inner_of_length, inner_of_type, inner_of_member, inner_after, cells_at}
+use Rattle.bl_ctext_semantics.specs.Cells.{Inner, below, seen_from_outside, inner_of_length, inner_of_type, inner_of_member, inner_after, cells_at}
 use Rattle.bl_ctext_semantics.proofs.MapLemmas.{next_entry, nothing_after, same_table}
-use Rattle.bl_crun_ports.specs.inner.Spans.{kinds_in, kinds_named, scalars_of, kinds_of_member, kinds_of_type, kinds_of_members, placed, if_below}
+use Rattle.bl_crun_ports.specs.inner.Spans.{kinds_in, kinds_named, scalars_of, kinds_of_member, kinds_of_type, kinds_of_members, struct_position, if_below}
 use Rattle.bl_crun_ports.specs.inner.Spans.{placed_before, repeated}
 
 -- ---- members
 
-kinds-inside : (parts : List Projection) (cells : List Inner) → kinds_in (map (inside parts) cells) ≡ kinds_in cells
+kinds-inside : (parts : List Projection) (cells : List Inner) → kinds_in (map (seen_from_outside parts) cells) ≡ kinds_in cells
 kinds-inside parts [] = refl
 kinds-inside parts (cell ∷ cells) = ap (λ l. cell.kind ∷ l) (kinds-inside parts cells)
 
@@ -56,10 +56,10 @@ repeated-last zero xs = sym (append-nil xs)
 repeated-last (suc n) xs = append_assoc xs (repeated n xs) xs ∙ ap (λ l. xs ++ l) (repeated-last n xs)
 
 kinds-repeated : (name : Text) (cells : List Inner) (n : ℕ) →
-    kinds_in (flat_map (λ k. map (inside (member name ∷ element k ∷ [])) cells) (below n)) ≡ repeated n (kinds_in cells)
+    kinds_in (flat_map (λ k. map (seen_from_outside (member name ∷ element k ∷ [])) cells) (below n)) ≡ repeated n (kinds_in cells)
 kinds-repeated name cells zero = refl
 kinds-repeated name cells (suc n) =
-    let each : ℕ → List Inner = λ k. map (inside (member name ∷ element k ∷ [])) cells in
+    let each : ℕ → List Inner = λ k. map (seen_from_outside (member name ∷ element k ∷ [])) cells in
     ap kinds_in (flat-append each (below n) (n ∷ []))
     ∙ kinds-append (flat_map each (below n)) (each n ++ [])
     ∙ ap (λ l. kinds_in (flat_map each (below n)) ++ kinds_in l) (append-nil (each n))
@@ -115,8 +115,8 @@ module _ (name : Text) where
       found name (inner_after known (take end structs)) ≡ Some (flat_map (inner_of_member (grown known (take at structs))) (get_or structs at d).members)
 
   module _ (known : Table (List Inner)) (s : CStruct) (rest : List CStruct) (end : ℕ) (d : CStruct)
-      (next : (k : ℕ) → placed name rest ≡ Some k → k < end → FoundAt (known_after known s) rest end k d) where
-    found-later : (at : ℕ) → at < suc end → (o : Option ℕ) → placed name rest ≡ o → option_map suc o ≡ Some at →
+      (next : (k : ℕ) → struct_position name rest ≡ Some k → k < end → FoundAt (known_after known s) rest end k d) where
+    found-later : (at : ℕ) → at < suc end → (o : Option ℕ) → struct_position name rest ≡ o → option_map suc o ≡ Some at →
         found name (inner_after (known_after known s) (take end rest))
         ≡ Some (flat_map (inner_of_member (grown known (take at (s ∷ rest)))) (get_or (s ∷ rest) at d).members)
     found-later at within None there h = cc
@@ -127,15 +127,15 @@ module _ (name : Text) where
         ≡ Some (flat_map (inner_of_member (grown known (take n (s ∷ rest)))) (get_or (s ∷ rest) n d).members)) same
         (next k there below_end ∙ ap (λ t. Some (flat_map (inner_of_member t) (get_or rest k d).members)) (sym (grown-next known s (take k rest))))
 
-    found-here : (at : ℕ) → at < suc end → (b : Bool) → (if b then Some 0 else option_map suc (placed name rest)) ≡ Some at →
+    found-here : (at : ℕ) → at < suc end → (b : Bool) → (if b then Some 0 else option_map suc (struct_position name rest)) ≡ Some at →
         (if b then Some (cells_after known s) else found name (inner_after (known_after known s) (take end rest)))
         ≡ Some (flat_map (inner_of_member (grown known (take at (s ∷ rest)))) (get_or (s ∷ rest) at d).members)
     found-here at within true h =
         subst (λ n. Some (cells_after known s) ≡ Some (flat_map (inner_of_member (grown known (take n (s ∷ rest)))) (get_or (s ∷ rest) n d).members))
         (some_of 0 at h) (ap (λ t. Some (flat_map (inner_of_member t) s.members)) (sym (grown-none known)))
-    found-here at within false h = found-later at within (placed name rest) refl h
+    found-here at within false h = found-later at within (struct_position name rest) refl h
 
-  found-at : (known : Table (List Inner)) (structs : List CStruct) (end at : ℕ) (d : CStruct) → placed name structs ≡ Some at → at < end →
+  found-at : (known : Table (List Inner)) (structs : List CStruct) (end at : ℕ) (d : CStruct) → struct_position name structs ≡ Some at → at < end →
       FoundAt known structs end at d
   found-at known [] end at d is within = cc
   found-at known (s ∷ rest) zero at d is within = absurd (grind (arith, common_steps))
@@ -166,7 +166,7 @@ module _ (name : Text) where
   not-found known structs zero is = refl
   not-found known [] (suc end) is = refl
   not-found known (s ∷ rest) (suc end) is =
-      none-here end (bytes_eq s.name name) (cells_after known s) (found name (inner_after (known_after known s) (take end rest))) (placed name rest)
+      none-here end (bytes_eq s.name name) (cells_after known s) (found name (inner_after (known_after known s) (take end rest))) (struct_position name rest)
       (λ h. not-found (known_after known s) rest end h) is
 
   within-later : (n at : ℕ) (o : Option ℕ) → ((k : ℕ) → o ≡ Some k → k < n) → option_map suc o ≡ Some at → at < suc n
@@ -178,45 +178,45 @@ module _ (name : Text) where
   within-here n at true o next h = let same : 0 ≡ at = some_of 0 at h in omega (arith, same)
   within-here n at false o next h = within-later n at o next h
 
-  pub placed-within : (structs : List CStruct) (at : ℕ) → placed name structs ≡ Some at → at < length structs
+  pub placed-within : (structs : List CStruct) (at : ℕ) → struct_position name structs ≡ Some at → at < length structs
   placed-within [] at is = cc
-  placed-within (s ∷ rest) at is = within-here (length rest) at (bytes_eq s.name name) (placed name rest) (λ k there. placed-within rest k there) is
+  placed-within (s ∷ rest) at is = within-here (length rest) at (bytes_eq s.name name) (struct_position name rest) (λ k there. placed-within rest k there) is
 
-  module _ (s : CStruct) (rest : List CStruct) (d : CStruct) (next : (k : ℕ) → placed name rest ≡ Some k → (get_or rest k d).name ≡ name) where
-    name-later : (at : ℕ) (o : Option ℕ) → placed name rest ≡ o → option_map suc o ≡ Some at → (get_or (s ∷ rest) at d).name ≡ name
+  module _ (s : CStruct) (rest : List CStruct) (d : CStruct) (next : (k : ℕ) → struct_position name rest ≡ Some k → (get_or rest k d).name ≡ name) where
+    name-later : (at : ℕ) (o : Option ℕ) → struct_position name rest ≡ o → option_map suc o ≡ Some at → (get_or (s ∷ rest) at d).name ≡ name
     name-later at None there h = cc
     name-later at (Some k) there h = subst (λ n. (get_or (s ∷ rest) n d).name ≡ name) (some_of (suc k) at h) (next k there)
 
-    name-here : (at : ℕ) (b : Bool) → bytes_eq s.name name ≡ b → (if b then Some 0 else option_map suc (placed name rest)) ≡ Some at →
+    name-here : (at : ℕ) (b : Bool) → bytes_eq s.name name ≡ b → (if b then Some 0 else option_map suc (struct_position name rest)) ≡ Some at →
         (get_or (s ∷ rest) at d).name ≡ name
     name-here at true here h = subst (λ n. (get_or (s ∷ rest) n d).name ≡ name) (some_of 0 at h) ((bytes_eq-Decides s.name name).0 here)
-    name-here at false here h = name-later at (placed name rest) refl h
+    name-here at false here h = name-later at (struct_position name rest) refl h
 
-  pub found-name : (structs : List CStruct) (at : ℕ) (d : CStruct) → placed name structs ≡ Some at → (get_or structs at d).name ≡ name
+  pub found-name : (structs : List CStruct) (at : ℕ) (d : CStruct) → struct_position name structs ≡ Some at → (get_or structs at d).name ≡ name
   found-name [] at d is = cc
   found-name (s ∷ rest) at d is = name-here s rest d (λ k there. found-name rest k d there) at (bytes_eq s.name name) refl is
 
   pub kinds-none : (structs : List CStruct) (end : ℕ) → placed_before end name structs ≡ None → kinds_named (take end structs) name ≡ []
   kinds-none structs end is = ap (λ o. kinds_in (unwrap_or o [])) (not-found no_entries structs end is)
 
-  pub kinds-some : (structs : List CStruct) (end at : ℕ) (d : CStruct) → placed name structs ≡ Some at → at < end →
+  pub kinds-some : (structs : List CStruct) (end at : ℕ) (d : CStruct) → struct_position name structs ≡ Some at → at < end →
       kinds_named (take end structs) name ≡ kinds_of_members (take at structs) (get_or structs at d).members
   kinds-some structs end at d is within = ap (λ o. kinds_in (unwrap_or o [])) (found-at no_entries structs end at d is within)
 
   -- the first struct of a name is made of the structs before it
-  pub kinds-whole : (structs : List CStruct) (at : ℕ) (d : CStruct) → placed name structs ≡ Some at →
+  pub kinds-whole : (structs : List CStruct) (at : ℕ) (d : CStruct) → struct_position name structs ≡ Some at →
       kinds_named structs name ≡ kinds_of_members (take at structs) (get_or structs at d).members
   kinds-whole structs at d is =
       subst (λ l. kinds_named l name ≡ kinds_of_members (take at structs) (get_or structs at d).members) (take_all (length structs) structs (omega arith))
       (kinds-some structs (length structs) at d is (placed-within structs at is))
 
   -- a struct that stands among the first ones has the same kinds among all
-  pub kinds-same : (structs : List CStruct) (end at : ℕ) (d : CStruct) → placed name structs ≡ Some at → at < end →
+  pub kinds-same : (structs : List CStruct) (end at : ℕ) (d : CStruct) → struct_position name structs ≡ Some at → at < end →
       kinds_named (take end structs) name ≡ kinds_named structs name
   kinds-same structs end at d is within = kinds-some structs end at d is within ∙ sym (kinds-whole structs at d is)
 
-  pub placed-before : (structs : List CStruct) (end at : ℕ) → placed_before end name structs ≡ Some at → placed name structs ≡ Some at
-  placed-before structs end at is = there (placed name structs) is
+  pub placed-before : (structs : List CStruct) (end at : ℕ) → placed_before end name structs ≡ Some at → struct_position name structs ≡ Some at
+  placed-before structs end at is = there (struct_position name structs) is
     where
       chosen : (k : ℕ) (b : Bool) → (if b then Some k else None) ≡ Some at → Some k ≡ Some at
       chosen k true h = h
@@ -227,7 +227,7 @@ module _ (name : Text) where
       there (Some k) h = chosen k (nat_lt k end) h
 
   pub before-end : (structs : List CStruct) (end at : ℕ) → placed_before end name structs ≡ Some at → at < end
-  before-end structs end at is = there (placed name structs) is
+  before-end structs end at is = there (struct_position name structs) is
     where
       chosen : (k : ℕ) (b : Bool) → nat_lt k end ≡ b → (if b then Some k else None) ≡ Some at → at < end
       chosen k true less h = let same : k ≡ at = some_of k at h in let below : nat_lt at end ≡ true = ap (λ n. nat_lt n end) (sym same) ∙ less in
@@ -251,18 +251,18 @@ place-step None false k (Some j) = let same : k + 1 + j ≡ k + suc j = omega ar
 -- one more place
 pub places-next : (old new t : Table ℕ) (all rest : List CStruct) (s : CStruct) (k : ℕ) → all ≡ s ∷ rest →
     ((asked : Text) → new asked ≡ with_entry old s.name k asked) →
-    ((name : Text) → option_or (old name) (option_map (λ j. k + j) (placed name all)) ≡ t name) → (name : Text) →
-    option_or (new name) (option_map (λ j. k + 1 + j) (placed name rest)) ≡ t name
+    ((name : Text) → option_or (old name) (option_map (λ j. k + j) (struct_position name all)) ≡ t name) → (name : Text) →
+    option_or (new name) (option_map (λ j. k + 1 + j) (struct_position name rest)) ≡ t name
 places-next old new t all rest s k is add h name =
-    ap (λ o. option_or o (option_map (λ j. k + 1 + j) (placed name rest))) (add name)
-    ∙ place-step (old name) (bytes_eq s.name name) k (placed name rest)
-    ∙ ap (λ l. option_or (old name) (option_map (λ j. k + j) (placed name l))) (sym is) ∙ h name
+    ap (λ o. option_or o (option_map (λ j. k + 1 + j) (struct_position name rest))) (add name)
+    ∙ place-step (old name) (bytes_eq s.name name) k (struct_position name rest)
+    ∙ ap (λ l. option_or (old name) (option_map (λ j. k + j) (struct_position name l))) (sym is) ∙ h name
 
 pub places-first : (o : Option ℕ) → option_map (λ j. 0 + j) o ≡ o
 places-first None = refl
 places-first (Some j) = let same : 0 + j ≡ j = omega arith in ap Some same
 
 pub places-done : (old t : Table ℕ) (rest : List CStruct) (k : ℕ) → rest ≡ [] →
-    ((name : Text) → option_or (old name) (option_map (λ j. k + j) (placed name rest)) ≡ t name) → (name : Text) → old name ≡ t name
+    ((name : Text) → option_or (old name) (option_map (λ j. k + j) (struct_position name rest)) ≡ t name) → (name : Text) → old name ≡ t name
 places-done old t rest k is h name = sym (nothing_after (old name))
-    ∙ ap (λ l. option_or (old name) (option_map (λ j. k + j) (placed name l))) (sym is) ∙ h name
+    ∙ ap (λ l. option_or (old name) (option_map (λ j. k + j) (struct_position name l))) (sym is) ∙ h name

@@ -35,7 +35,7 @@ use Rattle.bl_ctext_semantics.specs.Parts.{parts_from}
 use Rattle.bl_ctext_semantics.specs.Tables.{Table, with_entry}
 use Rattle.bl_crun_ports.specs.declared.repeat.Span.{Span}
 use Rattle.bl_crun_ports.specs.Layout.{kinds_of}
-use Rattle.bl_crun_ports.specs.inner.Spans.{at_span, kinds_named, kinds_of_member, kinds_of_members, kinds_of_type, placed, placed_before}
+use Rattle.bl_crun_ports.specs.inner.Spans.{at_span, kinds_named, kinds_of_member, kinds_of_members, kinds_of_type, placed_before, struct_position}
 use Rattle.bl_crun_ports.specs.inner.Spans.{repeated, StructsLaid, StandsAtSpan}
 use Rattle.bl_crun_ports.proofs.KindLemmas.{before-end, found-name, kinds-at, kinds-member, kinds-next, kinds-none, kinds-same, kinds-whole, placed-before}
 use Rattle.bl_crun_ports.proofs.SpanLemmas.{laid-more, laid-next, stands-last}
@@ -87,14 +87,14 @@ members-done structs rest old whole is h = sym (append-nil old) ∙ ap (λ l. ol
 
 -- ---- a struct
 
-pub struct-made : (structs : List CStruct) (name : Text) (at : ℕ) (s : CStruct) (old new : List Scalar) → placed name structs ≡ Some at →
+pub struct-made : (structs : List CStruct) (name : Text) (at : ℕ) (s : CStruct) (old new : List Scalar) → struct_position name structs ≡ Some at →
     s ≡ get_or structs at s →
     new ≡ old ++ kinds_of_members (take at structs) s.members → new ≡ old ++ kinds_named structs name
 struct-made structs name at s old new is here told =
     told ∙ ap (λ l. old ++ l) (ap (λ t. kinds_of_members (take at structs) t.members) here ∙ sym (kinds-whole name structs at s is))
 
 pub struct-laid : (structs : List CStruct) (name : Text) (at : ℕ) (s : CStruct) (spans more : Table Span) (span : Span) (old new : List Scalar) →
-    placed name structs ≡ Some at → s ≡ get_or structs at s →
+    struct_position name structs ≡ Some at → s ≡ get_or structs at s →
     span.start ≡ length old → span.len ≡ length new - length old → new ≡ old ++ kinds_named structs name →
     ((asked : Text) → more asked ≡ with_entry spans s.name span asked) →
     StructsLaid structs spans new → StructsLaid structs more new

@@ -5,7 +5,7 @@ ghost use Rattle.bl_tree.specs.declared.c.CFunc.{CFunc};
 ghost use Rattle.bl_ctext_semantics.specs.inner.Maps.{text_at};
 ghost use Rattle.bl_ctext_semantics.specs.Parts.{parts_from};
 ghost use Rattle.bl_crun_ports.specs.Layout.{kinds_of};
-ghost use Rattle.bl_crun_ports.specs.inner.Spans.{StructsLaid, kinds_named, kinds_of_member, kinds_of_members, kinds_of_type, placed};
+ghost use Rattle.bl_crun_ports.specs.inner.Spans.{StructsLaid, kinds_named, kinds_of_member, kinds_of_members, kinds_of_type, struct_position};
 ghost use Rattle.bl_crun_ports.specs.Ports.{inputs_start, outputs_start};
 
 use crate::places::Places;
@@ -62,7 +62,7 @@ fn add_new<'a>(
     kinds: &mut Vec<Scalar>,
 ) -> Result<(), NoMemory>
     requires within { at < length places.now.structs.now }
-    requires first { placed name.now places.now.structs.now ≡ Some at }
+    requires first { struct_position name.now places.now.structs.now ≡ Some at }
     requires laid { StructsLaid places.now.structs.now (text_at spans.old) kinds.old.items }
     ensures kinds { OnOk result (kinds.new.items ≡ kinds.old.items ++ kinds_named places.now.structs.now name.now) }
     ensures laid { OnOk result (StructsLaid places.now.structs.now (text_at spans.new) kinds.new.items) }

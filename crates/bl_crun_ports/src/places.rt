@@ -2,7 +2,7 @@
 
 ghost use Rattle.std.specs.Prelude.{◌≡◌, ℕ, List, IfOk};
 ghost use Rattle.bl_ctext_semantics.specs.inner.Maps.{text_at};
-ghost use Rattle.bl_crun_ports.specs.inner.Spans.{placed, placed_before};
+ghost use Rattle.bl_crun_ports.specs.inner.Spans.{placed_before, struct_position};
 
 use bl_ctext_semantics::maps::{add, find};
 use bl_tree::NoMemory;
@@ -15,11 +15,11 @@ use std::collections::HashMap;
 pub struct Places<'a> {
     pub structs: &'a [CStruct],
     by_name: HashMap<&'a str, usize>,
-    ghost complete: { (name : List ℕ) → text_at by_name name ≡ placed name structs.now },
+    ghost complete: { (name : List ℕ) → text_at by_name name ≡ struct_position name structs.now },
 }
 
 fn places_of<'a>(alloc: Global, structs: &'a [CStruct]) -> Result<HashMap<&'a str, usize>, NoMemory>
-    ensures { IfOk result (λ places. (name : List ℕ) → text_at places name ≡ placed name structs.now) }
+    ensures { IfOk result (λ places. (name : List ℕ) → text_at places name ≡ struct_position name structs.now) }
 {
     let mut places = HashMap::new(alloc);
     for k in 0..structs.len() {

@@ -26,42 +26,42 @@ use Rattle.std.specs.Prelude.{slice_get}
 use native.Mathlib.Numerals.{unary_clauses}
 use Rattle.bl_tree.specs.Reduce.{all_of}
 use Rattle.bl_ctext.specs.Token.{Token, is_blank, is_word_byte, is_word, is_sign, is_token}
-use Rattle.bl_ctext.specs.inner.Cut.{joins, goes_on, cut_before, tokens_in, meets}
+use Rattle.bl_ctext.specs.inner.Cut.{joins, may_continue, cut_before, tokens_in, may_merge}
 use Rattle.bl_ctext.proofs.Bytes.{joined-not_blank, joins-blank, word_byte-not_blank, sign_byte-not_blank, and-fst, and-snd, both, either, or-fst, or-snd}
 
 -- whether the last byte of the first and the first of the second join
-pub meets-last : (xs ys : List ℕ) (a b : ℕ) → slice_get xs (length xs - 1) ≡ Some a → slice_get ys 0 ≡ Some b → meets xs ys ≡ joins a b
+pub meets-last : (xs ys : List ℕ) (a b : ℕ) → slice_get xs (length xs - 1) ≡ Some a → slice_get ys 0 ≡ Some b → may_merge xs ys ≡ joins a b
 meets-last [] ys a b h k = cc
 meets-last (x ∷ []) [] a b h k = cc
 meets-last (x ∷ []) (y ∷ ys) a b h k = let e : x ≡ a = cc in let f : y ≡ b = cc in rw (e, f) refl
 meets-last (x ∷ z ∷ xs) ys a b h k = meets-last (z ∷ xs) ys a b (simp unary_clauses (simp unary_clauses at h)) k
 
-pub meets-nothing_before : (xs ys : List ℕ) → slice_get xs (length xs - 1) ≡ None → meets xs ys ≡ false
+pub meets-nothing_before : (xs ys : List ℕ) → slice_get xs (length xs - 1) ≡ None → may_merge xs ys ≡ false
 meets-nothing_before [] ys h = refl
 meets-nothing_before (x ∷ []) ys h = cc
 meets-nothing_before (x ∷ z ∷ xs) ys h = meets-nothing_before (z ∷ xs) ys (simp unary_clauses (simp unary_clauses at h))
 
-pub meets-nothing_behind : (xs ys : List ℕ) → slice_get ys 0 ≡ None → meets xs ys ≡ false
+pub meets-nothing_behind : (xs ys : List ℕ) → slice_get ys 0 ≡ None → may_merge xs ys ≡ false
 meets-nothing_behind [] ys h = refl
 meets-nothing_behind (x ∷ []) [] h = refl
 meets-nothing_behind (x ∷ []) (y ∷ ys) h = cc
 meets-nothing_behind (x ∷ z ∷ xs) ys h = meets-nothing_behind (z ∷ xs) ys h
 
 -- behind a space nothing goes on
-pub meets-space : (xs ys : List ℕ) → meets (xs ++ 32 ∷ []) ys ≡ false
+pub meets-space : (xs ys : List ℕ) → may_merge (xs ++ 32 ∷ []) ys ≡ false
 meets-space [] [] = refl
 meets-space [] (y ∷ ys) = refl
 meets-space (x ∷ []) [] = refl
 meets-space (x ∷ []) (y ∷ ys) = refl
 meets-space (x ∷ z ∷ xs) ys = meets-space (z ∷ xs) ys
 
-pub before_a_space : (xs : List ℕ) → meets xs (32 ∷ []) ≡ false
+pub before_a_space : (xs : List ℕ) → may_merge xs (32 ∷ []) ≡ false
 before_a_space [] = refl
 before_a_space (x ∷ []) = joins-blank x 32 refl
 before_a_space (x ∷ z ∷ xs) = before_a_space (z ∷ xs)
 
 -- a longer part of the bytes meets what the shorter meets
-pub meets-drop : (n : ℕ) (xs ys : List ℕ) → meets xs ys ≡ false → meets (drop n xs) ys ≡ false
+pub meets-drop : (n : ℕ) (xs ys : List ℕ) → may_merge xs ys ≡ false → may_merge (drop n xs) ys ≡ false
 meets-drop zero xs ys h = h
 meets-drop (suc n) [] ys h = refl
 meets-drop (suc n) (x ∷ []) ys h = meets-drop n [] ys refl
@@ -79,8 +79,9 @@ holds_one true b (t ∷ ts) = (b ∷ t, (ts, refl))
 -- bytes that begin with no blank hold a token
 pub first_token : (b : ℕ) (bs : List ℕ) → is_blank b ≡ false → (t : Token) × ((ts : List Token) × (tokens_in (b ∷ bs) ≡ t ∷ ts))
 first_token b bs h =
-    let e : tokens_in (b ∷ bs) ≡ cut_before false (goes_on b bs) b (tokens_in bs) = ap (λ (v : Bool). cut_before v (goes_on b bs) b (tokens_in bs)) h in
-    let (t, rest) = holds_one (goes_on b bs) b (tokens_in bs) in
+    let e : tokens_in (b ∷ bs) ≡ cut_before false (may_continue b bs) b (tokens_in bs) =
+    ap (λ (v : Bool). cut_before v (may_continue b bs) b (tokens_in bs)) h in
+    let (t, rest) = holds_one (may_continue b bs) b (tokens_in bs) in
     let (ts, f) = rest in
     (t, (ts, e ∙ f))
 
@@ -94,7 +95,7 @@ continued false true b ts us h =
     rw e refl
 
 -- where the last byte and the next don't join, the tokens of both together are those of the one and those of the other
-pub tokens_in-append : (xs ys : List ℕ) → meets xs ys ≡ false → tokens_in (xs ++ ys) ≡ tokens_in xs ++ tokens_in ys
+pub tokens_in-append : (xs ys : List ℕ) → may_merge xs ys ≡ false → tokens_in (xs ++ ys) ≡ tokens_in xs ++ tokens_in ys
 tokens_in-append [] ys h = refl
 tokens_in-append (b ∷ []) ys h = rw h (apart (is_blank b) b (tokens_in ys))
 tokens_in-append (b ∷ c ∷ xs) ys h =

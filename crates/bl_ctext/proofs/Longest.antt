@@ -24,7 +24,7 @@ use Rattle.std.proofs.Common.{
 }
 use Rattle.bl_tree.specs.Reduce.{all_of}
 use Rattle.bl_ctext.specs.Token.{Token, is_blank, is_word_byte, is_double_sign, is_word, is_sign, is_token, IsLongest, SpacedC}
-use Rattle.bl_ctext.specs.inner.Cut.{joins, goes_on, cut_before, tokens_in, meets, are_tokens}
+use Rattle.bl_ctext.specs.inner.Cut.{joins, may_continue, cut_before, tokens_in, may_merge, are_tokens}
 use Rattle.bl_ctext.specs.Token.{put_before}
 use Rattle.bl_ctext.proofs.Bytes.{and-fst, and-snd, both, either, or-fst, or-snd, joined-not_blank}
 use Rattle.bl_ctext.proofs.Cutting.{first_token}
@@ -37,7 +37,7 @@ record Next (token : Token) (bytes after : List ℕ) : Type 0 where
   first : ℕ
   others : List ℕ
   some : token ≡ first ∷ others
-  apart : meets token after ≡ false
+  apart : may_merge token after ≡ false
 
 abbrev Cuts : List Token → List ℕ → Type 0
 Cuts [] bytes = all_of (map is_blank bytes) ≡ true
@@ -78,11 +78,11 @@ one_more : (b c : ℕ) (cs : List ℕ) (t : Token) (us : List Token) → joins b
     Cuts ((b ∷ t) ∷ us) (b ∷ c ∷ cs)
 one_more b c cs t us on (after, (next, rest)) =
     let here : c ∷ cs ≡ t ++ after = no_blanks c cs next.blanks (t ++ after) (joined-not_blank b c on).1 next.blank next.cut in
-    let behind : meets (next.first ∷ next.others) after ≡ false = rw next.some at next.apart in
-    let apart : meets (b ∷ t) after ≡ false = rw next.some behind in
+    let behind : may_merge (next.first ∷ next.others) after ≡ false = rw next.some at next.apart in
+    let apart : may_merge (b ∷ t) after ≡ false = rw next.some behind in
     (after, (record { blanks = []; blank = refl; cut = ap (λ (xs : List ℕ). b ∷ xs) here; first = b; others = t; some = refl; apart = apart }, rest))
 
-one_before : (b : ℕ) (bs : List ℕ) (blank on : Bool) → is_blank b ≡ blank → goes_on b bs ≡ on → Cuts (tokens_in bs) bs →
+one_before : (b : ℕ) (bs : List ℕ) (blank on : Bool) → is_blank b ≡ blank → may_continue b bs ≡ on → Cuts (tokens_in bs) bs →
     Cuts (cut_before blank on b (tokens_in bs)) (b ∷ bs)
 one_before b bs true on h k cuts = one_blank b bs (tokens_in bs) h cuts
 one_before b bs false false h k cuts = (bs, (record { blanks = []; blank = refl; cut = refl; first = b; others = []; some = refl; apart = k }, cuts))
@@ -96,12 +96,12 @@ one_before b (c ∷ cs) false true h k cuts =
 
 cuts : (bs : List ℕ) → Cuts (tokens_in bs) bs
 cuts [] = refl
-cuts (b ∷ bs) = one_before b bs (is_blank b) (goes_on b bs) refl refl (cuts bs)
+cuts (b ∷ bs) = one_before b bs (is_blank b) (may_continue b bs) refl refl (cuts bs)
 
 -- where a token goes on by a byte, its last byte joins that one
 word_meets : (t : Token) (c : ℕ) (more after : List ℕ) → is_word (t ++ (c ∷ more)) ≡ true → (first : ℕ) (others : List ℕ) →
     t ≡ first ∷ others →
-    meets t (c ∷ after) ≡ true
+    may_merge t (c ∷ after) ≡ true
 word_meets [] c more after h first others e = cc
 word_meets (b ∷ []) c more after h first others e =
     let left : is_word_byte b ≡ true = and-fst (is_word_byte b) (is_word_byte c && all_of (map is_word_byte more)) h in
@@ -112,7 +112,7 @@ word_meets (b ∷ d ∷ t) c more after h first others e = word_meets (d ∷ t) 
 
 sign_meets : (t : Token) (c : ℕ) (more after : List ℕ) → is_sign (t ++ (c ∷ more)) ≡ true → (first : ℕ) (others : List ℕ) →
     t ≡ first ∷ others →
-    meets t (c ∷ after) ≡ true
+    may_merge t (c ∷ after) ≡ true
 sign_meets [] c more after h first others e = cc
 sign_meets (b ∷ []) c [] after h first others e = or-snd _ _ h
 sign_meets (b ∷ []) c (m ∷ more) after h first others e = cc
@@ -121,7 +121,7 @@ sign_meets (b ∷ d ∷ x ∷ t) c more after h first others e = cc
 
 longer_meets : (t : Token) (c : ℕ) (more after : List ℕ) → is_token (t ++ (c ∷ more)) ≡ true → (first : ℕ) (others : List ℕ) →
     t ≡ first ∷ others →
-    meets t (c ∷ after) ≡ true
+    may_merge t (c ∷ after) ≡ true
 longer_meets t c more after h first others e =
     elim (either (is_word (t ++ (c ∷ more))) (is_sign (t ++ (c ∷ more))) h)
     [ inl word ↦ word_meets t c more after word first others e | inr sign ↦ sign_meets t c more after sign first others e ]
@@ -145,14 +145,14 @@ beyond (a ∷ t) (x ∷ xs) behind after e =
       | inr on ↦ inr (record { c = on.c; more = on.more; rest = on.rest; long = rw (same, on.long) refl; next = on.next })
     ]
 
-longest : (t after : List ℕ) (first : ℕ) (others : List ℕ) → t ≡ first ∷ others → meets t after ≡ false → IsLongest t after
+longest : (t after : List ℕ) (first : ℕ) (others : List ℕ) → t ≡ first ∷ others → may_merge t after ≡ false → IsLongest t after
 longest t after first others e apart longer behind same token =
     elim (beyond t longer behind after same) [
       | inl short ↦ short
       | inr on ↦
           let whole : is_token (t ++ (on.c ∷ on.more)) ≡ true = rw on.long at token in
-          let met : meets t (on.c ∷ on.rest) ≡ true = longer_meets t on.c on.more on.rest whole first others e in
-          let not_met : meets t (on.c ∷ on.rest) ≡ false = rw on.next at apart in
+          let met : may_merge t (on.c ∷ on.rest) ≡ true = longer_meets t on.c on.more on.rest whole first others e in
+          let not_met : may_merge t (on.c ∷ on.rest) ≡ false = rw on.next at apart in
           cc
     ]
 

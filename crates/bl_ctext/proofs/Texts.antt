@@ -23,7 +23,7 @@ use Rattle.std.proofs.lemmas.List.{drop-append-le}
 use Rattle.bl_ctext.specs.Prelude.{prelude}
 use Rattle.bl_ctext.specs.declared.prelude.TheConstants.{PRELUDE}
 use Rattle.bl_ctext.specs.Token.{Token, SpacedC}
-use Rattle.bl_ctext.specs.inner.Cut.{tokens_in, meets, are_tokens, parted, behind_prelude, IsText}
+use Rattle.bl_ctext.specs.inner.Cut.{tokens_in, may_merge, are_tokens, parted, behind_prelude, IsText}
 use Rattle.bl_ctext.proofs.Bytes.{both, and-fst, and-snd}
 use Rattle.bl_ctext.proofs.Cutting.{meets-space, before_a_space, meets-drop, tokens_in-append}
 use Rattle.bl_ctext.proofs.Longest.{spaced}
@@ -40,11 +40,11 @@ behind-append : (bytes next : List ℕ) → IsText bytes → behind_prelude (byt
 unfolding behind_prelude
 behind-append bytes next text = drop-append-le (length prelude) bytes next (long_enough bytes text)
 
-apart_behind : (bytes next : List ℕ) → meets bytes next ≡ false → meets (behind_prelude bytes) next ≡ false
+apart_behind : (bytes next : List ℕ) → may_merge bytes next ≡ false → may_merge (behind_prelude bytes) next ≡ false
 unfolding behind_prelude
 apart_behind bytes next h = meets-drop (length prelude) bytes next h
 
-grows_by : (bytes next : List ℕ) → IsText bytes → meets bytes next ≡ false → are_tokens (tokens_in next) ≡ true →
+grows_by : (bytes next : List ℕ) → IsText bytes → may_merge bytes next ≡ false → are_tokens (tokens_in next) ≡ true →
     (tokens_in (behind_prelude (bytes ++ next)) ≡ tokens_in (behind_prelude bytes) ++ tokens_in next) × IsText (bytes ++ next)
 grows_by bytes next text apart tokens =
     let behind : behind_prelude (bytes ++ next) ≡ behind_prelude bytes ++ next = behind-append bytes next text in
@@ -63,9 +63,9 @@ grows_by bytes next text apart tokens =
 pub record Parted (bytes next front : List ℕ) : Type 0 where
   pub text : IsText front
   pub tokens : tokens_in (behind_prelude front) ≡ tokens_in (behind_prelude bytes)
-  pub apart : meets front next ≡ false
+  pub apart : may_merge front next ≡ false
 
-parts_at : (m : Bool) (bytes next : List ℕ) → meets bytes next ≡ m → IsText bytes → Parted bytes next (cond m (bytes ++ 32 ∷ []) bytes)
+parts_at : (m : Bool) (bytes next : List ℕ) → may_merge bytes next ≡ m → IsText bytes → Parted bytes next (cond m (bytes ++ 32 ∷ []) bytes)
 parts_at false bytes next h text = record { text = text; tokens = refl; apart = h }
 parts_at true bytes next h text =
     let (space, whole) = grows_by bytes (32 ∷ []) text (before_a_space bytes) refl in
@@ -73,13 +73,13 @@ parts_at true bytes next h text =
 
 pub parts : (bytes next : List ℕ) → IsText bytes → Parted bytes next (parted bytes next)
 unfolding parted
-parts bytes next text = parts_at (meets bytes next) bytes next refl text
+parts bytes next text = parts_at (may_merge bytes next) bytes next refl text
 
-pub parted_met : (bytes next front : List ℕ) → meets bytes next ≡ true → front ≡ bytes ++ 32 ∷ [] → front ≡ parted bytes next
+pub parted_met : (bytes next front : List ℕ) → may_merge bytes next ≡ true → front ≡ bytes ++ 32 ∷ [] → front ≡ parted bytes next
 unfolding parted
 parted_met bytes next front h e = rw h e
 
-pub parted_kept : (bytes next : List ℕ) → meets bytes next ≡ false → bytes ≡ parted bytes next
+pub parted_kept : (bytes next : List ℕ) → may_merge bytes next ≡ false → bytes ≡ parted bytes next
 unfolding parted
 parted_kept bytes next h = rw h refl
 

@@ -3,7 +3,7 @@
 ghost use Rattle.std.specs.Prelude.{◌≡◌, ℕ, List, [], ◌∷◌, ◌++◌, IsTrue, IfOk, OnOk, OnErr};
 ghost use Rattle.bl_ctext.specs.Prelude.{prelude};
 ghost use Rattle.bl_ctext.specs.Token.{is_token, is_word_byte as word_byte, is_double_sign as double_sign, SpacedC};
-ghost use Rattle.bl_ctext.specs.inner.Cut.{joins, meets, tokens_in, are_tokens, parted};
+ghost use Rattle.bl_ctext.specs.inner.Cut.{joins, may_merge, tokens_in, are_tokens, parted};
 
 use crate::prelude::PRELUDE;
 use bl_tree::NoMemory;
@@ -88,7 +88,7 @@ fn part(text: &mut Vec<u8>, next: &[u8]) -> Result<(), AllocError>
 
 /// Whether the last byte and the first of the next ones may stand in one token.
 fn is_met(text: &[u8], next: &[u8]) -> bool
-    ensures { result ≡ meets text.now next.now }
+    ensures { result ≡ may_merge text.now next.now }
 {
     let Some(last) = text.last() else {
         return false;

@@ -45,19 +45,19 @@ use Rattle.bl_tree.specs.declared.scalar.Op.{Op}
 use Rattle.bl_tree.specs.declared.scalar.Op.TheVariants.{And, Or, Not}
 use Rattle.bl_tree.specs.declared.scalar.Scalar.TheVariants.{Bool as OfBool}
 use Rattle.bl_tree.specs.Numbers.{checked_of, checked_one_of, is_one}
-use Rattle.bl_ctext_semantics.specs.Memory.{Memory, CValue, member, number_in, scalar, value_at, set_at, zeros, without_frame}
+use Rattle.bl_ctext_semantics.specs.Memory.{Memory, CValue, member, scalar_number, scalar, value_at, set_at, zeros, without_frame}
 use Rattle.bl_ctext_semantics.specs.Tables.{found, Table, no_entries, table_of, with_entry, entry_or}
 use Rattle.bl_ctext.specs.declared.builtin.Builtin.{Builtin}
 use Rattle.bl_ctext_semantics.specs.Builtin.{builtin_of, index_within}
-use Rattle.bl_ctext_semantics.specs.Course.{End, Outcome, after, breaks, ended_by, ending, following_end, goes_on, going, returns, traps, turn_end}
-use Rattle.bl_ctext_semantics.specs.Course.{turn_limit, turn_or_none, turns}
-use Rattle.bl_ctext_semantics.specs.Meaning.{Counted, given, going_on, next, once_more, ArgumentValue, by_value, by_address, Meaning, further, start_of, way_of, element_at}
-use Rattle.bl_ctext_semantics.specs.Meaning.{Scope, applied, called, called_as, called_after, Evaluates, each_of, at_once, two_values, value_c, location_c}
+use Rattle.bl_ctext_semantics.specs.Course.{End, Outcome, breaks, ended_by, ending, following_end, goes_on, going, returns, traps, turn_end}
+use Rattle.bl_ctext_semantics.specs.Course.{loop_with_turns, turn_limit, turn_or_none}
+use Rattle.bl_ctext_semantics.specs.Meaning.{Counted, given, going_on, next, once_more, ArgumentValue, by_value, by_address, Meaning, further, named_location, way_of, element_projection}
+use Rattle.bl_ctext_semantics.specs.Meaning.{Scope, applied, named_call, called_as, called_after, Evaluates, each_of, at_once, two_values, value_c, location_c}
 use Rattle.bl_ctext_semantics.specs.Meaning.{call_c, CStmtMeaning, block_of, runs_c, block_c, function_c, meanings_after, meanings, executed, pointers_of, with_params}
 use Rattle.bl_ctext_semantics.specs.Calls.{Names, calls_in, calls_in_arg, calls_in_place, calls_in_call, calls_in_step}
 use Rattle.bl_ctext_semantics.proofs.Folds.{arg_c, calls_in_index, calls_in_kind, index_c, kind_c, step_c}
-use Rattle.bl_ctext_semantics.specs.Cost.{Costs, cost_of_calls, block_cost, cost_of_stmt, cost_of_function, costs_after, costs as all_costs, bound}
-use Rattle.bl_ctext_semantics.specs.Trace.{entered, tick_c}
+use Rattle.bl_ctext_semantics.specs.Cost.{Costs, cost_of_calls, block_cost, cost_of_stmt, cost_of_function, costs_after, costs as all_costs, tick_bound}
+use Rattle.bl_ctext_semantics.specs.Trace.{call_from_outside, tick_c}
 use Rattle.bl_ctext_semantics.specs.Parts.{Parts}
 use Rattle.bl_ctext_semantics.proofs.Induction.{Optional, ExprCases, induct_expr, induct_place, induct_call, StmtCases, induct_stmt, stmt}
 
@@ -94,7 +94,7 @@ called_after-le : (costs : Costs) (scope : Scope) → Covers scope.known costs �
     (called_after scope memory name n passed).count ≤ n + entry_or 0 costs name
 called_after-le costs scope h memory name n None = omega arith
 called_after-le costs scope h memory name n (Some passed) =
-    let k : (called scope name passed memory).count ≤ entry_or 0 costs name =
+    let k : (named_call scope name passed memory).count ≤ entry_or 0 costs name =
     called_as-le scope.known costs h (builtin_of name) name (scope.depth + 1) passed memory in omega arith
 
 module _ (costs : Costs) (scope : Scope) (covers : Covers scope.known costs) (memory : Memory) where
@@ -141,11 +141,11 @@ module _ (costs : Costs) (scope : Scope) (covers : Covers scope.known costs) (me
 
   two_values-le : (op : Op) (left right : Evaluates CValue) (n k : ℕ) → (left scope memory).count ≤ n → (right scope memory).count ≤ k →
       (two_values op left right scope memory).count ≤ n + k
-  two_values-le And left right n k h r = next-le _ _ n k h (λ a. choice-le (is_one (number_in a)) right (at_once (pos 0)) k r (omega arith))
-  two_values-le Or left right n k h r = next-le _ _ n k h (λ a. choice-le (is_one (number_in a)) (at_once (pos 1)) right k (omega arith) r)
+  two_values-le And left right n k h r = next-le _ _ n k h (λ a. choice-le (is_one (scalar_number a)) right (at_once (pos 0)) k r (omega arith))
+  two_values-le Or left right n k h r = next-le _ _ n k h (λ a. choice-le (is_one (scalar_number a)) (at_once (pos 1)) right k (omega arith) r)
   two_values-le op left right n k h r =
       let all : (next (left scope memory)
-      (λ a. next (right scope memory) (λ b. given (option_map scalar (checked_of op OfBool (number_in a) (number_in b)))))).count ≤ n + (k + 0) =
+      (λ a. next (right scope memory) (λ b. given (option_map scalar (checked_of op OfBool (scalar_number a) (scalar_number b)))))).count ≤ n + (k + 0) =
       next-le _ _ n (k + 0) h (λ a. next-le _ _ k 0 r (λ b. omega arith)) in
       omega arith
 
@@ -173,7 +173,7 @@ module _ (costs : Costs) (scope : Scope) (covers : Covers scope.known costs) (me
         rw (fold-roll-CExprKind, fold-roll-CExprKind) (omega arith);
     call = λ c h. rw (fold-roll-CExprKind, fold-roll-CExprKind) h;
     negation = λ e h.
-        let all : (next (value_c e scope memory) (λ a. given (option_map scalar (checked_one_of Not OfBool (number_in a))))).count ≤ cost_of_calls costs
+        let all : (next (value_c e scope memory) (λ a. given (option_map scalar (checked_one_of Not OfBool (scalar_number a))))).count ≤ cost_of_calls costs
         (calls_in e) + 0 = next-le _ _ _ 0 h (λ a. omega arith) in
         rw (fold-roll-CExprKind, fold-roll-CExprKind) (omega arith);
     two = λ op a b h k.
@@ -189,14 +189,14 @@ module _ (costs : Costs) (scope : Scope) (covers : Covers scope.known costs) (me
         rw (fold-roll-CCall, fold-roll-CCall) (omega arith);
     expr = λ place what h. rw (fold-roll-CExpr, fold-roll-CExpr) h;
     index = λ signed at length h.
-        let all : (next (value_c at scope memory) (λ i. given (element_at (index_within (number_in i) (pos length))))).count ≤ cost_of_calls costs
+        let all : (next (value_c at scope memory) (λ i. given (element_projection (index_within (scalar_number i) (pos length))))).count ≤ cost_of_calls costs
         (calls_in at) + 0 = next-le _ _ _ 0 h (λ i. omega arith) in
         rw (fold-roll-CIndex, fold-roll-CIndex) (omega arith);
     place = λ through name steps h.
         let ways : (each_of (map step_c steps) scope memory).count ≤ cost_of_calls costs (joined (map calls_in_step steps)) =
         each_of-le step_c calls_in_step steps h in
         let all : (next (each_of (map step_c steps) scope memory)
-        (λ parts. given (Some (further (start_of scope through name) (way_of parts))))).count ≤ cost_of_calls costs
+        (λ parts. given (Some (further (named_location scope through name) (way_of parts))))).count ≤ cost_of_calls costs
         (joined (map calls_in_step steps)) + 0 = next-le _ _ _ 0 ways (λ parts. omega arith) in
         rw (fold-roll-CPlace, fold-roll-CPlace) (omega arith);
     step = of_step;
@@ -243,24 +243,25 @@ turn_or_none-le false memory turn k h = omega arith
 -- a loop, by the most of its condition and of its body
 turns-le : (n k b : ℕ) (condition : Evaluates CValue) (body : CStmtMeaning) (scope : Scope) →
     ((m : Memory) → (condition scope m).count ≤ k) → ((m : Memory) → (body scope m).count ≤ b) →
-    (m : Memory) → (turns n (once_more condition scope) (body scope) m).count ≤ (n + 1) * (1 + (k + b))
-unfolding turns
+    (m : Memory) → (loop_with_turns n (once_more condition scope) (body scope) m).count ≤ (n + 1) * (1 + (k + b))
+unfolding loop_with_turns
 turns-le zero k b condition body scope hc hb m =
     let c : (condition scope m).count ≤ k = hc m in
-    let all : (turns zero (once_more condition scope) (body scope) m).count ≤ (condition scope m).count + (1 + 0) =
-    ended_by-le m _ (1 + 0) _ _ (λ v. turn_or_none-le (is_one (number_in v)) m _ 0 (omega arith)) in
+    let all : (loop_with_turns zero (once_more condition scope) (body scope) m).count ≤ (condition scope m).count + (1 + 0) =
+    ended_by-le m _ (1 + 0) _ _ (λ v. turn_or_none-le (is_one (scalar_number v)) m _ 0 (omega arith)) in
     omega arith
 turns-le (suc n) k b condition body scope hc hb m =
     let c : (condition scope m).count ≤ k = hc m in
     let o : (body scope m).count ≤ b = hb m in
-    let rest : (turns n (once_more condition scope) (body scope) (body scope m).memory).count ≤ (n + 1) * (1 + (k + b)) =
+    let rest : (loop_with_turns n (once_more condition scope) (body scope) (body scope m).memory).count ≤ (n + 1) * (1 + (k + b)) =
     turns-le n k b condition body scope hc hb (body scope m).memory in
-    let turn : (turn_end (body scope m).count (body scope m).memory (body scope m).end (turns n (once_more condition scope) (body scope))).count ≤ (body scope
+    let turn : (turn_end (body scope m).count (body scope m).memory (body scope m).end
+    (loop_with_turns n (once_more condition scope) (body scope))).count ≤ (body scope
     m).count + (n + 1) * (1 + (k + b)) =
     turn_end-le _ _ _ _ _ rest in
-    let all : (turns (suc n) (once_more condition scope) (body scope) m).count
+    let all : (loop_with_turns (suc n) (once_more condition scope) (body scope) m).count
     ≤ (condition scope m).count + (1 + ((body scope m).count + (n + 1) * (1 + (k + b)))) =
-    ended_by-le m _ _ _ _ (λ v. turn_or_none-le (is_one (number_in v)) m _ _ turn) in
+    ended_by-le m _ _ _ _ (λ v. turn_or_none-le (is_one (scalar_number v)) m _ _ turn) in
     omega arith
 
 module _ (costs : Costs) (scope : Scope) (covers : Covers scope.known costs) where
@@ -289,18 +290,18 @@ module _ (costs : Costs) (scope : Scope) (covers : Covers scope.known costs) whe
       let c : (value_c e scope memory).count ≤ cost_of_calls costs (calls_in e) = expr-le costs scope covers memory e in
       let b : (block_of (map runs_c block) scope memory).count ≤ block_cost (map cost_of_stmt block) costs = block-le block h memory in
       let all : (executed memory (value_c e scope memory)
-      (λ v. (if is_one (number_in v) then block_of (map runs_c block) else block_of []) scope memory)).count
+      (λ v. (if is_one (scalar_number v) then block_of (map runs_c block) else block_of []) scope memory)).count
       ≤ (1 + (value_c e scope memory).count) + max (block_cost (map cost_of_stmt block) costs) 0 =
-      ended_by-le memory _ _ _ _ (λ v. choose-le (is_one (number_in v)) (block_of (map runs_c block)) (block_of []) _ 0 memory b (omega arith)) in
+      ended_by-le memory _ _ _ _ (λ v. choose-le (is_one (scalar_number v)) (block_of (map runs_c block)) (block_of []) _ 0 memory b (omega arith)) in
       rw (fold-roll-CStmt, fold-roll-CStmt, fold-roll-CStmtKind, fold-roll-CStmtKind) (omega arith)
   of_if at e block (Some other) h r memory =
       let c : (value_c e scope memory).count ≤ cost_of_calls costs (calls_in e) = expr-le costs scope covers memory e in
       let b : (block_of (map runs_c block) scope memory).count ≤ block_cost (map cost_of_stmt block) costs = block-le block h memory in
       let o : (block_of (map runs_c other) scope memory).count ≤ block_cost (map cost_of_stmt other) costs = block-le other r memory in
       let all : (executed memory (value_c e scope memory)
-      (λ v. (if is_one (number_in v) then block_of (map runs_c block) else block_of (map runs_c other)) scope memory)).count
+      (λ v. (if is_one (scalar_number v) then block_of (map runs_c block) else block_of (map runs_c other)) scope memory)).count
       ≤ (1 + (value_c e scope memory).count) + max (block_cost (map cost_of_stmt block) costs) (block_cost (map cost_of_stmt other) costs) =
-      ended_by-le memory _ _ _ _ (λ v. choose-le (is_one (number_in v)) (block_of (map runs_c block)) (block_of (map runs_c other)) _ _ memory b o)
+      ended_by-le memory _ _ _ _ (λ v. choose-le (is_one (scalar_number v)) (block_of (map runs_c block)) (block_of (map runs_c other)) _ _ memory b o)
       in
       rw (fold-roll-CStmt, fold-roll-CStmt, fold-roll-CStmtKind, fold-roll-CStmtKind) (omega arith)
 
@@ -308,7 +309,7 @@ module _ (costs : Costs) (scope : Scope) (covers : Covers scope.known costs) whe
   of_return at None memory = rw (fold-roll-CStmt, fold-roll-CStmt, fold-roll-CStmtKind, fold-roll-CStmtKind) (omega arith)
   of_return at (Some e) memory =
       let c : (value_c e scope memory).count ≤ cost_of_calls costs (calls_in e) = expr-le costs scope covers memory e in
-      let all : (executed memory (value_c e scope memory) (λ v. ending (returns (number_in v)) memory)).count ≤ (1 + (value_c e scope memory).count) + 0 =
+      let all : (executed memory (value_c e scope memory) (λ v. ending (returns (scalar_number v)) memory)).count ≤ (1 + (value_c e scope memory).count) + 0 =
       ended_by-le memory _ 0 _ _ (λ v. omega arith) in
       rw (fold-roll-CStmt, fold-roll-CStmt, fold-roll-CStmtKind, fold-roll-CStmtKind) (omega arith)
 
@@ -336,7 +337,7 @@ module _ (costs : Costs) (scope : Scope) (covers : Covers scope.known costs) whe
         rw (fold-roll-CStmt, fold-roll-CStmt, fold-roll-CStmtKind, fold-roll-CStmtKind) (omega arith);
     branching = of_if;
     loop = λ at turn e body h memory.
-        let all : (turns turn_limit (once_more (value_c e) scope) (block_of (map runs_c body) scope) memory).count
+        let all : (loop_with_turns turn_limit (once_more (value_c e) scope) (block_of (map runs_c body) scope) memory).count
         ≤ (turn_limit + 1) * (1 + (cost_of_calls costs (calls_in e) + block_cost (map cost_of_stmt body) costs)) =
         turns-le turn_limit _ _ (value_c e) (block_of (map runs_c body)) scope (λ m. expr-le costs scope covers m e) (λ m. block-le body h m) memory in
         rw (fold-roll-CStmt, fold-roll-CStmt, fold-roll-CStmtKind, fold-roll-CStmtKind) (omega arith);
@@ -438,12 +439,12 @@ nothing-covers = record { same = λ name. refl; covers = λ name depth passed me
 
 -- every call from outside
 pub entered-le : (file : Parts) (name : Text) (passed : List ArgumentValue) (memory : Memory) →
-    (entered file name passed memory).count ≤ unwrap_or (found name (all_costs file.funcs)) 0
-unfolding entered
+    (call_from_outside file name passed memory).count ≤ unwrap_or (found name (all_costs file.funcs)) 0
+unfolding call_from_outside
 entered-le file name passed memory =
     covers_at (meanings file.funcs) (all_costs file.funcs) (aligned_after no_entries no_entries file.funcs nothing-covers) name 0 passed memory
 
 -- every tick
-pub tick-le : (file : Parts) (cells ins : List ℤ) → (tick_c file cells ins).count ≤ bound file
+pub tick-le : (file : Parts) (cells ins : List ℤ) → (tick_c file cells ins).count ≤ tick_bound file
 unfolding tick_c
 tick-le file cells ins = entered-le file (codes "bl_tick") _ _

@@ -35,9 +35,9 @@ use Rattle.bl_tree.specs.declared.c.CStmtKind.{fold-roll-CStmtKind}
 use Rattle.bl_tree.specs.declared.c.CStmtKind.TheOpen.{CStmtKind-F}
 use Rattle.bl_tree.specs.declared.c.CFunc.{CFunc}
 use Rattle.bl_tree.specs.Numbers.{is_one}
-use Rattle.bl_ctext_semantics.specs.Memory.{Memory, CValue, number_in, set_at, zeros}
+use Rattle.bl_ctext_semantics.specs.Memory.{Memory, CValue, scalar_number, set_at, zeros}
 use Rattle.bl_ctext_semantics.specs.Course.{End, Outcome, breaks, ended_by, ending, following_end, goes_on, going, returns, traps, turn_end, turn_limit}
-use Rattle.bl_ctext_semantics.specs.Course.{turn_or_none, turns}
+use Rattle.bl_ctext_semantics.specs.Course.{loop_with_turns, turn_or_none}
 use Rattle.bl_ctext_semantics.specs.Meaning.{Counted, Evaluates, given, next, Scope, CStmtMeaning, block_of, executed, call_end, once_more, runs_c, block_c}
 use Rattle.bl_ctext_semantics.specs.Meaning.{value_c, location_c, call_c}
 use Rattle.bl_ctext_semantics.specs.Ends.{EndsAs, EndsInside, AlwaysEnds}
@@ -133,21 +133,21 @@ turn_or_none-stays true memory turn h = h
 turn_or_none-stays false memory turn h = record { it = tt }
 
 turns-stays : (n : ℕ) (condition : Evaluates CValue) (body : CStmtMeaning) (scope : Scope) (m : Memory) →
-    Stays (turns n (once_more condition scope) (body scope) m).end
-unfolding turns
+    Stays (loop_with_turns n (once_more condition scope) (body scope) m).end
+unfolding loop_with_turns
 turns-stays zero condition body scope m =
     let stop : Memory → Outcome Memory = λ w. record { memory = w; end = traps; count = 0 } in
     let trapped : Stays (stop m).end = record { it = tt } in
-    ended_by-stays m (condition scope m).count (condition scope m).answer (λ v. turn_or_none (is_one (number_in v)) m stop)
-    (λ v. turn_or_none-stays (is_one (number_in v)) m stop trapped)
+    ended_by-stays m (condition scope m).count (condition scope m).answer (λ v. turn_or_none (is_one (scalar_number v)) m stop)
+    (λ v. turn_or_none-stays (is_one (scalar_number v)) m stop trapped)
 turns-stays (suc n) condition body scope m =
     let turn : Memory → Outcome Memory = λ w. turn_end (body scope w).count (body scope w).memory (body scope w).end
-    (turns n (once_more condition scope) (body scope)) in
+    (loop_with_turns n (once_more condition scope) (body scope)) in
     let rest : Stays (turn m).end =
-    turn_end-stays (body scope m).count (body scope m).memory (body scope m).end (turns n (once_more condition scope) (body scope))
+    turn_end-stays (body scope m).count (body scope m).memory (body scope m).end (loop_with_turns n (once_more condition scope) (body scope))
     (turns-stays n condition body scope (body scope m).memory) in
-    ended_by-stays m (condition scope m).count (condition scope m).answer (λ v. turn_or_none (is_one (number_in v)) m turn)
-    (λ v. turn_or_none-stays (is_one (number_in v)) m turn rest)
+    ended_by-stays m (condition scope m).count (condition scope m).answer (λ v. turn_or_none (is_one (scalar_number v)) m turn)
+    (λ v. turn_or_none-stays (is_one (scalar_number v)) m turn rest)
 
 call_end-stays : (result : Option ℤ) → Stays (call_end result)
 call_end-stays (Some n) = record { it = tt }
@@ -193,17 +193,17 @@ module _ (scope : Scope) where
       let first : Leaves (block_of (map runs_c block) scope memory).end = block-leaves block h (and-left _ _ both) memory in
       let second : Leaves (block_of (map runs_c other) scope memory).end = block-leaves other r (and-right _ _ both) memory in
       let all : Leaves (executed memory (value_c e scope memory)
-      (λ v. (if is_one (number_in v) then block_of (map runs_c block) else block_of (map runs_c other)) scope memory)).end =
+      (λ v. (if is_one (scalar_number v) then block_of (map runs_c block) else block_of (map runs_c other)) scope memory)).end =
       executed-leaves memory (value_c e scope memory)
-      (λ v. (if is_one (number_in v) then block_of (map runs_c block) else block_of (map runs_c other)) scope memory)
-      (λ v. choose-leaves (is_one (number_in v)) (block_of (map runs_c block)) (block_of (map runs_c other)) memory first second) in
+      (λ v. (if is_one (scalar_number v) then block_of (map runs_c block) else block_of (map runs_c other)) scope memory)
+      (λ v. choose-leaves (is_one (scalar_number v)) (block_of (map runs_c block)) (block_of (map runs_c other)) memory first second) in
       rw (fold-roll-CStmt, fold-roll-CStmtKind) all
 
   return-returns : (at : Place) (e : Option CExpr) → Returns (stmt at (CStmtKind-F.Return e))
   return-returns at None sure memory = rw (fold-roll-CStmt, fold-roll-CStmtKind) (record { it = tt })
   return-returns at (Some e) sure memory =
-      let all : Leaves (executed memory (value_c e scope memory) (λ v. ending (returns (number_in v)) memory)).end =
-      executed-leaves memory (value_c e scope memory) (λ v. ending (returns (number_in v)) memory) (λ v. record { it = tt }) in
+      let all : Leaves (executed memory (value_c e scope memory) (λ v. ending (returns (scalar_number v)) memory)).end =
+      executed-leaves memory (value_c e scope memory) (λ v. ending (returns (scalar_number v)) memory) (λ v. record { it = tt }) in
       rw (fold-roll-CStmt, fold-roll-CStmtKind) all
 
   return_cases : StmtCases Returns
@@ -257,9 +257,9 @@ module _ (scope : Scope) where
       let first : Stays (block_of (map runs_c block) scope memory).end =
       block-stays block h context (nil-left _ _ (nil-right (condition_faults e context) _ all)) memory in
       let all : Stays (executed memory (value_c e scope memory)
-      (λ v. (if is_one (number_in v) then block_of (map runs_c block) else block_of []) scope memory)).end =
-      executed-stays memory (value_c e scope memory) (λ v. (if is_one (number_in v) then block_of (map runs_c block) else block_of []) scope memory)
-      (λ v. choose-stays (is_one (number_in v)) (block_of (map runs_c block)) (block_of []) memory first (record { it = tt })) in
+      (λ v. (if is_one (scalar_number v) then block_of (map runs_c block) else block_of []) scope memory)).end =
+      executed-stays memory (value_c e scope memory) (λ v. (if is_one (scalar_number v) then block_of (map runs_c block) else block_of []) scope memory)
+      (λ v. choose-stays (is_one (scalar_number v)) (block_of (map runs_c block)) (block_of []) memory first (record { it = tt })) in
       rw (fold-roll-CStmt, fold-roll-CStmtKind) all
   if-keeps at e block (Some other) h r context none memory =
       let all : condition_faults e context ++ (block_faults (map faults_in_stmt block) context false ++ block_faults (map faults_in_stmt other) context false)
@@ -269,17 +269,17 @@ module _ (scope : Scope) where
       let second : Stays (block_of (map runs_c other) scope memory).end =
       block-stays other r context (nil-right (block_faults (map faults_in_stmt block) context false) _ (nil-right (condition_faults e context) _ all)) memory in
       let all : Stays (executed memory (value_c e scope memory)
-      (λ v. (if is_one (number_in v) then block_of (map runs_c block) else block_of (map runs_c other)) scope memory)).end =
+      (λ v. (if is_one (scalar_number v) then block_of (map runs_c block) else block_of (map runs_c other)) scope memory)).end =
       executed-stays memory (value_c e scope memory)
-      (λ v. (if is_one (number_in v) then block_of (map runs_c block) else block_of (map runs_c other)) scope memory)
-      (λ v. choose-stays (is_one (number_in v)) (block_of (map runs_c block)) (block_of (map runs_c other)) memory first second) in
+      (λ v. (if is_one (scalar_number v) then block_of (map runs_c block) else block_of (map runs_c other)) scope memory)
+      (λ v. choose-stays (is_one (scalar_number v)) (block_of (map runs_c block)) (block_of (map runs_c other)) memory first second) in
       rw (fold-roll-CStmt, fold-roll-CStmtKind) all
 
   return-keeps : (at : Place) (e : Option CExpr) → Keeps (stmt at (CStmtKind-F.Return e))
   return-keeps at None context none memory = rw (fold-roll-CStmt, fold-roll-CStmtKind) (record { it = tt })
   return-keeps at (Some e) context none memory =
-      let all : Stays (executed memory (value_c e scope memory) (λ v. ending (returns (number_in v)) memory)).end =
-      executed-stays memory (value_c e scope memory) (λ v. ending (returns (number_in v)) memory) (λ v. record { it = tt }) in
+      let all : Stays (executed memory (value_c e scope memory) (λ v. ending (returns (scalar_number v)) memory)).end =
+      executed-stays memory (value_c e scope memory) (λ v. ending (returns (scalar_number v)) memory) (λ v. record { it = tt }) in
       rw (fold-roll-CStmt, fold-roll-CStmtKind) all
 
   keep_cases : StmtCases Keeps

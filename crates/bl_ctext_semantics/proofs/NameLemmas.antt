@@ -31,7 +31,7 @@ use Rattle.bl_ctext_semantics.proofs.ArgLemmas.{next_of}
 use Rattle.std.proofs.Math.Seq.{drop-cons}
 use Rattle.bl_tree.specs.declared.place.Place.{Place}
 use Rattle.bl_ctext_semantics.specs.Faults.{all_distinct, distinct_names, earlier_of, first_place, repeated, unless}
-use Rattle.bl_ctext_semantics.specs.inner.Maps.{bytes_of, named}
+use Rattle.bl_ctext_semantics.specs.inner.Maps.{bytes_of, named_entries}
 use Rattle.bl_ctext_semantics.specs.Tables.{Table, with_entry}
 use Rattle.bl_ctext_semantics.proofs.FirstLemmas.{earlier_of-assoc, first_place-append}
 use Rattle.bl_ctext_semantics.proofs.MapLemmas.{same_table}
@@ -59,17 +59,17 @@ pub repeated-next : (seen more : Table (Unit {0})) (entries : List (Bor (List �
     (first x : Option Place) →
     k < length entries →
     ((asked : List ℕ) → more asked ≡ with_entry seen (get_or entries k d).0.now tt asked) →
-    earlier_of first (first_place (repeated seen (named (drop k entries)))) ≡ x →
+    earlier_of first (first_place (repeated seen (named_entries (drop k entries)))) ≡ x →
     earlier_of (earlier_of first (first_place (unless (not (is_some (seen (get_or entries k d).0.now))) distinct_names (get_or entries k d).1)))
-    (first_place (repeated more (named (drop (k + 1) entries)))) ≡ x
+    (first_place (repeated more (named_entries (drop (k + 1) entries)))) ≡ x
 repeated-next seen more entries k d first x within add h =
     let name = (get_or entries k d).0.now in
-    let rest = named (drop (k + 1) entries) in
+    let rest = named_entries (drop (k + 1) entries) in
     let here = unless (not (is_some (seen name))) distinct_names (get_or entries k d).1 in
     ap (λ t. earlier_of (earlier_of first (first_place here)) (first_place (repeated t rest))) (same_table more (with_entry seen name tt) add)
     ∙ sym (earlier_of-assoc first (first_place here) (first_place (repeated (with_entry seen name tt) rest)))
     ∙ ap (λ p. earlier_of first p) (sym (first_place-append here (repeated (with_entry seen name tt) rest)))
-    ∙ ap (λ xs. earlier_of first (first_place (repeated seen (named xs)))) (sym (at_index entries k d within)) ∙ h
+    ∙ ap (λ xs. earlier_of first (first_place (repeated seen (named_entries xs)))) (sym (at_index entries k d within)) ∙ h
 
 -- a test of each, one by one
 pub all-next : {X : Type 0} (p : X → Bool) (xs : List X) (k : ℕ) (x : X) (so_far all : Bool) → k < length xs → x ≡ get_or xs k x →

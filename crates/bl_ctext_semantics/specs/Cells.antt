@@ -9,7 +9,7 @@ use Rattle.bl_tree.specs.declared.c.CStruct.{CStruct}
 use Rattle.bl_tree.specs.declared.row.Column.{Column}
 use Rattle.bl_ctext_semantics.specs.Parts.{Parts}
 use Rattle.bl_ctext_semantics.specs.Memory.{Projection, member, element, Root, state_object, input_object, output_object, Location, Memory, scalar}
-use Rattle.bl_ctext_semantics.specs.Memory.{number_in, cleared, value_at, set_at}
+use Rattle.bl_ctext_semantics.specs.Memory.{scalar_number, cleared, value_at, set_at}
 use Rattle.bl_ctext_semantics.specs.Tables.{found, Table, no_entries, with_entry, entry_or}
 
 -- ---- the members of a struct
@@ -31,8 +31,8 @@ below zero = []
 below (suc n) = below n ++ n ∷ []
 
 -- an inner scalar, seen from further out
-abbrev pub inside : List Projection → Inner → Inner
-inside parts cell = record { parts = parts ++ cell.parts; kind = cell.kind }
+abbrev pub seen_from_outside : List Projection → Inner → Inner
+seen_from_outside parts cell = record { parts = parts ++ cell.parts; kind = cell.kind }
 
 -- the scalars of a value of a type, in order, where those of the structs are known
 abbrev pub inner_of_type : Table (List Inner) → CType → List Inner
@@ -41,8 +41,8 @@ inner_of_type known (OfStruct name) = entry_or [] known name
 
 -- the scalars of a member: of an array, those of each element
 abbrev pub inner_of_length : Text → Option ℕ → List Inner → List Inner
-inner_of_length name None cells = map (inside (member name ∷ [])) cells
-inner_of_length name (Some length) cells = flat_map (λ k. map (inside (member name ∷ element k ∷ [])) cells) (below length)
+inner_of_length name None cells = map (seen_from_outside (member name ∷ [])) cells
+inner_of_length name (Some length) cells = flat_map (λ k. map (seen_from_outside (member name ∷ element k ∷ [])) cells) (below length)
 
 -- the scalars of a member, where those of each struct are known
 abbrev pub inner_of_member : Table (List Inner) → CMember → List Inner
@@ -83,7 +83,7 @@ memory_of (cell ∷ cells) [] = cleared
 
 -- the numbers of cells in a memory
 abbrev pub numbers_of : List Cell → Memory → List ℤ
-numbers_of cells memory = map (λ cell. number_in (value_at memory cell.location)) cells
+numbers_of cells memory = map (λ cell. scalar_number (value_at memory cell.location)) cells
 
 -- ---- columns
 
@@ -120,4 +120,4 @@ with_inputs (m ∷ ms) [] memory = memory
 
 -- the row of the outputs
 abbrev pub outputs_in : List CMember → Memory → List ℤ
-outputs_in ms memory = map (λ m. number_in (value_at memory (port output_object m))) ms
+outputs_in ms memory = map (λ m. scalar_number (value_at memory (port output_object m))) ms

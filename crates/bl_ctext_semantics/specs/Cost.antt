@@ -62,5 +62,5 @@ abbrev pub costs : List CFunc → List (Text × ℕ)
 costs = costs_after no_entries
 
 -- the bound on the statements that a tick executes: the cost of `bl_tick`
-abbrev pub bound : Parts → ℕ
-bound file = unwrap_or (found (codes "bl_tick") (costs file.funcs)) 0
+abbrev pub tick_bound : Parts → ℕ
+tick_bound file = unwrap_or (found (codes "bl_tick") (costs file.funcs)) 0

@@ -151,10 +151,10 @@ is_scalar (OfScalar s) = true
 is_scalar (OfStruct name) = false
 
 -- whether a type is a scalar of numbers
-abbrev pub is_number : CType → Bool
-is_number (OfScalar OfBool) = false
-is_number (OfScalar s) = true
-is_number (OfStruct name) = false
+abbrev pub is_number_type : CType → Bool
+is_number_type (OfScalar OfBool) = false
+is_number_type (OfScalar s) = true
+is_number_type (OfStruct name) = false
 
 -- an int type for bl_ix_s, an unsigned one for bl_ix_u
 abbrev pub indexes : Bool → CType → Bool
@@ -166,10 +166,10 @@ indexes _ _ = false
 abbrev pub takes : Op → CType → Bool
 takes Eq t = is_scalar t
 takes Ne t = is_scalar t
-takes Lt t = is_number t
-takes Le t = is_number t
-takes Gt t = is_number t
-takes Ge t = is_number t
+takes Lt t = is_number_type t
+takes Le t = is_number_type t
+takes Gt t = is_number_type t
+takes Ge t = is_number_type t
 takes And t = same_type t bool_type
 takes Or t = same_type t bool_type
 takes _ t = false
@@ -198,7 +198,7 @@ pub record Context : Type 0 where
   -- the running function's result
   pub result : Option Scalar
   -- whether the running function may change nothing through a pointer
-  pub keeps : Bool
+  pub is_read_only : Bool
 
 -- a variable that holds a scalar itself
 abbrev pub by_value : Scalar → Variable
@@ -339,7 +339,7 @@ judge_call call context place =
       faults = unless (is_some signature) declared_before place
           ++ (joined (map (λ a. a.faults) args)
           ++ (unless (fit_args signature args) arguments place
-          ++ unless (not (context.keeps && hands_on signature args)) changes_nothing place));
+          ++ unless (not (context.is_read_only && hands_on signature args)) changes_nothing place));
     }
 
 -- an expression is judged at its own place
@@ -472,12 +472,12 @@ stmt_kind_faults (CStmtKind-F.Set target expr) place context looped =
     let p : JudgedPlace = judged_place target context place in
     let e : Judged = judged_expr expr context in
     p.faults ++ (e.faults ++ (unless (agree p.ty e.ty) assigned_type place
-    ++ unless (not (context.keeps && p.through)) changes_nothing place))
+    ++ unless (not (context.is_read_only && p.through)) changes_nothing place))
 stmt_kind_faults (CStmtKind-F.Clear target name) place context looped =
     let p : JudgedPlace = judged_place target context place in
     p.faults ++ (unless (is_some (context.structs name)) declared_before place
     ++ (unless (agree p.ty (Some (OfStruct name))) assigned_type place
-    ++ unless (not (context.keeps && p.through)) changes_nothing place))
+    ++ unless (not (context.is_read_only && p.through)) changes_nothing place))
 stmt_kind_faults (CStmtKind-F.Call call) place context looped = (judged_call call context place).faults
 stmt_kind_faults (CStmtKind-F.If condition block other) place context looped =
     condition_faults condition context ++ (block_faults block context looped ++ other_faults other context looped)
@@ -608,8 +608,8 @@ abbrev pub local_variable : CLocal → Text × Variable
 local_variable l = (l.name, record { pointer = false; ty = l.ty })
 
 -- the parameters and locals of a function
-abbrev pub variables_of : CFunc → List (Text × Variable)
-variables_of f = map param_variable f.params ++ map local_variable f.locals
+abbrev pub parameters_and_locals : CFunc → List (Text × Variable)
+parameters_and_locals f = map param_variable f.params ++ map local_variable f.locals
 
 -- the parameters and the result of a function
 abbrev pub signature_in : CFunc → Signature
@@ -622,7 +622,7 @@ keeps_all f = is_some f.result && not (bytes_eq f.name (codes "bl_tick"))
 -- what is known inside a function
 abbrev pub context_in : Table (Table CMember) → Table Signature → CFunc → Context
 context_in structs functions f =
-    record { structs = structs; functions = functions; variables = table_of (variables_of f); result = f.result; keeps = keeps_all f }
+    record { structs = structs; functions = functions; variables = table_of (parameters_and_locals f); result = f.result; is_read_only = keeps_all f }
 
 -- the longest chain of calls that a function heads
 abbrev pub depth_of_function : Table ℕ → CFunc → ℕ

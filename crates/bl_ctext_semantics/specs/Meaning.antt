@@ -34,12 +34,12 @@ use Rattle.bl_tree.specs.declared.c.CParam.{CParam}
 use Rattle.bl_tree.specs.declared.c.CFunc.{CFunc}
 use Rattle.bl_tree.specs.Numbers.{checked_of, checked_one_of, is_one}
 use Rattle.bl_ctext.specs.Folds.{OpenPart}
-use Rattle.bl_ctext_semantics.specs.Memory.{Projection, member, element, variable, Location, CValue, Memory, scalar, number_in, zeros, value_at, set_at, without_frame}
+use Rattle.bl_ctext_semantics.specs.Memory.{Projection, member, element, variable, Location, CValue, Memory, scalar, scalar_number, zeros, value_at, set_at, without_frame}
 use Rattle.bl_ctext_semantics.specs.Tables.{Table, no_entries, table_of, with_entry, entry_or}
 use Rattle.bl_ctext.specs.declared.builtin.Builtin.{Builtin}
 use Rattle.bl_ctext_semantics.specs.Builtin.{builtin_of, builtin_value, index_within}
-use Rattle.bl_ctext_semantics.specs.Course.{End, goes_on, breaks, returns, traps, result_at, Outcome, ending, going, after, ended_by, in_order}
-use Rattle.bl_ctext_semantics.specs.Course.{turn_or_none, turns, turn_limit}
+use Rattle.bl_ctext_semantics.specs.Course.{End, goes_on, breaks, returns, traps, result_at, Outcome, ending, going, after_statements, ended_by, in_order}
+use Rattle.bl_ctext_semantics.specs.Course.{turn_or_none, loop_with_turns, turn_limit}
 
 -- ---- answers with a count
 
@@ -90,7 +90,7 @@ pub record Scope : Type 0 where
 
 -- the numbers of arguments by value
 abbrev pub number_of_passed : ArgumentValue → ℤ
-number_of_passed (by_value value) = number_in value
+number_of_passed (by_value value) = scalar_number value
 number_of_passed (by_address place) = pos 0
 
 -- a call that gives a number and changes nothing
@@ -108,8 +108,8 @@ called_as (Some builtin) function depth passed memory = answered memory (builtin
 called_as None function depth passed memory = applied function depth passed memory
 
 -- a call of the function of this name with these arguments
-abbrev pub called : Scope → Text → List ArgumentValue → Memory → CallResult
-called scope name passed memory = called_as (builtin_of name) (scope.known name) (scope.depth + 1) passed memory
+abbrev pub named_call : Scope → Text → List ArgumentValue → Memory → CallResult
+named_call scope name passed memory = called_as (builtin_of name) (scope.known name) (scope.depth + 1) passed memory
 
 -- a call's result with n more statements before it
 abbrev pub later_call : ℕ → CallResult → CallResult
@@ -117,7 +117,7 @@ later_call n c = record { memory = c.memory; count = n + c.count; result = c.res
 
 -- the result of a call once its arguments are evaluated
 abbrev pub called_after : Scope → Memory → Text → ℕ → Option (List ArgumentValue) → CallResult
-called_after scope memory name n (Some passed) = later_call n (called scope name passed memory)
+called_after scope memory name n (Some passed) = later_call n (named_call scope name passed memory)
 called_after scope memory name n None = record { memory = memory; count = n; result = None }
 
 -- ---- expressions change nothing: each is evaluated in a scope and a memory, from left to right
@@ -138,19 +138,19 @@ way_of [] = []
 way_of (parts ∷ rest) = parts ++ way_of rest
 
 -- the location to which the name of a place leads: a variable of the running function, or what a pointer points to
-abbrev pub start_of : Scope → Bool → Text → Location
-start_of scope false name = record { root = variable scope.depth name; parts = [] }
-start_of scope true name = entry_or (record { root = variable scope.depth name; parts = [] }) scope.pointers name
+abbrev pub named_location : Scope → Bool → Text → Location
+named_location scope false name = record { root = variable scope.depth name; parts = [] }
+named_location scope true name = entry_or (record { root = variable scope.depth name; parts = [] }) scope.pointers name
 
 -- a place further on
 abbrev pub further : Location → List Projection → Location
 further place parts = record { root = place.root; parts = place.parts ++ parts }
 
 -- the element of an index; none, a trap, outside of the array
-abbrev pub element_at : Option ℤ → Option (List Projection)
-element_at None = None
-element_at (Some (pos k)) = Some (element k ∷ [])
-element_at (Some _) = None
+abbrev pub element_projection : Option ℤ → Option (List Projection)
+element_projection None = None
+element_projection (Some (pos k)) = Some (element k ∷ [])
+element_projection (Some _) = None
 
 -- a number that needs no evaluation
 abbrev pub at_once : ℤ → Evaluates CValue
@@ -159,11 +159,11 @@ at_once n scope memory = given (Some (scalar n))
 -- the value of a comparison, or of `&&` and `||`, whose right side counts only where the left doesn't decide
 abbrev pub two_values : Op → Evaluates CValue → Evaluates CValue → Evaluates CValue
 two_values And left right scope memory =
-    next (left scope memory) (λ a. (if is_one (number_in a) then right else at_once (pos 0)) scope memory)
+    next (left scope memory) (λ a. (if is_one (scalar_number a) then right else at_once (pos 0)) scope memory)
 two_values Or left right scope memory =
-    next (left scope memory) (λ a. (if is_one (number_in a) then at_once (pos 1) else right) scope memory)
+    next (left scope memory) (λ a. (if is_one (scalar_number a) then at_once (pos 1) else right) scope memory)
 two_values op left right scope memory =
-    next (left scope memory) (λ a. next (right scope memory) (λ b. given (option_map scalar (checked_of op OfBool (number_in a) (number_in b)))))
+    next (left scope memory) (λ a. next (right scope memory) (λ b. given (option_map scalar (checked_of op OfBool (scalar_number a) (scalar_number b)))))
 
 -- a call in an expression gives its result
 abbrev pub result_of : CallResult → Counted CValue
@@ -185,7 +185,7 @@ kind_step (CExprKind-F.Literal type n) scope memory = given (Some (scalar n))
 kind_step (CExprKind-F.Read place) scope memory = next (place scope memory) (λ p. given (Some (value_at memory p)))
 kind_step (CExprKind-F.Call call) scope memory = result_of (call scope memory)
 kind_step (CExprKind-F.Not operand) scope memory =
-    next (operand scope memory) (λ a. given (option_map scalar (checked_one_of Not OfBool (number_in a))))
+    next (operand scope memory) (λ a. given (option_map scalar (checked_one_of Not OfBool (scalar_number a))))
 kind_step (CExprKind-F.Two op left right) scope memory = two_values op left right scope memory
 
 -- the result of a call: its arguments are evaluated, then the function is called
@@ -201,12 +201,12 @@ expr_step expr = expr.what
 -- an index: the element that it chooses, a trap outside of the array
 abbrev pub index_step : Evaluating CIndex-F → Evaluates (List Projection)
 index_step index scope memory =
-    next (index.at scope memory) (λ i. given (element_at (index_within (number_in i) (pos index.length))))
+    next (index.at scope memory) (λ i. given (element_projection (index_within (scalar_number i) (pos index.length))))
 
 -- the location of a place: where its name leads, and then along its steps
 abbrev pub place_step : Evaluating CPlace-F → Evaluates Location
 place_step place scope memory =
-    next (each_of place.steps scope memory) (λ ways. given (Some (further (start_of scope place.through place.name) (way_of ways))))
+    next (each_of place.steps scope memory) (λ ways. given (Some (further (named_location scope place.through place.name) (way_of ways))))
 
 -- a member, and the element of it where there is an index
 abbrev pub indexed : Text → Option (Evaluates (List Projection)) → Evaluates (List Projection)
@@ -256,7 +256,7 @@ call_outcome c = record { memory = c.memory; end = call_end c.result; count = 1 
 abbrev pub once_more : Evaluates CValue → Scope → (Memory → Outcome Memory) → Memory → Outcome Memory
 once_more condition scope turn memory =
     let c = condition scope memory in
-    ended_by memory c.count c.answer (λ v. turn_or_none (is_one (number_in v)) memory turn)
+    ended_by memory c.count c.answer (λ v. turn_or_none (is_one (scalar_number v)) memory turn)
 
 -- one step of the fold for statements
 abbrev pub stmt_kind_step : CStmtKind-F CStmtMeaning CStmtMeaning → CStmtMeaning
@@ -266,13 +266,13 @@ stmt_kind_step (CStmtKind-F.Clear place name) scope memory =
     executed memory (location_c place scope memory) (λ p. going (set_at memory p zeros))
 stmt_kind_step (CStmtKind-F.Call call) scope memory = call_outcome (call_c call scope memory)
 stmt_kind_step (CStmtKind-F.If condition block other) scope memory =
-    executed memory (value_c condition scope memory) (λ v. (if is_one (number_in v) then block_of block else block_of (unwrap_or other [])) scope memory)
+    executed memory (value_c condition scope memory) (λ v. (if is_one (scalar_number v) then block_of block else block_of (unwrap_or other [])) scope memory)
 stmt_kind_step (CStmtKind-F.Loop name condition body) scope memory =
-    after 1 (turns turn_limit (once_more (value_c condition) scope) (block_of body scope) memory)
+    after_statements 1 (loop_with_turns turn_limit (once_more (value_c condition) scope) (block_of body scope) memory)
 stmt_kind_step CStmtKind-F.Break scope memory = record { memory = memory; end = breaks; count = 1 }
 stmt_kind_step (CStmtKind-F.Return None) scope memory = record { memory = memory; end = returns (pos 0); count = 1 }
 stmt_kind_step (CStmtKind-F.Return (Some expr)) scope memory =
-    executed memory (value_c expr scope memory) (λ v. ending (returns (number_in v)) memory)
+    executed memory (value_c expr scope memory) (λ v. ending (returns (scalar_number v)) memory)
 
 -- the effect of a statement is that of its form
 abbrev pub stmt_step : CStmt-F CStmtMeaning CStmtMeaning → CStmtMeaning

@@ -70,8 +70,8 @@ scalar n [] = n
 scalar n (p ∷ ps) = pos 0
 
 -- the number of a scalar
-abbrev pub number_in : CValue → ℤ
-number_in value = value []
+abbrev pub scalar_number : CValue → ℤ
+scalar_number value = value []
 
 -- each number 0, each bool false
 abbrev pub zeros : CValue

@@ -15,8 +15,8 @@ abbrev pub object : Root → ArgumentValue
 object root = by_address (record { root = root; parts = [] })
 
 -- a call of a function of the file, from outside
-unfoldable pub entered : Parts → Text → List ArgumentValue → Memory → CallResult
-entered file name passed memory = applied (found name (meanings file.funcs)) 0 passed memory
+unfoldable pub call_from_outside : Parts → Text → List ArgumentValue → Memory → CallResult
+call_from_outside file name passed memory = applied (found name (meanings file.funcs)) 0 passed memory
 
 -- the reply of a tick
 pub data Reply : Type 0 where
@@ -53,16 +53,16 @@ tick_of file c = record {
 -- one tick: the cells have these numbers, the inputs are set to those of the row, and `bl_tick` is called
 unfoldable pub tick_c : Parts → List ℤ → List ℤ → TickOfFile
 tick_c file cells ins =
-    tick_of file (entered file (codes "bl_tick") (object state_object ∷ object input_object ∷ object output_object ∷ [])
+    tick_of file (call_from_outside file (codes "bl_tick") (object state_object ∷ object input_object ∷ object output_object ∷ [])
     (with_inputs (ports_of (codes "bl_in") file) ins (memory_of (cells_of file) cells)))
 
 -- the start: `bl_init` is called where everything is 0
 unfoldable pub started : Parts → CallResult
-started file = entered file (codes "bl_init") (object state_object ∷ []) cleared
+started file = call_from_outside file (codes "bl_init") (object state_object ∷ []) cleared
 
 -- whether the start doesn't trap
-abbrev pub starts : Parts → Bool
-starts file = is_some (started file).result
+abbrev pub start_succeeds : Parts → Bool
+start_succeeds file = is_some (started file).result
 
 -- the numbers of all cells after the start, also where it has trapped
 abbrev pub start_cells : Parts → List ℤ
@@ -75,7 +75,7 @@ cells_if true cells = Some cells
 
 -- the numbers of the cells before the first tick: none where the start traps
 abbrev pub start_c : Parts → Option (List ℤ)
-start_c file = cells_if (starts file) (start_cells file)
+start_c file = cells_if (start_succeeds file) (start_cells file)
 
 -- the trace that begins with a tick, where `rest` is that of the further ticks
 abbrev pub traced : Reply → List ℤ → Trace → Trace

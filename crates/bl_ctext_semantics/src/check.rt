@@ -3,7 +3,7 @@
 
 ghost use Rattle.std.specs.Prelude.{◌≡◌, ◌&&◌, codes, IfErr, IfOk, is_some, OnOk};
 ghost use Rattle.bl_ctext_semantics.specs.Cause.{IsCause};
-ghost use Rattle.bl_ctext_semantics.specs.inner.Checked.{structs_of};
+ghost use Rattle.bl_ctext_semantics.specs.inner.Checked.{checked_structs};
 ghost use Rattle.bl_ctext_semantics.specs.Faults.{WellFormed, first_fault};
 ghost use Rattle.bl_ctext_semantics.specs.Parts.{parts_from, parts_of};
 ghost use Rattle.bl_ctext_semantics.specs.Saturated.{saturated};
@@ -48,8 +48,8 @@ pub enum CheckFault {
 }
 
 fn has_interface(structs: &Structs<'_>) -> bool
-    ensures { result ≡ (is_some (structs_of structs.now (codes "bl_state"))
-        && (is_some (structs_of structs.now (codes "bl_in")) && is_some (structs_of structs.now (codes "bl_out")))) }
+    ensures { result ≡ (is_some (checked_structs structs.now (codes "bl_state"))
+        && (is_some (checked_structs structs.now (codes "bl_in")) && is_some (checked_structs structs.now (codes "bl_out")))) }
 {
     let ports = both(has_struct(structs, "bl_in"), has_struct(structs, "bl_out"));
     both(has_struct(structs, "bl_state"), ports)

@@ -2,7 +2,7 @@
 
 ghost use Rattle.std.specs.Prelude.{◌≡◌, is_some, List, OnOk, ℕ};
 ghost use Rattle.std.specs.Option.{option_or};
-ghost use Rattle.bl_ctext_semantics.specs.inner.Maps.{named, text_at};
+ghost use Rattle.bl_ctext_semantics.specs.inner.Maps.{named_entries, text_at};
 ghost use Rattle.bl_ctext_semantics.specs.Tables.{entry_or, found, with_entry};
 
 use bl_tree::NoMemory;
@@ -48,7 +48,7 @@ pub fn fill<'a, V: Copy>(
     map: &mut HashMap<&'a str, V>,
     entries: &[(&'a str, V)],
 ) -> Result<(), NoMemory>
-    ensures { OnOk result ((asked : List ℕ) → text_at map.new asked ≡ option_or (text_at map.old asked) (found asked (named entries.now))) }
+    ensures { OnOk result ((asked : List ℕ) → text_at map.new asked ≡ option_or (text_at map.old asked) (found asked (named_entries entries.now))) }
 {
     for (name, value) in entries {
         add(map, name, *value)?;

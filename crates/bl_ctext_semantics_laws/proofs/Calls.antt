@@ -7,7 +7,7 @@ use Rattle.bl_ctext.specs.declared.builtin.Builtin.{Builtin}
 use Rattle.bl_ctext.specs.declared.builtin.Builtin.TheVariants.{Two, One, Cast, Index, Turn, Stop}
 use Rattle.bl_ctext_semantics.specs.Builtin.{builtin_of, builtin_params, builtin_result, builtin_value}
 use Rattle.bl_ctext_semantics.specs.Memory.{Root, variable, Memory}
-use Rattle.bl_ctext_semantics.specs.Meaning.{ArgumentValue, CallResult, Counted, Scope, applied as applied_c, called as called_c, called_after}
+use Rattle.bl_ctext_semantics.specs.Meaning.{ArgumentValue, CallResult, Counted, Scope, applied as applied_c, called_after, named_call as called_c}
 use Rattle.bl_ctext_semantics.specs.Meaning.{called_as as called_as_c, number_of_passed}
 use Rattle.bl_ctext_semantics.specs.Sizes.{Sizes}
 use Rattle.bl_ctext_semantics.specs.Tables.{Table, entry_or}
@@ -16,7 +16,8 @@ use Rattle.bl_tree.specs.Ports.{in_ranges}
 use Rattle.bl_ctext_semantics_laws.proofs.Results.{builtin-typed, builtins-fit}
 use Rattle.bl_ctext_semantics_laws.specs.Layout.{capped}
 use Rattle.bl_ctext_semantics_laws.specs.Reaching.{Ground}
-use Rattle.bl_ctext_semantics_laws.specs.Flat.{Cells, FlatAnswer, Routine, applied, called, called_as, flat_answer, going_on, is_typed, next, prelude_value}
+use Rattle.bl_ctext_semantics_laws.specs.Flat.{Cells, FlatAnswer, Routine, applied, called_as, flat_answer, flat_call, flat_next, going_on, is_typed}
+use Rattle.bl_ctext_semantics_laws.specs.Flat.{prelude_value}
 use Rattle.bl_ctext_semantics_laws.proofs.Lists.{and-both}
 use Rattle.bl_ctext_semantics_laws.proofs.Ways.{Lists, Shaped, Structs}
 use Rattle.bl_ctext_semantics_laws.proofs.Standing.{Stand, Stands, World}
@@ -177,13 +178,13 @@ module _ (known : Sizes) (lists : Lists) (structs : Structs) (shaped : Shaped kn
       (a : Option (List ArgumentValue)) (b : Option (List ℤ)) →
       n ≡ k → Stood cells → Matches (Passing js) a b →
       is_some signature ≡ true →
-      ((vs : List ArgumentValue) (ns : List ℤ) → Passing js vs ns → CallFacts signature (called_c scope name vs memory) (called ground name base ns cells)) →
-      CallFacts signature (called_after scope memory name n a) (going_on cells k b (λ after args. called ground name base args after))
+      ((vs : List ArgumentValue) (ns : List ℤ) → Passing js vs ns → CallFacts signature (called_c scope name vs memory) (flat_call ground name base ns cells)) →
+      CallFacts signature (called_after scope memory name n a) (going_on cells k b (λ after args. flat_call ground name base args after))
   after-args name signature js n k cells None None same stood h there go = trapped-facts signature n k cells same there stood
   after-args name signature js n k cells None (Some b) same stood h there go = absurd h
   after-args name signature js n k cells (Some a) None same stood h there go = absurd h
   after-args name signature js n k cells (Some vs) (Some ns) same stood h there go =
-      later-facts signature n k (called_c scope name vs memory) (called ground name base ns cells) same (go vs ns h)
+      later-facts signature n k (called_c scope name vs memory) (flat_call ground name base ns cells) same (go vs ns h)
 
   -- a call
   pub call-agrees : (name : Text) (signature : Option Signature) (js : List JudgedArg) (c : Counted (List ArgumentValue)) (l : FlatAnswer (List ℤ)) →
@@ -191,7 +192,7 @@ module _ (known : Sizes) (lists : Lists) (structs : Structs) (shaped : Shaped kn
       is_some signature ≡ true → fit_args signature js ≡ true → ((s : Signature) → context.functions name ≡ Some s → s.widens ≡ false) →
       w.top + entry_or 0 chains name ≤ limit →
       Agree known lists structs shaped limit w memory (Passing js) c l →
-      CallFacts signature (called_after scope memory name c.count c.answer) (next l (λ after args. called ground name base args after))
+      CallFacts signature (called_after scope memory name c.count c.answer) (flat_next l (λ after args. flat_call ground name base args after))
   call-agrees name signature js c l signed there fit plain room agrees =
       after-args name signature js c.count l.count l.cells c.answer l.answer agrees.count agrees.stands agrees.answer there
       (λ vs ns passes. called-agrees name signature js vs ns l.cells (builtin_of name) refl signed there fit plain room passes agrees.stands)

@@ -41,12 +41,12 @@ use Rattle.bl_tree.specs.Numbers.{is_one}
 use Rattle.bl_tree.specs.Reduce.{any_of, joined}
 use Rattle.bl_ctext.specs.declared.builtin.Builtin.{Builtin}
 use Rattle.bl_ctext_semantics.specs.Builtin.{builtin_of}
-use Rattle.bl_ctext_semantics.specs.Memory.{Projection, Root, variable, Location, CValue, Memory, number_in, same_root, set_at, with_part, zeros}
-use Rattle.bl_ctext_semantics.specs.Course.{End, Outcome, after, breaks, ended_by, ending, following_end, goes_on, going, returns, traps, turn_end}
-use Rattle.bl_ctext_semantics.specs.Course.{turn_limit, turn_or_none, turns}
+use Rattle.bl_ctext_semantics.specs.Memory.{Projection, Root, variable, Location, CValue, Memory, scalar_number, same_root, set_at, with_part, zeros}
+use Rattle.bl_ctext_semantics.specs.Course.{End, Outcome, breaks, ended_by, ending, following_end, goes_on, going, returns, traps, turn_end}
+use Rattle.bl_ctext_semantics.specs.Course.{loop_with_turns, turn_limit, turn_or_none}
 use Rattle.bl_ctext_semantics.specs.Meaning.{Counted, Evaluates, Meaning, ArgumentValue, by_address, by_value, Scope}
 use Rattle.bl_ctext_semantics.specs.Meaning.{CStmtMeaning, block_c, block_of, call_c, called_after, called_as, each_of, executed}
-use Rattle.bl_ctext_semantics.specs.Meaning.{further, given, going_on, location_c, next, once_more, runs_c, start_of, value_c, way_of}
+use Rattle.bl_ctext_semantics.specs.Meaning.{further, given, going_on, location_c, named_location, next, once_more, runs_c, value_c, way_of}
 use Rattle.bl_ctext_semantics.specs.Faults.{Context, JudgedArg, Signature, agree, arguments, assigned_type, block_faults, changes_nothing, condition_faults}
 use Rattle.bl_ctext_semantics.specs.Faults.{declared_before, faults_in_stmt, fit_args, hands_on, judged_arg, judged_call, judged_expr, judged_place}
 use Rattle.bl_ctext_semantics.specs.Faults.{signature_as, signature_of, unless}
@@ -96,11 +96,11 @@ module _ (safe : Root → Bool) where
   LeadsAll (Some passed) = Unsafe safe passed
 
   module _ (context : Context) (scope : Scope) (own : Ends safe scope.depth)
-      (pointers : context.keeps ≡ false → (name : Text) (l : Location) → scope.pointers name ≡ Some l → safe l.root ≡ false)
+      (pointers : context.is_read_only ≡ false → (name : Text) (l : Location) → scope.pointers name ≡ Some l → safe l.root ≡ false)
       (functions : (name : Text) (s : Signature) (meaning : Meaning) → context.functions name ≡ Some s →
       scope.known name ≡ Some meaning → Keeps meaning s)
     where
-      start-leads : (through : Bool) (name : Text) → (context.keeps && through) ≡ false → safe (start_of scope through name).root ≡ false
+      start-leads : (through : Bool) (name : Text) → (context.is_read_only && through) ≡ false → safe (named_location scope through name).root ≡ false
       start-leads false name h = own scope.depth name (omega arith)
       start-leads true name h = chosen (scope.pointers name) refl
         where
@@ -111,26 +111,27 @@ module _ (safe : Root → Bool) where
           chosen : (o : Option Location) → scope.pointers name ≡ o →
               safe (unwrap_or o (record { root = variable scope.depth name; parts = [] })).root ≡ false
           chosen None is = own scope.depth name (omega arith)
-          chosen (Some l) is = pointers (plain context.keeps h) name l is
+          chosen (Some l) is = pointers (plain context.is_read_only h) name l is
 
       abbrev Nothing : {X : Type 0} → X → Type 0
       Nothing x = Unit {0}
 
       abbrev OfPlace : CPlace → Type 0
-      OfPlace p = (at : Place) → (context.keeps && (judged_place p context at).through) ≡ false → (memory : Memory) →
+      OfPlace p = (at : Place) → (context.is_read_only && (judged_place p context at).through) ≡ false → (memory : Memory) →
           Leads (location_c p scope memory).answer
 
       abbrev OfArg : CArg → Type 0
-      OfArg a = (at : Place) → (context.keeps && ((judged_arg a context at).address && (judged_arg a context at).through)) ≡ false → (memory : Memory) →
+      OfArg a = (at : Place) → (context.is_read_only && ((judged_arg a context at).address && (judged_arg a context at).through)) ≡ false → (memory : Memory) →
           LeadsArg (arg_c a scope memory).answer
 
       abbrev OfCall : CCall → Type 0
       OfCall c = (at : Place) → (judged_call c context at).faults ≡ [] → (memory : Memory) → Stays memory (call_c c scope memory).memory
 
-      place-leads : (through : Bool) (name : Text) (ways : Counted (List (List Projection))) → (context.keeps && through) ≡ false →
-          Leads (next ways (λ w. given (Some (further (start_of scope through name) (way_of w))))).answer
+      place-leads : (through : Bool) (name : Text) (ways : Counted (List (List Projection))) → (context.is_read_only && through) ≡ false →
+          Leads (next ways (λ w. given (Some (further (named_location scope through name) (way_of w))))).answer
       place-leads through name ways h =
-          next-so Leads ways.count ways.answer (λ w. given (Some (further (start_of scope through name) (way_of w)))) tt (λ w is. start-leads through name h)
+          next-so Leads ways.count ways.answer (λ w. given (Some (further (named_location scope through name) (way_of w)))) tt
+          (λ w is. start-leads through name h)
 
       value-leads : (v : Counted CValue) → LeadsArg (next v (λ x. given (Some (by_value x)))).answer
       value-leads v = next-so LeadsArg v.count v.answer (λ x. given (Some (by_value x))) tt (λ x is. tt)
@@ -142,25 +143,25 @@ module _ (safe : Root → Bool) where
       abbrev Handed : List JudgedArg → Bool
       Handed js = any_of (map (λ a. a.address && a.through) js)
 
-      no-first : (keeps a b : Bool) → (keeps && (a || b)) ≡ false → (keeps && a) ≡ false
+      no-first : (is_read_only a b : Bool) → (is_read_only && (a || b)) ≡ false → (is_read_only && a) ≡ false
       no-first true true b h = cc
       no-first true false b h = refl
       no-first false a b h = refl
 
-      no-rest : (keeps a b : Bool) → (keeps && (a || b)) ≡ false → (keeps && b) ≡ false
+      no-rest : (is_read_only a b : Bool) → (is_read_only && (a || b)) ≡ false → (is_read_only && b) ≡ false
       no-rest true true b h = cc
       no-rest true false b h = h
       no-rest false a b h = refl
 
       args-lead : (args : List CArg) → All OfArg args → (at : Place) →
-          (context.keeps && Handed (map (λ judge. judge context at) (map judged_arg args))) ≡ false → (memory : Memory) →
+          (context.is_read_only && Handed (map (λ judge. judge context at) (map judged_arg args))) ≡ false → (memory : Memory) →
           LeadsAll (each_of (map arg_c args) scope memory).answer
       args-lead [] h at none memory = tt
       args-lead (a ∷ args) h at none memory =
-          let first = All-head OfArg a args h at (no-first context.keeps ((judged_arg a context at).address && (judged_arg a context at).through) _ none) memory
+          let first = All-head OfArg a args h at (no-first context.is_read_only ((judged_arg a context at).address && (judged_arg a context at).through) _ none) memory
           in
           let rest = args-lead args (All-tail OfArg a args h) at
-          (no-rest context.keeps ((judged_arg a context at).address && (judged_arg a context at).through) _ none) memory in
+          (no-rest context.is_read_only ((judged_arg a context at).address && (judged_arg a context at).through) _ none) memory in
           next-so LeadsAll (arg_c a scope memory).count (arg_c a scope memory).answer
           (λ x. next (each_of (map arg_c args) scope memory) (λ others. given (Some (x ∷ others)))) tt
           (λ x is. next-so LeadsAll (each_of (map arg_c args) scope memory).count (each_of (map arg_c args) scope memory).answer
@@ -192,8 +193,8 @@ module _ (safe : Root → Bool) where
           called-stays name s passed memory (builtin_of name) (scope.known name) refl refl (signed (builtin_of name) (context.functions name) s is) handed root
           safe-root
 
-      void-handed : (keeps : Bool) (r : Option Scalar) (handed : Bool) → not (keeps && (is_none r && handed)) ≡ true → is_some r ≡ false →
-          (keeps && handed) ≡ false
+      void-handed : (is_read_only : Bool) (r : Option Scalar) (handed : Bool) → not (is_read_only && (is_none r && handed)) ≡ true → is_some r ≡ false →
+          (is_read_only && handed) ≡ false
       void-handed false r handed h k = refl
       void-handed true None handed h k = falsely handed h
       void-handed true (Some t) handed h k = cc
@@ -202,30 +203,30 @@ module _ (safe : Root → Bool) where
           unless (is_some (signature_of context name)) declared_before at
           ++ (joined (map (λ a. a.faults) (map (λ judge. judge context at) (map judged_arg args)))
           ++ (unless (fit_args (signature_of context name) (map (λ judge. judge context at) (map judged_arg args))) arguments at
-          ++ unless (not (context.keeps && hands_on (signature_of context name) (map (λ judge. judge context at) (map judged_arg args)))) changes_nothing at))
+          ++ unless (not (context.is_read_only && hands_on (signature_of context name) (map (λ judge. judge context at) (map judged_arg args)))) changes_nothing at))
           ≡ [] →
           (memory : Memory) → Stays memory
           (called_after scope memory name (each_of (map arg_c args) scope memory).count (each_of (map arg_c args) scope memory).answer).memory
       calling-stays name args h at none memory =
           chosen (signature_of context name) refl (unless-nil (is_some (signature_of context name)) declared_before at (nil-left _ _ none)) quiet
         where
-          quiet : not (context.keeps && hands_on (signature_of context name) (map (λ judge. judge context at) (map judged_arg args))) ≡ true
+          quiet : not (context.is_read_only && hands_on (signature_of context name) (map (λ judge. judge context at) (map judged_arg args))) ≡ true
           quiet =
               let h2 = nil-right (joined (map (λ a. a.faults) (map (λ judge. judge context at) (map judged_arg args)))) _
               (nil-right (unless (is_some (signature_of context name)) declared_before at) _ none) in
-              unless-nil (not (context.keeps && hands_on (signature_of context name) (map (λ judge. judge context at) (map judged_arg args)))) changes_nothing
+              unless-nil (not (context.is_read_only && hands_on (signature_of context name) (map (λ judge. judge context at) (map judged_arg args)))) changes_nothing
               at
               (nil-right (unless (fit_args (signature_of context name) (map (λ judge. judge context at) (map judged_arg args))) arguments at) _ h2)
 
           chosen : (o : Option Signature) → signature_of context name ≡ o → is_some o ≡ true →
-              not (context.keeps && hands_on (signature_of context name) (map (λ judge. judge context at) (map judged_arg args))) ≡ true →
+              not (context.is_read_only && hands_on (signature_of context name) (map (λ judge. judge context at) (map judged_arg args))) ≡ true →
               Stays memory (called_after scope memory name (each_of (map arg_c args) scope memory).count (each_of (map arg_c args) scope memory).answer).memory
           chosen None is there q = cc
           chosen (Some s) is there q =
               after-stays name s (each_of (map arg_c args) scope memory).count (each_of (map arg_c args) scope memory).answer memory is
               (λ void. args-lead args h at
-              (void-handed context.keeps s.result (Handed (map (λ judge. judge context at) (map judged_arg args)))
-              (subst (λ o. not (context.keeps && hands_on o (map (λ judge. judge context at) (map judged_arg args))) ≡ true) is q) void) memory)
+              (void-handed context.is_read_only s.result (Handed (map (λ judge. judge context at) (map judged_arg args)))
+              (subst (λ o. not (context.is_read_only && hands_on o (map (λ judge. judge context at) (map judged_arg args))) ≡ true) is q) void) memory)
 
       effect_cases : ExprCases OfArg Nothing OfCall Nothing Nothing OfPlace Nothing
       effect_cases = record {
@@ -286,19 +287,21 @@ module _ (safe : Root → Bool) where
       turn-stays false memory turn h = itself memory
 
       turns-stay : (n : ℕ) (condition : Evaluates CValue) (body : CStmtMeaning) → ((m : Memory) → Stays m (body scope m).memory) → (memory : Memory) →
-          Stays memory (turns n (once_more condition scope) (body scope) memory).memory
-      unfolding turns
+          Stays memory (loop_with_turns n (once_more condition scope) (body scope) memory).memory
+      unfolding loop_with_turns
       turns-stay zero condition body h memory =
           ended-stays memory memory (condition scope memory).count (condition scope memory).answer
-          (λ v. turn_or_none (is_one (number_in v)) memory (λ m. record { memory = m; end = traps; count = 0 })) (itself memory)
-          (λ v is. turn-stays (is_one (number_in v)) memory (λ m. record { memory = m; end = traps; count = 0 }) (itself memory))
+          (λ v. turn_or_none (is_one (scalar_number v)) memory (λ m. record { memory = m; end = traps; count = 0 })) (itself memory)
+          (λ v is. turn-stays (is_one (scalar_number v)) memory (λ m. record { memory = m; end = traps; count = 0 }) (itself memory))
       turns-stay (suc n) condition body h memory =
           ended-stays memory memory (condition scope memory).count (condition scope memory).answer
-          (λ v. turn_or_none (is_one (number_in v)) memory
-          (λ m. turn_end (body scope m).count (body scope m).memory (body scope m).end (turns n (once_more condition scope) (body scope)))) (itself memory)
-          (λ v is. turn-stays (is_one (number_in v)) memory
-          (λ m. turn_end (body scope m).count (body scope m).memory (body scope m).end (turns n (once_more condition scope) (body scope)))
-          (turn-end-stays memory (body scope memory).count (body scope memory).memory (body scope memory).end (turns n (once_more condition scope) (body scope))
+          (λ v. turn_or_none (is_one (scalar_number v)) memory
+          (λ m. turn_end (body scope m).count (body scope m).memory (body scope m).end (loop_with_turns n (once_more condition scope) (body scope))))
+          (itself memory)
+          (λ v is. turn-stays (is_one (scalar_number v)) memory
+          (λ m. turn_end (body scope m).count (body scope m).memory (body scope m).end (loop_with_turns n (once_more condition scope) (body scope)))
+          (turn-end-stays memory (body scope memory).count (body scope memory).memory (body scope memory).end
+          (loop_with_turns n (once_more condition scope) (body scope))
           (h memory)
           (turns-stay n condition body h (body scope memory).memory)))
 
@@ -312,9 +315,9 @@ module _ (safe : Root → Bool) where
           (All-head OfStmt s stmts h looped (nil-left _ _ none) memory)
           (block-stays stmts (All-tail OfStmt s stmts h) looped (nil-right (faults_in_stmt s context looped) _ none) (runs_c s scope memory).memory)
 
-      place-unsafe : (p : CPlace) (at : Place) → not (context.keeps && (judged_place p context at).through) ≡ true → (memory : Memory) (l : Location) →
+      place-unsafe : (p : CPlace) (at : Place) → not (context.is_read_only && (judged_place p context at).through) ≡ true → (memory : Memory) (l : Location) →
           (location_c p scope memory).answer ≡ Some l → safe l.root ≡ false
-      place-unsafe p at quiet memory l is = subst Leads is (place-changes p at (falsely (context.keeps && (judged_place p context at).through) quiet) memory)
+      place-unsafe p at quiet memory l is = subst Leads is (place-changes p at (falsely (context.is_read_only && (judged_place p context at).through) quiet) memory)
 
       written-so : (memory : Memory) (l : Location) (n : ℕ) (a : Option CValue) (after : Memory) → safe l.root ≡ false →
           (going_on n a (λ v. given (Some (set_at memory l v)))).answer ≡ Some after → Stays memory after
@@ -333,13 +336,13 @@ module _ (safe : Root → Bool) where
       set-case : (at : Place) (p : CPlace) (e : CExpr) →
           (judged_place p context at).faults
           ++ ((judged_expr e context).faults ++ (unless (agree (judged_place p context at).ty (judged_expr e context).ty) assigned_type at
-          ++ unless (not (context.keeps && (judged_place p context at).through)) changes_nothing at)) ≡ [] →
+          ++ unless (not (context.is_read_only && (judged_place p context at).through)) changes_nothing at)) ≡ [] →
           (memory : Memory) → Stays memory
           (executed memory (next (location_c p scope memory) (λ l. next (value_c e scope memory) (λ v. given (Some (set_at memory l v))))) going).memory
       set-case at p e none memory =
           let h1 = nil-right (judged_place p context at).faults _ none in
           let h2 = nil-right (judged_expr e context).faults _ h1 in
-          let quiet = unless-nil (not (context.keeps && (judged_place p context at).through)) changes_nothing at
+          let quiet = unless-nil (not (context.is_read_only && (judged_place p context at).through)) changes_nothing at
           (nil-right (unless (agree (judged_place p context at).ty (judged_expr e context).ty) assigned_type at) _ h2) in
           ended-stays memory memory (1 + (next (location_c p scope memory)
           (λ l. next (value_c e scope memory) (λ v. given (Some (set_at memory l v))))).count)
@@ -351,12 +354,12 @@ module _ (safe : Root → Bool) where
           (judged_place p context at).faults
           ++ (unless (is_some (context.structs name)) declared_before at
           ++ (unless (agree (judged_place p context at).ty (Some (OfStruct name))) assigned_type at
-          ++ unless (not (context.keeps && (judged_place p context at).through)) changes_nothing at)) ≡ [] →
+          ++ unless (not (context.is_read_only && (judged_place p context at).through)) changes_nothing at)) ≡ [] →
           (memory : Memory) → Stays memory (executed memory (location_c p scope memory) (λ l. going (set_at memory l zeros))).memory
       clear-case at p name none memory =
           let h1 = nil-right (judged_place p context at).faults _ none in
           let h2 = nil-right (unless (is_some (context.structs name)) declared_before at) _ h1 in
-          let quiet = unless-nil (not (context.keeps && (judged_place p context at).through)) changes_nothing at
+          let quiet = unless-nil (not (context.is_read_only && (judged_place p context at).through)) changes_nothing at
           (nil-right (unless (agree (judged_place p context at).ty (Some (OfStruct name))) assigned_type at) _ h2) in
           ended-stays memory memory (1 + (location_c p scope memory).count) (location_c p scope memory).answer (λ l. going (set_at memory l zeros))
           (itself memory)
@@ -369,11 +372,11 @@ module _ (safe : Root → Bool) where
 
       if-stays : (e : CExpr) (block other : CStmtMeaning) (memory : Memory) → Stays memory (block scope memory).memory →
           Stays memory (other scope memory).memory →
-          Stays memory (executed memory (value_c e scope memory) (λ v. (if is_one (number_in v) then block else other) scope memory)).memory
+          Stays memory (executed memory (value_c e scope memory) (λ v. (if is_one (scalar_number v) then block else other) scope memory)).memory
       if-stays e block other memory h k =
           ended-stays memory memory (1 + (value_c e scope memory).count) (value_c e scope memory).answer
-          (λ v. (if is_one (number_in v) then block else other) scope memory) (itself memory)
-          (λ v is. choose-stays (is_one (number_in v)) block other memory h k)
+          (λ v. (if is_one (scalar_number v) then block else other) scope memory) (itself memory)
+          (λ v is. choose-stays (is_one (scalar_number v)) block other memory h k)
 
       branching-case : (at : Place) (e : CExpr) (block : List CStmt) (other : Option (List CStmt)) → All OfStmt block → Optional (All OfStmt) other →
           OfStmt (stmt at (CStmtKind-F.If e block other))
@@ -396,7 +399,7 @@ module _ (safe : Root → Bool) where
       returning-case at None looped none memory = rw (fold-roll-CStmt, fold-roll-CStmtKind) (itself memory)
       returning-case at (Some e) looped none memory =
           rw (fold-roll-CStmt, fold-roll-CStmtKind)
-          (ended-stays memory memory (1 + (value_c e scope memory).count) (value_c e scope memory).answer (λ v. ending (returns (number_in v)) memory)
+          (ended-stays memory memory (1 + (value_c e scope memory).count) (value_c e scope memory).answer (λ v. ending (returns (scalar_number v)) memory)
           (itself memory)
           (λ v is. itself memory))
 

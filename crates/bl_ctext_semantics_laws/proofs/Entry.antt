@@ -38,13 +38,13 @@ use Rattle.bl_tree.specs.Reduce.{all_of}
 use Rattle.bl_tree.specs.Scalar.{in_range}
 use Rattle.bl_ctext.specs.Spellable.{has_any, is_spellable, spells_func, spells_struct}
 use Rattle.bl_ctext_semantics.specs.Cells.{Cell, Inner, cells_at, cells_of, inner_of, numbers_of}
-use Rattle.bl_ctext_semantics.specs.Memory.{Projection, Root, state_object, input_object, output_object, variable, CValue, Memory, left_after, number_in}
+use Rattle.bl_ctext_semantics.specs.Memory.{Projection, Root, state_object, input_object, output_object, variable, CValue, Memory, left_after, scalar_number}
 use Rattle.bl_ctext_semantics.specs.Memory.{same_root, value_at}
 use Rattle.bl_ctext_semantics.specs.Meaning.{ArgumentValue, applied as applied_c, meanings}
 use Rattle.bl_ctext_semantics.specs.Parts.{Parts}
 use Rattle.bl_ctext_semantics.specs.Sizes.{Sizes, cells_needed, chains_after, size_of_type, sizes}
 use Rattle.bl_ctext_semantics.specs.Tables.{found, no_entries}
-use Rattle.bl_ctext_semantics.specs.Trace.{entered, object}
+use Rattle.bl_ctext_semantics.specs.Trace.{call_from_outside, object}
 use Rattle.bl_ctext_semantics.specs.Faults.{WellFormed, faults_in, function_faults_after, init_params, interface_structs, last_place, points_to}
 use Rattle.bl_ctext_semantics.specs.Faults.{signature_in, struct_faults_after, struct_table, tick_params, unless}
 use Rattle.bl_ctext_semantics.proofs.EndLemmas.{nil-left, nil-right}
@@ -93,7 +93,7 @@ cells-length root (i ∷ is) memory = ap suc (cells-length root is memory)
 
 numbers-append : (xs ys : List Cell) (memory : Memory) → numbers_of (xs ++ ys) memory ≡ numbers_of xs memory ++ numbers_of ys memory
 numbers-append [] ys memory = refl
-numbers-append (x ∷ xs) ys memory = ap (λ l. number_in (value_at memory x.location) ∷ l) (numbers-append xs ys memory)
+numbers-append (x ∷ xs) ys memory = ap (λ l. scalar_number (value_at memory x.location) ∷ l) (numbers-append xs ys memory)
 
 pub numbers-length : (cells : List Cell) (memory : Memory) → length (numbers_of cells memory) ≡ length cells
 numbers-length [] memory = refl
@@ -465,8 +465,8 @@ module _ (file : Parts) (formed : WellFormed file) where
           PassedAll (sizes file.structs) (lists_of file.structs) (struct_table file.structs) shaped (cells_needed file) objects memory (signature_in g).params
           passed args →
           CallAgrees (sizes file.structs) (lists_of file.structs) (struct_table file.structs) shaped (cells_needed file) objects (signature_in g).result
-          (entered file name passed memory) (entered_flat file name args cells)
-      unfolding entered entered_flat
+          (call_from_outside file name passed memory) (entered_flat file name args cells)
+      unfolding call_from_outside entered_flat
       call-from name g passed args there memory cells stands passes =
           let f = found-as name g there in
           let l = f.least in
@@ -483,10 +483,11 @@ module _ (file : Parts) (formed : WellFormed file) where
           cells_needed file ≤ length (numbers_of (cells_of file) memory ++ others) →
           PassedAll (sizes file.structs) (lists_of file.structs) (struct_table file.structs) shaped (cells_needed file) objects memory (signature_in g).params
           passed args →
-          SameCall file (entered file name passed memory) (entered_flat file name args (numbers_of (cells_of file) memory ++ others))
+          SameCall file (call_from_outside file name passed memory) (entered_flat file name args (numbers_of (cells_of file) memory ++ others))
       same-call name g passed args there memory others all room passes =
           let agree = call-from name g passed args there memory (numbers_of (cells_of file) memory ++ others) (begins-standing memory others all room) passes in
-          let ended = ends-standing (entered file name passed memory).memory (entered_flat file name args (numbers_of (cells_of file) memory ++ others)).cells
+          let ended = ends-standing (call_from_outside file name passed memory).memory
+          (entered_flat file name args (numbers_of (cells_of file) memory ++ others)).cells
           agree.stands in
           record { count = agree.count; answer = agree.answer; cells = ended.0; room = agree.stands.room; fits = ended.1 }
 

@@ -3,7 +3,7 @@ use Rattle.std.proofs.Common.{◌≡◌, ℕ, ◌+◌, ℤ, List, [], ◌∷◌,
 use Rattle.bl_ctext_semantics.specs.Memory.{Memory}
 use Rattle.bl_ctext_semantics.specs.Meaning.{Counted, given, going_on as going_on_c, next as next_c}
 use Rattle.bl_ctext_semantics.specs.Sizes.{Sizes}
-use Rattle.bl_ctext_semantics_laws.specs.Flat.{Cells, Evaluates, FlatAnswer, address_along, element_address, flat_answer, going_on, more, next}
+use Rattle.bl_ctext_semantics_laws.specs.Flat.{Cells, Evaluates, FlatAnswer, address_along, element_address, flat_answer, flat_next, going_on, more}
 use Rattle.bl_ctext_semantics_laws.specs.Reaching.{Term}
 use Rattle.bl_ctext_semantics_laws.proofs.Ways.{Lists, Shaped, Structs}
 use Rattle.bl_ctext_semantics_laws.proofs.Standing.{Stands, World}
@@ -29,20 +29,20 @@ going-inner n k cells None g = refl
 going-inner n k cells (Some a) g = more-twice n k (g cells a)
 
 going-assoc : {A B C : Type 0} (n : ℕ) (cells : Cells) (answer : Option A) (f : Cells → A → FlatAnswer B) (g : Cells → B → FlatAnswer C) →
-    next (going_on cells n answer f) g ≡ going_on cells n answer (λ c a. next (f c a) g)
+    flat_next (going_on cells n answer f) g ≡ going_on cells n answer (λ c a. flat_next (f c a) g)
 going-assoc n cells None f g = refl
 going-assoc n cells (Some a) f g = going-inner n (f cells a).count (f cells a).cells (f cells a).answer g
 
 -- an index after others
 pub along-append : (xs ys : List (Term (Evaluates ℤ))) (at base : ℕ) (cells : Cells) →
-    address_along (xs ++ ys) at base cells ≡ next (address_along xs at base cells) (λ c k. address_along ys k base c)
+    address_along (xs ++ ys) at base cells ≡ flat_next (address_along xs at base cells) (λ c k. address_along ys k base c)
 along-append [] ys at base cells = sym (more-none (address_along ys at base cells))
 along-append (x ∷ xs) ys at base cells =
     let i : FlatAnswer ℤ = x.index base cells in
     ap (λ f. going_on i.cells i.count i.answer f)
     (λ j after n. (ap (λ f. going_on after 0 (element_address x at n) f) (λ h same k. along-append xs ys k base same h)
     ∙ sym (going-assoc 0 after (element_address x at n) (λ same k. address_along xs k base same) (λ c k. address_along ys k base c))) j)
-    ∙ sym (going-assoc i.count i.cells i.answer (λ after n. next (flat_answer after (element_address x at n)) (λ same k. address_along xs k base same))
+    ∙ sym (going-assoc i.count i.cells i.answer (λ after n. flat_next (flat_answer after (element_address x at n)) (λ same k. address_along xs k base same))
     (λ c k. address_along ys k base c))
 
 module _ (known : Sizes) (lists : Lists) (structs : Structs) (shaped : Shaped known lists structs) (limit : ℕ) (w : World) (memory : Memory) where
@@ -74,7 +74,7 @@ module _ (known : Sizes) (lists : Lists) (structs : Structs) (shaped : Shaped kn
 
   pub next-agrees : {A B C D : Type 0} (R : A → B → Type 0) (Q : C → D → Type 0) (c : Counted A) (l : FlatAnswer B) (f : A → Counted C)
       (g : Cells → B → FlatAnswer D) →
-      Agree R c l → ((x : A) (y : B) (cells : Cells) → R x y → Stood cells → Agree Q (f x) (g cells y)) → Agree Q (next_c c f) (next l g)
+      Agree R c l → ((x : A) (y : B) (cells : Cells) → R x y → Stood cells → Agree Q (f x) (g cells y)) → Agree Q (next_c c f) (flat_next l g)
   next-agrees R Q c l f g h rest = going-agrees R Q c.count l.count l.cells c.answer l.answer f g h.count h.stands h.answer rest
 
   mapped-agrees : {A B C : Type 0} (R : A → B → Type 0) (Q : C → B → Type 0) (n k : ℕ) (cells : Cells) (a : Option A) (b : Option B) (f : A → C) →

@@ -48,9 +48,10 @@ use Rattle.bl_tree.specs.Numbers.{checked_of, checked_one_of, is_one, number_of}
 use Rattle.bl_tree.specs.Reduce.{all_of, joined}
 use Rattle.bl_ctext.specs.Spellable.{is_c_operator, is_length, is_literal, spells_arg, spells_call, spells_expr, spells_index, spells_kind}
 use Rattle.bl_ctext.specs.Spellable.{spells_place, spells_step}
-use Rattle.bl_ctext_semantics.specs.Memory.{Location, CValue, Memory, number_in, scalar, value_at}
+use Rattle.bl_ctext_semantics.specs.Memory.{Location, CValue, Memory, scalar_number, scalar, value_at}
 use Rattle.bl_ctext_semantics.specs.Meaning.{CallResult, Counted, Evaluates as EvaluatesC, ArgumentValue, by_address, by_value, Scope, at_once as at_once_c, call_c}
-use Rattle.bl_ctext_semantics.specs.Meaning.{called_after, each_of as each_of_c, element_at, further, given, location_c, next as next_c, result_of, start_of}
+use Rattle.bl_ctext_semantics.specs.Meaning.{called_after, each_of as each_of_c, element_projection, further, given, location_c, named_location, next as next_c}
+use Rattle.bl_ctext_semantics.specs.Meaning.{result_of}
 use Rattle.bl_ctext_semantics.specs.Meaning.{way_of, two_values as two_values_c, value_c}
 use Rattle.bl_ctext_semantics.specs.Sizes.{Sizes}
 use Rattle.bl_ctext_semantics.specs.Tables.{Table, entry_or}
@@ -67,8 +68,8 @@ use Rattle.bl_ctext_semantics.proofs.EndLemmas.{nil-left, nil-right}
 use Rattle.bl_ctext_semantics.proofs.Induction.{ExprCases, Optional, induct_call, induct_expr, induct_place}
 use Rattle.bl_ctext_semantics_laws.proofs.Lists.{and-left, and-right}
 use Rattle.bl_ctext_semantics_laws.specs.Reaching.{Ground, reach_along, start_of_slot}
-use Rattle.bl_ctext_semantics_laws.specs.Flat.{Cells, Evaluates, FlatAnswer, Routine, address_of, at_once, call_flat, called, cell_at, compared, each_of, flat_answer}
-use Rattle.bl_ctext_semantics_laws.specs.Flat.{next, reach_flat, read_at, two_values, value_flat}
+use Rattle.bl_ctext_semantics_laws.specs.Flat.{Cells, Evaluates, FlatAnswer, Routine, address_of, at_once, call_flat, cell_at, compared, each_of, flat_answer, flat_call}
+use Rattle.bl_ctext_semantics_laws.specs.Flat.{flat_next, reach_flat, read_at, two_values, value_flat}
 use Rattle.bl_ctext_semantics_laws.proofs.Faultless.{unless-nil}
 use Rattle.bl_ctext_semantics_laws.proofs.Ways.{Lists, Shaped, Structs}
 use Rattle.bl_ctext_semantics_laws.proofs.Standing.{PlacedAt, Stands, World, range-part, read-scalar, same-memory}
@@ -155,7 +156,7 @@ module _ (known : Sizes) (lists : Lists) (structs : Structs) (shaped : Shaped kn
       Alike (Passing (record
       { address = true; through = (judged_place p context at).through; ty = (judged_place p context at).ty; faults = (judged_place p context at).faults }))
       (next_c (location_c p scope memory) (λ l. given (Some (by_address l))))
-      (next (address_of (reach_flat p ground) base cells) (λ after k. flat_answer after (Some (pos k))))
+      (flat_next (address_of (reach_flat p ground) base cells) (λ after k. flat_answer after (Some (pos k))))
   address-case p h at none room spelled cells stood =
       let f = h at none room spelled in
       next-agrees known lists structs shaped limit w memory (λ l k. PlacedAt known lists structs shaped limit w l f.goal k)
@@ -195,7 +196,7 @@ module _ (known : Sizes) (lists : Lists) (structs : Structs) (shaped : Shaped kn
     where
       chosen : (ty : CType) → PlacedAt known lists structs shaped limit w l ty k → Value (Some ty) (value_at memory l) (read_at (Some ty) cells k)
       chosen (OfScalar kind) p =
-          let e : cell_at cells k ≡ number_in (value_at memory l) = read-scalar known lists structs shaped limit w memory cells stood l kind k p in
+          let e : cell_at cells k ≡ scalar_number (value_at memory l) = read-scalar known lists structs shaped limit w memory cells stood l kind k p in
           (sym e, ap (in_range kind) e ∙ range-part known lists structs shaped limit w memory cells stood l (OfScalar kind) k p [] kind refl)
       chosen (OfStruct name) p = record { place = l; k = k; from = refl; placed = p; is = refl }
 
@@ -203,7 +204,7 @@ module _ (known : Sizes) (lists : Lists) (structs : Structs) (shaped : Shaped kn
       spells_place p ≡ true →
       (cells : Cells) → Stood cells →
       Alike (Value (judged_place p context at).ty) (next_c (location_c p scope memory) (λ l. given (Some (value_at memory l))))
-      (next (address_of (reach_flat p ground) base cells) (λ after k. flat_answer after (Some (read_at (reach_flat p ground).ty after k))))
+      (flat_next (address_of (reach_flat p ground) base cells) (λ after k. flat_answer after (Some (read_at (reach_flat p ground).ty after k))))
   read-case p h at none room spelled cells stood =
       let f = h at none room spelled in
       next-agrees known lists structs shaped limit w memory (λ l k. PlacedAt known lists structs shaped limit w l f.goal k)
@@ -246,8 +247,8 @@ module _ (known : Sizes) (lists : Lists) (structs : Structs) (shaped : Shaped kn
 
   -- ---- operators
 
-  negated : (v : CValue) (n : ℤ) → number_in v ≡ n →
-      Matches (Value (Some bool_type)) (option_map scalar (checked_one_of Not OfBool (number_in v))) (Some (number_of (if is_one n then false else true)))
+  negated : (v : CValue) (n : ℤ) → scalar_number v ≡ n →
+      Matches (Value (Some bool_type)) (option_map scalar (checked_one_of Not OfBool (scalar_number v))) (Some (number_of (if is_one n then false else true)))
   negated v n is = subst
       (λ x. Matches (Value (Some bool_type)) (option_map scalar (checked_one_of Not OfBool x)) (Some (number_of (if is_one n then false else true)))) (sym is)
       (chosen (is_one n))
@@ -257,11 +258,11 @@ module _ (known : Sizes) (lists : Lists) (structs : Structs) (shaped : Shaped kn
       chosen false = (refl, refl)
 
   not-case : (ty : Option CType) (c : Counted CValue) (f : FlatAnswer ℤ) → agree ty (Some bool_type) ≡ true → Alike (Value ty) c f →
-      Alike (Value (Some bool_type)) (next_c c (λ a. given (option_map scalar (checked_one_of Not OfBool (number_in a)))))
-      (next f (λ after a. flat_answer after (Some (number_of (if is_one a then false else true)))))
+      Alike (Value (Some bool_type)) (next_c c (λ a. given (option_map scalar (checked_one_of Not OfBool (scalar_number a)))))
+      (flat_next f (λ after a. flat_answer after (Some (number_of (if is_one a then false else true)))))
   not-case ty c f typed h =
       next-agrees known lists structs shaped limit w memory (Value ty) (Value (Some bool_type)) c f
-      (λ a. given (option_map scalar (checked_one_of Not OfBool (number_in a))))
+      (λ a. given (option_map scalar (checked_one_of Not OfBool (scalar_number a))))
       (λ after a. flat_answer after (Some (number_of (if is_one a then false else true)))) h
       (λ v n after valued there. record {
         count = refl;
@@ -280,19 +281,19 @@ module _ (known : Sizes) (lists : Lists) (structs : Structs) (shaped : Shaped kn
       if_typed s (takes op) ≡ true → if_typed t (takes op) ≡ true → (cells : Cells) → Alike (Value s) (a scope memory) (f base cells) →
       ((after : Cells) → Stood after → Alike (Value t) (b scope memory) (g base after)) →
       Alike (Value (Some bool_type))
-      (next_c (a scope memory) (λ x. next_c (b scope memory) (λ y. given (option_map scalar (checked_of op OfBool (number_in x) (number_in y))))))
-      (next (f base cells) (λ after x. next (g base after) (λ last y. flat_answer last (compared op x y))))
+      (next_c (a scope memory) (λ x. next_c (b scope memory) (λ y. given (option_map scalar (checked_of op OfBool (scalar_number x) (scalar_number y))))))
+      (flat_next (f base cells) (λ after x. flat_next (g base after) (λ last y. flat_answer last (compared op x y))))
   both-sides op truth is so s t a b f g ts tu cells h k =
       next-agrees known lists structs shaped limit w memory (Value s) (Value (Some bool_type)) (a scope memory) (f base cells)
-      (λ x. next_c (b scope memory) (λ y. given (option_map scalar (checked_of op OfBool (number_in x) (number_in y)))))
-      (λ after x. next (g base after) (λ last y. flat_answer last (compared op x y))) h
+      (λ x. next_c (b scope memory) (λ y. given (option_map scalar (checked_of op OfBool (scalar_number x) (scalar_number y)))))
+      (λ after x. flat_next (g base after) (λ last y. flat_answer last (compared op x y))) h
       (λ v n after first there.
       next-agrees known lists structs shaped limit w memory (Value t) (Value (Some bool_type)) (b scope memory) (g base after)
-      (λ y. given (option_map scalar (checked_of op OfBool (number_in v) (number_in y)))) (λ last y. flat_answer last (compared op n y)) (k after there)
+      (λ y. given (option_map scalar (checked_of op OfBool (scalar_number v) (scalar_number y)))) (λ last y. flat_answer last (compared op n y)) (k after there)
       (λ u m last second stays. record {
         count = refl;
         stands = stays;
-        answer = subst (λ x. Matches (Value (Some bool_type)) (option_map scalar (checked_of op OfBool x (number_in u))) (compared op n m))
+        answer = subst (λ x. Matches (Value (Some bool_type)) (option_map scalar (checked_of op OfBool x (scalar_number u))) (compared op n m))
             (sym (operand-number known lists structs shaped limit w memory op s v n ts first))
             (subst (λ x. Matches (Value (Some bool_type)) (option_map scalar (checked_of op OfBool n x)) (compared op n m))
             (sym (operand-number known lists structs shaped limit w memory op t u m tu second))
@@ -339,7 +340,7 @@ module _ (known : Sizes) (lists : Lists) (structs : Structs) (shaped : Shaped kn
   two-agree Ge s t a b f g spelled ts tu cells h k = both-sides Ge (λ x y. int_le y x) (λ x y. refl) (λ x y. refl) s t a b f g ts tu cells h k
   two-agree And s t a b f g spelled ts tu cells h k =
       next-agrees known lists structs shaped limit w memory (Value s) (Value (Some bool_type)) (a scope memory) (f base cells)
-      (λ x. (if is_one (number_in x) then b else at_once_c (pos 0)) scope memory) (λ after x. (if is_one x then g else at_once (pos 0)) base after) h
+      (λ x. (if is_one (scalar_number x) then b else at_once_c (pos 0)) scope memory) (λ after x. (if is_one x then g else at_once (pos 0)) base after) h
       (λ v n after first there.
       subst (λ x. Alike (Value (Some bool_type)) ((if is_one x then b else at_once_c (pos 0)) scope memory)
       ((if is_one n then g else at_once (pos 0)) base after))
@@ -347,7 +348,7 @@ module _ (known : Sizes) (lists : Lists) (structs : Structs) (shaped : Shaped kn
       (side-or-once (is_one n) false b g after there (as-bool t (b scope memory) (g base after) tu (k after there))))
   two-agree Or s t a b f g spelled ts tu cells h k =
       next-agrees known lists structs shaped limit w memory (Value s) (Value (Some bool_type)) (a scope memory) (f base cells)
-      (λ x. (if is_one (number_in x) then at_once_c (pos 1) else b) scope memory) (λ after x. (if is_one x then at_once (pos 1) else g) base after) h
+      (λ x. (if is_one (scalar_number x) then at_once_c (pos 1) else b) scope memory) (λ after x. (if is_one x then at_once (pos 1) else g) base after) h
       (λ v n after first there.
       subst (λ x. Alike (Value (Some bool_type)) ((if is_one x then at_once_c (pos 1) else b) scope memory)
       ((if is_one n then at_once (pos 1) else g) base after))
@@ -379,7 +380,7 @@ module _ (known : Sizes) (lists : Lists) (structs : Structs) (shaped : Shaped kn
       next-agrees known lists structs shaped limit w memory (Passing (judged_arg a context at))
       (PassedList known lists structs shaped limit w memory (map (λ judge. judge context at) (map judged_arg (a ∷ args))))
       (arg_c a scope memory) (arg_flat a ground base cells) (λ v. next_c (each_of_c (map arg_c args) scope memory) (λ others. given (Some (v ∷ others))))
-      (λ after n. next (each_of (map (λ arg. arg ground) (map arg_flat args)) base after) (λ last others. flat_answer last (Some (n ∷ others))))
+      (λ after n. flat_next (each_of (map (λ arg. arg ground) (map arg_flat args)) base after) (λ last others. flat_answer last (Some (n ∷ others))))
       (All-head OfArg a args h at (nil-left _ _ none) (room-left chains w.top limit (calls_in_arg a) _ room) (and-left _ _ spelled) cells stood)
       (λ v n after passes there.
       next-agrees known lists structs shaped limit w memory
@@ -444,12 +445,12 @@ module _ (known : Sizes) (lists : Lists) (structs : Structs) (shaped : Shaped kn
       unless (is_some (signature_of context name)) declared_before at
       ++ (joined (map (λ a. a.faults) (map (λ judge. judge context at) (map judged_arg args)))
       ++ (unless (fit_args (signature_of context name) (map (λ judge. judge context at) (map judged_arg args))) arguments at
-      ++ unless (not (context.keeps && hands_on (signature_of context name) (map (λ judge. judge context at) (map judged_arg args)))) changes_nothing at))
+      ++ unless (not (context.is_read_only && hands_on (signature_of context name) (map (λ judge. judge context at) (map judged_arg args)))) changes_nothing at))
       ≡ [] →
       Room (name ∷ joined (map calls_in_arg args)) → (is_callee name && all_of (map spells_arg args)) ≡ true → (cells : Cells) → Stood cells →
       CallFacts known lists structs shaped limit context scope ground chains base w running memory (signature_of context name)
       (called_after scope memory name (each_of_c (map arg_c args) scope memory).count (each_of_c (map arg_c args) scope memory).answer)
-      (next (each_of (map (λ arg. arg ground) (map arg_flat args)) base cells) (λ after ns. called ground name base ns after))
+      (flat_next (each_of (map (λ arg. arg ground) (map arg_flat args)) base cells) (λ after ns. flat_call ground name base ns after))
   calling-case name args h at none room spelled cells stood =
       let there = unless-nil (is_some (signature_of context name)) declared_before at (nil-left _ _ none) in
       let h1 = nil-right (unless (is_some (signature_of context name)) declared_before at) _ none in
@@ -466,7 +467,7 @@ module _ (known : Sizes) (lists : Lists) (structs : Structs) (shaped : Shaped kn
       (judged_expr e context).faults ++ unless (if_typed (judged_expr e context).ty (indexes signed)) indices at ≡ [] →
       Room (calls_in e) → spells_expr e ≡ true →
       IndexFacts known lists structs shaped limit context scope ground chains base w running memory length
-      (λ s m. next_c (value_c e s m) (λ i. given (element_at (index_within (number_in i) (pos length)))))
+      (λ s m. next_c (value_c e s m) (λ i. given (element_projection (index_within (scalar_number i) (pos length)))))
       (record { length = length; index = value_flat e ground })
   index-case signed e length h at none room spelled =
       index-agrees known lists structs shaped limit context scope ground chains base w running memory signed length (judged_expr e context).ty (value_c e)
@@ -480,7 +481,7 @@ module _ (known : Sizes) (lists : Lists) (structs : Structs) (shaped : Shaped kn
       Room (joined (map calls_in_step steps)) → all_of (map spells_step steps) ≡ true →
       PlaceFacts known lists structs shaped limit context scope ground chains base w running memory
       (judge_steps (map judged_step steps) context at (judge_root (context.variables name) through at).ty).ty
-      (next_c (each_of_c (map step_c steps) scope memory) (λ ways. given (Some (further (start_of scope through name) (way_of ways)))))
+      (next_c (each_of_c (map step_c steps) scope memory) (λ ways. given (Some (further (named_location scope through name) (way_of ways)))))
       (reach_along (map step_flat steps) ground (start_of_slot (ground.slots name)))
   place-case through name steps h at none room spelled =
       place-agrees known lists structs shaped limit context scope ground chains base w running memory through name at (each_of_c (map step_c steps))

@@ -33,8 +33,8 @@ use Rattle.bl_tree.specs.declared.c.CType.{CType}
 use Rattle.bl_tree.specs.declared.c.CType.TheVariants.{Scalar as OfScalar, Struct as OfStruct}
 use Rattle.bl_tree.specs.declared.c.CMember.{CMember}
 use Rattle.bl_ctext_semantics.specs.Builtin.{index_within, only_if}
-use Rattle.bl_ctext_semantics.specs.Memory.{Projection, member, element, Location, CValue, Memory, number_in, variable}
-use Rattle.bl_ctext_semantics.specs.Meaning.{Counted, Evaluates as EvaluatesC, Scope, each_of, element_at, further, given, indexed, next as next_c, start_of, way_of}
+use Rattle.bl_ctext_semantics.specs.Memory.{Projection, member, element, Location, CValue, Memory, scalar_number, variable}
+use Rattle.bl_ctext_semantics.specs.Meaning.{Counted, Evaluates as EvaluatesC, Scope, each_of, element_projection, further, given, indexed, named_location, next as next_c, way_of}
 use Rattle.bl_ctext_semantics.specs.Sizes.{Sizes, size_of_type}
 use Rattle.bl_ctext_semantics.specs.Tables.{Table, entry_or}
 use Rattle.bl_ctext_semantics.specs.Faults.{Context, Fault, Variable, if_typed, indexes, indices, judge_into, judge_length, judge_member, judge_root}
@@ -42,7 +42,7 @@ use Rattle.bl_ctext_semantics.specs.Faults.{member_of, pointer_use, unless}
 use Rattle.bl_ctext_semantics_laws.specs.Fitting.{whole, spot_if, spot_of, spot_of_length, step_in, walk}
 use Rattle.bl_ctext_semantics_laws.specs.Layout.{Slot, capped}
 use Rattle.bl_ctext_semantics_laws.specs.Reaching.{Ground, Index, Reach, StepInto, Term, laid_in, near, onward, reach_along, reach_member, start_of_slot, through}
-use Rattle.bl_ctext_semantics_laws.specs.Flat.{Cells, Evaluates, FlatAnswer, Routine, address_along, address_of, cell_number, element_address, flat_answer, next, start_address}
+use Rattle.bl_ctext_semantics_laws.specs.Flat.{Cells, Evaluates, FlatAnswer, Routine, address_along, address_of, cell_number, element_address, flat_answer, flat_next, start_address}
 use Rattle.bl_ctext_semantics_laws.proofs.Ways.{Lists, Shaped, Stepped, Structs, offset_in, stepped, offset-append, walk-append, walk-within, way_offset}
 use Rattle.bl_ctext_semantics_laws.proofs.Standing.{PlacedAt, Stands, World, part-leads, part-offset, placed-below}
 use Rattle.bl_ctext_semantics_laws.proofs.Evaluations.{Agree, Matches, along-append, made-agrees, next-agrees}
@@ -77,12 +77,12 @@ pub record ElementAt (length at size : ℕ) (parts : List Projection) (k : ℕ) 
   pub place : k ≡ capped (at + j * size)
 
 element-matches : (length at size : ℕ) (n : ℤ) (b : Bool) → (int_le (pos 0) n && int_lt n (pos length)) ≡ b →
-    Matches (ElementAt length at size) (element_at (only_if b n)) (option_map (λ k. capped (at + cell_number k * capped size)) (only_if b n))
+    Matches (ElementAt length at size) (element_projection (only_if b n)) (option_map (λ k. capped (at + cell_number k * capped size)) (only_if b n))
 element-matches length at size n false is = tt
 element-matches length at size (pos j) true is = record { j = j; is = refl; within = grind (arith, ints); place = capped-product j at size }
 element-matches length at size (negsuc j) true is = cc
 
-after-left : (after : Cells) (o : Option ℕ) → next (flat_answer after o) (λ same k. flat_answer same (Some k)) ≡ flat_answer after o
+after-left : (after : Cells) (o : Option ℕ) → flat_next (flat_answer after o) (λ same k. flat_answer same (Some k)) ≡ flat_answer after o
 after-left after None = refl
 after-left after (Some k) = refl
 
@@ -109,9 +109,9 @@ module _ (known : Sizes) (lists : Lists) (structs : Structs) (shaped : Shaped kn
   pub record IndexFacts (length : ℕ) (c : EvaluatesC (List Projection)) (f : Index (Evaluates ℤ)) : Type 0 where
     pub same : f.length ≡ length
     pub moves : (term : Term (Evaluates ℤ)) (at size : ℕ) (cells : Cells) → term.length ≡ length → term.size ≡ capped size → Stood cells →
-        Both (ElementAt length at size) (c scope memory) (next (f.index base cells) (λ after n. flat_answer after (element_address term at n)))
+        Both (ElementAt length at size) (c scope memory) (flat_next (f.index base cells) (λ after n. flat_answer after (element_address term at n)))
 
-  index-number : (signed : Bool) (ty : Option CType) (v : CValue) (n : ℤ) → if_typed ty (indexes signed) ≡ true → Value ty v n → number_in v ≡ n
+  index-number : (signed : Bool) (ty : Option CType) (v : CValue) (n : ℤ) → if_typed ty (indexes signed) ≡ true → Value ty v n → scalar_number v ≡ n
   index-number signed None v n h valued = absurd valued
   index-number signed (Some (OfScalar kind)) v n h valued = valued.0
   index-number true (Some (OfStruct name)) v n h valued = cc
@@ -120,20 +120,21 @@ module _ (known : Sizes) (lists : Lists) (structs : Structs) (shaped : Shaped kn
   pub index-agrees : (signed : Bool) (length : ℕ) (ty : Option CType) (c : EvaluatesC CValue) (f : Evaluates ℤ) →
       if_typed ty (indexes signed) ≡ true →
       ((cells : Cells) → Stood cells → Both (Value ty) (c scope memory) (f base cells)) →
-      IndexFacts length (λ s m. next_c (c s m) (λ i. given (element_at (index_within (number_in i) (pos length))))) (record { length = length; index = f })
+      IndexFacts length (λ s m. next_c (c s m) (λ i. given (element_projection (index_within (scalar_number i) (pos length))))) (record { length = length; index = f })
   index-agrees signed length ty c f typed h = record {
     same = refl;
     moves = λ term at size cells long sized stood.
         next-agrees known lists structs shaped limit w memory (Value ty) (ElementAt length at size) (c scope memory) (f base cells)
-        (λ i. given (element_at (index_within (number_in i) (pos length)))) (λ after n. flat_answer after (element_address term at n)) (h cells stood)
+        (λ i. given (element_projection (index_within (scalar_number i) (pos length)))) (λ after n. flat_answer after (element_address term at n))
+        (h cells stood)
         (λ v n after valued there. record {
           count = refl;
           stands = there;
-          answer = subst (λ s. Matches (ElementAt length at size) (element_at (index_within (number_in v) (pos length)))
+          answer = subst (λ s. Matches (ElementAt length at size) (element_projection (index_within (scalar_number v) (pos length)))
               (option_map (λ k. capped (at + cell_number k * s)) (index_within n (pos term.length)))) (sym sized)
-              (subst (λ l. Matches (ElementAt length at size) (element_at (index_within (number_in v) (pos length)))
+              (subst (λ l. Matches (ElementAt length at size) (element_projection (index_within (scalar_number v) (pos length)))
               (option_map (λ k. capped (at + cell_number k * capped size)) (index_within n (pos l)))) (sym long)
-              (subst (λ x. Matches (ElementAt length at size) (element_at (index_within x (pos length)))
+              (subst (λ x. Matches (ElementAt length at size) (element_projection (index_within x (pos length)))
               (option_map (λ k. capped (at + cell_number k * capped size)) (index_within n (pos length)))) (sym (index-number signed ty v n typed valued))
               (element-matches length at size n (int_le (pos 0) n && int_lt n (pos length)) refl)));
         });
@@ -218,12 +219,12 @@ module _ (known : Sizes) (lists : Lists) (structs : Structs) (shaped : Shaped kn
           let term : Term (Evaluates ℤ) = record { length = f.length; size = size_of_type ground.sizes laid.laid.it.ty; index = f.index } in
           let sized : size_of_type ground.sizes laid.laid.it.ty ≡ capped (size_of_type known m.ty) =
           sized-type laid.laid.it.ty ∙ ap (λ x. capped (size_of_type known x.ty)) laid.it in
-          let flat : address_along (term ∷ []) at base cells ≡ next (f.index base cells) (λ after i. flat_answer after (element_address term at i)) =
-          ap (next (f.index base cells)) (λ h after i. after-left after (element_address term at i) h) in
+          let flat : address_along (term ∷ []) at base cells ≡ flat_next (f.index base cells) (λ after i. flat_answer after (element_address term at i)) =
+          ap (flat_next (f.index base cells)) (λ h after i. after-left after (element_address term at i) h) in
           let same : l ≡ n = equal l n none in
           subst (Both (Moved (OfStruct struct) m.ty a b) (next_c (c scope memory) (λ parts. given (Some (member name ∷ parts))))) (sym flat)
           (made-agrees known lists structs shaped limit w memory (ElementAt n at (size_of_type known m.ty)) (Moved (OfStruct struct) m.ty a b) (c scope memory)
-          (next (f.index base cells) (λ after i. flat_answer after (element_address term at i))) (λ parts. member name ∷ parts)
+          (flat_next (f.index base cells) (λ after i. flat_answer after (element_address term at i))) (λ parts. member name ∷ parts)
           (facts.moves term at (size_of_type known m.ty) cells facts.same sized stood)
           (λ parts k e. record {
             leads = ap (λ ps. walk structs (step_in structs (whole (OfStruct struct)) (member name)) ps) e.is
@@ -425,38 +426,39 @@ module _ (known : Sizes) (lists : Lists) (structs : Structs) (shaped : Shaped kn
       (judge_root (context.variables name) through-it at).faults ≡ [] →
       ((ty : CType) → (judge_root (context.variables name) through-it at).ty ≡ Some ty → StepsFacts ty (typed (Some ty)) c f) →
       PlaceFacts (typed (judge_root (context.variables name) through-it at).ty)
-      (next_c (c scope memory) (λ ways. given (Some (further (start_of scope through-it name) (way_of ways)))))
+      (next_c (c scope memory) (λ ways. given (Some (further (named_location scope through-it name) (way_of ways)))))
       (reach_along f ground (start_of_slot (ground.slots name)))
   place-agrees through-it name at c f typed none steps = chosen (context.variables name) refl none steps
     where
       near-place : (v : Variable) (slot : Slot) → slot.ty ≡ v.ty → ground.slots name ≡ Some slot →
           NearAt known lists structs shaped limit w scope.depth base v.ty name slot → StepsFacts v.ty (typed (Some v.ty)) c f →
-          PlaceFacts (typed (Some v.ty)) (next_c (c scope memory) (λ ways. given (Some (further (start_of scope false name) (way_of ways)))))
+          PlaceFacts (typed (Some v.ty)) (next_c (c scope memory) (λ ways. given (Some (further (named_location scope false name) (way_of ways)))))
           (reach_along f ground (start_of_slot (ground.slots name)))
       near-place v slot ty is stands facts =
-          let p : Placed v.ty (start_of scope false name) (base + slot.at) =
+          let p : Placed v.ty (named_location scope false name) (base + slot.at) =
           record { it = record { at = base + slot.at; ty = v.ty }; there = stands.stands; leads = refl; is = omega arith } in
           let b : base + slot.at + size_of_type known v.ty ≤ w.top =
-          placed-below known lists structs shaped limit w (start_of scope false name) v.ty (base + slot.at) running.separate p in
+          placed-below known lists structs shaped limit w (named_location scope false name) v.ty (base + slot.at) running.separate p in
           let l = running.low in
           let s = running.small in
-          subst (λ o. PlaceFacts (typed (Some v.ty)) (next_c (c scope memory) (λ ways. given (Some (further (start_of scope false name) (way_of ways)))))
+          subst (λ o. PlaceFacts (typed (Some v.ty)) (next_c (c scope memory) (λ ways. given (Some (further (named_location scope false name) (way_of ways)))))
           (reach_along f ground (start_of_slot o))) (sym is)
-          (placed-from (start_of scope false name) v.ty (typed (Some v.ty)) c f (start_of_slot (Some slot)) (base + slot.at) (ap Some ty) refl refl p
+          (placed-from (named_location scope false name) v.ty (typed (Some v.ty)) c f (start_of_slot (Some slot)) (base + slot.at) (ap Some ty) refl refl p
           (λ cells stood. ap (λ q. capped (start_address (if q then through slot.at else near slot.at) base cells)) stands.plain ∙ omega arith) facts)
 
       through-place : (v : Variable) (slot : Slot) → slot.ty ≡ v.ty → ground.slots name ≡ Some slot →
           ThroughAt known lists structs shaped limit w base v.ty (scope.pointers name) slot → StepsFacts v.ty (typed (Some v.ty)) c f →
-          PlaceFacts (typed (Some v.ty)) (next_c (c scope memory) (λ ways. given (Some (further (start_of scope true name) (way_of ways)))))
+          PlaceFacts (typed (Some v.ty)) (next_c (c scope memory) (λ ways. given (Some (further (named_location scope true name) (way_of ways)))))
           (reach_along f ground (start_of_slot (ground.slots name)))
       through-place v slot ty is stands facts =
-          let begin : start_of scope true name ≡ stands.place = ap (λ o. unwrap_or o (record { root = variable scope.depth name; parts = [] })) stands.is in
+          let begin : named_location scope true name ≡ stands.place =
+          ap (λ o. unwrap_or o (record { root = variable scope.depth name; parts = [] })) stands.is in
           let b : stands.k + size_of_type known v.ty ≤ w.top =
           placed-below known lists structs shaped limit w stands.place v.ty stands.k running.separate stands.placed in
           let l = running.low in
           let s = running.small in
           let small : capped stands.k ≡ stands.k = omega arith in
-          subst (λ o. PlaceFacts (typed (Some v.ty)) (next_c (c scope memory) (λ ways. given (Some (further (start_of scope true name) (way_of ways)))))
+          subst (λ o. PlaceFacts (typed (Some v.ty)) (next_c (c scope memory) (λ ways. given (Some (further (named_location scope true name) (way_of ways)))))
           (reach_along f ground (start_of_slot o))) (sym is)
           (subst (λ x. PlaceFacts (typed (Some v.ty)) (next_c (c scope memory) (λ ways. given (Some (further x (way_of ways)))))
           (reach_along f ground (start_of_slot (Some slot)))) (sym begin)
@@ -468,7 +470,8 @@ module _ (known : Sizes) (lists : Lists) (structs : Structs) (shaped : Shaped kn
           SlotAs known lists structs shaped limit w scope.depth base p v.ty (scope.pointers name) name slot → (b : Bool) → (r : Bool) →
           (if p then b else not b) ≡ r →
           unless r pointer_use at ≡ [] → ((ty : CType) → (if r then Some v.ty else None) ≡ Some ty → StepsFacts ty (typed (Some ty)) c f) →
-          PlaceFacts (typed (if r then Some v.ty else None)) (next_c (c scope memory) (λ ways. given (Some (further (start_of scope b name) (way_of ways)))))
+          PlaceFacts (typed (if r then Some v.ty else None))
+          (next_c (c scope memory) (λ ways. given (Some (further (named_location scope b name) (way_of ways)))))
           (reach_along f ground (start_of_slot (ground.slots name)))
       right v p is slot ty there stands b false holds none steps = absurd (not-nil _ _ none)
       right v true is slot ty there stands true true holds none steps = through-place v slot ty there stands (steps v.ty refl)
@@ -479,7 +482,7 @@ module _ (known : Sizes) (lists : Lists) (structs : Structs) (shaped : Shaped kn
       chosen : (o : Option Variable) → context.variables name ≡ o → (judge_root o through-it at).faults ≡ [] →
           ((ty : CType) → (judge_root o through-it at).ty ≡ Some ty → StepsFacts ty (typed (Some ty)) c f) →
           PlaceFacts (typed (judge_root o through-it at).ty)
-          (next_c (c scope memory) (λ ways. given (Some (further (start_of scope through-it name) (way_of ways)))))
+          (next_c (c scope memory) (λ ways. given (Some (further (named_location scope through-it name) (way_of ways)))))
           (reach_along f ground (start_of_slot (ground.slots name)))
       chosen None is none steps = absurd (not-nil _ _ none)
       chosen (Some v) is none steps =

@@ -34,7 +34,7 @@ use Rattle.bl_tree.specs.declared.c.CType.TheVariants.{Scalar as OfScalar, Struc
 use Rattle.bl_tree.specs.declared.c.CMember.{CMember}
 use Rattle.bl_tree.specs.declared.c.CStruct.{CStruct}
 use Rattle.bl_tree.specs.Reduce.{total}
-use Rattle.bl_ctext_semantics.specs.Cells.{Inner, below, inner_of_length, inner_of_member, inner_of_type, inside}
+use Rattle.bl_ctext_semantics.specs.Cells.{Inner, below, inner_of_length, inner_of_member, inner_of_type, seen_from_outside}
 use Rattle.bl_ctext_semantics.specs.Memory.{Projection, member, element}
 use Rattle.bl_ctext_semantics.specs.Sizes.{Sizes, size_of_length, size_of_member, size_of_type}
 use Rattle.bl_ctext_semantics.specs.Faults.{distinct_names, declared_before, all_distinct, depth_of_struct, faults_in_struct, is_declared, member_table}
@@ -56,7 +56,7 @@ Scalars = Table (List Inner)
 some_of : {A : Type 0} (a b : A) → Some a ≡ Some b → a ≡ b
 some_of a b h = cc
 
-length-inside : (parts : List Projection) (is : List Inner) → length (map (inside parts) is) ≡ length is
+length-inside : (parts : List Projection) (is : List Inner) → length (map (seen_from_outside parts) is) ≡ length is
 length-inside parts [] = refl
 length-inside parts (i ∷ is) = ap suc (length-inside parts is)
 
@@ -82,7 +82,7 @@ module _ (known : Sizes) (lists : Lists) (structs : Structs) (shaped : Shaped kn
       (h.0, led-append spot (suc at) xs ys h.1 (subst (λ n. Led spot n ys) e k))
 
   led-inside : (spot next : ValueSpot) (p : Projection) (at : ℕ) (is : List Inner) → step_in structs spot p ≡ Some next → Led next at is →
-      Led spot (part_offset known lists spot p + at) (map (inside (p ∷ [])) is)
+      Led spot (part_offset known lists spot p + at) (map (seen_from_outside (p ∷ [])) is)
   led-inside spot next p at [] steps h = tt
   led-inside spot next p at (i ∷ is) steps h =
       let e : part_offset known lists spot p + suc at ≡ suc (part_offset known lists spot p + at) = omega arith in (
@@ -91,13 +91,13 @@ module _ (known : Sizes) (lists : Lists) (structs : Structs) (shaped : Shaped kn
           ap (λ o. part_offset known lists spot p + Offset o i.parts) steps
               ∙ ap (λ n. part_offset known lists spot p + n) h.0.1,
         ),
-        subst (λ n. Led spot n (map (inside (p ∷ [])) is)) e (led-inside spot next p (suc at) is steps h.1),
+        subst (λ n. Led spot n (map (seen_from_outside (p ∷ [])) is)) e (led-inside spot next p (suc at) is steps h.1),
       )
 
   led-inside-two : (spot mid next : ValueSpot) (p q : Projection) (at : ℕ) (is : List Inner) → step_in structs spot p ≡ Some mid →
       step_in structs mid q ≡ Some next →
       Led next at is →
-      Led spot (part_offset known lists spot p + (part_offset known lists mid q + at)) (map (inside (p ∷ q ∷ [])) is)
+      Led spot (part_offset known lists spot p + (part_offset known lists mid q + at)) (map (seen_from_outside (p ∷ q ∷ [])) is)
   led-inside-two spot mid next p q at [] first second h = tt
   led-inside-two spot mid next p q at (i ∷ is) first second h =
       let e : part_offset known lists spot p + (part_offset known lists mid q + suc at)
@@ -108,7 +108,7 @@ module _ (known : Sizes) (lists : Lists) (structs : Structs) (shaped : Shaped kn
               ∙ ap (λ o. part_offset known lists spot p + (part_offset known lists mid q + Offset o i.parts)) second
               ∙ ap (λ n. part_offset known lists spot p + (part_offset known lists mid q + n)) h.0.1,
         ),
-        subst (λ n. Led spot n (map (inside (p ∷ q ∷ [])) is)) e (led-inside-two spot mid next p q (suc at) is first second h.1),
+        subst (λ n. Led spot n (map (seen_from_outside (p ∷ q ∷ [])) is)) e (led-inside-two spot mid next p q (suc at) is first second h.1),
       )
 
   -- what is shown of a type
@@ -126,36 +126,36 @@ module _ (known : Sizes) (lists : Lists) (structs : Structs) (shaped : Shaped kn
   -- the elements of an array, in order
   led-row : (spot : ValueSpot) (name : Text) (n m : ℕ) (ty : CType) → step_in structs spot (member name) ≡ Some (row n ty) → LedType ty → m ≤ n →
       Led spot (part_offset known lists spot (member name))
-      (flat_map (λ k. map (inside (member name ∷ element k ∷ [])) (inner_of_type scalars ty)) (below m))
-      × (length (flat_map (λ k. map (inside (member name ∷ element k ∷ [])) (inner_of_type scalars ty)) (below m)) ≡ m * size_of_type known ty)
+      (flat_map (λ k. map (seen_from_outside (member name ∷ element k ∷ [])) (inner_of_type scalars ty)) (below m))
+      × (length (flat_map (λ k. map (seen_from_outside (member name ∷ element k ∷ [])) (inner_of_type scalars ty)) (below m)) ≡ m * size_of_type known ty)
   led-row spot name n zero ty steps t fits = (tt, sym (zero-mul (size_of_type known ty)))
   led-row spot name n (suc m) ty steps t fits =
       let before = led-row spot name n m ty steps t (omega arith) in
-      let split : flat_map (λ k. map (inside (member name ∷ element k ∷ [])) (inner_of_type scalars ty)) (below m ++ m ∷ [])
-      ≡ flat_map (λ k. map (inside (member name ∷ element k ∷ [])) (inner_of_type scalars ty)) (below m)
-      ++ (map (inside (member name ∷ element m ∷ [])) (inner_of_type scalars ty) ++ []) =
-      flat-append (λ k. map (inside (member name ∷ element k ∷ [])) (inner_of_type scalars ty)) (below m) (m ∷ []) in
+      let split : flat_map (λ k. map (seen_from_outside (member name ∷ element k ∷ [])) (inner_of_type scalars ty)) (below m ++ m ∷ [])
+      ≡ flat_map (λ k. map (seen_from_outside (member name ∷ element k ∷ [])) (inner_of_type scalars ty)) (below m)
+      ++ (map (seen_from_outside (member name ∷ element m ∷ [])) (inner_of_type scalars ty) ++ []) =
+      flat-append (λ k. map (seen_from_outside (member name ∷ element k ∷ [])) (inner_of_type scalars ty)) (below m) (m ∷ []) in
       let here : Led spot (part_offset known lists spot (member name) + (m * size_of_type known ty + 0))
-      (map (inside (member name ∷ element m ∷ [])) (inner_of_type scalars ty)) =
+      (map (seen_from_outside (member name ∷ element m ∷ [])) (inner_of_type scalars ty)) =
       led-inside-two spot (row n ty) (whole ty) (member name) (element m) 0 (inner_of_type scalars ty) steps (within-so m n ty (omega arith)) t.led in
       let long = length-inside (member name ∷ element m ∷ []) (inner_of_type scalars ty) in
       let tl = t.long in
       let bl = before.1 in
       let at : part_offset known lists spot (member name) + (m * size_of_type known ty + 0)
       ≡ part_offset known lists spot (member name) + length
-      (flat_map (λ k. map (inside (member name ∷ element k ∷ [])) (inner_of_type scalars ty)) (below m)) = omega arith in
-      let la = length-append (flat_map (λ k. map (inside (member name ∷ element k ∷ [])) (inner_of_type scalars ty)) (below m))
-      (map (inside (member name ∷ element m ∷ [])) (inner_of_type scalars ty) ++ []) in
-      let ln = ap length (append-nil (map (inside (member name ∷ element m ∷ [])) (inner_of_type scalars ty))) in
+      (flat_map (λ k. map (seen_from_outside (member name ∷ element k ∷ [])) (inner_of_type scalars ty)) (below m)) = omega arith in
+      let la = length-append (flat_map (λ k. map (seen_from_outside (member name ∷ element k ∷ [])) (inner_of_type scalars ty)) (below m))
+      (map (seen_from_outside (member name ∷ element m ∷ [])) (inner_of_type scalars ty) ++ []) in
+      let ln = ap length (append-nil (map (seen_from_outside (member name ∷ element m ∷ [])) (inner_of_type scalars ty))) in
       let mul = suc-mul m (size_of_type known ty) in (
         subst (Led spot (part_offset known lists spot (member name))) (sym split)
             (led-append spot (part_offset known lists spot (member name))
-            (flat_map (λ k. map (inside (member name ∷ element k ∷ [])) (inner_of_type scalars ty)) (below m))
-            (map (inside (member name ∷ element m ∷ [])) (inner_of_type scalars ty) ++ []) before.0
+            (flat_map (λ k. map (seen_from_outside (member name ∷ element k ∷ [])) (inner_of_type scalars ty)) (below m))
+            (map (seen_from_outside (member name ∷ element m ∷ [])) (inner_of_type scalars ty) ++ []) before.0
             (subst (Led spot (part_offset known lists spot (member name) + length
-            (flat_map (λ k. map (inside (member name ∷ element k ∷ [])) (inner_of_type scalars ty)) (below m))))
-            (sym (append-nil (map (inside (member name ∷ element m ∷ [])) (inner_of_type scalars ty))))
-            (subst (λ k. Led spot k (map (inside (member name ∷ element m ∷ [])) (inner_of_type scalars ty))) at here))),
+            (flat_map (λ k. map (seen_from_outside (member name ∷ element k ∷ [])) (inner_of_type scalars ty)) (below m))))
+            (sym (append-nil (map (seen_from_outside (member name ∷ element m ∷ [])) (inner_of_type scalars ty))))
+            (subst (λ k. Led spot k (map (seen_from_outside (member name ∷ element m ∷ [])) (inner_of_type scalars ty))) at here))),
         ap length split ∙ omega arith,
       )
 
@@ -169,7 +169,7 @@ module _ (known : Sizes) (lists : Lists) (structs : Structs) (shaped : Shaped kn
           × (length (inner_of_length m.name l (inner_of_type scalars m.ty)) ≡ size_of_length l (size_of_type known m.ty))
       chosen None steps =
           let e : part_offset known lists spot (member m.name) + 0 ≡ part_offset known lists spot (member m.name) = omega arith in (
-            subst (λ n. Led spot n (map (inside (member m.name ∷ [])) (inner_of_type scalars m.ty))) e
+            subst (λ n. Led spot n (map (seen_from_outside (member m.name ∷ [])) (inner_of_type scalars m.ty))) e
                 (led-inside spot (whole m.ty) (member m.name) 0 (inner_of_type scalars m.ty) steps t.led),
             length-inside (member m.name ∷ []) (inner_of_type scalars m.ty) ∙ t.long,
           )

@@ -38,7 +38,7 @@ use Rattle.bl_tree.specs.declared.c.CStruct.{CStruct}
 use Rattle.bl_tree.specs.Scalar.{in_range}
 use Rattle.bl_ctext_semantics.specs.Cells.{Cell, Inner, cells_at, cells_of, column_of, column_typed, inner_of, inner_of_member, inner_of_length}
 use Rattle.bl_ctext_semantics.specs.Cells.{inner_of_type, inputs_of, memory_of, numbers_of, outputs_in, outputs_of, port, ports_of, with_inputs}
-use Rattle.bl_ctext_semantics.specs.Memory.{Root, state_object, input_object, output_object, Location, Memory, cleared, member, number_in, scalar, set_at, value_at}
+use Rattle.bl_ctext_semantics.specs.Memory.{Root, state_object, input_object, output_object, Location, Memory, cleared, member, scalar_number, scalar, set_at, value_at}
 use Rattle.bl_ctext_semantics.specs.Parts.{Parts}
 use Rattle.bl_ctext_semantics.specs.Sizes.{cells_needed, sizes}
 use Rattle.bl_ctext_semantics.specs.Tables.{Table, found, no_entries, table_of, with_entry}
@@ -74,9 +74,9 @@ cleared-are [] = refl
 cleared-are (c ∷ cells) = ap (λ xs. pos 0 ∷ xs) (cleared-are cells)
 
 numbers-more : (xs : List Cell) (y : Cell) (memory : Memory) →
-    numbers_of (xs ++ y ∷ []) memory ≡ numbers_of xs memory ++ number_in (value_at memory y.location) ∷ []
+    numbers_of (xs ++ y ∷ []) memory ≡ numbers_of xs memory ++ scalar_number (value_at memory y.location) ∷ []
 numbers-more [] y memory = refl
-numbers-more (x ∷ xs) y memory = ap (λ l. number_in (value_at memory x.location) ∷ l) (numbers-more xs y memory)
+numbers-more (x ∷ xs) y memory = ap (λ l. scalar_number (value_at memory x.location) ∷ l) (numbers-more xs y memory)
 
 set-behind : (xs : List ℤ) (y n : ℤ) (rest : List ℤ) → slice_set (xs ++ y ∷ rest) (length xs) n ≡ xs ++ n ∷ rest
 set-behind [] y n rest = refl

@@ -30,7 +30,7 @@ use Rattle.bl_tree.specs.declared.text.Text.{Text}
 use Rattle.bl_tree.specs.declared.c.CType.{CType}
 use Rattle.bl_tree.specs.declared.c.CType.TheVariants.{Scalar as OfScalar, Struct as OfStruct}
 use Rattle.bl_tree.specs.declared.c.CMember.{CMember}
-use Rattle.bl_ctext_semantics.specs.Cells.{Inner, inside, below, inner_of_length, inner_of_member, inner_of_type}
+use Rattle.bl_ctext_semantics.specs.Cells.{Inner, seen_from_outside, below, inner_of_length, inner_of_member, inner_of_type}
 use Rattle.bl_ctext_semantics.specs.Memory.{Projection, member, element, CValue, same_part, left_after, number_or, with_part}
 use Rattle.bl_ctext_semantics.specs.Tables.{Table, found, no_entries}
 use Rattle.bl_ctext_semantics_laws.specs.Fitting.{ValueSpot, whole, row, fits, holds, spot_if, spot_of, spot_of_length, step_in, walk}
@@ -40,7 +40,7 @@ use Rattle.bl_ctext_semantics_laws.proofs.Members.{AllLaidOut, LaidOut, Scalars,
 -- the scalars of what a way has led to
 abbrev pub inner_at : Scalars → ValueSpot → List Inner
 inner_at known (whole ty) = inner_of_type known ty
-inner_at known (row n ty) = flat_map (λ k. map (inside (element k ∷ [])) (inner_of_type known ty)) (below n)
+inner_at known (row n ty) = flat_map (λ k. map (seen_from_outside (element k ∷ [])) (inner_of_type known ty)) (below n)
 
 -- whether a value is one of what a way has led to
 abbrev pub spot_fits : Scalars → ValueSpot → CValue → Bool
@@ -55,18 +55,18 @@ sub value part way = value (part ∷ way)
 row-fits : (known : Scalars) (n : ℕ) (ty : CType) (v : CValue) →
     spot_fits known (row n ty) v ≡ list_all (λ k. fits known ty (sub v (element k))) (below n)
 row-fits known n ty v =
-    all-flat (holds v) (λ k. map (inside (element k ∷ [])) (inner_of_type known ty)) (below n)
-    ∙ all-same (λ k. list_all (holds v) (map (inside (element k ∷ [])) (inner_of_type known ty))) (λ k. fits known ty (sub v (element k)))
-    (λ k. all-map (holds v) (inside (element k ∷ [])) (inner_of_type known ty)) (below n)
+    all-flat (holds v) (λ k. map (seen_from_outside (element k ∷ [])) (inner_of_type known ty)) (below n)
+    ∙ all-same (λ k. list_all (holds v) (map (seen_from_outside (element k ∷ [])) (inner_of_type known ty))) (λ k. fits known ty (sub v (element k)))
+    (λ k. all-map (holds v) (seen_from_outside (element k ∷ [])) (inner_of_type known ty)) (below n)
 
 length-fits : (known : Scalars) (name : Text) (ty : CType) (length : Option ℕ) (v : CValue) →
     list_all (holds v) (inner_of_length name length (inner_of_type known ty)) ≡ spot_fits known (spot_of_length ty length) (sub v (member name))
-length-fits known name ty None v = all-map (holds v) (inside (member name ∷ [])) (inner_of_type known ty)
+length-fits known name ty None v = all-map (holds v) (seen_from_outside (member name ∷ [])) (inner_of_type known ty)
 length-fits known name ty (Some n) v =
-    all-flat (holds v) (λ k. map (inside (member name ∷ element k ∷ [])) (inner_of_type known ty)) (below n)
-    ∙ all-same (λ k. list_all (holds v) (map (inside (member name ∷ element k ∷ [])) (inner_of_type known ty)))
+    all-flat (holds v) (λ k. map (seen_from_outside (member name ∷ element k ∷ [])) (inner_of_type known ty)) (below n)
+    ∙ all-same (λ k. list_all (holds v) (map (seen_from_outside (member name ∷ element k ∷ [])) (inner_of_type known ty)))
     (λ k. fits known ty (sub (sub v (member name)) (element k)))
-    (λ k. all-map (holds v) (inside (member name ∷ element k ∷ [])) (inner_of_type known ty)) (below n)
+    (λ k. all-map (holds v) (seen_from_outside (member name ∷ element k ∷ [])) (inner_of_type known ty)) (below n)
     ∙ sym (row-fits known n ty (sub v (member name)))
 
 -- whether a member of a value is one of the member's type

@@ -7,7 +7,7 @@ use Rattle.bl_tree.specs.declared.c.CType.{CType}
 use Rattle.bl_tree.specs.declared.c.CType.TheVariants.{Scalar as OfScalar, Struct as OfStruct}
 use Rattle.bl_tree.specs.declared.c.CMember.{CMember}
 use Rattle.bl_tree.specs.Scalar.{in_range}
-use Rattle.bl_ctext_semantics.specs.Memory.{Root, variable, Location, CValue, Memory, number_in, value_at}
+use Rattle.bl_ctext_semantics.specs.Memory.{Root, variable, Location, CValue, Memory, scalar_number, value_at}
 use Rattle.bl_ctext_semantics.specs.Meaning.{CallResult, Meaning, ArgumentValue, by_value, by_address, Scope}
 use Rattle.bl_ctext_semantics.specs.Sizes.{Sizes}
 use Rattle.bl_ctext_semantics.specs.Tables.{Table, entry_or}
@@ -63,7 +63,7 @@ module _ (known : Sizes) (lists : Lists) (structs : Structs) (shaped : Shaped kn
     pub is : v ≡ value_at memory place
 
   abbrev pub ValuedAs : World → Memory → CType → CValue → ℤ → Type 0
-  ValuedAs w memory (OfScalar kind) v n = (number_in v ≡ n) × (in_range kind n ≡ true)
+  ValuedAs w memory (OfScalar kind) v n = (scalar_number v ≡ n) × (in_range kind n ≡ true)
   ValuedAs w memory (OfStruct name) v n = StructAt w memory name v n
 
   abbrev pub Valued : World → Memory → Option CType → CValue → ℤ → Type 0

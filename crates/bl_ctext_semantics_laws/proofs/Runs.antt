@@ -7,7 +7,7 @@ use Rattle.bl_ctext_semantics.specs.Memory.{Memory, cleared, state_object, input
 use Rattle.bl_ctext_semantics.specs.Meaning.{CallResult}
 use Rattle.bl_ctext_semantics.specs.Parts.{Parts}
 use Rattle.bl_ctext_semantics.specs.Sizes.{cells_needed}
-use Rattle.bl_ctext_semantics.specs.Trace.{entered, object, reply_of, started, tick_c}
+use Rattle.bl_ctext_semantics.specs.Trace.{call_from_outside, object, reply_of, started, tick_c}
 use Rattle.bl_ctext_semantics_laws.specs.Laws.{StartsRun, TicksRun, entered_flat, input_at, output_at}
 use Rattle.bl_ctext_semantics_laws.specs.Flat.{Cells, FlatAnswer, with_args}
 use Rattle.bl_ctext_semantics_laws.proofs.Entry.{Standing, begins-standing, call-from, ends-standing, init-passes, interface, objects-declared, tick-passes}
@@ -27,7 +27,7 @@ ticks-run file spelled formed small numbers others ins fits row room =
     call-from file formed declared spelled small (codes "bl_tick") i.tick (object state_object ∷ object input_object ∷ object output_object ∷ [])
     (pos 0 ∷ pos (input_at file) ∷ pos (output_at file) ∷ []) i.tick-is
     memory cells stands (tick-passes file formed declared spelled small i.tick.params memory i.tick-params) in
-    let after : Memory = (entered file (codes "bl_tick") (object state_object ∷ object input_object ∷ object output_object ∷ []) memory).memory in
+    let after : Memory = (call_from_outside file (codes "bl_tick") (object state_object ∷ object input_object ∷ object output_object ∷ []) memory).memory in
     let left : FlatAnswer ℤ = entered_flat file (codes "bl_tick") (pos 0 ∷ pos (input_at file) ∷ pos (output_at file) ∷ []) cells in
     let ended = ends-standing file formed declared after left.cells agree.stands in
     record {
@@ -52,7 +52,7 @@ starts-run file spelled formed small others room =
     call-from file formed declared spelled small (codes "bl_init") i.init (object state_object ∷ []) (pos 0 ∷ []) i.init-is cleared
     (replicate (length (cells_of file)) (pos 0) ++ others) stands
     (init-passes file formed declared spelled small i.init.params cleared i.init-params) in
-    let c : CallResult = entered file (codes "bl_init") (object state_object ∷ []) cleared in
+    let c : CallResult = call_from_outside file (codes "bl_init") (object state_object ∷ []) cleared in
     let left : FlatAnswer ℤ = entered_flat file (codes "bl_init") (pos 0 ∷ []) (replicate (length (cells_of file)) (pos 0) ++ others) in
     let ended = ends-standing file formed declared c.memory left.cells agree.stands in
     record {

@@ -30,7 +30,7 @@ use Rattle.bl_tree.specs.declared.scalar.Scalar.{Scalar}
 use Rattle.bl_tree.specs.declared.c.CType.{CType}
 use Rattle.bl_tree.specs.declared.c.CType.TheVariants.{Scalar as OfScalar}
 use Rattle.bl_tree.specs.Scalar.{in_range}
-use Rattle.bl_ctext_semantics.specs.Memory.{Projection, Root, state_object, input_object, output_object, variable, Location, CValue, Memory, left_after, number_in}
+use Rattle.bl_ctext_semantics.specs.Memory.{Projection, Root, state_object, input_object, output_object, variable, Location, CValue, Memory, left_after, scalar_number}
 use Rattle.bl_ctext_semantics.specs.Memory.{number_or, same_root, set_at, value_at, zeros, with_part}
 use Rattle.bl_ctext_semantics.specs.Sizes.{Sizes, size_of_type}
 use Rattle.bl_ctext_semantics.specs.Tables.{no_entries}
@@ -157,7 +157,7 @@ module _ (known : Sizes) (lists : Lists) (structs : Structs) (shaped : Shaped kn
     range-part place ty k p rest kind leads = stands.ranges place.root p.it (place.parts ++ rest) kind p.there (part-leads w place ty k p rest ∙ leads)
 
     pub read-scalar : (place : Location) (kind : Scalar) (k : ℕ) → PlacedAt w place (OfScalar kind) k →
-        cell_at cells k ≡ number_in (value_at memory place)
+        cell_at cells k ≡ scalar_number (value_at memory place)
     read-scalar place kind k p = let e : k + 0 ≡ k = omega arith in ap (cell_at cells) (sym e) ∙ read-part place (OfScalar kind) k p [] kind refl
 
   -- memory in which every root that stands somewhere has the same value
@@ -303,7 +303,7 @@ module _ (known : Sizes) (lists : Lists) (structs : Structs) (shaped : Shaped kn
 
     -- a scalar was set
     pub set-stands : (place : Location) (kind : Scalar) (k : ℕ) (value : CValue) (n : ℤ) → PlacedAt w place (OfScalar kind) k →
-        number_in value ≡ n →
+        scalar_number value ≡ n →
         in_range kind n ≡ true →
         Stands w (set_at memory place value) (slice_set cells k n)
     set-stands place kind k value n p is fits =

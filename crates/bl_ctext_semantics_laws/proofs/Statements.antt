@@ -41,9 +41,9 @@ use Rattle.bl_tree.specs.Numbers.{is_one}
 use Rattle.bl_tree.specs.Reduce.{all_of, joined}
 use Rattle.bl_ctext.specs.Names.{is_struct_name, is_turn_name}
 use Rattle.bl_ctext.specs.Spellable.{spells_expr, spells_place, spells_stmt}
-use Rattle.bl_ctext_semantics.specs.Memory.{Location, CValue, Memory, number_in, set_at, zeros}
-use Rattle.bl_ctext_semantics.specs.Course.{End, Outcome, after, breaks, ended_by, ending, following_end, goes_on, going, returns, traps, turn_end}
-use Rattle.bl_ctext_semantics.specs.Course.{turn_limit, turn_or_none, turns}
+use Rattle.bl_ctext_semantics.specs.Memory.{Location, CValue, Memory, scalar_number, set_at, zeros}
+use Rattle.bl_ctext_semantics.specs.Course.{End, Outcome, after_statements, breaks, ended_by, ending, following_end, goes_on, going, returns, traps, turn_end}
+use Rattle.bl_ctext_semantics.specs.Course.{loop_with_turns, turn_limit, turn_or_none}
 use Rattle.bl_ctext_semantics.specs.Meaning.{CallResult, Counted, Evaluates as EvaluatesC, Scope, CStmtMeaning as RunsC, block_of as block_of_c, call_c, call_end}
 use Rattle.bl_ctext_semantics.specs.Meaning.{call_outcome, executed as executed_c, given, going_on as going_on_c, location_c, next as next_c}
 use Rattle.bl_ctext_semantics.specs.Meaning.{once_more as once_more_c, runs_c, value_c}
@@ -58,7 +58,7 @@ use Rattle.bl_ctext_semantics.proofs.Induction.{Optional, StmtCases, induct_stmt
 use Rattle.bl_ctext_semantics_laws.proofs.Lists.{and-left, and-right}
 use Rattle.bl_ctext_semantics_laws.specs.Reaching.{Ground}
 use Rattle.bl_ctext_semantics_laws.specs.Flat.{Cells, Evaluates, FlatAnswer, FlatStmtMeaning, Routine, address_of, block_of, call_flat}
-use Rattle.bl_ctext_semantics_laws.specs.Flat.{cell_number, copied, executed, flat_answer, going_on, next, once_more}
+use Rattle.bl_ctext_semantics_laws.specs.Flat.{cell_number, copied, executed, flat_answer, flat_next, going_on, once_more}
 use Rattle.bl_ctext_semantics_laws.specs.Flat.{reach_flat, runs_flat, value_flat, written_at, zeroed}
 use Rattle.bl_ctext_semantics_laws.proofs.Faultless.{unless-nil}
 use Rattle.bl_ctext_semantics_laws.proofs.Ways.{Lists, Shaped, Structs}
@@ -172,7 +172,7 @@ module _ (known : Sizes) (lists : Lists) (structs : Structs) (shaped : Shaped kn
       let e = c.count in
       ended-agrees (Value memory (Some bool_type)) memory (condition scope memory).count (0 + (flat base cells).count) (flat base cells).cells
       (condition scope memory).answer (flat base cells).answer
-      (λ v. turn_or_none (is_one (number_in v)) memory f) (λ v. turn_or_none (is_one v) (flat base cells).cells g) (omega arith) c.stands c.answer
+      (λ v. turn_or_none (is_one (scalar_number v)) memory f) (λ v. turn_or_none (is_one v) (flat base cells).cells g) (omega arith) c.stands c.answer
       (λ v n valued. subst (λ x. RunAgrees (turn_or_none (is_one x) memory f) (turn_or_none (is_one n) (flat base cells).cells g)) (sym valued.0)
       (turn-agrees (is_one n) memory (flat base cells).cells f g c.stands (turn memory (flat base cells).cells c.stands)))
 
@@ -183,21 +183,22 @@ module _ (known : Sizes) (lists : Lists) (structs : Structs) (shaped : Shaped kn
       Conditions condition flat →
       ((memory : Memory) (cells : Cells) → Stood memory cells → RunAgrees (body scope memory) (run base cells)) →
       (memory : Memory) (cells : Cells) → Stood memory cells →
-      RunAgrees (turns n (once_more_c condition scope) (body scope) memory) (turns n (once_more flat base) (run base) cells)
-  unfolding turns
+      RunAgrees (loop_with_turns n (once_more_c condition scope) (body scope) memory) (loop_with_turns n (once_more flat base) (run base) cells)
+  unfolding loop_with_turns
   turns-agree zero condition flat body run h b memory cells stood =
       once-agrees condition flat h (λ m. record { memory = m; end = traps; count = 0 }) (ending traps) stopped memory cells stood
   turns-agree (suc n) condition flat body run h b memory cells stood =
       once-agrees condition flat h (λ m. turn_end (body scope m).count (body scope m).memory (body scope m).end
-      (turns n (once_more_c condition scope) (body scope)))
-      (λ c. turn_end (run base c).count (run base c).memory (run base c).end (turns n (once_more flat base) (run base)))
+      (loop_with_turns n (once_more_c condition scope) (body scope)))
+      (λ c. turn_end (run base c).count (run base c).memory (run base c).end (loop_with_turns n (once_more flat base) (run base)))
       (λ m c there.
       let r : RunAgrees (body scope m) (run base c) = b m c there in
-      subst (λ e. RunAgrees (turn_end (body scope m).count (body scope m).memory (body scope m).end (turns n (once_more_c condition scope) (body scope)))
-      (turn_end (run base c).count (run base c).memory e (turns n (once_more flat base) (run base)))) r.end
+      subst (λ e. RunAgrees (turn_end (body scope m).count (body scope m).memory (body scope m).end
+      (loop_with_turns n (once_more_c condition scope) (body scope)))
+      (turn_end (run base c).count (run base c).memory e (loop_with_turns n (once_more flat base) (run base)))) r.end
       (turn-end-agrees (body scope m).count (run base c).count (body scope m).memory (run base c).memory (body scope m).end
-      (turns n (once_more_c condition scope) (body scope))
-      (turns n (once_more flat base) (run base)) r.count r.stands r.range
+      (loop_with_turns n (once_more_c condition scope) (body scope))
+      (loop_with_turns n (once_more flat base) (run base)) r.count r.stands r.range
       (turns-agree n condition flat body run h b (body scope m).memory (run base c).memory r.stands)))
       memory cells stood
 
@@ -334,12 +335,12 @@ module _ (known : Sizes) (lists : Lists) (structs : Structs) (shaped : Shaped kn
   set-case : (at : Place) (p : CPlace) (e : CExpr) (looped : Bool) →
       (judged_place p context at).faults
       ++ ((judged_expr e context).faults ++ (unless (agree (judged_place p context at).ty (judged_expr e context).ty) assigned_type at
-      ++ unless (not (context.keeps && (judged_place p context at).through)) changes_nothing at)) ≡ [] →
+      ++ unless (not (context.is_read_only && (judged_place p context at).through)) changes_nothing at)) ≡ [] →
       Roomy (calls_in_place p ++ calls_in e) → (spells_place p && spells_expr e) ≡ true → (memory : Memory) (cells : Cells) → Stood memory cells →
       RunAgrees (executed_c memory (next_c (location_c p scope memory)
       (λ l. next_c (value_c e scope memory) (λ v. given (Some (set_at memory l v))))) going)
-      (executed 1 (next (address_of (reach_flat p ground) base cells)
-      (λ c k. next (value_flat e ground base c) (λ d v. flat_answer (written_at ground.sizes (reach_flat p ground).ty k v d) (Some v)))) (λ c v. going c))
+      (executed 1 (flat_next (address_of (reach_flat p ground) base cells)
+      (λ c k. flat_next (value_flat e ground base c) (λ d v. flat_answer (written_at ground.sizes (reach_flat p ground).ty k v d) (Some v)))) (λ c v. going c))
   set-case at p e looped none room spelled memory cells stood =
       let f = place-facts known lists structs shaped limit context scope ground chains base w running memory p at (nil-left _ _ none)
       (room-left chains w.top limit (calls_in_place p) (calls_in e) room) (and-left _ _ spelled) in
@@ -352,7 +353,7 @@ module _ (known : Sizes) (lists : Lists) (structs : Structs) (shaped : Shaped kn
       (address_of (reach_flat p ground) base cells).cells
       (location_c p scope memory).answer (address_of (reach_flat p ground) base cells).answer f.goal
       (λ l. next_c (value_c e scope memory) (λ v. given (Some (set_at memory l v))))
-      (λ c k. next (value_flat e ground base c) (λ d v. flat_answer (written_at ground.sizes (reach_flat p ground).ty k v d) (Some v))) l.count l.stands l.answer
+      (λ c k. flat_next (value_flat e ground base c) (λ d v. flat_answer (written_at ground.sizes (reach_flat p ground).ty k v d) (Some v))) l.count l.stands l.answer
       (λ x k placed.
       let v = expr-agrees known lists structs shaped limit context scope ground chains base w running memory e (nil-left _ _ h1)
       (room-right chains w.top limit (calls_in_place p) (calls_in e) room) (and-right (spells_place p) _ spelled)
@@ -366,7 +367,7 @@ module _ (known : Sizes) (lists : Lists) (structs : Structs) (shaped : Shaped kn
       (judged_place p context at).faults
       ++ (unless (is_some (context.structs name)) declared_before at
       ++ (unless (agree (judged_place p context at).ty (Some (OfStruct name))) assigned_type at
-      ++ unless (not (context.keeps && (judged_place p context at).through)) changes_nothing at)) ≡ [] →
+      ++ unless (not (context.is_read_only && (judged_place p context at).through)) changes_nothing at)) ≡ [] →
       Roomy (calls_in_place p) → spells_place p ≡ true → (memory : Memory) (cells : Cells) → Stood memory cells →
       RunAgrees (executed_c memory (location_c p scope memory) (λ l. going (set_at memory l zeros)))
       (executed 1 (address_of (reach_flat p ground) base cells) (λ c k. going (zeroed (entry_or 0 ground.sizes name) k c)))
@@ -415,11 +416,11 @@ module _ (known : Sizes) (lists : Lists) (structs : Structs) (shaped : Shaped kn
       ((memory : Memory) (cells : Cells) → Stood memory cells → RunAgrees (block scope memory) (flat-block ground base cells)) →
       ((memory : Memory) (cells : Cells) → Stood memory cells → RunAgrees (other scope memory) (flat-other ground base cells)) →
       (memory : Memory) (cells : Cells) → Stood memory cells →
-      RunAgrees (executed_c memory (value_c e scope memory) (λ v. (if is_one (number_in v) then block else other) scope memory))
+      RunAgrees (executed_c memory (value_c e scope memory) (λ v. (if is_one (scalar_number v) then block else other) scope memory))
       (executed 1 (value_flat e ground base cells) (λ c v. (if is_one v then flat-block else flat-other) ground base c))
   if-case e block other flat-block flat-other none room spelled hb ho memory cells stood =
       executed-agrees (Value memory (Some bool_type)) memory (value_c e scope memory) (value_flat e ground base cells)
-      (λ v. (if is_one (number_in v) then block else other) scope memory)
+      (λ v. (if is_one (scalar_number v) then block else other) scope memory)
       (λ c v. (if is_one v then flat-block else flat-other) ground base c) (condition-agrees e none room spelled memory cells stood)
       (λ v n after valued there. subst
       (λ x. RunAgrees ((if is_one x then block else other) scope memory) ((if is_one n then flat-block else flat-other) ground base after)) (sym valued.0)
@@ -427,14 +428,14 @@ module _ (known : Sizes) (lists : Lists) (structs : Structs) (shaped : Shaped kn
 
   return-case : (e : CExpr) (at : Place) (r : Option Scalar) → context.result ≡ r → return_faults (Some e) r context at ≡ [] → Roomy (calls_in e) →
       spells_expr e ≡ true → (memory : Memory) (cells : Cells) → Stood memory cells →
-      RunAgrees (executed_c memory (value_c e scope memory) (λ v. ending (returns (number_in v)) memory))
+      RunAgrees (executed_c memory (value_c e scope memory) (λ v. ending (returns (scalar_number v)) memory))
       (executed 1 (value_flat e ground base cells) (λ c v. ending (returns v) c))
   return-case e at None is none room spelled memory cells stood =
       absurd (let x : false ≡ true = unless-nil false returns_result at (nil-right (judged_expr e context).faults _ none) in cc)
   return-case e at (Some t) is none room spelled memory cells stood =
       let typed = unless-nil (agree (judged_expr e context).ty (Some (OfScalar t))) returns_result _ (nil-right (judged_expr e context).faults _ none) in
       executed-agrees (Value memory (judged_expr e context).ty) memory (value_c e scope memory) (value_flat e ground base cells)
-      (λ v. ending (returns (number_in v)) memory) (λ c v. ending (returns v) c)
+      (λ v. ending (returns (scalar_number v)) memory) (λ c v. ending (returns v) c)
       (expr-agrees known lists structs shaped limit context scope ground chains base w running memory e (nil-left _ _ none) room spelled cells stood)
       (λ v n after valued there.
       let s = value-agrees known lists structs shaped limit w memory (judged_expr e context).ty (OfScalar t) v n typed valued in
@@ -442,7 +443,7 @@ module _ (known : Sizes) (lists : Lists) (structs : Structs) (shaped : Shaped kn
         count = refl;
         end = ap returns s.0;
         stands = there;
-        range = subst (λ o. EndRanged o (returns (number_in v))) (sym is)
+        range = subst (λ o. EndRanged o (returns (scalar_number v))) (sym is)
             (subst (λ x. in_range t x ≡ true) (sym s.0) s.1);
       })
 
@@ -487,17 +488,17 @@ module _ (known : Sizes) (lists : Lists) (structs : Structs) (shaped : Shaped kn
       let r : Roomy (calls_in e ++ joined (map calls_in_stmt body)) = rw (fold-roll-CStmt, fold-roll-CStmtKind) at room in
       let s : (is_turn_name turn && (spells_expr e && all_of (map spells_stmt body))) ≡ true = rw (fold-roll-CStmt, fold-roll-CStmtKind) at spelled in
       let s2 = and-right (is_turn_name turn) _ s in
-      let t : RunAgrees (turns turn_limit (once_more_c (value_c e) scope) (block_of_c (map runs_c body) scope) memory)
-      (turns turn_limit (once_more (value_flat e ground) base) (block_of (map runs_flat body) ground base) cells) =
+      let t : RunAgrees (loop_with_turns turn_limit (once_more_c (value_c e) scope) (block_of_c (map runs_c body) scope) memory)
+      (loop_with_turns turn_limit (once_more (value_flat e ground) base) (block_of (map runs_flat body) ground base) cells) =
       turns-agree turn_limit (value_c e) (value_flat e ground) (block_of_c (map runs_c body)) (block_of (map runs_flat body) ground)
       (condition-agrees e (nil-left _ _ n) (room-left chains w.top limit (calls_in e) (joined (map calls_in_stmt body)) r) (and-left _ _ s2))
       (λ m c there. block-agrees body h true (nil-right (condition_faults e context) _ n)
       (room-right chains w.top limit (calls_in e) (joined (map calls_in_stmt body)) r) (and-right (spells_expr e) _ s2) m c there) memory cells stood in
       rw (fold-roll-CStmt, fold-roll-CStmt, fold-roll-CStmtKind, fold-roll-CStmtKind)
-      (once-later (turns turn_limit (once_more_c (value_c e) scope) (block_of_c (map runs_c body) scope) memory)
-      (turns turn_limit (once_more (value_flat e ground) base) (block_of (map runs_flat body) ground base) cells) t)
+      (once-later (loop_with_turns turn_limit (once_more_c (value_c e) scope) (block_of_c (map runs_c body) scope) memory)
+      (loop_with_turns turn_limit (once_more (value_flat e ground) base) (block_of (map runs_flat body) ground base) cells) t)
     where
-      once-later : (o : Outcome Memory) (r : Outcome Cells) → RunAgrees o r → RunAgrees (after 1 o) (after 1 r)
+      once-later : (o : Outcome Memory) (r : Outcome Cells) → RunAgrees o r → RunAgrees (after_statements 1 o) (after_statements 1 r)
       once-later o r h = record { count = let e = h.count in omega arith; end = h.end; stands = h.stands; range = h.range }
 
   returning-case : (at : Place) (e : Option CExpr) → OfStmt (stmt at (CStmtKind-F.Return e))

@@ -38,7 +38,7 @@ use Rattle.bl_tree.specs.declared.c.CType.TheVariants.{Scalar as OfScalar, Struc
 use Rattle.bl_tree.specs.Scalar.{in_range}
 use Rattle.bl_tree.specs.Numbers.{number_of}
 use Rattle.bl_ctext.specs.Spellable.{is_literal}
-use Rattle.bl_ctext_semantics.specs.Memory.{CValue, Location, Memory, number_in}
+use Rattle.bl_ctext_semantics.specs.Memory.{CValue, Location, Memory, scalar_number}
 use Rattle.bl_ctext_semantics.specs.Meaning.{ArgumentValue, by_value, by_address, number_of_passed}
 use Rattle.bl_ctext_semantics.specs.Sizes.{Sizes}
 use Rattle.bl_ctext_semantics.specs.Faults.{JudgedArg, Variable, agree, by_value as by_value_of, fit_each, fits_arg, fits_param, if_typed, same_scalar}
@@ -138,7 +138,7 @@ module _ (known : Sizes) (lists : Lists) (structs : Structs) (shaped : Shaped kn
 
   -- ---- operands
 
-  pub operand-number : (op : Op) (ty : Option CType) (v : CValue) (n : ℤ) → if_typed ty (takes op) ≡ true → Value ty v n → number_in v ≡ n
+  pub operand-number : (op : Op) (ty : Option CType) (v : CValue) (n : ℤ) → if_typed ty (takes op) ≡ true → Value ty v n → scalar_number v ≡ n
   operand-number op None v n h valued = absurd valued
   operand-number op (Some (OfScalar kind)) v n h valued = valued.0
   operand-number Eq (Some (OfStruct name)) v n h valued = cc
@@ -235,7 +235,7 @@ module _ (known : Sizes) (lists : Lists) (structs : Structs) (shaped : Shaped kn
   -- ---- arguments of the prelude's functions
 
   abbrev Fitting : Scalar → CValue → ℤ → Type 0
-  Fitting t v n = (number_in v ≡ n) × (in_range t n ≡ true)
+  Fitting t v n = (scalar_number v ≡ n) × (in_range t n ≡ true)
 
   scalar-as : (t : Scalar) (ty : CType) (v : CValue) (n : ℤ) → same_type (OfScalar t) ty ≡ true → ValueAs ty v n → Fitting t v n
   scalar-as t ty v n h valued = subst (λ x. ValueAs x v n) (sym (same-type (OfScalar t) ty h)) valued

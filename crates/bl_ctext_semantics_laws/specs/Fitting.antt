@@ -33,9 +33,10 @@ use Rattle.bl_ctext.specs.declared.builtin.Builtin.{Builtin}
 use Rattle.bl_ctext_semantics.specs.Builtin.{builtin_of, builtin_params, builtin_result, builtin_value}
 use Rattle.bl_ctext_semantics.specs.Parts.{Parts}
 use Rattle.bl_ctext_semantics.specs.Tables.{Table, no_entries, table_of}
-use Rattle.bl_ctext_semantics.specs.Memory.{Projection, member, element, Root, state_object, input_object, output_object, Location, CValue, Memory, number_in}
+use Rattle.bl_ctext_semantics.specs.Memory.{Projection, member, element, Root, state_object, input_object, output_object, Location, CValue, Memory}
+use Rattle.bl_ctext_semantics.specs.Memory.{scalar_number}
 use Rattle.bl_ctext_semantics.specs.Memory.{value_at, set_at, cleared}
-use Rattle.bl_ctext_semantics.specs.Cells.{Inner, inside, inner_of_type, inner_after, Cell, cells_of}
+use Rattle.bl_ctext_semantics.specs.Cells.{Inner, inner_of_type, inner_after, Cell, cells_of}
 use Rattle.bl_ctext_semantics.specs.Faults.{WellFormed, struct_table}
 
 -- ---- values
@@ -144,7 +145,7 @@ SettingFits file = WellFormed file → (types : RootTypes) (memory : Memory) (pl
 
 -- whether the number of a cell is in its range
 abbrev pub cell_holds : Memory → Cell → Bool
-cell_holds memory cell = in_range cell.kind (number_in (value_at memory cell.location))
+cell_holds memory cell = in_range cell.kind (scalar_number (value_at memory cell.location))
 
 -- each cell of the three objects has a number in its range
 abbrev pub CellsFit : Parts → Type 0

@@ -41,7 +41,8 @@ use Rattle.bl_tree.specs.Numbers.{is_one, number_of, takes_one, takes_two}
 use Rattle.bl_ctext.specs.declared.builtin.Builtin.{Builtin}
 use Rattle.bl_ctext.specs.declared.builtin.Builtin.TheVariants.{One, Two}
 use Rattle.bl_ctext_semantics.specs.Builtin.{builtin_of, builtin_params, builtin_value, index_within}
-use Rattle.bl_ctext_semantics.specs.Course.{breaks, returns, result_at, Outcome, ending, going, after, ended_by, in_order, turn_or_none, turns, turn_limit}
+use Rattle.bl_ctext_semantics.specs.Course.{breaks, returns, result_at, Outcome, ending, going, after_statements, ended_by, in_order, turn_or_none}
+use Rattle.bl_ctext_semantics.specs.Course.{loop_with_turns, turn_limit}
 use Rattle.bl_ctext.specs.Folds.{OpenPart}
 use Rattle.bl_ctext_semantics.specs.Sizes.{Sizes}
 use Rattle.bl_ctext_semantics.specs.Tables.{Table, with_entry, entry_or}
@@ -75,8 +76,8 @@ going_on cells n None rest = record { cells = cells; count = n; answer = None }
 going_on cells n (Some a) rest = more n (rest cells a)
 
 -- one evaluation followed by another that uses its answer
-abbrev pub next : {A B : Type 0} → FlatAnswer A → (Cells → A → FlatAnswer B) → FlatAnswer B
-next first rest = going_on first.cells first.count first.answer rest
+abbrev pub flat_next : {A B : Type 0} → FlatAnswer A → (Cells → A → FlatAnswer B) → FlatAnswer B
+flat_next first rest = going_on first.cells first.count first.answer rest
 
 -- ---- where expressions and statements stand
 
@@ -112,7 +113,7 @@ element_address term at i = option_map (λ k. capped (at + cell_number k * term.
 abbrev pub address_along : List (Term (Evaluates ℤ)) → ℕ → Evaluates ℕ
 address_along [] at base cells = flat_answer cells (Some at)
 address_along (term ∷ terms) at base cells =
-    next (term.index base cells) (λ after i. next (flat_answer after (element_address term at i)) (λ same k. address_along terms k base same))
+    flat_next (term.index base cells) (λ after i. flat_next (flat_answer after (element_address term at i)) (λ same k. address_along terms k base same))
 
 -- the number of a place's first cell
 abbrev pub address_of : Reach (Evaluates ℤ) → Evaluates ℕ
@@ -129,7 +130,7 @@ read_at _ cells at = pos at
 abbrev pub each_of : {A : Type 0} → List (Evaluates A) → Evaluates (List A)
 each_of [] base cells = flat_answer cells (Some [])
 each_of (evaluate ∷ rest) base cells =
-    next (evaluate base cells) (λ after a. next (each_of rest base after) (λ last others. flat_answer last (Some (a ∷ others))))
+    flat_next (evaluate base cells) (λ after a. flat_next (each_of rest base after) (λ last others. flat_answer last (Some (a ∷ others))))
 
 -- a number that needs no evaluation
 abbrev pub at_once : ℤ → Evaluates ℤ
@@ -147,10 +148,10 @@ compared _ a b = None
 
 -- the value of a comparison, or of `&&` and `||`, whose right side counts only where the left doesn't decide
 abbrev pub two_values : Op → Evaluates ℤ → Evaluates ℤ → Evaluates ℤ
-two_values And first second base cells = next (first base cells) (λ after a. (if is_one a then second else at_once (pos 0)) base after)
-two_values Or first second base cells = next (first base cells) (λ after a. (if is_one a then at_once (pos 1) else second) base after)
+two_values And first second base cells = flat_next (first base cells) (λ after a. (if is_one a then second else at_once (pos 0)) base after)
+two_values Or first second base cells = flat_next (first base cells) (λ after a. (if is_one a then at_once (pos 1) else second) base after)
 two_values op first second base cells =
-    next (first base cells) (λ after a. next (second base after) (λ last b. flat_answer last (compared op a b)))
+    flat_next (first base cells) (λ after a. flat_next (second base after) (λ last b. flat_answer last (compared op a b)))
 
 -- whether an operator takes its type, as every named function of the prelude does
 abbrev pub is_typed : Builtin → Bool
@@ -173,8 +174,8 @@ called_as (Some builtin) routine base args cells = flat_answer cells (prelude_va
 called_as None routine base args cells = applied routine base args cells
 
 -- a call of the function of this name: its frame begins behind the caller's
-abbrev pub called : Ground Routine → Text → ℕ → List ℤ → Cells → FlatAnswer ℤ
-called here name base args cells = called_as (builtin_of name) (here.known name) (capped (base + here.frame)) args cells
+abbrev pub flat_call : Ground Routine → Text → ℕ → List ℤ → Cells → FlatAnswer ℤ
+flat_call here name base args cells = called_as (builtin_of name) (here.known name) (capped (base + here.frame)) args cells
 
 -- what depends on what is known where an expression or statement stands
 abbrev pub Grounded : Type 0 → Type 0
@@ -189,22 +190,22 @@ Evaluating Of = Of (Grounded (Evaluates ℤ)) (Grounded (Evaluates ℤ)) (Ground
 -- one step of the fold for each part, where its own parts are known. An argument is a number: for `&` that of the place's first cell
 abbrev pub arg_step : Evaluating CArg-F → Grounded (Evaluates ℤ)
 arg_step (CArg-F.Value value) here base cells = value here base cells
-arg_step (CArg-F.Address place) here base cells = next (address_of (place here) base cells) (λ after k. flat_answer after (Some (pos k)))
+arg_step (CArg-F.Address place) here base cells = flat_next (address_of (place here) base cells) (λ after k. flat_answer after (Some (pos k)))
 
 -- the value of an expression's form
 abbrev pub kind_step : Evaluating CExprKind-F → Grounded (Evaluates ℤ)
 kind_step (CExprKind-F.Literal type n) here base cells = flat_answer cells (Some n)
 kind_step (CExprKind-F.Read place) here base cells =
-    next (address_of (place here) base cells) (λ after k. flat_answer after (Some (read_at (place here).ty after k)))
+    flat_next (address_of (place here) base cells) (λ after k. flat_answer after (Some (read_at (place here).ty after k)))
 kind_step (CExprKind-F.Call call) here base cells = call here base cells
 kind_step (CExprKind-F.Not operand) here base cells =
-    next (operand here base cells) (λ after a. flat_answer after (Some (number_of (if is_one a then false else true))))
+    flat_next (operand here base cells) (λ after a. flat_answer after (Some (number_of (if is_one a then false else true))))
 kind_step (CExprKind-F.Two op first second) here base cells = two_values op (first here) (second here) base cells
 
 -- the evaluation of a call: its arguments are evaluated, then the function is called
 abbrev pub call_step : Evaluating CCall-F → Grounded (Evaluates ℤ)
 call_step call here base cells =
-    next (each_of (map (λ arg. arg here) call.args) base cells) (λ after args. called here call.name base args after)
+    flat_next (each_of (map (λ arg. arg here) call.args) base cells) (λ after args. flat_call here call.name base args after)
 
 -- the value of an expression is that of its form
 abbrev pub expr_step : Evaluating CExpr-F → Grounded (Evaluates ℤ)
@@ -274,8 +275,8 @@ once_more condition base turn cells = executed 0 (condition base cells) (λ c v.
 -- one step of the fold for statements
 abbrev pub stmt_kind_step : CStmtKind-F FlatStmtMeaning FlatStmtMeaning → FlatStmtMeaning
 stmt_kind_step (CStmtKind-F.Set place expr) here base cells =
-    executed 1 (next (address_of (reach_flat place here) base cells)
-    (λ c k. next (value_flat expr here base c) (λ d v. flat_answer (written_at here.sizes (reach_flat place here).ty k v d) (Some v))))
+    executed 1 (flat_next (address_of (reach_flat place here) base cells)
+    (λ c k. flat_next (value_flat expr here base c) (λ d v. flat_answer (written_at here.sizes (reach_flat place here).ty k v d) (Some v))))
     (λ c v. going c)
 stmt_kind_step (CStmtKind-F.Clear place name) here base cells =
     executed 1 (address_of (reach_flat place here) base cells) (λ c k. going (zeroed (entry_or 0 here.sizes name) k c))
@@ -283,7 +284,7 @@ stmt_kind_step (CStmtKind-F.Call call) here base cells = executed 1 (call_flat c
 stmt_kind_step (CStmtKind-F.If condition block other) here base cells =
     executed 1 (value_flat condition here base cells) (λ c v. (if is_one v then block_of block else block_of (unwrap_or other [])) here base c)
 stmt_kind_step (CStmtKind-F.Loop name condition body) here base cells =
-    after 1 (turns turn_limit (once_more (value_flat condition here) base) (block_of body here base) cells)
+    after_statements 1 (loop_with_turns turn_limit (once_more (value_flat condition here) base) (block_of body here base) cells)
 stmt_kind_step CStmtKind-F.Break here base cells = record { memory = cells; end = breaks; count = 1 }
 stmt_kind_step (CStmtKind-F.Return None) here base cells = record { memory = cells; end = returns (pos 0); count = 1 }
 stmt_kind_step (CStmtKind-F.Return (Some expr)) here base cells =

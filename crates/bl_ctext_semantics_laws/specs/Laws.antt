@@ -29,7 +29,7 @@ use Rattle.bl_ctext_semantics.specs.Tables.{entry_or, found, no_entries}
 use Rattle.bl_ctext_semantics.specs.Meaning.{CallResult}
 use Rattle.bl_ctext_semantics.specs.Cells.{cells_of, inputs_of, numbers_of, outputs_of}
 use Rattle.bl_ctext_semantics.specs.Sizes.{cells_needed, sizes}
-use Rattle.bl_ctext_semantics.specs.Trace.{TickOfFile, entered, object, reply_of, start_cells, starts, tick_c}
+use Rattle.bl_ctext_semantics.specs.Trace.{TickOfFile, call_from_outside, object, reply_of, start_cells, start_succeeds, tick_c}
 use Rattle.bl_ctext_semantics.specs.Faults.{WellFormed}
 use Rattle.bl_ctext_semantics_laws.specs.Fitting.{cell_holds}
 use Rattle.bl_ctext_semantics_laws.specs.Layout.{capped_sizes, layouts}
@@ -82,12 +82,12 @@ CallsAgree file name call args =
 -- ticks agree in a C text and over numbered cells
 abbrev pub TicksAgree : Parts → Type 0
 TicksAgree file =
-    CallsAgree file (codes "bl_tick") (entered file (codes "bl_tick") (object state_object ∷ object input_object ∷ object output_object ∷ []))
+    CallsAgree file (codes "bl_tick") (call_from_outside file (codes "bl_tick") (object state_object ∷ object input_object ∷ object output_object ∷ []))
     (pos 0 ∷ pos (input_at file) ∷ pos (output_at file) ∷ [])
 
 -- the start
 abbrev pub StartsAgree : Parts → Type 0
-StartsAgree file = CallsAgree file (codes "bl_init") (entered file (codes "bl_init") (object state_object ∷ [])) (pos 0 ∷ [])
+StartsAgree file = CallsAgree file (codes "bl_init") (call_from_outside file (codes "bl_init") (object state_object ∷ [])) (pos 0 ∷ [])
 
 -- ---- ticks and the start, by the numbers alone
 
@@ -119,7 +119,7 @@ TicksRun file = WellFormed file → cells_needed file ≤ 1000000 → (numbers o
 
 -- the start in a C text and over numbered cells
 pub record SameStart (file : Parts) (l : FlatAnswer ℤ) : Type 0 where
-  pub ready : starts file ≡ is_some l.answer
+  pub ready : start_succeeds file ≡ is_some l.answer
   pub cells : take (length (cells_of file)) l.cells ≡ start_cells file
   pub room : cells_needed file ≤ length l.cells
   pub fits : Fitting file (start_cells file)

@@ -43,12 +43,12 @@ abbrev pub StepInto : Type 0 → Type 0 → Type 0
 StepInto K I = Ground K → Option CType → Reach I
 
 -- what stands for a place that no well-formed file has: it has no type
-abbrev pub nowhere : {I : Type 0} → Reach I
-nowhere = record { start = near 0; passed = 0; terms = []; ty = None }
+abbrev pub no_reach : {I : Type 0} → Reach I
+no_reach = record { start = near 0; passed = 0; terms = []; ty = None }
 
 -- the place of a whole parameter or local, or of what it points to
 abbrev pub start_of_slot : {I : Type 0} → Option Slot → Reach I
-start_of_slot None = nowhere
+start_of_slot None = no_reach
 start_of_slot (Some slot) = record { start = if slot.pointer then through slot.at else near slot.at; passed = 0; terms = []; ty = Some slot.ty }
 
 -- a step behind what was reached
@@ -72,6 +72,6 @@ element_terms here ty (Some i) = record { length = i.length; size = size_of_type
 
 -- how a member that was found is reached from where its struct begins, and the element of it where there is an index
 abbrev pub reach_member : {K I : Type 0} → Ground K → Option MemberOffset → Option (Index I) → Reach I
-reach_member here None index = nowhere
+reach_member here None index = no_reach
 reach_member here (Some laid) index =
     record { start = near 0; passed = laid.at; terms = element_terms here laid.it.ty index; ty = Some laid.it.ty }

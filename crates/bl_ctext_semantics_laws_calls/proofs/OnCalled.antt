@@ -69,12 +69,12 @@ between op place a b = record {
 }
 
 abbrev called : Bool → Place → Option Signature → List JudgedArg → JudgedCall
-called keeps place signature args = record {
+called is_read_only place signature args = record {
   signature = signature;
   faults = unless (is_some signature) declared_before place
       ++ (joined (map (λ (a : JudgedArg). a.faults) args)
       ++ (unless (fit_args signature args) arguments place
-      ++ unless (not (keeps && hands_on signature args)) changes_nothing place));
+      ++ unless (not (is_read_only && hands_on signature args)) changes_nothing place));
 }
 
 abbrev indexed : Bool → ℕ → Place → Judged → JudgedIndex
@@ -185,7 +185,7 @@ module _ (context : Context) (one other : Table Signature) where
         signature_same name (All-head (KnowAlike one other) name (joined (map calls_in_arg args)) all) in
         let parts : map (λ judge. judge first place) (map judged_arg args) ≡ map (λ judge. judge second place) (map judged_arg args) =
         args_same args h (All-tail (KnowAlike one other) name (joined (map calls_in_arg args)) all) place in
-        rw fold-roll-CCall (λ i. called context.keeps place (own i) (parts i));
+        rw fold-roll-CCall (λ i. called context.is_read_only place (own i) (parts i));
     expr = λ place what h fine. rw fold-roll-CExpr (h (rw fold-roll-CExpr at fine) place);
     index = λ signed inner length h fine place.
         let inside : judged_expr inner first ≡ judged_expr inner second = h (rw fold-roll-CIndex at fine) in
@@ -267,13 +267,13 @@ module _ (context : Context) (one other : Table Signature) where
       by (Some t) value = ap (λ (v : Judged). v.faults ++ unless (agree v.ty (Some (OfScalar t))) returns_result e.place) value
 
   abbrev set_by : Place → JudgedPlace → Judged → List Fault
-  set_by at p e = p.faults ++ (e.faults ++ (unless (agree p.ty e.ty) assigned_type at ++ unless (not (context.keeps && p.through)) changes_nothing at))
+  set_by at p e = p.faults ++ (e.faults ++ (unless (agree p.ty e.ty) assigned_type at ++ unless (not (context.is_read_only && p.through)) changes_nothing at))
 
   abbrev clear_by : Place → Text → JudgedPlace → List Fault
   clear_by at name p =
       p.faults ++ (unless (is_some (context.structs name)) declared_before at
       ++ (unless (agree p.ty (Some (OfStruct name))) assigned_type at
-      ++ unless (not (context.keeps && p.through)) changes_nothing at))
+      ++ unless (not (context.is_read_only && p.through)) changes_nothing at))
 
   stmt_cases : StmtCases OfStmt
   stmt_cases = record {

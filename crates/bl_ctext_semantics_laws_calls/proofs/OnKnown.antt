@@ -24,12 +24,13 @@ use Rattle.bl_tree.specs.declared.c.CStmtKind.TheOpen.{CStmtKind-F}
 use Rattle.bl_ctext.specs.declared.builtin.Builtin.{Builtin}
 use Rattle.bl_ctext_semantics.specs.Builtin.{builtin_of, index_within}
 use Rattle.bl_ctext_semantics.specs.Calls.{calls_in, calls_in_arg, calls_in_block, calls_in_call, calls_in_place, calls_in_step, calls_in_stmt}
-use Rattle.bl_ctext_semantics.specs.Course.{Outcome, after, ended_by, ending, going, in_order, result_at, returns, turn_limit, turn_or_none, turns}
+use Rattle.bl_ctext_semantics.specs.Course.{Outcome, after_statements, ended_by, ending, going, in_order, loop_with_turns, result_at, returns, turn_limit}
+use Rattle.bl_ctext_semantics.specs.Course.{turn_or_none}
 use Rattle.bl_ctext_semantics.specs.Meaning.{ArgumentValue, CStmtMeaning, CallResult, Counted, Evaluates, Meaning, Scope, applied, at_once, block_c, block_of, by_address, by_value}
-use Rattle.bl_ctext_semantics.specs.Meaning.{call_c, call_outcome, called_after, called_as, each_of, element_at, executed, further, given}
-use Rattle.bl_ctext_semantics.specs.Meaning.{later_call, location_c, next, pointers_of, result_of, runs_c, start_of, two_values, value_c, way_of}
+use Rattle.bl_ctext_semantics.specs.Meaning.{call_c, call_outcome, called_after, called_as, each_of, element_projection, executed, further, given}
+use Rattle.bl_ctext_semantics.specs.Meaning.{later_call, location_c, named_location, next, pointers_of, result_of, runs_c, two_values, value_c, way_of}
 use Rattle.bl_ctext_semantics.specs.Meaning.{with_params}
-use Rattle.bl_ctext_semantics.specs.Memory.{CValue, Location, Memory, member, number_in, scalar, set_at, value_at, without_frame, zeros}
+use Rattle.bl_ctext_semantics.specs.Memory.{CValue, Location, Memory, member, scalar, scalar_number, set_at, value_at, without_frame, zeros}
 use Rattle.bl_ctext_semantics.specs.Tables.{Table, table_of}
 use Rattle.bl_ctext_semantics.proofs.Folds.{arg_c, calls_in_index, calls_in_kind, index_c, kind_c, step_c}
 use Rattle.bl_ctext_semantics.proofs.Induction.{ExprCases, Optional, StmtCases, induct_call, induct_expr, induct_place, induct_stmt, stmt}
@@ -48,7 +49,7 @@ back P (x ∷ xs) ys all = back P xs ys (All-tail P x (xs ++ ys) all)
 -- what two operands give whose values are both asked
 abbrev both_by : Op → (Memory → Counted CValue) → (Memory → Counted CValue) → Memory → Counted CValue
 both_by op left right memory =
-    next (left memory) (λ a. next (right memory) (λ b. given (option_map scalar (checked_of op OfBool (number_in a) (number_in b)))))
+    next (left memory) (λ a. next (right memory) (λ b. given (option_map scalar (checked_of op OfBool (scalar_number a) (scalar_number b)))))
 
 -- a call by what its arguments give
 abbrev calling_by : Scope → Text → (Memory → Counted (List ArgumentValue)) → Memory → CallResult
@@ -56,12 +57,12 @@ calling_by scope name args memory = called_after scope memory name (args memory)
 
 -- a statement with a condition, and a loop, by what that gives
 abbrev if_by : (Memory → Counted CValue) → (Bool → Memory → Outcome Memory) → Memory → Outcome Memory
-if_by test chosen memory = executed memory (test memory) (λ v. chosen (is_one (number_in v)) memory)
+if_by test chosen memory = executed memory (test memory) (λ v. chosen (is_one (scalar_number v)) memory)
 
 abbrev loop_by : (Memory → Counted CValue) → (Memory → Outcome Memory) → Memory → Outcome Memory
 loop_by test block memory =
-    after 1
-    (turns turn_limit (λ turn m. ended_by m (test m).count (test m).answer (λ v. turn_or_none (is_one (number_in v)) m turn)) block memory)
+    after_statements 1
+    (loop_with_turns turn_limit (λ turn m. ended_by m (test m).count (test m).answer (λ v. turn_or_none (is_one (scalar_number v)) m turn)) block memory)
 
 module _ (one other : Table Meaning) (depth : ℕ) (pointers : Table Location) where
   abbrev first : Scope
@@ -122,9 +123,9 @@ module _ (one other : Table Meaning) (depth : ℕ) (pointers : Table Location) w
 
   two_same : (op : Op) (left right : Evaluates CValue) → Same left → Same right → two_values op left right first ≡ two_values op left right second
   two_same And left right h k =
-      λ i memory. next (h i memory) (λ a. choice_same (is_one (number_in a)) right (at_once (pos 0)) k refl i memory)
+      λ i memory. next (h i memory) (λ a. choice_same (is_one (scalar_number a)) right (at_once (pos 0)) k refl i memory)
   two_same Or left right h k =
-      λ i memory. next (h i memory) (λ a. choice_same (is_one (number_in a)) (at_once (pos 1)) right refl k i memory)
+      λ i memory. next (h i memory) (λ a. choice_same (is_one (scalar_number a)) (at_once (pos 1)) right refl k i memory)
   two_same Not left right h k = both_same Not left right h k
   two_same Minus left right h k = both_same Minus left right h k
   two_same BitNot left right h k = both_same BitNot left right h k
@@ -193,7 +194,7 @@ module _ (one other : Table Meaning) (depth : ℕ) (pointers : Table Location) w
         rw fold-roll-CExprKind (λ i memory. result_of (inside i memory));
     negation = λ e h fine.
         let inside : Same (value_c e) = h (rw fold-roll-CExprKind at fine) in
-        rw fold-roll-CExprKind (λ i memory. next (inside i memory) (λ a. given (option_map scalar (checked_one_of Not OfBool (number_in a)))));
+        rw fold-roll-CExprKind (λ i memory. next (inside i memory) (λ a. given (option_map scalar (checked_one_of Not OfBool (scalar_number a)))));
     two = λ op a b h k fine.
         let all : Fine (calls_in a ++ calls_in b) = rw fold-roll-CExprKind at fine in
         rw fold-roll-CExprKind
@@ -207,11 +208,11 @@ module _ (one other : Table Meaning) (depth : ℕ) (pointers : Table Location) w
     expr = λ place what h fine. rw fold-roll-CExpr (h (rw fold-roll-CExpr at fine));
     index = λ signed at length h fine.
         let inside : Same (value_c at) = h (rw fold-roll-CIndex at fine) in
-        rw fold-roll-CIndex (λ i memory. next (inside i memory) (λ k. given (element_at (index_within (number_in k) (pos length)))));
+        rw fold-roll-CIndex (λ i memory. next (inside i memory) (λ k. given (element_projection (index_within (scalar_number k) (pos length)))));
     place = λ through name steps h fine.
         let inside : each_of (map step_c steps) first ≡ each_of (map step_c steps) second =
         each_same step_c calls_in_step steps h (rw fold-roll-CPlace at fine) in
-        rw fold-roll-CPlace (λ i memory. next (inside i memory) (λ ways. given (Some (further (start_of first through name) (way_of ways)))));
+        rw fold-roll-CPlace (λ i memory. next (inside i memory) (λ ways. given (Some (further (named_location first through name) (way_of ways)))));
     step = step_same;
   }
 
@@ -279,7 +280,7 @@ module _ (one other : Table Meaning) (depth : ℕ) (pointers : Table Location) w
   of_return at None fine = rw (fold-roll-CStmt, fold-roll-CStmtKind) refl
   of_return at (Some e) fine =
       let value : Same (value_c e) = expr_same e (rw (fold-roll-CStmt, fold-roll-CStmtKind) at fine) in
-      rw (fold-roll-CStmt, fold-roll-CStmtKind) (λ i memory. executed memory (value i memory) (λ v. ending (returns (number_in v)) memory))
+      rw (fold-roll-CStmt, fold-roll-CStmtKind) (λ i memory. executed memory (value i memory) (λ v. ending (returns (scalar_number v)) memory))
 
   stmt_cases : StmtCases OfStmt
   stmt_cases = record {

@@ -13,7 +13,7 @@ with_functions context functions = record {
   functions = functions;
   variables = context.variables;
   result = context.result;
-  keeps = context.keeps;
+  is_read_only = context.is_read_only;
 }
 
 -- two tables have the same function under a name, or none

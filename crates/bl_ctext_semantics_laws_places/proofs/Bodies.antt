@@ -64,7 +64,7 @@ use Rattle.bl_ctext_semantics.specs.Faults.{
   unless,
 }
 use Rattle.bl_ctext_semantics.specs.Loops.{LoopCounters, stmt_kind_turns, stmt_turns_step, turns_in, turns_in_block}
-use Rattle.bl_ctext_semantics.specs.Course.{after, ending, going, returns, turn_limit, turns}
+use Rattle.bl_ctext_semantics.specs.Course.{after_statements, ending, going, loop_with_turns, returns, turn_limit}
 use Rattle.bl_ctext_semantics.specs.Meaning.{
   Evaluates,
   ArgumentValue,
@@ -91,8 +91,8 @@ use Rattle.bl_ctext_semantics.specs.Meaning.{
   stmt_step,
   value_c,
 }
-use Rattle.bl_ctext_semantics.specs.Memory.{CValue, Location, Memory, Projection, number_in, set_at, zeros}
-use Rattle.bl_cparse_syntax_laws.specs.Placeless.{nowhere, placeless_call, placeless_expr, placeless_place, placeless_result, placeless_stmt}
+use Rattle.bl_ctext_semantics.specs.Memory.{CValue, Location, Memory, Projection, scalar_number, set_at, zeros}
+use Rattle.bl_cparse_syntax_laws.specs.Placeless.{any_place, placeless_call, placeless_expr, placeless_place, placeless_result, placeless_stmt}
 use Rattle.bl_ctext_semantics_laws_places.proofs.Exprs.{call_same, expr_same, place_same}
 use Rattle.bl_ctext_semantics_laws_places.proofs.Judged.{
   bare,
@@ -198,13 +198,13 @@ calling call scope memory = call_outcome (call scope memory)
 
 abbrev branching : List CStmtMeaning → Option (List CStmtMeaning) → Evaluates CValue → CStmtMeaning
 branching block other test scope memory =
-    executed memory (test scope memory) (λ v. (if is_one (number_in v) then block_of block else block_of (unwrap_or other [])) scope memory)
+    executed memory (test scope memory) (λ v. (if is_one (scalar_number v) then block_of block else block_of (unwrap_or other [])) scope memory)
 
 abbrev looping : List CStmtMeaning → Evaluates CValue → CStmtMeaning
-looping body test scope memory = after 1 (turns turn_limit (once_more test scope) (block_of body scope) memory)
+looping body test scope memory = after_statements 1 (loop_with_turns turn_limit (once_more test scope) (block_of body scope) memory)
 
 abbrev returning : Evaluates CValue → CStmtMeaning
-returning value scope memory = executed memory (value scope memory) (λ v. ending (returns (number_in v)) memory)
+returning value scope memory = executed memory (value scope memory) (λ v. ending (returns (scalar_number v)) memory)
 
 run_level : (level : CStmtKind-F CStmtMeaning CStmtMeaning) → stmt_kind_step (level_bare level) ≡ stmt_kind_step level
 run_level (CStmtKind-F.Set p e) = ap₂ setting (location_same p) (value_same e)
@@ -223,13 +223,13 @@ runs_same = stmts_same CStmtMeaning CStmtMeaning stmt_kind_step stmt_step (λ p 
 -- ---- what counts the turns of loops
 
 abbrev pub bare_turn : Text × Place → Text × Place
-bare_turn turn = (turn.0, nowhere)
+bare_turn turn = (turn.0, any_place)
 
 abbrev bare_turns : LoopCounters → LoopCounters
 bare_turns turns = map bare_turn turns
 
 turns_level : (at : Place) (level : CStmtKind-F (Place → LoopCounters) LoopCounters) →
-    stmt_kind_turns (level_turned bare_turns level) nowhere ≡ bare_turns (stmt_kind_turns level at)
+    stmt_kind_turns (level_turned bare_turns level) any_place ≡ bare_turns (stmt_kind_turns level at)
 turns_level at (CStmtKind-F.Set p e) = refl
 turns_level at (CStmtKind-F.Clear p name) = refl
 turns_level at (CStmtKind-F.Call c) = refl
@@ -237,7 +237,7 @@ turns_level at (CStmtKind-F.If e block None) =
     ap (λ ts. ts ++ []) (joined-map bare_turn block) ∙ sym (map-append bare_turn (joined block) [])
 turns_level at (CStmtKind-F.If e block (Some other)) =
     ap₂ (λ ts us. ts ++ us) (joined-map bare_turn block) (joined-map bare_turn other) ∙ sym (map-append bare_turn (joined block) (joined other))
-turns_level at (CStmtKind-F.Loop turn e body) = ap (λ ts. (turn, nowhere) ∷ ts) (joined-map bare_turn body)
+turns_level at (CStmtKind-F.Loop turn e body) = ap (λ ts. (turn, any_place) ∷ ts) (joined-map bare_turn body)
 turns_level at CStmtKind-F.Break = refl
 turns_level at (CStmtKind-F.Return e) = refl
 
@@ -250,8 +250,8 @@ turns_bare body =
 -- ---- what fails
 
 -- an expression has no place then
-no_place_left : (e : CExpr) → (placeless_expr e).place ≡ nowhere
-no_place_left e = subst (λ x. (placeless_expr x).place ≡ nowhere) (roll-out-CExpr e) (simp fold-roll-CExpr refl)
+no_place_left : (e : CExpr) → (placeless_expr e).place ≡ any_place
+no_place_left e = subst (λ x. (placeless_expr x).place ≡ any_place) (roll-out-CExpr e) (simp fold-roll-CExpr refl)
 
 abbrev condition_at : Place → Judged → List Fault
 condition_at at c = c.faults ++ unless (agree c.ty (Some bool_type)) condition_type at
@@ -265,11 +265,11 @@ abbrev return_at : Scalar → Place → Judged → List Fault
 return_at t at e = e.faults ++ unless (agree e.ty (Some (OfScalar t))) returns_result at
 
 return_bare : (context : Context) (at : Place) (e : Option CExpr) (result : Option Scalar) →
-    return_faults (placeless_result e) result context nowhere ≡ bared (return_faults e result context at)
+    return_faults (placeless_result e) result context any_place ≡ bared (return_faults e result context at)
 return_bare context at None None = refl
 return_bare context at None (Some t) = refl
 return_bare context at (Some e) None =
-    ap (λ (j : Judged). j.faults ++ unless false returns_result nowhere) (expr_bare context e)
+    ap (λ (j : Judged). j.faults ++ unless false returns_result any_place) (expr_bare context e)
     ∙ more_bare (judged_expr e context).faults _ _ (unless_bare false returns_result at)
 return_bare context at (Some e) (Some t) =
     ap₂ (λ p j. return_at t p j) (no_place_left e) (expr_bare context e)
@@ -291,34 +291,34 @@ other_bare None context looped = refl
 other_bare (Some block) context looped = block_bare block context looped
 
 abbrev set_faults : Bool → Place → JudgedPlace → Judged → List Fault
-set_faults keeps at p e =
-    p.faults ++ (e.faults ++ (unless (agree p.ty e.ty) assigned_type at ++ unless (not (keeps && p.through)) changes_nothing at))
+set_faults is_read_only at p e =
+    p.faults ++ (e.faults ++ (unless (agree p.ty e.ty) assigned_type at ++ unless (not (is_read_only && p.through)) changes_nothing at))
 
-set_faults-bare : (keeps : Bool) (at : Place) (p : JudgedPlace) (e : Judged) →
-    set_faults keeps nowhere (bare_place p) (bare_judged e) ≡ bared (set_faults keeps at p e)
-set_faults-bare keeps at p e =
+set_faults-bare : (is_read_only : Bool) (at : Place) (p : JudgedPlace) (e : Judged) →
+    set_faults is_read_only any_place (bare_place p) (bare_judged e) ≡ bared (set_faults is_read_only at p e)
+set_faults-bare is_read_only at p e =
     more_bare p.faults _ _ (more_bare e.faults _ _
-    (both_bare _ _ _ _ (unless_bare (agree p.ty e.ty) assigned_type at) (unless_bare (not (keeps && p.through)) changes_nothing at)))
+    (both_bare _ _ _ _ (unless_bare (agree p.ty e.ty) assigned_type at) (unless_bare (not (is_read_only && p.through)) changes_nothing at)))
 
 abbrev clear_faults : Context → Text → Place → JudgedPlace → List Fault
 clear_faults context name at p =
     p.faults ++ (unless (is_some (context.structs name)) declared_before at
-    ++ (unless (agree p.ty (Some (OfStruct name))) assigned_type at ++ unless (not (context.keeps && p.through)) changes_nothing at))
+    ++ (unless (agree p.ty (Some (OfStruct name))) assigned_type at ++ unless (not (context.is_read_only && p.through)) changes_nothing at))
 
 clear_faults-bare : (context : Context) (name : Text) (at : Place) (p : JudgedPlace) →
-    clear_faults context name nowhere (bare_place p) ≡ bared (clear_faults context name at p)
+    clear_faults context name any_place (bare_place p) ≡ bared (clear_faults context name at p)
 clear_faults-bare context name at p =
     more_bare p.faults _ _ (both_bare _ _ _ _ (unless_bare (is_some (context.structs name)) declared_before at)
     (both_bare _ _ _ _ (unless_bare (agree p.ty (Some (OfStruct name))) assigned_type at)
-    (unless_bare (not (context.keeps && p.through)) changes_nothing at)))
+    (unless_bare (not (context.is_read_only && p.through)) changes_nothing at)))
 
 faults_level : (context : Context) (looped : Bool) (at : Place) (level : CStmtKind-F (Place → StmtFaults) StmtFaults) →
-    stmt_kind_faults (level_turned bare_stmt level) nowhere context looped ≡ bared (stmt_kind_faults level at context looped)
+    stmt_kind_faults (level_turned bare_stmt level) any_place context looped ≡ bared (stmt_kind_faults level at context looped)
 faults_level context looped at (CStmtKind-F.Set p e) =
-    ap₂ (λ q v. set_faults context.keeps nowhere q v) (place_bare context p at) (expr_bare context e)
-    ∙ set_faults-bare context.keeps at (judged_place p context at) (judged_expr e context)
+    ap₂ (λ q v. set_faults context.is_read_only any_place q v) (place_bare context p at) (expr_bare context e)
+    ∙ set_faults-bare context.is_read_only at (judged_place p context at) (judged_expr e context)
 faults_level context looped at (CStmtKind-F.Clear p name) =
-    ap (λ q. clear_faults context name nowhere q) (place_bare context p at) ∙ clear_faults-bare context name at (judged_place p context at)
+    ap (λ q. clear_faults context name any_place q) (place_bare context p at) ∙ clear_faults-bare context name at (judged_place p context at)
 faults_level context looped at (CStmtKind-F.Call c) = ap (λ (j : JudgedCall). j.faults) (call_bare context c at)
 faults_level context looped at (CStmtKind-F.If e block other) =
     both_bare _ _ _ _ (condition_bare context e) (both_bare _ _ _ _ (block_bare block context looped) (other_bare other context looped))

@@ -11,7 +11,7 @@ use Rattle.bl_tree.specs.declared.c.CIndex.{CIndex, fold-CIndex, fold-roll-CInde
 use Rattle.bl_tree.specs.declared.c.CPlace.{CPlace, fold-CPlace, fold-roll-CPlace}
 use Rattle.bl_tree.specs.declared.c.CStep.{CStep, fold-CStep, fold-roll-CStep, roll-CStep}
 use Rattle.bl_ctext_semantics.proofs.Induction.{Optional, ExprCases, induct_expr, induct_place, induct_call}
-use Rattle.bl_cparse_syntax_laws.specs.Placeless.{nowhere, placeless_call, placeless_expr, placeless_place}
+use Rattle.bl_cparse_syntax_laws.specs.Placeless.{any_place, placeless_call, placeless_expr, placeless_place}
 use Rattle.bl_cparse_syntax_laws.specs.inner.Placeless.{placeless_arg, placeless_index, placeless_kind, placeless_step}
 use Rattle.bl_ctext_semantics_laws_places.proofs.Lists.{map-after}
 
@@ -77,7 +77,7 @@ module _ (A K C E I P S : Type 0)
     calling = λ name args h.
         simp fold-roll-CCall (ap (λ xs. call (record { name = name; args = xs })) (map-after of_arg placeless_arg args h));
     expr = λ at what h.
-        simp fold-roll-CExpr (ap (λ x. expr (record { place = nowhere; what = x })) h ∙ blind nowhere at (of_kind what));
+        simp fold-roll-CExpr (ap (λ x. expr (record { place = any_place; what = x })) h ∙ blind any_place at (of_kind what));
     index = λ signed at length h. simp fold-roll-CIndex (ap (λ x. index (record { signed = signed; at = x; length = length })) h);
     place = λ through name steps h.
         simp fold-roll-CPlace

@@ -61,7 +61,7 @@ use Rattle.bl_ctext_semantics.specs.Faults.{
 use Rattle.bl_ctext_semantics.specs.Loops.{turns_in_block}
 use Rattle.bl_ctext_semantics.specs.Parts.{Parts}
 use Rattle.bl_ctext_semantics.specs.Tables.{Table, no_entries, table_of, with_entry}
-use Rattle.bl_cparse_syntax_laws.specs.Placeless.{nowhere, placeless_func, placeless_struct}
+use Rattle.bl_cparse_syntax_laws.specs.Placeless.{any_place, placeless_func, placeless_struct}
 use Rattle.bl_ctext_semantics_laws_places.proofs.Bodies.{bare_turn, body_bare, calls_same, returns_same, turns_bare}
 use Rattle.bl_ctext_semantics_laws_places.proofs.Judged.{bared, both_bare, unless_bare}
 use Rattle.bl_ctext_semantics_laws_places.proofs.Lists.{map-twice}
@@ -109,7 +109,7 @@ head_at structs functions depths last f at calls returning =
 
 head_at-bare : (structs : Table (Table CMember)) (functions : Table Signature) (depths : Table ℕ) (last : Bool) (f : CFunc) (at : Place)
     (calls : List Text) (returning : List Bool) →
-    head_at structs functions depths last f nowhere calls returning ≡ bared (head_at structs functions depths last f at calls returning)
+    head_at structs functions depths last f any_place calls returning ≡ bared (head_at structs functions depths last f at calls returning)
 head_at-bare structs functions depths last f at calls returning =
     both_bare _ _ _ _ (unless_bare (is_none (functions f.name)) distinct_names at)
     (both_bare _ _ _ _ (unless_bare (all_distinct no_entries (variable_names f)) distinct_names at)
@@ -123,7 +123,7 @@ head_at-bare structs functions depths last f at calls returning =
 head-bare : (structs : Table (Table CMember)) (functions : Table Signature) (depths : Table ℕ) (last : Bool) (f : CFunc) →
     faults_in_head structs functions depths last (placeless_func f) ≡ bared (faults_in_head structs functions depths last f)
 head-bare structs functions depths last f =
-    ap₂ (λ calls returning. head_at structs functions depths last f nowhere calls returning) (calls_same f.body) (returns_same f.body)
+    ap₂ (λ calls returning. head_at structs functions depths last f any_place calls returning) (calls_same f.body) (returns_same f.body)
     ∙ head_at-bare structs functions depths last f f.place (calls_in_block f.body) (map surely_returns f.body)
 
 function-bare : (structs : Table (Table CMember)) (functions : Table Signature) (depths : Table ℕ) (last : Bool) (f : CFunc) →
@@ -153,18 +153,18 @@ last_two-same : (fs : List CFunc) → last_two (map placeless_func fs) ≡ map p
 last_two-same fs =
     ap (λ n. drop (n - 2) (map placeless_func fs)) (length-map fs placeless_func) ∙ drop-map placeless_func (length fs - 2) fs
 
-place_of_two-same : (fs : List CFunc) → place_of_two (map placeless_func fs) ≡ nowhere
+place_of_two-same : (fs : List CFunc) → place_of_two (map placeless_func fs) ≡ any_place
 place_of_two-same [] = refl
 place_of_two-same (f ∷ []) = refl
 place_of_two-same (f ∷ last ∷ rest) = refl
 
-last_place-same : (fs : List CFunc) → last_place (map placeless_func fs) ≡ nowhere
+last_place-same : (fs : List CFunc) → last_place (map placeless_func fs) ≡ any_place
 last_place-same fs = ap place_of_two (last_two-same fs) ∙ place_of_two-same (last_two fs)
 
 abbrev init_at : Bool → Bool → Place → Place → List Fault
 init_at named fits at last = if named then unless fits interface_functions at else unless false interface_functions last
 
-init_at-bare : (named fits : Bool) (at last : Place) → init_at named fits nowhere nowhere ≡ bared (init_at named fits at last)
+init_at-bare : (named fits : Bool) (at last : Place) → init_at named fits any_place any_place ≡ bared (init_at named fits at last)
 init_at-bare true fits at last = unless_bare fits interface_functions at
 init_at-bare false fits at last = refl
 

@@ -66,7 +66,7 @@ use Rattle.bl_ctext_semantics.specs.Faults.{
 }
 use Rattle.bl_ctext_semantics.proofs.Folds.{judged_kind}
 use Rattle.bl_ctext_semantics.proofs.Induction.{ExprCases, Optional, induct_call, induct_expr, induct_place}
-use Rattle.bl_cparse_syntax_laws.specs.Placeless.{nowhere, placeless_call, placeless_expr, placeless_place}
+use Rattle.bl_cparse_syntax_laws.specs.Placeless.{any_place, placeless_call, placeless_expr, placeless_place}
 use Rattle.bl_cparse_syntax_laws.specs.inner.Placeless.{placeless_arg, placeless_index, placeless_kind, placeless_step}
 use Rattle.bl_cparse_syntax_laws.proofs.Layers.{
   Args,
@@ -86,12 +86,12 @@ use Rattle.bl_ctext_semantics_laws_places.proofs.Lists.{joined-map, map-twice}
 -- ---- faults without their places
 
 abbrev pub bare : Fault → Fault
-bare f = record { clause = f.clause; at = nowhere }
+bare f = record { clause = f.clause; at = any_place }
 
 abbrev pub bared : List Fault → List Fault
 bared faults = map bare faults
 
-pub unless_bare : (holds : Bool) (clause : Clause) (at : Place) → unless holds clause nowhere ≡ bared (unless holds clause at)
+pub unless_bare : (holds : Bool) (clause : Clause) (at : Place) → unless holds clause any_place ≡ bared (unless holds clause at)
 unless_bare true clause at = refl
 unless_bare false clause at = refl
 
@@ -134,7 +134,7 @@ abbrev value_of_call : Place → JudgedCall → Judged
 value_of_call at c =
     record { ty = result_type (known_result c.signature); faults = c.faults ++ unless (not (is_void (known_result c.signature))) void_as_statement at }
 
-value_of_call-bare : (at : Place) (c : JudgedCall) → value_of_call nowhere (bare_call c) ≡ bare_judged (value_of_call at c)
+value_of_call-bare : (at : Place) (c : JudgedCall) → value_of_call any_place (bare_call c) ≡ bare_judged (value_of_call at c)
 value_of_call-bare at c =
     ap (λ faults. record { ty = result_type (known_result c.signature); faults = faults })
     (more_bare c.faults _ _ (unless_bare (not (is_void (known_result c.signature))) void_as_statement at))
@@ -142,7 +142,7 @@ value_of_call-bare at c =
 abbrev negation_of : Place → Judged → Judged
 negation_of at a = record { ty = Some bool_type; faults = a.faults ++ unless (agree a.ty (Some bool_type)) operand_type at }
 
-negation_of-bare : (at : Place) (a : Judged) → negation_of nowhere (bare_judged a) ≡ bare_judged (negation_of at a)
+negation_of-bare : (at : Place) (a : Judged) → negation_of any_place (bare_judged a) ≡ bare_judged (negation_of at a)
 negation_of-bare at a =
     ap (λ faults. record { ty = Some bool_type; faults = faults }) (more_bare a.faults _ _ (unless_bare (agree a.ty (Some bool_type)) operand_type at))
 
@@ -152,7 +152,7 @@ takes_both op a b = if_typed a.ty (takes op) && if_typed b.ty (takes op) && agre
 abbrev two_of : Place → Op → Judged → Judged → Judged
 two_of at op a b = record { ty = Some bool_type; faults = a.faults ++ (b.faults ++ unless (takes_both op a b) operand_type at) }
 
-two_of-bare : (at : Place) (op : Op) (a b : Judged) → two_of nowhere op (bare_judged a) (bare_judged b) ≡ bare_judged (two_of at op a b)
+two_of-bare : (at : Place) (op : Op) (a b : Judged) → two_of any_place op (bare_judged a) (bare_judged b) ≡ bare_judged (two_of at op a b)
 two_of-bare at op a b =
     ap (λ faults. record { ty = Some bool_type; faults = faults })
     (more_bare a.faults _ _ (more_bare b.faults _ _ (unless_bare (takes_both op a b) operand_type at)))
@@ -161,7 +161,7 @@ abbrev index_of : Place → Bool → ℕ → Judged → JudgedIndex
 index_of at signed length i = record { length = length; faults = i.faults ++ unless (if_typed i.ty (indexes signed)) indices at }
 
 index_of-bare : (at : Place) (signed : Bool) (length : ℕ) (i : Judged) →
-    index_of nowhere signed length (bare_judged i) ≡ bare_index (index_of at signed length i)
+    index_of any_place signed length (bare_judged i) ≡ bare_index (index_of at signed length i)
 index_of-bare at signed length i =
     ap (λ faults. record { length = length; faults = faults }) (more_bare i.faults _ _ (unless_bare (if_typed i.ty (indexes signed)) indices at))
 
@@ -188,38 +188,38 @@ faults_of_args args =
     ∙ joined-map bare (map (λ (a : JudgedArg). a.faults) args)
 
 abbrev call_of : Bool → Option Signature → Place → List JudgedArg → JudgedCall
-call_of keeps signature at args = record {
+call_of is_read_only signature at args = record {
   signature = signature;
   faults = unless (is_some signature) declared_before at
       ++ (joined (map (λ (a : JudgedArg). a.faults) args)
-      ++ (unless (fit_args signature args) arguments at ++ unless (not (keeps && hands_on signature args)) changes_nothing at));
+      ++ (unless (fit_args signature args) arguments at ++ unless (not (is_read_only && hands_on signature args)) changes_nothing at));
 }
 
-call_of-bare : (keeps : Bool) (signature : Option Signature) (at : Place) (args : List JudgedArg) →
-    call_of keeps signature nowhere (map bare_arg args) ≡ bare_call (call_of keeps signature at args)
-call_of-bare keeps signature at args =
+call_of-bare : (is_read_only : Bool) (signature : Option Signature) (at : Place) (args : List JudgedArg) →
+    call_of is_read_only signature any_place (map bare_arg args) ≡ bare_call (call_of is_read_only signature at args)
+call_of-bare is_read_only signature at args =
     ap (λ faults. record { signature = signature; faults = faults })
     (both_bare _ _ _ _ (unless_bare (is_some signature) declared_before at)
     (both_bare _ _ _ _ (faults_of_args args)
-    (both_bare _ _ _ _ (ap (λ b. unless b arguments nowhere) (fit_args-bare signature args) ∙ unless_bare (fit_args signature args) arguments at)
-    (ap (λ b. unless (not (keeps && b)) changes_nothing nowhere) (hands_on-bare signature args)
-    ∙ unless_bare (not (keeps && hands_on signature args)) changes_nothing at))))
+    (both_bare _ _ _ _ (ap (λ b. unless b arguments any_place) (fit_args-bare signature args) ∙ unless_bare (fit_args signature args) arguments at)
+    (ap (λ b. unless (not (is_read_only && b)) changes_nothing any_place) (hands_on-bare signature args)
+    ∙ unless_bare (not (is_read_only && hands_on signature args)) changes_nothing at))))
 
 -- ---- steps
 
 judge_length-bare : (ty : CType) (declared used : Option ℕ) (at : Place) →
-    judge_length ty declared used nowhere ≡ bare_judged (judge_length ty declared used at)
+    judge_length ty declared used any_place ≡ bare_judged (judge_length ty declared used at)
 judge_length-bare ty None None at = refl
 judge_length-bare ty None (Some k) at = refl
 judge_length-bare ty (Some n) None at = refl
 judge_length-bare ty (Some n) (Some k) at = ap (λ faults. record { ty = Some ty; faults = faults }) (unless_bare (n == k) indices at)
 
-judge_member-bare : (m : Option CMember) (length : Option ℕ) (at : Place) → judge_member m length nowhere ≡ bare_judged (judge_member m length at)
+judge_member-bare : (m : Option CMember) (length : Option ℕ) (at : Place) → judge_member m length any_place ≡ bare_judged (judge_member m length at)
 judge_member-bare None length at = refl
 judge_member-bare (Some m) length at = judge_length-bare m.ty m.length length at
 
 judge_into-bare : (context : Context) (name : Text) (length : Option ℕ) (ty : Option CType) (at : Place) →
-    judge_into context name length nowhere ty ≡ bare_judged (judge_into context name length at ty)
+    judge_into context name length any_place ty ≡ bare_judged (judge_into context name length at ty)
 judge_into-bare context name length None at = refl
 judge_into-bare context name length (Some ty) at = judge_member-bare (member_of context ty name) length at
 
@@ -229,7 +229,7 @@ step_behind i m = record { ty = m.ty; faults = i.faults ++ m.faults }
 step_behind-bare : (i : JudgedIndex) (m : Judged) → step_behind (bare_index i) (bare_judged m) ≡ bare_judged (step_behind i m)
 step_behind-bare i m = ap (λ faults. record { ty = m.ty; faults = faults }) (more_bare i.faults m.faults _ refl)
 
-judge_root-bare : (v : Option Variable) (through : Bool) (at : Place) → judge_root v through nowhere ≡ bare_judged (judge_root v through at)
+judge_root-bare : (v : Option Variable) (through : Bool) (at : Place) → judge_root v through any_place ≡ bare_judged (judge_root v through at)
 judge_root-bare None through at = refl
 judge_root-bare (Some v) through at =
     let right : Bool = if v.pointer then through else not through in
@@ -256,41 +256,41 @@ place_of-bare through root last =
 
 module _ (context : Context) where
   abbrev ArgBare : CArg → Type 0
-  ArgBare x = (at : Place) → judged_arg (placeless_arg x) context nowhere ≡ bare_arg (judged_arg x context at)
+  ArgBare x = (at : Place) → judged_arg (placeless_arg x) context any_place ≡ bare_arg (judged_arg x context at)
 
   abbrev KindBare : CExprKind → Type 0
-  KindBare x = (at : Place) → judged_kind (placeless_kind x) context nowhere ≡ bare_judged (judged_kind x context at)
+  KindBare x = (at : Place) → judged_kind (placeless_kind x) context any_place ≡ bare_judged (judged_kind x context at)
 
   abbrev CallBare : CCall → Type 0
-  CallBare x = (at : Place) → judged_call (placeless_call x) context nowhere ≡ bare_call (judged_call x context at)
+  CallBare x = (at : Place) → judged_call (placeless_call x) context any_place ≡ bare_call (judged_call x context at)
 
   abbrev ExprBare : CExpr → Type 0
   ExprBare x = judged_expr (placeless_expr x) context ≡ bare_judged (judged_expr x context)
 
   abbrev IndexBare : CIndex → Type 0
-  IndexBare x = (at : Place) → judged_index (placeless_index x) context nowhere ≡ bare_index (judged_index x context at)
+  IndexBare x = (at : Place) → judged_index (placeless_index x) context any_place ≡ bare_index (judged_index x context at)
 
   abbrev PlaceBare : CPlace → Type 0
-  PlaceBare x = (at : Place) → judged_place (placeless_place x) context nowhere ≡ bare_place (judged_place x context at)
+  PlaceBare x = (at : Place) → judged_place (placeless_place x) context any_place ≡ bare_place (judged_place x context at)
 
   abbrev StepBare : CStep → Type 0
-  StepBare x = (at : Place) (ty : Option CType) → judged_step (placeless_step x) context nowhere ty ≡ bare_judged (judged_step x context at ty)
+  StepBare x = (at : Place) (ty : Option CType) → judged_step (placeless_step x) context any_place ty ≡ bare_judged (judged_step x context at ty)
 
   -- the arguments of a call
   args_bare : (args : List CArg) → All ArgBare args → (at : Place) →
-      map (λ (judge : Judges JudgedArg). judge context nowhere) (map judged_arg (map placeless_arg args))
+      map (λ (judge : Judges JudgedArg). judge context any_place) (map judged_arg (map placeless_arg args))
       ≡ map bare_arg (map (λ (judge : Judges JudgedArg). judge context at) (map judged_arg args))
   args_bare [] h at = refl
   args_bare (a ∷ args) h at = ap₂ (λ first rest. first ∷ rest) (All-head ArgBare a args h at) (args_bare args (All-tail ArgBare a args h) at)
 
   -- the steps of a place
   steps_bare : (steps : List CStep) → All StepBare steps → (at : Place) (ty : Option CType) →
-      judge_steps (map judged_step (map placeless_step steps)) context nowhere ty ≡ bare_judged (judge_steps (map judged_step steps) context at ty)
+      judge_steps (map judged_step (map placeless_step steps)) context any_place ty ≡ bare_judged (judge_steps (map judged_step steps) context at ty)
   steps_bare [] h at ty = refl
   steps_bare (s ∷ steps) h at ty =
-      ap (λ first. then_steps first (judge_steps (map judged_step (map placeless_step steps)) context nowhere)) (All-head StepBare s steps h at ty)
+      ap (λ first. then_steps first (judge_steps (map judged_step (map placeless_step steps)) context any_place)) (All-head StepBare s steps h at ty)
       ∙ then_steps-bare (judged_step s context at ty) (judge_steps (map judged_step steps) context at)
-      (judge_steps (map judged_step (map placeless_step steps)) context nowhere)
+      (judge_steps (map judged_step (map placeless_step steps)) context any_place)
       (steps_bare steps (All-tail StepBare s steps h) at (judged_step s context at ty).ty)
 
   -- a place whose variable is judged so
@@ -298,7 +298,7 @@ module _ (context : Context) where
   along through steps at root = place_of through root (judge_steps steps context at root.ty)
 
   along-bare : (through : Bool) (steps : List CStep) → All StepBare steps → (at : Place) (root : Judged) →
-      along through (map judged_step (map placeless_step steps)) nowhere (bare_judged root) ≡ bare_place (along through (map judged_step steps) at root)
+      along through (map judged_step (map placeless_step steps)) any_place (bare_judged root) ≡ bare_place (along through (map judged_step steps) at root)
   along-bare through steps h at root =
       ap (λ last. place_of through (bare_judged root) last) (steps_bare steps h at root.ty)
       ∙ place_of-bare through root (judge_steps (map judged_step steps) context at root.ty)
@@ -308,32 +308,32 @@ module _ (context : Context) where
   indexed member at ty i = step_behind i (judge_into context member (Some i.length) at ty)
 
   indexed-bare : (member : Text) (at : Place) (ty : Option CType) (i : JudgedIndex) →
-      indexed member nowhere ty (bare_index i) ≡ bare_judged (indexed member at ty i)
+      indexed member any_place ty (bare_index i) ≡ bare_judged (indexed member at ty i)
   indexed-bare member at ty i =
       ap (λ m. step_behind (bare_index i) m) (judge_into-bare context member (Some i.length) ty at)
       ∙ step_behind-bare i (judge_into context member (Some i.length) at ty)
 
   step_bare : (member : Text) (i : Option CIndex) → Optional IndexBare i → StepBare (roll-CStep (record { member = member; index = i }))
   step_bare member None h at ty =
-      ap (λ s. judged_step s context nowhere ty) (step_levels (record { member = member; index = None })).bare_is
+      ap (λ s. judged_step s context any_place ty) (step_levels (record { member = member; index = None })).bare_is
       ∙ rw fold-roll-CStep (judge_into-bare context member None ty at)
   step_bare member (Some i) h at ty =
-      ap (λ s. judged_step s context nowhere ty) (step_levels (record { member = member; index = Some i })).bare_is
-      ∙ rw (fold-roll-CStep, fold-roll-CStep) (ap (λ j. indexed member nowhere ty j) (h at) ∙ indexed-bare member at ty (judged_index i context at))
+      ap (λ s. judged_step s context any_place ty) (step_levels (record { member = member; index = Some i })).bare_is
+      ∙ rw (fold-roll-CStep, fold-roll-CStep) (ap (λ j. indexed member any_place ty j) (h at) ∙ indexed-bare member at ty (judged_index i context at))
 
   -- a whole by its level without the places
-  arg_from : (level : Args) (a : JudgedArg) → judged_arg (arg_bare level) context nowhere ≡ a →
-      judged_arg (placeless_arg (roll-CArg level)) context nowhere ≡ a
-  arg_from level a h = ap (λ x. judged_arg x context nowhere) (arg_levels level).bare_is ∙ h
+  arg_from : (level : Args) (a : JudgedArg) → judged_arg (arg_bare level) context any_place ≡ a →
+      judged_arg (placeless_arg (roll-CArg level)) context any_place ≡ a
+  arg_from level a h = ap (λ x. judged_arg x context any_place) (arg_levels level).bare_is ∙ h
 
-  kind_from : (level : Kinds) (a : Judged) → judged_kind (kind_bare level) context nowhere ≡ a →
-      judged_kind (placeless_kind (roll-CExprKind level)) context nowhere ≡ a
-  kind_from level a h = ap (λ x. judged_kind x context nowhere) (kind_levels level).bare_is ∙ h
+  kind_from : (level : Kinds) (a : Judged) → judged_kind (kind_bare level) context any_place ≡ a →
+      judged_kind (placeless_kind (roll-CExprKind level)) context any_place ≡ a
+  kind_from level a h = ap (λ x. judged_kind x context any_place) (kind_levels level).bare_is ∙ h
 
   -- a call and a place by their parts
   call_by : (name : Text) (args : List CArg) (at : Place) →
       judged_call (roll-CCall (record { name = name; args = args })) context at
-      ≡ call_of context.keeps (signature_of context name) at (map (λ (judge : Judges JudgedArg). judge context at) (map judged_arg args))
+      ≡ call_of context.is_read_only (signature_of context name) at (map (λ (judge : Judges JudgedArg). judge context at) (map judged_arg args))
   call_by name args at = rw fold-roll-CCall refl
 
   place_by : (through : Bool) (name : Text) (steps : List CStep) (at : Place) →
@@ -349,29 +349,29 @@ module _ (context : Context) where
     read = λ p h at. kind_from (CExprKind-F.Read p) _ (rw (fold-roll-CExprKind, fold-roll-CExprKind) (ap read_of (h at)));
     call = λ c h at.
         kind_from (CExprKind-F.Call c) _
-        (rw (fold-roll-CExprKind, fold-roll-CExprKind) (ap (value_of_call nowhere) (h at) ∙ value_of_call-bare at (judged_call c context at)));
+        (rw (fold-roll-CExprKind, fold-roll-CExprKind) (ap (value_of_call any_place) (h at) ∙ value_of_call-bare at (judged_call c context at)));
     negation = λ e h at.
         kind_from (CExprKind-F.Not e) _
-        (rw (fold-roll-CExprKind, fold-roll-CExprKind) (ap (negation_of nowhere) h ∙ negation_of-bare at (judged_expr e context)));
+        (rw (fold-roll-CExprKind, fold-roll-CExprKind) (ap (negation_of any_place) h ∙ negation_of-bare at (judged_expr e context)));
     two = λ op a b h k at.
         kind_from (CExprKind-F.Two op a b) _
-        (rw (fold-roll-CExprKind, fold-roll-CExprKind) (ap₂ (two_of nowhere op) h k ∙ two_of-bare at op (judged_expr a context) (judged_expr b context)));
+        (rw (fold-roll-CExprKind, fold-roll-CExprKind) (ap₂ (two_of any_place op) h k ∙ two_of-bare at op (judged_expr a context) (judged_expr b context)));
     calling = λ name args h at.
-        ap (λ c. judged_call c context nowhere) (call_levels (record { name = name; args = args })).bare_is
-        ∙ call_by name (map placeless_arg args) nowhere
-        ∙ (ap (call_of context.keeps (signature_of context name) nowhere) (args_bare args h at)
-        ∙ call_of-bare context.keeps (signature_of context name) at
+        ap (λ c. judged_call c context any_place) (call_levels (record { name = name; args = args })).bare_is
+        ∙ call_by name (map placeless_arg args) any_place
+        ∙ (ap (call_of context.is_read_only (signature_of context name) any_place) (args_bare args h at)
+        ∙ call_of-bare context.is_read_only (signature_of context name) at
         (map (λ (judge : Judges JudgedArg). judge context at) (map judged_arg args)))
         ∙ ap bare_call (sym (call_by name args at));
     expr = λ at what h.
         ap (λ e. judged_expr e context) (expr_levels (record { place = at; what = what })).bare_is ∙ rw (fold-roll-CExpr, fold-roll-CExpr) (h at);
     index = λ signed e length h at.
-        ap (λ i. judged_index i context nowhere) (index_levels (record { signed = signed; at = e; length = length })).bare_is
-        ∙ rw (fold-roll-CIndex, fold-roll-CIndex) (ap (index_of nowhere signed length) h ∙ index_of-bare at signed length (judged_expr e context));
+        ap (λ i. judged_index i context any_place) (index_levels (record { signed = signed; at = e; length = length })).bare_is
+        ∙ rw (fold-roll-CIndex, fold-roll-CIndex) (ap (index_of any_place signed length) h ∙ index_of-bare at signed length (judged_expr e context));
     place = λ through name steps h at.
-        ap (λ p. judged_place p context nowhere) (place_levels (record { through = through; name = name; steps = steps })).bare_is
-        ∙ place_by through name (map placeless_step steps) nowhere
-        ∙ (ap (along through (map judged_step (map placeless_step steps)) nowhere) (judge_root-bare (context.variables name) through at)
+        ap (λ p. judged_place p context any_place) (place_levels (record { through = through; name = name; steps = steps })).bare_is
+        ∙ place_by through name (map placeless_step steps) any_place
+        ∙ (ap (along through (map judged_step (map placeless_step steps)) any_place) (judge_root-bare (context.variables name) through at)
         ∙ along-bare through steps h at (judge_root (context.variables name) through at))
         ∙ ap bare_place (sym (place_by through name steps at));
     step = step_bare;
@@ -380,8 +380,8 @@ module _ (context : Context) where
   pub expr_bare : (x : CExpr) → judged_expr (placeless_expr x) context ≡ bare_judged (judged_expr x context)
   expr_bare = induct_expr ArgBare KindBare CallBare ExprBare IndexBare PlaceBare StepBare cases
 
-  pub place_bare : (x : CPlace) (at : Place) → judged_place (placeless_place x) context nowhere ≡ bare_place (judged_place x context at)
+  pub place_bare : (x : CPlace) (at : Place) → judged_place (placeless_place x) context any_place ≡ bare_place (judged_place x context at)
   place_bare = induct_place ArgBare KindBare CallBare ExprBare IndexBare PlaceBare StepBare cases
 
-  pub call_bare : (x : CCall) (at : Place) → judged_call (placeless_call x) context nowhere ≡ bare_call (judged_call x context at)
+  pub call_bare : (x : CCall) (at : Place) → judged_call (placeless_call x) context any_place ≡ bare_call (judged_call x context at)
   call_bare = induct_call ArgBare KindBare CallBare ExprBare IndexBare PlaceBare StepBare cases

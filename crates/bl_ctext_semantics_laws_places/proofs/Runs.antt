@@ -25,7 +25,7 @@ use Rattle.bl_ctext_semantics.specs.Cells.{
   ports_of,
   with_inputs,
 }
-use Rattle.bl_ctext_semantics.specs.Cost.{Costs, bound, cost_of_function, cost_of_stmt, costs_after}
+use Rattle.bl_ctext_semantics.specs.Cost.{Costs, cost_of_function, cost_of_stmt, costs_after, tick_bound}
 use Rattle.bl_ctext_semantics.specs.Loops.{turns_in_block}
 use Rattle.bl_ctext_semantics.specs.Course.{Outcome, result_at}
 use Rattle.bl_ctext_semantics.specs.Meaning.{
@@ -60,8 +60,8 @@ use Rattle.bl_ctext_semantics.specs.Trace.{
   TickOfFile,
   c_trace,
   c_trace_from,
+  call_from_outside,
   cells_if,
-  entered,
   object,
   reply_of,
   start_c,
@@ -108,7 +108,7 @@ file_costs-same known (f ∷ fs) =
     ap (λ cost. (f.name, cost) ∷ costs_after (with_entry known f.name cost) (map placeless_func fs)) (function_cost-same known f)
     ∙ ap (λ rest. (f.name, cost_of_function known f) ∷ rest) (file_costs-same (with_entry known f.name (cost_of_function known f)) fs)
 
-pub bound-same : (file : Parts) → bound (placeless file) ≡ bound file
+pub bound-same : (file : Parts) → tick_bound (placeless file) ≡ tick_bound file
 bound-same file = ap (λ entries. unwrap_or (found (codes "bl_tick") entries) 0) (file_costs-same no_entries file.funcs)
 
 -- ---- how many cells they need
@@ -182,8 +182,8 @@ outputs-same file = ap (λ ports. filter_map column_of ports) (ports-same (codes
 -- ---- ticks and traces
 
 entered-same : (file : Parts) (name : Text) (passed : List ArgumentValue) (memory : Memory) →
-    entered (placeless file) name passed memory ≡ entered file name passed memory
-unfolding entered
+    call_from_outside (placeless file) name passed memory ≡ call_from_outside file name passed memory
+unfolding call_from_outside
 entered-same file name passed memory = ap (λ entries. applied (found name entries) 0 passed memory) (meanings-same no_entries file.funcs)
 
 -- the tick that a call was, by the outputs and the cells
@@ -194,7 +194,7 @@ abbrev tick_passed : List ArgumentValue
 tick_passed = object state_object ∷ object input_object ∷ object output_object ∷ []
 
 abbrev called_tick : Parts → Memory → CallResult
-called_tick file memory = entered file (codes "bl_tick") tick_passed memory
+called_tick file memory = call_from_outside file (codes "bl_tick") tick_passed memory
 
 tick-same : (file : Parts) (cells ins : List ℤ) → tick_c (placeless file) cells ins ≡ tick_c file cells ins
 unfolding tick_c

@@ -9,7 +9,7 @@ use Rattle.bl_tree.specs.declared.c.CStmt.{CStmt, fold-CStmt, fold-roll-CStmt}
 use Rattle.bl_tree.specs.declared.c.CStmtKind.{CStmtKind, fold-roll-CStmtKind}
 use Rattle.bl_tree.specs.declared.c.CStmtKind.TheOpen.{CStmtKind-F, CStmt-F}
 use Rattle.bl_ctext_semantics.proofs.Induction.{Optional, StmtCases, induct_stmt, stmt}
-use Rattle.bl_cparse_syntax_laws.specs.Placeless.{nowhere, placeless_call, placeless_expr, placeless_place, placeless_result, placeless_stmt}
+use Rattle.bl_cparse_syntax_laws.specs.Placeless.{any_place, placeless_call, placeless_expr, placeless_place, placeless_result, placeless_stmt}
 use Rattle.bl_ctext_semantics_laws_places.proofs.Lists.{map-behind}
 
 -- a level of a statement without the places of its expressions, where what stands for the statements in it is turned
@@ -23,7 +23,7 @@ level_turned turned CStmtKind-F.Break = CStmtKind-F.Break
 level_turned turned (CStmtKind-F.Return e) = CStmtKind-F.Return (placeless_result e)
 
 -- a statement without its places, by its level
-bare_is : (at : Place) (level : CStmtKind-F CStmtKind CStmt) → placeless_stmt (stmt at level) ≡ stmt nowhere (level_turned placeless_stmt level)
+bare_is : (at : Place) (level : CStmtKind-F CStmtKind CStmt) → placeless_stmt (stmt at level) ≡ stmt any_place (level_turned placeless_stmt level)
 bare_is at (CStmtKind-F.Set p e) = simp (fold-roll-CStmt, fold-roll-CStmtKind) refl
 bare_is at (CStmtKind-F.Clear p name) = simp (fold-roll-CStmt, fold-roll-CStmtKind) refl
 bare_is at (CStmtKind-F.Call call) = simp (fold-roll-CStmt, fold-roll-CStmtKind) refl
@@ -46,7 +46,7 @@ level_mapped of (CStmtKind-F.Return e) = CStmtKind-F.Return e
 
 module _ (A B : Type 0) (kind : CStmtKind-F A B → A) (whole : CStmt-F A B → B) (turned : B → B)
     (by_level : (at : Place) (level : CStmtKind-F A B) →
-    whole (record { place = nowhere; what = kind (level_turned turned level) }) ≡ turned (whole (record { place = at; what = kind level }))) where
+    whole (record { place = any_place; what = kind (level_turned turned level) }) ≡ turned (whole (record { place = at; what = kind level }))) where
   abbrev folded : CStmt → B
   folded = fold-CStmt A B kind whole
 
@@ -70,10 +70,10 @@ module _ (A B : Type 0) (kind : CStmtKind-F A B → A) (whole : CStmt-F A B → 
 
   -- a statement is turned where its level is
   by_parts : (at : Place) (level : CStmtKind-F CStmtKind CStmt) →
-      at_level nowhere (level_mapped folded (level_turned placeless_stmt level)) ≡ at_level nowhere (level_turned turned (level_mapped folded level)) →
+      at_level any_place (level_mapped folded (level_turned placeless_stmt level)) ≡ at_level any_place (level_turned turned (level_mapped folded level)) →
       Turned (stmt at level)
   by_parts at level h =
-      ap folded (bare_is at level) ∙ folded_is nowhere (level_turned placeless_stmt level) ∙ h ∙ by_level at (level_mapped folded level)
+      ap folded (bare_is at level) ∙ folded_is any_place (level_turned placeless_stmt level) ∙ h ∙ by_level at (level_mapped folded level)
       ∙ ap turned (sym (folded_is at level))
 
   block_turned : (block : List CStmt) → All Turned block → map folded (map placeless_stmt block) ≡ map turned (map folded block)
@@ -83,10 +83,10 @@ module _ (A B : Type 0) (kind : CStmtKind-F A B → A) (whole : CStmt-F A B → 
       Turned (stmt at (CStmtKind-F.If e block other))
   of_if at e block None h k =
       by_parts at (CStmtKind-F.If e block None)
-      (ap (λ b. at_level nowhere (CStmtKind-F.If (placeless_expr e) b None)) (block_turned block h))
+      (ap (λ b. at_level any_place (CStmtKind-F.If (placeless_expr e) b None)) (block_turned block h))
   of_if at e block (Some other) h k =
       by_parts at (CStmtKind-F.If e block (Some other))
-      (ap₂ (λ b o. at_level nowhere (CStmtKind-F.If (placeless_expr e) b (Some o))) (block_turned block h) (block_turned other k))
+      (ap₂ (λ b o. at_level any_place (CStmtKind-F.If (placeless_expr e) b (Some o))) (block_turned block h) (block_turned other k))
 
   cases : StmtCases Turned
   cases = record {
@@ -96,7 +96,7 @@ module _ (A B : Type 0) (kind : CStmtKind-F A B → A) (whole : CStmt-F A B → 
     branching = of_if;
     loop = λ at turn e body h.
         by_parts at (CStmtKind-F.Loop turn e body)
-        (ap (λ b. at_level nowhere (CStmtKind-F.Loop turn (placeless_expr e) b)) (block_turned body h));
+        (ap (λ b. at_level any_place (CStmtKind-F.Loop turn (placeless_expr e) b)) (block_turned body h));
     break = λ at. by_parts at CStmtKind-F.Break refl;
     returns = λ at e. by_parts at (CStmtKind-F.Return e) refl;
   }
@@ -138,6 +138,6 @@ module _ (A B : Type 0) (kind : CStmtKind-F A B → A) (whole : CStmt-F A B → 
   pub stmts_same : (stmts : List CStmt) → map (fold-CStmt A B kind whole) (map placeless_stmt stmts) ≡ map (fold-CStmt A B kind whole) stmts
   stmts_same stmts =
       stmts_turned A B kind whole (λ b. b)
-      (λ at level. ap (λ l. whole (record { place = nowhere; what = kind l })) (level_unturned level)
-      ∙ blind nowhere at (kind (level_bare level)) ∙ ap (λ k. whole (record { place = at; what = k })) (plain level)) stmts
+      (λ at level. ap (λ l. whole (record { place = any_place; what = kind l })) (level_unturned level)
+      ∙ blind any_place at (kind (level_bare level)) ∙ ap (λ k. whole (record { place = at; what = k })) (plain level)) stmts
       ∙ map-id (map (fold-CStmt A B kind whole) stmts)

@@ -3,7 +3,7 @@ use Rattle.std.specs.Prelude.{ℕ, ℤ, List, map, Option}
 use Rattle.bl_tree.specs.declared.row.Column.{Column}
 use Rattle.bl_tree.specs.declared.row.Trace.{Trace}
 use Rattle.bl_ctext_semantics.specs.Cells.{Cell, cells_of, inputs_of, outputs_of}
-use Rattle.bl_ctext_semantics.specs.Cost.{bound}
+use Rattle.bl_ctext_semantics.specs.Cost.{tick_bound}
 use Rattle.bl_ctext_semantics.specs.Faults.{Clause, faults_in}
 use Rattle.bl_ctext_semantics.specs.Parts.{Parts}
 use Rattle.bl_ctext_semantics.specs.Sizes.{cells_needed}
@@ -34,7 +34,7 @@ behaviour_of file = record {
   outputs = outputs_of file;
   cells = cells_of file;
   needed = cells_needed file;
-  bound = bound file;
+  bound = tick_bound file;
   started = start_cells file;
   start = start_c file;
   tick = tick_c file;

@@ -7,7 +7,7 @@ use Rattle.bl_tree.specs.declared.tree.Stmt.{Stmt, fold-roll-Stmt, out-Stmt}
 use Rattle.bl_tree.specs.declared.tree.StmtKind.{StmtKind, fold-roll-StmtKind}
 use Rattle.bl_tree.specs.declared.tree.StmtKind.TheOpen.{StmtKind-F}
 use Rattle.bl_graph_nodes.specs.Laws.{stmt}
-use Rattle.bl_graph_nodes.specs.Plain.{Label, Position, Act, Then, block_from, inside, label_at, plain, plain_block}
+use Rattle.bl_graph_nodes.specs.Plain.{Label, Position, Act, Then, block_from, inside, label_at, plain_stmt, plain_block}
 use Rattle.bl_graph_nodes.proofs.Equations.{made_of_parts, plain_statements}
 use Rattle.bl_ctree.specs.Positions.{Item, Located, block_items, is_act, items_from, kind_of, place_of, stmt_kind}
 use Rattle.bl_ctree_laws.specs.Bridge.{label_of, plain_at, plain_item, plain_items, plain_kind}
@@ -17,7 +17,7 @@ use Rattle.bl_ctree_laws.specs.Trees.{before}
 -- ---- statements
 
 pub by_kind : (place : Place) (layer : StmtKind-F StmtKind Arm Branch Stmt) (at : Position) →
-    plain (stmt place layer) at ≡ plain_kind (stmt place layer) (label_at at) place layer
+    plain_stmt (stmt place layer) at ≡ plain_kind (stmt place layer) (label_at at) place layer
 by_kind place (StmtKind-F.Declare k initial) at = plain_statements.declaration place at k initial
 by_kind place (StmtKind-F.Assign path e) at = plain_statements.assignment place at path e
 by_kind place (StmtKind-F.Call f inputs outputs) at = plain_statements.call place at f inputs outputs
@@ -32,14 +32,14 @@ by_kind place (StmtKind-F.Repeat body) at = plain_statements.endless place at bo
 by_kind place (StmtKind-F.Until body e) at = plain_statements.until place at body e
 by_kind place (StmtKind-F.While e body) at = plain_statements.while place at e body
 
-pub statement_is : (s : Stmt) (at : Position) → plain s at ≡ plain_at (record { position = at; passed = 0; stmt = s })
+pub statement_is : (s : Stmt) (at : Position) → plain_stmt s at ≡ plain_at (record { position = at; passed = 0; stmt = s })
 statement_is s at =
-    subst (λ made. plain made at ≡ plain_kind made (label_at at) (out-Stmt s).place (stmt_kind s)) (made_of_parts s)
+    subst (λ made. plain_stmt made at ≡ plain_kind made (label_at at) (out-Stmt s).place (stmt_kind s)) (made_of_parts s)
     (by_kind (out-Stmt s).place (stmt_kind s) at)
 
 -- ---- blocks
 
-pub block_is : (body : List Stmt) (k : ℕ) (block : Position) → block_from (map plain body) k block ≡ plain_items (items_from block k body)
+pub block_is : (body : List Stmt) (k : ℕ) (block : Position) → block_from (map plain_stmt body) k block ≡ plain_items (items_from block k body)
 block_is [] k block = refl
 block_is (s ∷ rest) k block = λ i. Then (statement_is s (block ++ k ∷ []) i) (block_is rest (suc k) block i)
 

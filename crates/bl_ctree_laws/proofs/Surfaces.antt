@@ -77,8 +77,8 @@ use Rattle.bl_graph_nodes.specs.Plain.{
   inside,
   label_at,
   passed_one,
-  plain,
   plain_block,
+  plain_stmt,
 }
 use Rattle.bl_graph_nodes.specs.Writes.{surface_writes, surface_writes_in, surface_writes_in_each}
 use Rattle.bl_graph_nodes.proofs.Equations.{made_of_parts}
@@ -180,7 +180,7 @@ written_by_kind layer = kind_surface_writes (parts layer)
 
 module _ (test : Static → Bool) where
   abbrev Soon : Stmt → Type 0
-  Soon s = (at : Position) → soon test (plain s at) ≡ list_any test (surface_of s).writes
+  Soon s = (at : Position) → soon test (plain_stmt s at) ≡ list_any test (surface_of s).writes
 
   abbrev OfBlock : List Stmt → Type 0
   OfBlock body = Each Soon body
@@ -193,7 +193,7 @@ module _ (test : Static → Bool) where
       ∙ sym (list_any-append test s.writes (if s.instant then block_surface rest else []))
 
   block_soon : (body : List Stmt) (k : ℕ) (block : Position) → OfBlock body →
-      soon_in test (block_from (map plain body) k block) ≡ list_any test (block_surface (map surface_of body))
+      soon_in test (block_from (map plain_stmt body) k block) ≡ list_any test (block_surface (map surface_of body))
   block_soon [] k block each = refl
   block_soon (s ∷ rest) k block each =
       one_more _ _ (surface_of s) (map surface_of rest) _ (All-head Soon s rest each (block ++ k ∷ []))
@@ -244,7 +244,7 @@ module _ (test : Static → Bool) where
 
   of_plain : (place : Place) (layer : StmtKind-F StmtKind Arm Branch Stmt) (at : Position) →
       soon test (plain_kind (stmt place layer) (label_at at) place layer) ≡ list_any test (written_by_kind layer) →
-      soon test (plain (stmt place layer) at) ≡ list_any test (surface_of (stmt place layer)).writes
+      soon test (plain_stmt (stmt place layer) at) ≡ list_any test (surface_of (stmt place layer)).writes
   of_plain place layer at is = ap (soon test) (by_kind place layer at) ∙ is ∙ ap (λ surface. list_any test surface.writes) (sym (surface_made place layer))
 
   act_writes : (place : Place) (layer : StmtKind-F StmtKind Arm Branch Stmt) → is_act layer ≡ true →

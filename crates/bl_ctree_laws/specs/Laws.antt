@@ -2,7 +2,7 @@
 use Rattle.std.specs.Prelude.{ℕ, Bool, true, false, List, [], ◌≡◌, ⊤}
 use Rattle.bl_tree.specs.declared.tree.Stmt.{Stmt}
 use Rattle.bl_tree.specs.declared.tree.StmtKind.TheOpen.{StmtKind-F}
-use Rattle.bl_graph_nodes.specs.Plain.{plain, plain_block}
+use Rattle.bl_graph_nodes.specs.Plain.{plain_block, plain_stmt}
 use Rattle.bl_graph_nodes.specs.Steps.{StepLabel}
 use Rattle.bl_ctree.specs.Actions.{Action}
 use Rattle.bl_ctree.specs.Control as control
@@ -19,7 +19,7 @@ use Rattle.bl_ctree_laws.specs.Trees.{Tree, is_nil, is_settled, woken}
 
 -- a statement at a position has the plain statement of the located one, and a block the plain block of its items
 pub record StatementsArePlain : Type 0 where
-  pub statements : (s : Stmt) (position : Position) → plain s position ≡ plain_at (record { position = position; passed = 0; stmt = s })
+  pub statements : (s : Stmt) (position : Position) → plain_stmt s position ≡ plain_at (record { position = position; passed = 0; stmt = s })
   pub blocks : (body : List Stmt) (position : Position) → plain_block body position ≡ plain_items (items_from position 0 body)
 
 -- a residual tree and its plain tree agree on whether they ended, are settled, may end and may write

@@ -19,7 +19,8 @@ ghost use Rattle.bl_ctree_laws.specs.Trees.{Tree, is_settled};
 ghost use Rattle.bl_ctree_laws_examples.specs.Trees.Calls.{instances, units};
 ghost use Rattle.bl_ctree_laws_examples.specs.Trees.Reset as reset;
 ghost use Rattle.bl_ctree_laws_examples.specs.Trees.Made.{always};
-ghost use Rattle.bl_ctree_laws_examples.specs.Trees.TwoWay.{body, i, inside, left, o, plain_statements, right, sets_o, sets_x, sets_y, x, y};
+ghost use Rattle.bl_ctree_laws_examples.specs.Trees.TwoWay.{body, i, label_inside, left_position, o, plain_statements, right_position, sets_o, sets_x, sets_y};
+ghost use Rattle.bl_ctree_laws_examples.specs.Trees.TwoWay.{x, y};
 ghost use Rattle.bl_ctree_laws_examples.specs.Trees.TwoWayTrees.{acting, before_o, before_x, before_y, both, left_done, program, right_done};
 ghost use Rattle.bl_ctree_laws_examples.specs.Trees.TwoWayTrees.{left_paused, o_is_set, pausing, reaches_pause, right_paused, x_is_set, y_is_set};
 
@@ -51,11 +52,13 @@ pub fn reads_wait_for_writers()
 /// So the tick takes `x = i + 1`, `y = x * 2` and `o = y` in this order. Where it begins no other step may be taken, and it
 /// isn't stuck, though one of the two branches waits. The pauses may come in either order; then nothing is left to do.
 pub fn branches_take_turns()
-    ensures first { Moves Unmet program 0 (both before_x before_y) true x_is_set (acting (inside left 0) sets_x) (both before_o before_y) }
-    ensures second { Moves Unmet program 0 (both before_o before_y) true y_is_set (acting (inside right 0) sets_y) (both before_o right_done) }
-    ensures third { Moves Unmet program 0 (both before_o right_done) true o_is_set (acting (inside left 1) sets_o) (both left_done right_done) }
-    ensures fourth { Moves Unmet program 0 (both left_done right_done) true (reaches_pause 3) (pausing (inside left 2) 3) (both left_paused right_done) }
-    ensures fifth { Moves Unmet program 0 (both left_paused right_done) true (reaches_pause 5) (pausing (inside right 1) 5) (both left_paused right_paused) }
+    ensures first { Moves Unmet program 0 (both before_x before_y) true x_is_set (acting (label_inside left_position 0) sets_x) (both before_o before_y) }
+    ensures second { Moves Unmet program 0 (both before_o before_y) true y_is_set (acting (label_inside right_position 0) sets_y) (both before_o right_done) }
+    ensures third { Moves Unmet program 0 (both before_o right_done) true o_is_set (acting (label_inside left_position 1) sets_o) (both left_done right_done) }
+    ensures fourth { Moves Unmet program 0 (both left_done right_done) true (reaches_pause 3) (pausing (label_inside left_position 2) 3)
+        (both left_paused right_done) }
+    ensures fifth { Moves Unmet program 0 (both left_paused right_done) true (reaches_pause 5) (pausing (label_inside right_position 1) 5)
+        (both left_paused right_paused) }
     ensures settled { is_settled (both left_paused right_paused) ≡ true }
     ensures unsettled { is_settled (both before_x before_y) ≡ false }
     ensures alone { (d : Bool) (a : Deed) (n : StepLabel) (c : Tree) → Moves Unmet program 0 (both before_x before_y) d a n c → a ≡ x_is_set }

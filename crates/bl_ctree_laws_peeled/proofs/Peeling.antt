@@ -31,7 +31,7 @@ use Rattle.bl_graph_nodes.specs.Plain.{
   block_from,
   inside,
   label_at,
-  plain,
+  plain_stmt,
   plain_block,
   plain_body,
 }
@@ -122,16 +122,16 @@ before_done Done = refl
 before_done (Then s rest) = ap (Then s) (before_done rest)
 
 split : (one other : List Stmt) (k : ℕ) (q : Position) (rest : Block) →
-    before (block_from (map plain (one ++ other)) k q) rest
-    ≡ before (block_from (map plain one) k q) (before (block_from (map plain other) (after_all one k) q) rest)
+    before (block_from (map plain_stmt (one ++ other)) k q) rest
+    ≡ before (block_from (map plain_stmt one) k q) (before (block_from (map plain_stmt other) (after_all one k) q) rest)
 split [] other k q rest = refl
-split (s ∷ one) other k q rest = ap (Then (plain s (q ++ k ∷ []))) (split one other (suc k) q rest)
+split (s ∷ one) other k q rest = ap (Then (plain_stmt s (q ++ k ∷ []))) (split one other (suc k) q rest)
 
 -- a statement becomes another outside of first turns, and others where it begins a branch, wherever all stand
 pub record Becomes (H : Node → Label → Type 0) (s : Stmt) (made : Peeling) : Type 0 where
-  pub deep : (p q : Position) → PlainUnrolls H (plain s p) (plain made.deep q)
+  pub deep : (p q : Position) → PlainUnrolls H (plain_stmt s p) (plain_stmt made.deep q)
   pub front : (p q : Position) (k : ℕ) (rest rest' : Block) → Unrolls H rest rest' →
-      Unrolls H (Then (plain s p) rest) (before (block_from (map plain made.front) k q) rest')
+      Unrolls H (Then (plain_stmt s p) rest) (before (block_from (map plain_stmt made.front) k q) rest')
 
 -- each head may fall away
 module _ {H : Node → Label → Type 0} (any : (n : Node) (l : Label) → H n l) where
@@ -166,16 +166,16 @@ module _ {H : Node → Label → Type 0} (any : (n : Node) (l : Label) → H n l
       first_alike ((All-head P s body each).deep (p ++ j ∷ []) (q ++ k ∷ [])) (deep_block body (All-tail P s body each) (suc j) (suc k) p q)
 
   either : (b : Bool) (one other : List Stmt) (k : ℕ) (q : Position) (body rest' : Block) →
-      Unrolls H body (before (block_from (map plain one) k q) rest') → Unrolls H body (before (block_from (map plain other) k q) rest') →
-      Unrolls H body (before (block_from (map plain (if b then one else other)) k q) rest')
+      Unrolls H body (before (block_from (map plain_stmt one) k q) rest') → Unrolls H body (before (block_from (map plain_stmt other) k q) rest') →
+      Unrolls H body (before (block_from (map plain_stmt (if b then one else other)) k q) rest')
   either true one other k q body rest' first second = first
   either false one other k q body rest' first second = second
 
   front_block : (body : List Stmt) → Each P body → (j k : ℕ) (p q : Position) (rest rest' : Block) → Unrolls H rest rest' →
-      Unrolls H (before (block_from (map plain body) j p) rest) (before (block_from (map plain (front_of (map peeling body))) k q) rest')
+      Unrolls H (before (block_from (map plain_stmt body) j p) rest) (before (block_from (map plain_stmt (front_of (map peeling body))) k q) rest')
   front_block [] each j k p q rest rest' more = more
   front_block (s ∷ body) each j k p q rest rest' more =
-      subst (Unrolls H (Then (plain s (p ++ j ∷ [])) (before (block_from (map plain body) (suc j) p) rest)))
+      subst (Unrolls H (Then (plain_stmt s (p ++ j ∷ [])) (before (block_from (map plain_stmt body) (suc j) p) rest)))
       (sym (split (peeling s).front (if (peeling s).instant then front_of (map peeling body) else deep_of (map peeling body)) k q rest'))
       ((All-head P s body each).front (p ++ j ∷ []) q k _ _
       (either (peeling s).instant (front_of (map peeling body)) (deep_of (map peeling body)) (after_all (peeling s).front k) q _ rest'
@@ -184,24 +184,25 @@ module _ {H : Node → Label → Type 0} (any : (n : Node) (l : Label) → H n l
 
   front_alone : (body : List Stmt) → Each P body → BlockBecomes H body (front_of (map peeling body))
   front_alone body each j k p q =
-      subst (λ one. Unrolls H one (block_from (map plain (front_of (map peeling body))) k q)) (before_done (block_from (map plain body) j p))
-      (subst (Unrolls H (before (block_from (map plain body) j p) Done)) (before_done (block_from (map plain (front_of (map peeling body))) k q))
+      subst (λ one. Unrolls H one (block_from (map plain_stmt (front_of (map peeling body))) k q)) (before_done (block_from (map plain_stmt body) j p))
+      (subst (Unrolls H (before (block_from (map plain_stmt body) j p) Done)) (before_done (block_from (map plain_stmt (front_of (map peeling body))) k q))
       (front_block body each j k p q Done Done no_more))
 
   -- ---- statements that become one statement
 
-  lone : {s deep front : Stmt} {made : Peeling} → made.deep ≡ deep → made.front ≡ front ∷ [] → ((p q : Position) → PlainUnrolls H (plain s p) (plain deep q)) →
-      ((p q : Position) → PlainUnrolls H (plain s p) (plain front q)) → Becomes H s made
+  lone : {s deep front : Stmt} {made : Peeling} → made.deep ≡ deep → made.front ≡ front ∷ [] →
+      ((p q : Position) → PlainUnrolls H (plain_stmt s p) (plain_stmt deep q)) →
+      ((p q : Position) → PlainUnrolls H (plain_stmt s p) (plain_stmt front q)) → Becomes H s made
   lone {s} is first alike alike' = record {
-    deep = λ p q. subst (λ t. PlainUnrolls H (plain s p) (plain t q)) (sym is) (alike p q);
+    deep = λ p q. subst (λ t. PlainUnrolls H (plain_stmt s p) (plain_stmt t q)) (sym is) (alike p q);
     front = λ p q k rest rest' more.
-        subst (λ made. Unrolls H (Then (plain s p) rest) (before (block_from (map plain made) k q) rest')) (sym first) (first_alike (alike' p (q ++ k ∷ [])) more);
+        subst (λ made. Unrolls H (Then (plain_stmt s p) rest) (before (block_from (map plain_stmt made) k q) rest')) (sym first) (first_alike (alike' p (q ++ k ∷ [])) more);
   }
 
   -- a statement that becomes itself
   itself : (place : Place) (layer : StmtKind-F StmtKind Arm Branch Stmt) → (kind_peeling (peeling_parts layer) place).deep ≡ stmt place layer →
       (kind_peeling (peeling_parts layer) place).front ≡ stmt place layer ∷ [] →
-      ((p q : Position) → PlainUnrolls H (plain (stmt place layer) p) (plain (stmt place layer) q)) → P (stmt place layer)
+      ((p q : Position) → PlainUnrolls H (plain_stmt (stmt place layer) p) (plain_stmt (stmt place layer) q)) → P (stmt place layer)
   itself place layer is first alike =
       lone (ap (λ made. made.deep) (peeling_at place layer) ∙ is) (ap (λ made. made.front) (peeling_at place layer) ∙ first) alike alike
 
@@ -248,28 +249,29 @@ module _ {H : Node → Label → Type 0} (any : (n : Node) (l : Label) → H n l
 
   repeat_case : (place : Place) (body : List Stmt) → Each P body → P (stmt place (StmtKind-F.Repeat body))
   repeat_case place body each = record {
-    deep = λ p q. subst (λ made. PlainUnrolls H (plain (stmt place (StmtKind-F.Repeat body)) p) (plain made q))
+    deep = λ p q. subst (λ made. PlainUnrolls H (plain_stmt (stmt place (StmtKind-F.Repeat body)) p) (plain_stmt made q))
         (sym (ap (λ made. made.deep) (peeling_at place (StmtKind-F.Repeat body)))) (alike p q);
     front = λ p q k rest rest' more.
-        subst (λ made. Unrolls H (Then (plain (stmt place (StmtKind-F.Repeat body)) p) rest) (before (block_from (map plain made) k q) rest'))
+        subst (λ made. Unrolls H (Then (plain_stmt (stmt place (StmtKind-F.Repeat body)) p) rest) (before (block_from (map plain_stmt made) k q) rest'))
         (sym (ap (λ made. made.front) (peeling_at place (StmtKind-F.Repeat body)))) (turned p q k rest rest' more);
   }
     where
       loop : Stmt
       loop = stmt place (StmtKind-F.Repeat (deep_of (map peeling body)))
 
-      alike : (p q : Position) → PlainUnrolls H (plain (stmt place (StmtKind-F.Repeat body)) p) (plain loop q)
+      alike : (p q : Position) → PlainUnrolls H (plain_stmt (stmt place (StmtKind-F.Repeat body)) p) (plain_stmt loop q)
       alike = repeat_becomes place body (deep_of (map peeling body)) (deep_block body each)
 
       turned : (p q : Position) (k : ℕ) (rest rest' : Block) → Unrolls H rest rest' →
-          Unrolls H (Then (plain (stmt place (StmtKind-F.Repeat body)) p) rest)
-          (before (block_from (map plain (front_of (map peeling body) ++ loop ∷ [])) k q) rest')
+          Unrolls H (Then (plain_stmt (stmt place (StmtKind-F.Repeat body)) p) rest)
+          (before (block_from (map plain_stmt (front_of (map peeling body) ++ loop ∷ [])) k q) rest')
       turned p q k rest rest' more =
-          let next = plain loop (q ++ after_all (front_of (map peeling body)) k ∷ []) in
-          subst (Unrolls H (Then (plain (stmt place (StmtKind-F.Repeat body)) p) rest)) (sym (split (front_of (map peeling body)) (loop ∷ []) k q rest'))
-          (subst (λ one. Unrolls H (Then one rest) (before (block_from (map plain (front_of (map peeling body))) k q) (Then next rest')))
+          let next = plain_stmt loop (q ++ after_all (front_of (map peeling body)) k ∷ []) in
+          subst (Unrolls H (Then (plain_stmt (stmt place (StmtKind-F.Repeat body)) p) rest)) (sym (split (front_of (map peeling body)) (loop ∷ []) k q rest'))
+          (subst (λ one. Unrolls H (Then one rest) (before (block_from (map plain_stmt (front_of (map peeling body))) k q) (Then next rest')))
           (sym (plain_statements.endless place p body))
-          (repeat_falls (label_at p) place (plain_block body (inside (label_at p) 0)) rest (block_from (map plain (front_of (map peeling body))) k q) next rest'
+          (repeat_falls (label_at p) place (plain_block body (inside (label_at p) 0)) rest
+          (block_from (map plain_stmt (front_of (map peeling body))) k q) next rest'
           (front_block body each 0 k (inside (label_at p) 0) q
           (Then (Repeat (label_at p) place (plain_block body (inside (label_at p) 0))) rest) (Then next rest')
           (first_alike (subst (λ one. PlainUnrolls H one next) (plain_statements.endless place p body)
@@ -277,36 +279,36 @@ module _ {H : Node → Label → Type 0} (any : (n : Node) (l : Label) → H n l
 
   until_case : (place : Place) (body : List Stmt) (e : Expr) → Each P body → P (stmt place (StmtKind-F.Until body e))
   until_case place body e each = record {
-    deep = λ p q. subst (λ made. PlainUnrolls H (plain (stmt place (StmtKind-F.Until body e)) p) (plain made q))
+    deep = λ p q. subst (λ made. PlainUnrolls H (plain_stmt (stmt place (StmtKind-F.Until body e)) p) (plain_stmt made q))
         (sym (ap (λ made. made.deep) (peeling_at place (StmtKind-F.Until body e)))) (alike p q);
     front = λ p q k rest rest' more.
-        subst (λ made. Unrolls H (Then (plain (stmt place (StmtKind-F.Until body e)) p) rest) (before (block_from (map plain made) k q) rest'))
+        subst (λ made. Unrolls H (Then (plain_stmt (stmt place (StmtKind-F.Until body e)) p) rest) (before (block_from (map plain_stmt made) k q) rest'))
         (sym (ap (λ made. made.front) (peeling_at place (StmtKind-F.Until body e)))) (turned p q k rest rest' more);
   }
     where
       loop : Stmt
       loop = stmt place (StmtKind-F.Until (deep_of (map peeling body)) e)
 
-      alike : (p q : Position) → PlainUnrolls H (plain (stmt place (StmtKind-F.Until body e)) p) (plain loop q)
+      alike : (p q : Position) → PlainUnrolls H (plain_stmt (stmt place (StmtKind-F.Until body e)) p) (plain_stmt loop q)
       alike = until_becomes place e body (deep_of (map peeling body)) (deep_block body each)
 
       test_alike : (p q : Position) →
-          PlainUnrolls H (Again (label_at p) place (plain_block body (inside (label_at p) 0)) e) (plain (made_if e [] (loop ∷ [])) q)
+          PlainUnrolls H (Again (label_at p) place (plain_block body (inside (label_at p) 0)) e) (plain_stmt (made_if e [] (loop ∷ [])) q)
       test_alike p q =
           alike_by refl (made_if_is e [] (loop ∷ []) q)
-          (again_if (first_alike (subst (λ one. PlainUnrolls H one (plain loop (inside (label_at q) 1 ++ 0 ∷ []))) (plain_statements.until place p body e)
+          (again_if (first_alike (subst (λ one. PlainUnrolls H one (plain_stmt loop (inside (label_at q) 1 ++ 0 ∷ []))) (plain_statements.until place p body e)
           (alike p (inside (label_at q) 1 ++ 0 ∷ []))) no_more))
 
       turned : (p q : Position) (k : ℕ) (rest rest' : Block) → Unrolls H rest rest' →
-          Unrolls H (Then (plain (stmt place (StmtKind-F.Until body e)) p) rest)
-          (before (block_from (map plain (front_of (map peeling body) ++ made_if e [] (loop ∷ []) ∷ [])) k q) rest')
+          Unrolls H (Then (plain_stmt (stmt place (StmtKind-F.Until body e)) p) rest)
+          (before (block_from (map plain_stmt (front_of (map peeling body) ++ made_if e [] (loop ∷ []) ∷ [])) k q) rest')
       turned p q k rest rest' more =
-          let next = plain (made_if e [] (loop ∷ [])) (q ++ after_all (front_of (map peeling body)) k ∷ []) in
-          subst (Unrolls H (Then (plain (stmt place (StmtKind-F.Until body e)) p) rest))
+          let next = plain_stmt (made_if e [] (loop ∷ [])) (q ++ after_all (front_of (map peeling body)) k ∷ []) in
+          subst (Unrolls H (Then (plain_stmt (stmt place (StmtKind-F.Until body e)) p) rest))
           (sym (split (front_of (map peeling body)) (made_if e [] (loop ∷ []) ∷ []) k q rest'))
-          (subst (λ one. Unrolls H (Then one rest) (before (block_from (map plain (front_of (map peeling body))) k q) (Then next rest')))
+          (subst (λ one. Unrolls H (Then one rest) (before (block_from (map plain_stmt (front_of (map peeling body))) k q) (Then next rest')))
           (sym (plain_statements.until place p body e))
-          (until_falls (label_at p) place (plain_block body (inside (label_at p) 0)) e rest (block_from (map plain (front_of (map peeling body))) k q) next rest'
+          (until_falls (label_at p) place (plain_block body (inside (label_at p) 0)) e rest (block_from (map plain_stmt (front_of (map peeling body))) k q) next rest'
           (front_block body each 0 k (inside (label_at p) 0) q
           (Then (Again (label_at p) place (plain_block body (inside (label_at p) 0)) e) rest) (Then next rest')
           (first_alike (test_alike p (q ++ after_all (front_of (map peeling body)) k ∷ [])) more))))
@@ -319,14 +321,14 @@ module _ {H : Node → Label → Type 0} (any : (n : Node) (l : Label) → H n l
       loop : Stmt
       loop = stmt place (StmtKind-F.While e (deep_of (map peeling body)))
 
-      alike : (p q : Position) → PlainUnrolls H (plain (stmt place (StmtKind-F.While e body)) p) (plain loop q)
+      alike : (p q : Position) → PlainUnrolls H (plain_stmt (stmt place (StmtKind-F.While e body)) p) (plain_stmt loop q)
       alike = while_becomes place e body (deep_of (map peeling body)) (deep_block body each)
 
       turned : (p q : Position) →
           Unrolls H (before (plain_block body (inside (label_at p) 0)) (Then (While (label_at p) place e (plain_block body (inside (label_at p) 0))) Done))
           (plain_block (front_of (map peeling body) ++ loop ∷ []) q)
       turned p q =
-          let next = plain loop (q ++ after_all (front_of (map peeling body)) 0 ∷ []) in
+          let next = plain_stmt loop (q ++ after_all (front_of (map peeling body)) 0 ∷ []) in
           subst (Unrolls H (before (plain_block body (inside (label_at p) 0)) (Then (While (label_at p) place e (plain_block body (inside (label_at p) 0))) Done)))
           (sym (sym (before_done (plain_block (front_of (map peeling body) ++ loop ∷ []) q)) ∙ split (front_of (map peeling body)) (loop ∷ []) 0 q Done))
           (front_block body each 0 0 (inside (label_at p) 0) q
@@ -335,7 +337,7 @@ module _ {H : Node → Label → Type 0} (any : (n : Node) (l : Label) → H n l
           (alike p (q ++ after_all (front_of (map peeling body)) 0 ∷ []))) no_more))
 
       test_alike : (p q : Position) →
-          PlainUnrolls H (plain (stmt place (StmtKind-F.While e body)) p) (plain (made_if e (front_of (map peeling body) ++ loop ∷ []) []) q)
+          PlainUnrolls H (plain_stmt (stmt place (StmtKind-F.While e body)) p) (plain_stmt (made_if e (front_of (map peeling body) ++ loop ∷ []) []) q)
       test_alike p q =
           alike_by (plain_statements.while place p e body) (made_if_is e (front_of (map peeling body) ++ loop ∷ []) [] q)
           (while_if (turned p (inside (label_at q) 0)))

@@ -25,7 +25,7 @@ use Rattle.bl_graph_nodes.specs.Plain.{
   label_at,
   never,
   passed_one,
-  plain,
+  plain_stmt,
   plain_block,
 }
 use Rattle.bl_graph_nodes.proofs.Equations.{plain_statements}
@@ -48,7 +48,7 @@ use Rattle.bl_ctree_laws_peeled.specs.Unrolls.{
 
 -- a block becomes another, wherever both stand
 abbrev pub BlockBecomes : (Node → Label → Type 0) → List Stmt → List Stmt → Type 0
-BlockBecomes H one other = (j k : ℕ) (p q : Position) → Unrolls H (block_from (map plain one) j p) (block_from (map plain other) k q)
+BlockBecomes H one other = (j k : ℕ) (p q : Position) → Unrolls H (block_from (map plain_stmt one) j p) (block_from (map plain_stmt other) k q)
 
 -- arms with the same tests, whose blocks become others
 pub data ArmsBecome (H : Node → Label → Type 0) : List Arm → List Arm → Type 0 where
@@ -65,7 +65,7 @@ pub data BranchesBecome (H : Node → Label → Type 0) : List Branch → List B
 
 -- an `if` without an arm does its `else` part
 if_without_arms : (place : Place) (body : List Stmt) (p : Position) →
-    plain (stmt place (StmtKind-F.If [] body)) p
+    plain_stmt (stmt place (StmtKind-F.If [] body)) p
     ≡ If (label_at p) place (never place) (plain_block body (inside (label_at p) 0)) (plain_block body (inside (label_at p) 1))
 if_without_arms place body p = rw (fold-roll-Stmt, fold-roll-StmtKind) refl
 
@@ -74,22 +74,22 @@ module _ {H : Node → Label → Type 0} where
   alike_by {t = t} {s'} e f alike = subst (λ one. PlainUnrolls H one t) (sym e) (subst (PlainUnrolls H s') (sym f) alike)
 
   pub when_becomes : (place : Place) (guard : Guard) (e : Expr) (one other : List Stmt) → BlockBecomes H one other → (p q : Position) →
-      PlainUnrolls H (plain (stmt place (StmtKind-F.When guard e one)) p) (plain (stmt place (StmtKind-F.When guard e other)) q)
+      PlainUnrolls H (plain_stmt (stmt place (StmtKind-F.When guard e one)) p) (plain_stmt (stmt place (StmtKind-F.When guard e other)) q)
   when_becomes place guard e one other inner p q =
       alike_by (plain_statements.guarded place p guard e one) (plain_statements.guarded place q guard e other) (whens_alike (inner 0 0 _ _))
 
   pub repeat_becomes : (place : Place) (one other : List Stmt) → BlockBecomes H one other → (p q : Position) →
-      PlainUnrolls H (plain (stmt place (StmtKind-F.Repeat one)) p) (plain (stmt place (StmtKind-F.Repeat other)) q)
+      PlainUnrolls H (plain_stmt (stmt place (StmtKind-F.Repeat one)) p) (plain_stmt (stmt place (StmtKind-F.Repeat other)) q)
   repeat_becomes place one other inner p q =
       alike_by (plain_statements.endless place p one) (plain_statements.endless place q other) (repeats_alike (inner 0 0 _ _))
 
   pub until_becomes : (place : Place) (e : Expr) (one other : List Stmt) → BlockBecomes H one other → (p q : Position) →
-      PlainUnrolls H (plain (stmt place (StmtKind-F.Until one e)) p) (plain (stmt place (StmtKind-F.Until other e)) q)
+      PlainUnrolls H (plain_stmt (stmt place (StmtKind-F.Until one e)) p) (plain_stmt (stmt place (StmtKind-F.Until other e)) q)
   until_becomes place e one other inner p q =
       alike_by (plain_statements.until place p one e) (plain_statements.until place q other e) (untils_alike (inner 0 0 _ _))
 
   pub while_becomes : (place : Place) (e : Expr) (one other : List Stmt) → BlockBecomes H one other → (p q : Position) →
-      PlainUnrolls H (plain (stmt place (StmtKind-F.While e one)) p) (plain (stmt place (StmtKind-F.While e other)) q)
+      PlainUnrolls H (plain_stmt (stmt place (StmtKind-F.While e one)) p) (plain_stmt (stmt place (StmtKind-F.While e other)) q)
   while_becomes place e one other inner p q =
       alike_by (plain_statements.while place p e one) (plain_statements.while place q e other) (whiles_alike (inner 0 0 _ _))
 
@@ -107,7 +107,7 @@ module _ {H : Node → Label → Type 0} where
       first_alike (ifs_with is (inner 0 0 _ _) (else_becomes one other arms last (passed_one l) (passed_one m))) no_more
 
   pub if_becomes : (place : Place) {arms others : List Arm} (one other : List Stmt) → ArmsBecome H arms others → BlockBecomes H one other →
-      (p q : Position) → PlainUnrolls H (plain (stmt place (StmtKind-F.If arms one)) p) (plain (stmt place (StmtKind-F.If others other)) q)
+      (p q : Position) → PlainUnrolls H (plain_stmt (stmt place (StmtKind-F.If arms one)) p) (plain_stmt (stmt place (StmtKind-F.If others other)) q)
   if_becomes place one other no_arms last p q =
       alike_by (if_without_arms place one p) (if_without_arms place other q) (ifs_alike (last 0 0 _ _) (last 0 0 _ _))
   if_becomes place one other (one_arm {arm} {made} {arms} {others} is inner rest) last p q =
@@ -127,14 +127,14 @@ module _ {H : Node → Label → Type 0} where
   bodies_become (one_branch is inner rest) j k l m = bodies_with is (inner 0 0 _ _) (bodies_become rest (suc j) (suc k) l m)
 
   pub cobegin_becomes : (place : Place) {branches others : List Branch} → BranchesBecome H branches others → (p q : Position) →
-      PlainUnrolls H (plain (stmt place (StmtKind-F.Cobegin branches)) p) (plain (stmt place (StmtKind-F.Cobegin others)) q)
+      PlainUnrolls H (plain_stmt (stmt place (StmtKind-F.Cobegin branches)) p) (plain_stmt (stmt place (StmtKind-F.Cobegin others)) q)
   cobegin_becomes place {branches} {others} each p q =
       alike_by (plain_statements.parallel place p branches) (plain_statements.parallel place q others)
       (cobegins_alike (bodies_become each 0 0 (label_at p) (label_at q)))
 
 -- an `if` that is made for the test of a loop
 pub made_if_is : (e : Expr) (body other : List Stmt) (q : Position) →
-    plain (made_if e body other) q
+    plain_stmt (made_if e body other) q
     ≡ If (label_at q) (place_of_expr e) e (plain_block body (inside (label_at q) 0)) (plain_block other (inside (label_at q) 1))
 made_if_is e body other q =
     plain_statements.branching (place_of_expr e) q (made_arm e body) [] other

@@ -59,7 +59,6 @@ use Rattle.bl_ctree_run.specs.inner.Writers.{
   is_beside,
   is_free,
   is_met,
-  kept,
   key_at,
   key_cmp,
   of_variable,
@@ -67,6 +66,7 @@ use Rattle.bl_ctree_run.specs.inner.Writers.{
   write_of,
   writes_by,
   writes_from,
+  writes_kept,
 }
 use Rattle.bl_ctree_enabled.proofs.BranchLemmas.{any_or, any_same, map-append, not_or}
 use Rattle.bl_ctree_run.proofs.BranchLemmas.{drop_all, none_left}
@@ -82,7 +82,7 @@ same_key home at =
 abbrev Entries : Type 0
 Entries = List ((ℕ × ℕ) × List WriteNode)
 
-kept_same : (entries : Entries) (home at : Location) → same_variable home at ≡ true → kept entries home ≡ kept entries at
+kept_same : (entries : Entries) (home at : Location) → same_variable home at ≡ true → writes_kept entries home ≡ writes_kept entries at
 kept_same entries home at is =
     let both = both_true (nat_eq home.instance at.instance) (nat_eq home.path.root at.path.root) is in
     λ i. map write_of (unwrap_or (lookup (is_at (key_cmp
@@ -95,7 +95,7 @@ pub noted_one : (old between new : Entries) (k : ℕ) (home : Home) (writes : Li
     → lookup (is_at (key_cmp (key_at at))) new ≡ cond (is_at (key_cmp (key_at (location_of home))) (key_at at)) (Some writes)
     (lookup (is_at (key_cmp (key_at at))) between)
     → writes ≡ unwrap_or (lookup (is_at (key_cmp (key_at (location_of home)))) old) [] ++ record { branch = k; home = home } ∷ []
-    → kept new at ≡ kept old at ++ of_variable at (writes_by k (location_of home ∷ []))
+    → writes_kept new at ≡ writes_kept old at ++ of_variable at (writes_by k (location_of home ∷ []))
 noted_one old between new k home writes at is_between is_new is_writes =
     ap (λ found. map write_of (unwrap_or found [])) (is_new
     ∙ ap (λ found. cond (is_at (key_cmp (key_at (location_of home))) (key_at at)) (Some writes) found) is_between)
@@ -106,13 +106,13 @@ noted_one old between new k home writes at is_between is_new is_writes =
     one = record { branch = k; home = location_of home }
 
     by : (b : Bool) → same_variable (location_of home) at ≡ b
-        → map write_of (unwrap_or (cond b (Some writes) (cond b None (lookup (is_at (key_cmp (key_at at))) old))) []) ≡ kept old at
+        → map write_of (unwrap_or (cond b (Some writes) (cond b None (lookup (is_at (key_cmp (key_at at))) old))) []) ≡ writes_kept old at
         ++ cond b (one ∷ []) []
     by true same =
         ap (map write_of) is_writes
         ∙ map-append write_of (unwrap_or (lookup (is_at (key_cmp (key_at (location_of home)))) old) []) (record { branch = k; home = home } ∷ [])
         ∙ ap (λ before. before ++ one ∷ []) (kept_same old (location_of home) at same)
-    by false same = sym (append-nil (kept old at))
+    by false same = sym (append-nil (writes_kept old at))
 
 by-append : (k : ℕ) (xs ys : List Location) → writes_by k (xs ++ ys) ≡ writes_by k xs ++ writes_by k ys
 by-append k [] ys = refl
@@ -251,7 +251,7 @@ met_from (suc k) j at (homes ∷ all) =
     ∙ ap (λ b. list_any (overlap at) homes || b) (met_from k (suc j) at all)
     ∙ or_assoc (list_any (overlap at) homes) (meets_one (take k all) at) (meets_one (drop (suc k) all) at)
 
-met_beside : (entries : Entries) (all : List (List Location)) (k : ℕ) (at : Location) → kept entries at ≡ of_variable at (all_writes all)
+met_beside : (entries : Entries) (all : List (List Location)) (k : ℕ) (at : Location) → writes_kept entries at ≡ of_variable at (all_writes all)
     → is_met entries k at ≡ (meets_one (take k all) at || meets_one (drop (k + 1) all) at)
 met_beside entries all k at is =
     let start : k ≡ 0 + k = omega arith in
@@ -261,7 +261,7 @@ met_beside entries all k at is =
 
 -- a point is free by what is kept where it is free by what the branches may write
 free_same : (entries : Entries) (all : List (List Location)) (k : ℕ) (spot : Spot) →
-    ((at : Location) → kept entries at ≡ of_variable at (all_writes all))
+    ((at : Location) → writes_kept entries at ≡ of_variable at (all_writes all))
     → is_free entries k spot ≡ is_free_of all k spot
 free_same entries all k spot is =
     ap not (any_same (is_met entries k) (λ at. meets_one (take k all) at || meets_one (drop (k + 1) all) at) spot.reads
@@ -275,6 +275,6 @@ filter_same f g (x ∷ xs) same = λ i. cond (same x i) (x ∷ filter_same f g x
 
 -- the free points
 pub all_free : (entries : Entries) (all : List (List Location)) (k : ℕ) (spots : List Spot) →
-    ((at : Location) → kept entries at ≡ of_variable at (all_writes all))
+    ((at : Location) → writes_kept entries at ≡ of_variable at (all_writes all))
     → filter (is_free entries k) spots ≡ filter (is_free_of all k) spots
 all_free entries all k spots is = filter_same (is_free entries k) (is_free_of all k) spots (λ spot. free_same entries all k spot is)

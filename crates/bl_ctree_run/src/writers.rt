@@ -7,7 +7,7 @@ ghost use Rattle.bl_ctree.specs.Nodes.{seen_of};
 ghost use Rattle.bl_ctree.specs.Store.{Location};
 ghost use Rattle.bl_ctree_store.specs.Seen.{location_of, setting_in};
 ghost use Rattle.bl_ctree_enabled.specs.Spots.{homes_seen};
-ghost use Rattle.bl_ctree_run.specs.inner.Writers.{all_writes, key_cmp, kept, of_variable, write_of, writes_by};
+ghost use Rattle.bl_ctree_run.specs.inner.Writers.{all_writes, key_cmp, writes_kept, of_variable, write_of, writes_by};
 
 use bl_ctree::node::Branch;
 use bl_ctree_pending::pending;
@@ -73,7 +73,8 @@ impl Writers {
 
     /// The branch may write this too. Fails only for want of memory, as all that follows.
     fn note(&mut self, alloc: Global, branch: usize, home: Home) -> Result<(), NoMemory>
-        ensures { OnOk result ((at : Location) → kept self.new at ≡ kept self.old at ++ of_variable at (writes_by branch (location_of home ∷ []))) }
+        ensures { OnOk result ((at : Location) → writes_kept self.new at ≡ writes_kept self.old at
+            ++ of_variable at (writes_by branch (location_of home ∷ []))) }
     {
         let key = (home.instance, home.root);
         let mut writes = self.take(alloc, key);
@@ -82,7 +83,8 @@ impl Writers {
     }
 
     fn note_all(&mut self, alloc: Global, branch: usize, homes: List<Home>) -> Result<(), NoMemory>
-        ensures { OnOk result ((at : Location) → kept self.new at ≡ kept self.old at ++ of_variable at (writes_by branch (map location_of homes))) }
+        ensures { OnOk result ((at : Location) → writes_kept self.new at ≡ writes_kept self.old at
+            ++ of_variable at (writes_by branch (map location_of homes))) }
     {
         for home in homes.into_vec() {
             self.note(alloc, branch, home)?;
@@ -98,8 +100,8 @@ impl Writers {
         k: usize,
         branch: &Branch,
     ) -> Result<(), NoMemory>
-        ensures { OnOk result ((at : Location) → kept self.new at
-            ≡ kept self.old at ++ of_variable at (writes_by k (homes_seen (setting_in w.now) i (seen_of branch.now)))) }
+        ensures { OnOk result ((at : Location) → writes_kept self.new at
+            ≡ writes_kept self.old at ++ of_variable at (writes_by k (homes_seen (setting_in w.now) i (seen_of branch.now)))) }
     {
         let mut paths = List::new(alloc);
         pending(alloc, &branch.tree, &mut paths)?;
@@ -110,7 +112,7 @@ impl Writers {
 
     /// What each of the branches may still write.
     pub fn of(alloc: Global, w: &Setting, i: u32, branches: &[Branch]) -> Result<Writers, NoMemory>
-        ensures { IfOk result (λ writers. (at : Location) → kept writers at
+        ensures { IfOk result (λ writers. (at : Location) → writes_kept writers at
             ≡ of_variable at (all_writes (map (homes_seen (setting_in w.now) i) (map seen_of branches.now)))) }
     {
         let mut writers = Writers::new(alloc);
@@ -122,7 +124,7 @@ impl Writers {
 
     /// What may be written of the variable in which the home lies.
     pub fn near(&self, at: &Home) -> &[Write]
-        ensures { map write_of result.now ≡ kept self.now (location_of at.now) }
+        ensures { map write_of result.now ≡ writes_kept self.now (location_of at.now) }
     {
         match self.by_variable.get(&(at.instance, at.root)) {
             Some(writes) => writes.as_slice(),

@@ -7,18 +7,18 @@ ghost use Rattle.bl_emit_tables.specs.Told.{asks_flag, flag_told, flags_told, ma
 
 use crate::parts::local;
 use bl_emit_acts::parts::numbered;
-use bl_machine_transitions::{Asked, Change, Transition};
+use bl_machine_transitions::{Change, Condition, Transition};
 use bl_tree::c::CLocal;
 use bl_tree::{List, NoMemory, Scalar};
 use std::alloc::Global;
 
 /// Whether a flag is asked for.
-fn is_flag(asked: &Asked) -> bool
-    ensures { result ≡ asks_flag asked.now }
+fn is_flag(condition: &Condition) -> bool
+    ensures { result ≡ asks_flag condition.now }
 {
-    match asked {
-        Asked::Flagged => true,
-        Asked::Rested(_) | Asked::RestedIn(_) | Asked::Ended(_, _) => false,
+    match condition {
+        Condition::Flagged => true,
+        Condition::Rested(_) | Condition::RestedIn(_) | Condition::Ended(_, _) => false,
     }
 }
 
@@ -26,7 +26,7 @@ fn is_flag(asked: &Asked) -> bool
 fn add_flag(alloc: Global, rule: &Transition, locals: &mut List<CLocal>) -> Result<(), NoMemory>
     ensures { OnOk result (locals.new ≡ locals.old ++ flag_told (rule_in rule.now)) }
 {
-    if is_flag(&rule.asked) {
+    if is_flag(&rule.condition) {
         let name = numbered(alloc, "g", u64::from(rule.number))?;
         locals.push(local(Scalar::Bool, name))?;
     }
@@ -67,10 +67,14 @@ fn add_mark(alloc: Global, change: Change, locals: &mut List<CLocal>) -> Result<
 }
 
 /// Appends the locals for the marks that changes set.
-fn add_rule_marks(alloc: Global, so: &[Change], locals: &mut List<CLocal>) -> Result<(), NoMemory>
-    ensures { OnOk result (locals.new ≡ locals.old ++ joined (map mark_told so.now)) }
+fn add_rule_marks(
+    alloc: Global,
+    on_true: &[Change],
+    locals: &mut List<CLocal>,
+) -> Result<(), NoMemory>
+    ensures { OnOk result (locals.new ≡ locals.old ++ joined (map mark_told on_true.now)) }
 {
-    for change in so {
+    for change in on_true {
         add_mark(alloc, *change, locals)?;
     }
     Ok(())
@@ -85,7 +89,7 @@ pub fn add_marks(
     ensures { OnOk result (locals.new ≡ locals.old ++ marks_told (map rule_in rules.now)) }
 {
     for rule in rules {
-        add_rule_marks(alloc, &rule.so, locals)?;
+        add_rule_marks(alloc, &rule.on_true, locals)?;
     }
     Ok(())
 }

@@ -201,8 +201,8 @@ length_at (Some ty) = length_in (out-Ty ty)
 length_at None = 0
 
 -- the type of an array's elements
-abbrev pub element_at : Option Ty → Option Ty
-element_at ty = option_and_then (λ ty. element_in (out-Ty ty)) ty
+abbrev pub array_element_type : Option Ty → Option Ty
+array_element_type ty = option_and_then (λ ty. element_in (out-Ty ty)) ty
 
 -- the name of a field
 abbrev pub name_of_field : Option Field → Text
@@ -217,7 +217,7 @@ part_steps site (Part-F.Field k) ty =
       ty = option_map (λ field. field.ty) (field_at site.structs k ty);
     }
 part_steps site (Part-F.Index e) ty =
-    record { step = c_element elements_name (c_index (is_int (type_made e)) (code_of e) (length_at ty)); ty = element_at ty }
+    record { step = c_element elements_name (c_index (is_int (type_made e)) (code_of e) (length_at ty)); ty = array_element_type ty }
 
 -- the steps of parts, each into the type to which those before it lead
 abbrev pub steps_of : List PathStepTyping → Option Ty → List CStep
@@ -262,5 +262,5 @@ abbrev pub stands : TypingContext → Path → Stood
 stands site = fold-Path Made PathStepTyping Made Stood (kind_made site) (part_steps site) expr_made (path_stands site)
 
 -- the step of a part into a type
-abbrev pub step_of : TypingContext → Part → PathStepTyping
-step_of site = fold-Part Made PathStepTyping Made Stood (kind_made site) (part_steps site) expr_made (path_stands site)
+abbrev pub step_typing : TypingContext → Part → PathStepTyping
+step_typing site = fold-Part Made PathStepTyping Made Stood (kind_made site) (part_steps site) expr_made (path_stands site)

@@ -36,11 +36,11 @@ home_of site (Some var) = home_of_role var.role (is_some (scalar_in var.ty)) (co
 home_of site None = Held
 
 -- the place to which the steps lead from the variable at a position. An activity is given a pointer to what it remembers; a function has it
-abbrev pub place_at : Bool → Home → ℕ → List CStep → CPlace
-place_at activity Held k steps = c_place activity (codes "m") (c_step (variable_name k) ∷ steps)
-place_at activity Given k steps = c_place false (variable_name k) steps
-place_at activity Lent k steps = c_place true (variable_name k) steps
+abbrev pub place_by_steps : Bool → Home → ℕ → List CStep → CPlace
+place_by_steps activity Held k steps = c_place activity (codes "m") (c_step (variable_name k) ∷ steps)
+place_by_steps activity Given k steps = c_place false (variable_name k) steps
+place_by_steps activity Lent k steps = c_place true (variable_name k) steps
 
 -- the place to which the steps lead from the variable at a position of the site
 abbrev pub place_in : TypingContext → ℕ → List CStep → CPlace
-place_in site k steps = place_at (is_activity site.kind) (home_of site (var_at site k)) k steps
+place_in site k steps = place_by_steps (is_activity site.kind) (home_of site (var_at site k)) k steps

@@ -3,7 +3,7 @@
 ghost use Rattle.std.specs.Prelude.{◌≡◌, false, [], IfOk, map, option_map};
 ghost use Rattle.bl_tree.specs.Typing.{var_at};
 ghost use Rattle.bl_emit_acts.specs.declared.made.Made.TheVariants.{Number};
-ghost use Rattle.bl_emit_acts.specs.Expressions.{arg_of, made_of, name_of_field, scalar_at, stands, step_of, steps_of};
+ghost use Rattle.bl_emit_acts.specs.Expressions.{arg_of, made_of, name_of_field, scalar_at, stands, step_typing, steps_of};
 ghost use Rattle.bl_emit_acts.specs.Sites.{site_in};
 ghost use Rattle.bl_emit_acts.specs.Trees.{c_place, c_read, c_step};
 ghost use Rattle.bl_emit_acts.specs.Types.{copy_name, field_name};
@@ -91,7 +91,7 @@ fn steps<'a>(
     first: Option<&'a Ty>,
 ) -> Result<List<CStep>, NoMemory>
     ensures { IfOk result (λ steps. steps
-        ≡ steps_of (map (step_of (site_in site.entry.now)) parts.now) (option_map (λ ty. ty.now) first.entry)) }
+        ≡ steps_of (map (step_typing (site_in site.entry.now)) parts.now) (option_map (λ ty. ty.now) first.entry)) }
 {
     let mut steps = List::new(alloc);
     let mut ty = first;
@@ -111,9 +111,9 @@ fn step_into<'a>(
     part: &Part,
     ty: Option<&'a Ty>,
 ) -> Result<Stepped<'a>, NoMemory>
-    ensures step { IfOk result (λ stepped. stepped.step ≡ (step_of (site_in site.entry.now) part.now (option_map (λ ty. ty.now) ty.entry)).step) }
+    ensures step { IfOk result (λ stepped. stepped.step ≡ (step_typing (site_in site.entry.now) part.now (option_map (λ ty. ty.now) ty.entry)).step) }
     ensures ty { IfOk result (λ stepped. option_map (λ ty. ty.now) stepped.ty
-        ≡ (step_of (site_in site.entry.now) part.now (option_map (λ ty. ty.now) ty.entry)).ty) }
+        ≡ (step_typing (site_in site.entry.now) part.now (option_map (λ ty. ty.now) ty.entry)).ty) }
 {
     match part {
         Part::Field(k) => to_field(alloc, field(site.structs, *k, ty)),

@@ -3,7 +3,7 @@
 ghost use Rattle.std.specs.Prelude.{◌≡◌, ◌∷◌, codes, IfOk, option_map};
 ghost use Rattle.bl_tree.specs.declared.tree.Ty.{out-Ty};
 ghost use Rattle.bl_tree.specs.Typing as typing;
-ghost use Rattle.bl_emit_acts.specs.Expressions.{element_at, field_at, field_of_struct, length_at, scalar_at, type_at};
+ghost use Rattle.bl_emit_acts.specs.Expressions.{array_element_type, field_at, field_of_struct, length_at, scalar_at, type_at};
 ghost use Rattle.bl_emit_acts.specs.Places as homes;
 ghost use Rattle.bl_emit_acts.specs.Sites.{site_in};
 ghost use Rattle.bl_emit_acts.specs.Trees.{c_place, c_step};
@@ -154,7 +154,7 @@ pub fn length(ty: Option<&Ty>) -> u32
 
 /// The type of an array's elements.
 pub fn element_type(ty: Option<&Ty>) -> Option<&Ty>
-    ensures { option_map (λ ty. ty.now) result ≡ element_at (option_map (λ ty. ty.now) ty.entry) }
+    ensures { option_map (λ ty. ty.now) result ≡ array_element_type (option_map (λ ty. ty.now) ty.entry) }
 {
     match ty {
         Some(Ty::Array(_, element)) => Some(element),

@@ -45,7 +45,7 @@ module _ (structs : List StructDef) (scope : Scope) (here : Memory) where
   ArgShows ty _ _ = ⊥
 
   number_arg : (ty : Ty) (s : ScalarType) (held : CValue) (datum : Datum) → scalar_in ty ≡ Some s → DatumFits structs ty datum →
-      memory.number_in held ≡ number_given datum → ArgumentEncoded structs scope.depth here ty (plain datum) (by_value held)
+      memory.scalar_number held ≡ number_given datum → ArgumentEncoded structs scope.depth here ty (plain datum) (by_value held)
   number_arg ty s held (OfScalar t n) is fit same = (s, is, ap number_level (outs-Number n) ∙ ap Some (sym same))
   number_arg ty s held (OfWhole value) is fit same = absurd (let none = fit.0 in cc)
 
@@ -54,7 +54,7 @@ module _ (structs : List StructDef) (scope : Scope) (here : Memory) where
   by_number ty s None None is fit same = tt
   by_number ty s None (Some datum) is fit same = absurd (cc)
   by_number ty s (Some held) None is fit same = absurd (cc)
-  by_number ty s (Some held) (Some datum) is fit same = number_arg ty s held datum is fit (same_Some (memory.number_in held) (number_given datum) same)
+  by_number ty s (Some held) (Some datum) is fit same = number_arg ty s held datum is fit (same_Some (memory.scalar_number held) (number_given datum) same)
 
   by_place : (ty : Ty) (o : Option Location) (datum : Option Datum) → scalar_in ty ≡ None → PlaceValueSimulates structs ty scope.depth here o datum →
       ArgShows ty (option_map by_address o) datum

@@ -17,7 +17,7 @@ use Rattle.bl_tree.specs.declared.c.CExpr.{CExpr, fold-roll-CExpr, roll-CExpr}
 use Rattle.bl_tree.specs.declared.c.CExprKind.{CExprKind, CExprKind-F, fold-roll-CExprKind, roll-CExprKind}
 use Rattle.bl_tree.specs.declared.c.CExprKind.TheVariants as expression
 use Rattle.bl_tree.specs.Numbers.{checked_one_of}
-use Rattle.bl_ctext_semantics.specs.Memory.{Projection, member, Location, CValue, Memory, scalar, number_in, value_at}
+use Rattle.bl_ctext_semantics.specs.Memory.{Projection, member, Location, CValue, Memory, scalar, scalar_number, value_at}
 use Rattle.bl_ctext_semantics.specs.Meaning.{
   Counted,
   Evaluates,
@@ -34,9 +34,9 @@ use Rattle.bl_ctext_semantics.specs.Meaning.{
   location_c,
   call_c,
   each_of,
-  element_at,
+  element_projection,
   further,
-  start_of,
+  named_location,
   two_values,
   way_of,
   arg_step,
@@ -97,7 +97,7 @@ module _ (scope : Scope) (memory : Memory) where
       (expression.rolls-Read place) (read-open place)
 
   abbrev negates : CExpr → Counted CValue
-  negates operand = next (value_c operand scope memory) (λ a. given (option_map scalar (checked_one_of Not OfBool (number_in a))))
+  negates operand = next (value_c operand scope memory) (λ a. given (option_map scalar (checked_one_of Not OfBool (scalar_number a))))
 
   not-open : (operand : CExpr) → value_c (kind (CExprKind-F.Not operand)) scope memory ≡ negates operand
   not-open operand = rw (fold-roll-CExpr, fold-roll-CExprKind) refl
@@ -158,10 +158,10 @@ module _ (scope : Scope) (memory : Memory) where
   step-way name = rw fold-roll-CStep refl
 
   pub element-way : (name : Text) (signed : Bool) (at : CExpr) (length : ℕ) → ways (c_element name (c_index signed at length)) scope memory
-      ≡ next (next (value_c at scope memory) (λ i. given (element_at (index_within (number_in i) (pos length)))))
+      ≡ next (next (value_c at scope memory) (λ i. given (element_projection (index_within (scalar_number i) (pos length)))))
       (λ parts. given (Some (member name ∷ parts)))
   element-way name signed at length = rw (fold-roll-CStep, fold-roll-CIndex) refl
 
   pub place-location : (through : Bool) (name : Text) (steps : List CStep) → location_c (c_place through name steps) scope memory
-      ≡ next (each_of (map ways steps) scope memory) (λ ways. given (Some (further (start_of scope through name) (way_of ways))))
+      ≡ next (each_of (map ways steps) scope memory) (λ ways. given (Some (further (named_location scope through name) (way_of ways))))
   place-location through name steps = rw fold-roll-CPlace refl

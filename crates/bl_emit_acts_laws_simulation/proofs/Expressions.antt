@@ -73,17 +73,17 @@ use Rattle.bl_ctext_semantics.specs.Meaning.{
   Scope,
   applied,
   each_of,
-  element_at as element_part,
+  element_projection as element_part,
   further,
   given,
   location_c,
+  named_location,
   next,
-  start_of,
   value_c,
 }
 use Rattle.bl_emit_acts.specs.declared.made.Made.{Made}
 use Rattle.bl_emit_acts.specs.declared.made.Made.TheVariants.{Number}
-use Rattle.bl_emit_acts.specs.Expressions.{arg_of, c_both, c_cast, c_one, code_of, length_in, made_at, made_call, made_of, scalar_at, stands, step_of}
+use Rattle.bl_emit_acts.specs.Expressions.{arg_of, c_both, c_cast, c_one, code_of, length_in, made_at, made_call, made_of, scalar_at, stands, step_typing}
 use Rattle.bl_emit_acts.specs.Expressions.{steps_of, type_at, type_made}
 use Rattle.bl_emit_acts.specs.Trees.{c_element, c_index, c_place, c_read}
 use Rattle.bl_emit_acts.specs.Types.{copy_name, elements_name, unit_name}
@@ -105,18 +105,18 @@ use Rattle.bl_emit_acts_laws_simulation.proofs.Steps.{OneStep, element_steps, fi
 -- what stands at a place is the number of the value that it holds
 number_held : (structs : List StructDef) (ty : Ty) (s : ScalarType) (value : Value) (held : CValue) (level : Value-F Value) → out-Value value ≡ level →
     scalar_in ty ≡ Some s → Encodes structs ty value held → DatumFits structs ty (level_datum s value level) →
-    memory.number_in held ≡ number_given (level_datum s value level)
+    memory.scalar_number held ≡ number_given (level_datum s value level)
 number_held structs ty s value held (Value-F.Number n) is scalar_is holds fit = holds.each [] n (ap number_level is)
 number_held structs ty s value held (Value-F.Parts all) is scalar_is holds fit = absurd (let none = fit.0 in cc)
 
 module _ (structs : List StructDef) (scope : Scope) (here : Memory) where
   read_answer : (place : CPlace) → gives scope here (c_read place)
-      ≡ option_map (λ p. memory.number_in (memory.value_at here p)) (location_c place scope here).answer
+      ≡ option_map (λ p. memory.scalar_number (memory.value_at here p)) (location_c place scope here).answer
   read_answer place =
       ap (λ (c : Counted CValue). num c.answer) (read-value scope here place)
       ∙ (ap num (mapped-answer (memory.value_at here) (location_c place scope here)) ∙ twice (location_c place scope here).answer)
     where
-      twice : (o : Option Location) → num (option_map (memory.value_at here) o) ≡ option_map (λ p. memory.number_in (memory.value_at here p)) o
+      twice : (o : Option Location) → num (option_map (memory.value_at here) o) ≡ option_map (λ p. memory.scalar_number (memory.value_at here p)) o
       twice None = refl
       twice (Some p) = refl
 
@@ -128,7 +128,7 @@ module _ (structs : List StructDef) (scope : Scope) (here : Memory) where
       (scalar_is, subst (λ o. PlaceValueSimulates structs ty scope.depth here o (Some (OfWhole value))) (sym is) (live, holds))
   held_shows ty place value at is live holds fit (Some s) scalar_is = (
     scalar_is,
-    read_answer place ∙ (ap (option_map (λ p. memory.number_in (memory.value_at here p))) is
+    read_answer place ∙ (ap (option_map (λ p. memory.scalar_number (memory.value_at here p))) is
         ∙ ap Some (number_held structs ty s value (memory.value_at here at) (out-Value value) refl scalar_is holds
         (subst (λ o. DatumFits structs ty (datum_of o value)) scalar_is (datum_fits structs ty value fit)))),
   )
@@ -138,7 +138,7 @@ module _ (structs : List StructDef) (scope : Scope) (here : Memory) where
       ExpressionSimulates structs ty scope here (made_at s place) None
   trapped_shows ty place is None scalar_is = (scalar_is, subst (λ o. PlaceValueSimulates structs ty scope.depth here o None) (sym is) tt)
   trapped_shows ty place is (Some s) scalar_is =
-      (scalar_is, read_answer place ∙ ap (option_map (λ p. memory.number_in (memory.value_at here p))) is)
+      (scalar_is, read_answer place ∙ ap (option_map (λ p. memory.scalar_number (memory.value_at here p))) is)
 
 -- ---- callees
 
@@ -254,10 +254,10 @@ module _ (structs : List StructDef) (earlier : List UnitDef) (unit : UnitDef) (c
   -- ---- what variables were
 
   copy_answer : (k : ℕ) → gives scope here (c_read (c_place false (copy_name k) []))
-      ≡ Some (memory.number_in (memory.value_at here (start_of scope false (copy_name k))))
+      ≡ Some (memory.scalar_number (memory.value_at here (named_location scope false (copy_name k))))
   copy_answer k =
       read_answer structs scope here (c_place false (copy_name k) [])
-      ∙ ap (λ (c : Counted Location). option_map (λ p. memory.number_in (memory.value_at here p)) c.answer)
+      ∙ ap (λ (c : Counted Location). option_map (λ p. memory.scalar_number (memory.value_at here p)) c.answer)
       (place-location scope here false (copy_name k) [])
 
   prev_by : (k : ℕ) (ty : Ty) → copied k ≡ true → option_and_then (prev_type unit.kind) (var_at site k) ≡ Some ty →
@@ -270,7 +270,7 @@ module _ (structs : List StructDef) (earlier : List UnitDef) (unit : UnitDef) (c
       let same : var.ty ≡ ty = same_Some var.ty ty is.1 in
       let scalar_there = and_right (is_variable var.role) (is_some (scalar_in var.ty)) (and_right (is_activity unit.kind) _ is.0) in
       let stored = pass_at (λ (var : Var). value_fits structs var.ty) unit.vars view.before k var before_fits found.1 in
-      let holds : Encodes structs var.ty stored.0 (memory.value_at here (start_of scope false (copy_name k))) =
+      let holds : Encodes structs var.ty stored.0 (memory.value_at here (named_location scope false (copy_name k))) =
       copies.each k var stored.0 copied_k found.1 stored.1 in
       subst (λ (at : Option Var). ExpressionSimulates structs ty scope here (Number (scalar_at at) (c_read (c_place false (copy_name k) [])))
       (option_map (datum_of (scalar_of at)) (slice_get view.before k))) (sym found.1)
@@ -281,7 +281,7 @@ module _ (structs : List StructDef) (earlier : List UnitDef) (unit : UnitDef) (c
       (prev_shown_by k var stored.0 (scalar_in var.ty) refl scalar_there holds stored.2)))
     where
       prev_shown_by : (k : ℕ) (var : Var) (value : Value) (s : Option ScalarType) → scalar_in var.ty ≡ s → is_some (scalar_in var.ty) ≡ true →
-          Encodes structs var.ty value (memory.value_at here (start_of scope false (copy_name k))) → Fits structs var.ty value →
+          Encodes structs var.ty value (memory.value_at here (named_location scope false (copy_name k))) → Fits structs var.ty value →
           ExpressionSimulates structs var.ty scope here (Number (scalar_at (Some var)) (c_read (c_place false (copy_name k) []))) (Some (datum_of (scalar_in var.ty) value))
       prev_shown_by k var value None is there holds fit = absurd (let none = sym (ap is_some is) ∙ there in cc)
       prev_shown_by k var value (Some s) is there holds fit =
@@ -289,7 +289,7 @@ module _ (structs : List StructDef) (earlier : List UnitDef) (unit : UnitDef) (c
           (sym is) (
             is,
             copy_answer k
-                ∙ ap Some (number_held structs var.ty s value (memory.value_at here (start_of scope false (copy_name k))) (out-Value value) refl is holds
+                ∙ ap Some (number_held structs var.ty s value (memory.value_at here (named_location scope false (copy_name k))) (out-Value value) refl is holds
                 (subst (λ o. DatumFits structs var.ty (datum_of o value)) is (datum_fits structs var.ty value fit))),
           )
 
@@ -479,11 +479,11 @@ module _ (structs : List StructDef) (earlier : List UnitDef) (unit : UnitDef) (c
       inner m (Some parts) = refl
 
       by : (m : ℕ) (o : Option CValue) →
-          (next (next (record { count = m; answer = o }) (λ i. given (element_part (index_within (memory.number_in i) (pos n)))))
+          (next (next (record { count = m; answer = o }) (λ i. given (element_part (index_within (memory.scalar_number i) (pos n)))))
           (λ parts. given (Some (member elements_name ∷ parts)))).answer
           ≡ option_map (λ parts. member elements_name ∷ parts) (option_and_then (λ i. element_part (index_within i (pos n))) (num o))
       by m None = refl
-      by m (Some v) = inner (m + 0) (element_part (index_within (memory.number_in v) (pos n)))
+      by m (Some v) = inner (m + 0) (element_part (index_within (memory.scalar_number v) (pos n)))
 
   index_known : (a c : Ty) (n : ℕ) (is : out-Ty a ≡ Ty-F.Array n c) (value : Value) → Fits structs a value → (s : ScalarType) (x : Option ℤ)
       (datum : Option Datum) → Known s x datum →
@@ -501,8 +501,8 @@ module _ (structs : List StructDef) (earlier : List UnitDef) (unit : UnitDef) (c
   abbrev PartShows : Part → Ty → Ty → Type 0
   PartShows part a c =
       ((value : Value) → Fits structs a value →
-      OneStep structs a c value (ways (step_of site part (Some a)).step scope here).answer (part_of_path sees part view))
-      × ((step_of site part (Some a)).ty ≡ Some c)
+      OneStep structs a c value (ways (step_typing site part (Some a)).step scope here).answer (part_of_path sees part view))
+      × ((step_typing site part (Some a)).ty ≡ Some c)
 
   part_by : (layer : Part-F ExprKind Part Expr Path) (a c : Ty) → OfIndex P layer → copied_in_part copied (roll-Part layer) ≡ true →
       type_of_part site (roll-Part layer) a ≡ Some c → PartShows (roll-Part layer) a c
@@ -536,7 +536,7 @@ module _ (structs : List StructDef) (earlier : List UnitDef) (unit : UnitDef) (c
       (λ shown. part_by (out-Part part) a c (subst (OfIndex P) (out-roll-Part (out-Part part)) shown))
 
   abbrev walk_of : List Part → Option Ty → Option (List (List memory.Projection))
-  walk_of parts ty = (each_of (map ways (steps_of (map (step_of site) parts) ty)) scope here).answer
+  walk_of parts ty = (each_of (map ways (steps_of (map (step_typing site) parts) ty)) scope here).answer
 
   parts_show : (parts : List Part) → EachIndex P parts → all_of (map (copied_in_part copied) parts) ≡ true → (a b : Ty) →
       after_parts (map (type_of_part site) parts) a ≡ Some b → (value : Value) → Fits structs a value →
@@ -548,15 +548,15 @@ module _ (structs : List StructDef) (earlier : List UnitDef) (unit : UnitDef) (c
       let one = part_shows part a c (All-head (λ part. OfIndex P (out-Part part)) part rest each)
       (and_left (copied_in_part copied part) (all_of (map (copied_in_part copied) rest)) all) found.1 in
       let more : (inner : Value) → Fits structs c inner →
-      ManySteps structs c b inner (walk_of rest (step_of site part (Some a)).ty) (positions_of (map (part_of_path sees) rest) view) =
+      ManySteps structs c b inner (walk_of rest (step_typing site part (Some a)).ty) (positions_of (map (part_of_path sees) rest) view) =
       λ inner fits. subst (λ ty. ManySteps structs c b inner (walk_of rest ty) (positions_of (map (part_of_path sees) rest) view)) (sym one.1)
       (parts_show rest (All-tail (λ part. OfIndex P (out-Part part)) part rest each)
       (and_right (copied_in_part copied part) (all_of (map (copied_in_part copied) rest)) all) c b found.2 inner fits) in
       subst (λ o. ManySteps structs a b value o (positions_of (map (part_of_path sees) (part ∷ rest)) view))
-      (sym (listed-answer (ways (step_of site part (Some a)).step scope here)
-      (each_of (map ways (steps_of (map (step_of site) rest) (step_of site part (Some a)).ty)) scope here)))
-      (one_more structs a c b value (ways (step_of site part (Some a)).step scope here).answer (part_of_path sees part view)
-      (walk_of rest (step_of site part (Some a)).ty) (positions_of (map (part_of_path sees) rest) view) (one.0 value fit)
+      (sym (listed-answer (ways (step_typing site part (Some a)).step scope here)
+      (each_of (map ways (steps_of (map (step_typing site) rest) (step_typing site part (Some a)).ty)) scope here)))
+      (one_more structs a c b value (ways (step_typing site part (Some a)).step scope here).answer (part_of_path sees part view)
+      (walk_of rest (step_typing site part (Some a)).ty) (positions_of (map (part_of_path sees) rest) view) (one.0 value fit)
       (λ way s. more s.has.part s.has.fits))
 
   -- ---- paths
@@ -596,7 +596,8 @@ module _ (structs : List StructDef) (earlier : List UnitDef) (unit : UnitDef) (c
       let steps = parts_show parts each (rw fold-roll-Path at copies_named) var.ty ty (found.2 ∙ ap Some same) stored.0 stored.2 in
       rw (fold-roll-Path, fold-roll-Path) (
         subst (λ o. PlaceSimulates site view scope ty o (record { root = root; ty = written; positions = positions_of (map (part_of_path sees) parts) }))
-            (sym (place_answer scope here (is_activity site.kind) (home_at site root) root (steps_of (map (step_of site) parts) (type_at (var_at site root)))
+            (sym (place_answer scope here (is_activity site.kind) (home_at site root) root
+            (steps_of (map (step_typing site) parts) (type_at (var_at site root)))
             ∙ ap (λ ty. option_map (led_to root) (walk_of parts ty)) (ap type_at found.1)))
             (leads_by root var written ty stored.0 (walk_of parts (Some var.ty)) (positions_of (map (part_of_path sees) parts)) found.1 stored.1 steps),
         same_type_is written whole.0 is.0 ∙ same,

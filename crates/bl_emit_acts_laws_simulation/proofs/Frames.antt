@@ -10,7 +10,7 @@ use Rattle.std.specs.Fmt.{decimal}
 use Rattle.bl_tree.specs.declared.tree.Var.{Var}
 use Rattle.bl_tree.specs.Program.{is_input}
 use Rattle.bl_tree.specs.Typing.{TypingContext, is_activity, var_at}
-use Rattle.bl_ctext_semantics.specs.Meaning.{Scope, further, start_of}
+use Rattle.bl_ctext_semantics.specs.Meaning.{Scope, further, named_location}
 use Rattle.bl_ctext_semantics.specs.Memory.{Location, Projection, Root, input_object, member, output_object, same_root, state_object, variable}
 use Rattle.bl_emit_acts.specs.declared.home.Home.{Home}
 use Rattle.bl_emit_acts.specs.declared.home.Home.TheVariants.{Held, Given, Lent}
@@ -114,7 +114,7 @@ module _ (site : TypingContext) (copied : ℕ → Bool) (scope : Scope) (stand :
 
     apart_by : (activity : Bool) (x y : Home) → is_activity site.kind ≡ activity → home_at site j ≡ x → home_at site k ≡ y →
         are_apart (place_of activity x j) (place_of activity y k) ≡ true
-    apart_by activity Held Held kind is at = held_held (start_of scope activity (codes "m"))
+    apart_by activity Held Held kind is at = held_held (named_location scope activity (codes "m"))
     apart_by false Held Given kind is at = own_own (codes "m") (variable_name k) (place_of false Held j) (place_of false Given k) refl refl refl
     apart_by true Held Given kind is at =
         apart_flip (place_of true Given k) (place_of true Held j)

@@ -9,7 +9,7 @@ use Rattle.bl_eval.specs.Values.{number_in, part_of, value_at}
 use Rattle.bl_ctext_semantics.specs.Memory.{CValue, Location, Memory, Projection}
 use Rattle.bl_ctext_semantics.specs.Memory as memory
 use Rattle.bl_ctext_semantics.specs.Meaning.{further}
-use Rattle.bl_emit_acts_laws_simulation.specs.Encodes.{Encodes, lead_to, number_at, part_type, type_after, way_to}
+use Rattle.bl_emit_acts_laws_simulation.specs.Encodes.{Encodes, lead_to, number_within, part_type, type_after, way_to}
 
 -- positions one after another
 pub value_further : (ks js : List ℕ) (value : Value) → value_at (ks ++ js) value ≡ option_and_then (value_at js) (value_at ks value)
@@ -45,7 +45,7 @@ pub holds_part : (structs : List StructDef) (ty b : Ty) (value part : Value) (he
     type_after structs ks (Some ty) ≡ Some b → value_at ks value ≡ Some part → Encodes structs b part (λ way. held (way_to structs ks (Some ty) ++ way))
 holds_part structs ty b value part held ks holds typed there = record {
   each = λ js n is.
-      let found : number_at (ks ++ js) value ≡ Some n =
+      let found : number_within (ks ++ js) value ≡ Some n =
       ap (option_and_then number_in) (value_further ks js value ∙ ap (option_and_then (value_at js)) there) ∙ is in
       ap held (sym (way_further structs ks js ty b typed)) ∙ holds.each (ks ++ js) n found;
 }

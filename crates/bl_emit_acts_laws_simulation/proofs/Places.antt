@@ -8,10 +8,10 @@ use Rattle.bl_tree.specs.declared.tree.Ty.{Ty}
 use Rattle.bl_tree.specs.declared.value.Value.{Value}
 use Rattle.bl_eval.specs.Values.{part_of, value_at}
 use Rattle.bl_ctext_semantics.specs.Memory.{Location, Memory, Projection, member}
-use Rattle.bl_ctext_semantics.specs.Meaning.{Counted, Scope, each_of, further, given, location_c, next, start_of, way_of}
+use Rattle.bl_ctext_semantics.specs.Meaning.{Counted, Scope, each_of, further, given, location_c, named_location, next, way_of}
 use Rattle.bl_emit_acts.specs.declared.home.Home.{Home}
 use Rattle.bl_emit_acts.specs.declared.home.Home.TheVariants.{Held, Given, Lent}
-use Rattle.bl_emit_acts.specs.Places.{place_at}
+use Rattle.bl_emit_acts.specs.Places.{place_by_steps}
 use Rattle.bl_emit_acts.specs.Trees.{c_step}
 use Rattle.bl_emit_acts.specs.Types.{variable_name}
 use Rattle.bl_emit_acts_laws_simulation.specs.Encodes.{lead_in, lead_to, start_in, type_after, way_to}
@@ -110,17 +110,17 @@ module _ (scope : Scope) (here : Memory) where
   walks steps = each_of (map ways steps) scope here
 
   through_answer : (through : Bool) (name : List ℕ) (steps : List CStep) →
-      (next (walks steps) (λ ways. given (Some (further (start_of scope through name) (way_of
+      (next (walks steps) (λ ways. given (Some (further (named_location scope through name) (way_of
       ways))))).answer
-      ≡ option_map (λ walked. further (start_of scope through name) (way_of walked)) (walks steps).answer
-  through_answer through name steps = mapped-answer (λ walked. further (start_of scope through name) (way_of walked)) (walks steps)
+      ≡ option_map (λ walked. further (named_location scope through name) (way_of walked)) (walks steps).answer
+  through_answer through name steps = mapped-answer (λ walked. further (named_location scope through name) (way_of walked)) (walks steps)
 
   -- where the steps lead from the home of a variable
   abbrev pub led : Bool → Home → ℕ → List (List Projection) → Location
   led activity home k walked = further (start_in scope activity home k) (lead_in home k ++ way_of walked)
 
   held_by : (activity : Bool) (k : ℕ) (o : Option (List (List Projection))) →
-      option_map (λ walked. further (start_of scope activity (codes "m")) (way_of walked))
+      option_map (λ walked. further (named_location scope activity (codes "m")) (way_of walked))
       (option_map (λ others. (member (variable_name k) ∷ []) ∷ others) o)
       ≡ option_map (led activity Held k) o
   held_by activity k None = refl
@@ -133,12 +133,12 @@ module _ (scope : Scope) (here : Memory) where
       ∙ ap (λ (c : Counted (List Projection)). option_and_then (λ a. option_map (λ others. a ∷ others) (walks steps).answer) c.answer)
       (step-way scope here (variable_name k))
 
-  pub place_answer : (activity : Bool) (home : Home) (k : ℕ) (steps : List CStep) → (location_c (place_at activity home k steps) scope here).answer
+  pub place_answer : (activity : Bool) (home : Home) (k : ℕ) (steps : List CStep) → (location_c (place_by_steps activity home k steps) scope here).answer
       ≡ option_map (led activity home k) (walks steps).answer
   place_answer activity Held k steps =
       ap (λ (c : Counted Location). c.answer) (place-location scope here activity (codes "m") (c_step (variable_name k) ∷ steps))
       ∙ (through_answer activity (codes "m") (c_step (variable_name k) ∷ steps)
-      ∙ (ap (option_map (λ walked. further (start_of scope activity (codes "m")) (way_of walked))) (held_walks k steps)
+      ∙ (ap (option_map (λ walked. further (named_location scope activity (codes "m")) (way_of walked))) (held_walks k steps)
       ∙ held_by activity k (walks steps).answer))
   place_answer activity Given k steps =
       ap (λ (c : Counted Location). c.answer) (place-location scope here false (variable_name k) steps) ∙ through_answer false (variable_name k) steps

@@ -8,7 +8,7 @@ use Rattle.bl_tree.specs.declared.c.CPlace.{CPlace}
 use Rattle.bl_tree.specs.declared.c.CStmt.{CStmt, fold-roll-CStmt, roll-CStmt}
 use Rattle.bl_tree.specs.declared.c.CStmtKind.{CStmtKind, CStmtKind-F, fold-roll-CStmtKind, roll-CStmtKind}
 use Rattle.bl_tree.specs.declared.c.CStmtKind.TheVariants as statement
-use Rattle.bl_ctext_semantics.specs.Course.{End, Outcome, after, breaks, following_end, goes_on, going, returns, traps}
+use Rattle.bl_ctext_semantics.specs.Course.{End, Outcome, after_statements, breaks, following_end, goes_on, going, returns, traps}
 use Rattle.bl_ctext_semantics.specs.Memory.{CValue, Location, Memory, set_at, zeros}
 use Rattle.bl_ctext_semantics.specs.Meaning.{CallResult, Counted, Scope, block_c, call_c, call_end, call_outcome, executed, given, location_c, next, runs_c, value_c}
 use Rattle.bl_emit_acts.specs.Acts.{c_calling, c_clear, c_set}
@@ -19,7 +19,7 @@ abbrev pub Ends : Outcome Memory → Option Memory → Type 0
 Ends o None = o.end ≡ traps
 Ends o (Some m) = (o.end ≡ goes_on) × (o.memory ≡ m)
 
-after_ends : (n : ℕ) (o : Outcome Memory) (r : Option Memory) → Ends o r → Ends (after n o) r
+after_ends : (n : ℕ) (o : Outcome Memory) (r : Option Memory) → Ends o r → Ends (after_statements n o) r
 after_ends n o None h = h
 after_ends n o (Some m) h = h
 

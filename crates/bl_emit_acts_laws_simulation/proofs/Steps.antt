@@ -24,7 +24,7 @@ use Rattle.bl_eval.proofs.FitLemmas.{Test, fits_array, fits_before, fits_struct,
 use Rattle.bl_eval.proofs.PartFits.{Fits}
 use Rattle.bl_eval.proofs.PassLemmas.{and_left, and_right, all_at, pass_at}
 use Rattle.bl_ctext_semantics.specs.Builtin.{index_within, only_if}
-use Rattle.bl_ctext_semantics.specs.Meaning.{element_at}
+use Rattle.bl_ctext_semantics.specs.Meaning.{element_projection}
 use Rattle.bl_ctext_semantics.specs.Memory.{Projection, element, member}
 use Rattle.bl_emit_acts.specs.Expressions.{field_at, field_of_struct, name_of_field}
 use Rattle.bl_emit_acts.specs.Types.{elements_name, field_name}
@@ -229,7 +229,7 @@ module _ (structs : List StructDef) (stand : structs_stand_from 0 structs ≡ tr
   outside k false more = refl
 
   tested : (s : ScalarType) (i : ℤ) (b : Bool) → (int_le (pos 0) i && int_lt i (pos n)) ≡ b → in_range s i ≡ true →
-      OneStep structs a c value (element_way (element_at (only_if b i))) (position_of i)
+      OneStep structs a c value (element_way (element_projection (only_if b i))) (position_of i)
   tested s (pos k) true h within = let less : k < n = grind (arith, ints) in inside s k within less
   tested s (pos k) false h within = let more : n ≤ k = grind (arith, ints) in outside k (nat_lt k (2 ^ 64)) more
   tested s (negsuc k) true h within = absurd (cc)
@@ -237,5 +237,5 @@ module _ (structs : List StructDef) (stand : structs_stand_from 0 structs ≡ tr
 
   -- the step to the element of a number
   pub element_steps : (s : ScalarType) (i : ℤ) → in_range s i ≡ true →
-      OneStep structs a c value (element_way (element_at (index_within i (pos n)))) (position_of i)
+      OneStep structs a c value (element_way (element_projection (index_within i (pos n)))) (position_of i)
   element_steps s i within = tested s i (int_le (pos 0) i && int_lt i (pos n)) refl within

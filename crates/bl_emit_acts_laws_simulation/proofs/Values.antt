@@ -21,7 +21,7 @@ use Rattle.bl_emit_acts.specs.declared.made.Made.{Made}
 use Rattle.bl_emit_acts.specs.declared.made.Made.TheVariants.{Number, Whole}
 use Rattle.bl_emit_acts.specs.Expressions.{code_of}
 use Rattle.bl_emit_acts.specs.Trees.{c_read}
-use Rattle.bl_emit_acts_laws_simulation.specs.Encodes.{Encodes, number_at, way_to}
+use Rattle.bl_emit_acts_laws_simulation.specs.Encodes.{Encodes, number_within, way_to}
 use Rattle.bl_emit_acts_laws_simulation.specs.Simulation.{ExpressionSimulates, PlaceValueSimulates, number_given}
 use Rattle.bl_emit_acts_laws_simulation.proofs.Evaluated.{read-value}
 use Rattle.bl_emit_acts_laws_simulation.proofs.Numbers.{num}
@@ -34,10 +34,10 @@ ValueShows structs ty (Some held) (Some value) = Encodes structs ty value held
 ValueShows structs ty _ _ = ⊥
 
 -- a C value of this number holds it
-pub number_holds : (structs : List StructDef) (ty : Ty) (n : ℤ) (held : CValue) → memory.number_in held ≡ n → Encodes structs ty (Numbered n) held
+pub number_holds : (structs : List StructDef) (ty : Ty) (n : ℤ) (held : CValue) → memory.scalar_number held ≡ n → Encodes structs ty (Numbered n) held
 number_holds structs ty n held is = record { each = each }
   where
-    each : (ks : List ℕ) (m : ℤ) → number_at ks (Numbered n) ≡ Some m → held (way_to structs ks (Some ty)) ≡ m
+    each : (ks : List ℕ) (m : ℤ) → number_within ks (Numbered n) ≡ Some m → held (way_to structs ks (Some ty)) ≡ m
     each [] m h = is ∙ same_Some n m (sym (ap number_level (outs-Number n)) ∙ h)
     each (k ∷ ks) m h = absurd (let none = sym (ap (λ layer. option_and_then number_in (option_and_then (value_at ks)
         (option_and_then (λ all. slice_get all k) (parts_at layer)))) (outs-Number n)) ∙ h in cc)
@@ -48,7 +48,7 @@ module _ (structs : List StructDef) (scope : Scope) (here : Memory) where
   by_number ty s None None is fit same = tt
   by_number ty s None (Some datum) is fit same = absurd (cc)
   by_number ty s (Some held) None is fit same = absurd (cc)
-  by_number ty s (Some held) (Some (OfScalar t n)) is fit same = number_holds structs ty n held (same_Some (memory.number_in held) n same)
+  by_number ty s (Some held) (Some (OfScalar t n)) is fit same = number_holds structs ty n held (same_Some (memory.scalar_number held) n same)
   by_number ty s (Some held) (Some (OfWhole value)) is fit same = absurd (let none = fit.0 in cc)
 
   by_place : (ty : Ty) (o : Option Location) (datum : Option Datum) → PlaceValueSimulates structs ty scope.depth here o datum →

@@ -14,7 +14,7 @@ use Rattle.bl_eval.specs.Values.{number_at as number_level, number_in, part_of, 
 use Rattle.bl_eval.proofs.OperatorFits.{some_found}
 use Rattle.bl_eval.proofs.PartFits.{Fits}
 use Rattle.bl_ctext_semantics.specs.Memory.{CValue, Projection, element, left_after, member, number_or, same_part}
-use Rattle.bl_emit_acts_laws_simulation.specs.Encodes.{Encodes, lead_to, number_at, part_type, type_after, way_to, ways_part}
+use Rattle.bl_emit_acts_laws_simulation.specs.Encodes.{Encodes, lead_to, number_within, part_type, type_after, way_to, ways_part}
 
 -- ---- ways
 
@@ -80,7 +80,7 @@ module _ (structs : List StructDef) where
   -- the number at positions of the new value stands at its way, where a C value was set at the way of the old part
   abbrev pub Written : Ty → Value → List ℕ → CValue → CValue → Type 0
   Written a made ks new held =
-      (js : List ℕ) (n : ℤ) → number_at js made ≡ Some n →
+      (js : List ℕ) (n : ℤ) → number_within js made ≡ Some n →
       number_or (left_after (way_to structs ks (Some a)) (way_to structs js (Some a))) new (held (way_to structs js (Some a))) ≡ n
 
   -- a part that lies in a value of a type is of its type
@@ -113,9 +113,9 @@ module _ (structs : List StructDef) where
     -- the part that was set
     in_new : (old : Value) → slice_get all k ≡ Some old → Written c part ks new (λ way. held (lead_to structs k a ++ way)) →
         (js : List ℕ) (n : ℤ) →
-        number_at (k ∷ js) renewed ≡ Some n → At k js n
+        number_within (k ∷ js) renewed ≡ Some n → At k js n
     in_new old there again js n is =
-        let found : number_at js part ≡ Some n =
+        let found : number_within js part ≡ Some n =
         sym (ap (λ o. option_and_then number_in (option_and_then (value_at js) o)) (part_of_new (slice_set all k part) k ∙ set_same all k part old there))
         ∙ is in
         let lead = lead_to structs k a in
@@ -126,11 +126,11 @@ module _ (structs : List StructDef) where
 
     -- another part
     in_other : Forked → Fits structs a value → Encodes structs a value held → (j : ℕ) (js : List ℕ) (n : ℤ) → nat_eq j k ≡ false →
-        number_at (j ∷ js) renewed ≡ Some n → At j js n
+        number_within (j ∷ js) renewed ≡ Some n → At j js n
     in_other forked fit holds j js n other is =
         let same : part_of j renewed ≡ part_of j value =
         part_of_new (slice_set all k part) j ∙ (set_other all j k part other ∙ sym (ap (option_and_then (λ all. slice_get all j)) are)) in
-        let found : number_at (j ∷ js) value ≡ Some n = sym (ap (λ o. option_and_then number_in (option_and_then (value_at js) o)) same) ∙ is in
+        let found : number_within (j ∷ js) value ≡ Some n = sym (ap (λ o. option_and_then number_in (option_and_then (value_at js) o)) same) ∙ is in
         let lies = some_found number_in (value_at (j ∷ js) value) n found in
         let there = some_found (value_at js) (part_of j value) lies.0 lies.1 in
         let apart : ways_part (lead_to structs k a) (lead_to structs j a) ≡ true = forked a c value there.0 j k fit there.1 typed other in
@@ -140,13 +140,13 @@ module _ (structs : List StructDef) where
 
     either : Forked → Fits structs a value → Encodes structs a value held → (old : Value) → slice_get all k ≡ Some old →
         Written c part ks new (λ way. held (lead_to structs k a ++ way)) → (j : ℕ) (js : List ℕ) (n : ℤ) → (same : Bool) → nat_eq j k ≡ same →
-        number_at (j ∷ js) renewed ≡ Some n → At j js n
+        number_within (j ∷ js) renewed ≡ Some n → At j js n
     either forked fit holds old there again j js n true is h =
         let j_is : k ≡ j = sym (eqb-true j k is) in
-        subst (λ j. number_at (j ∷ js) renewed ≡ Some n → At j js n) j_is (in_new old there again js n) h
+        subst (λ j. number_within (j ∷ js) renewed ≡ Some n → At j js n) j_is (in_new old there again js n) h
     either forked fit holds old there again j js n false is h = in_other forked fit holds j js n is h
 
-    no_number : (n : ℤ) → number_at [] renewed ≡ Some n → ⊥
+    no_number : (n : ℤ) → number_within [] renewed ≡ Some n → ⊥
     no_number n h = none_is (sym (ap number_level (outs-Parts (slice_set all k part))) ∙ h)
       where
         none_is : None ≡ Some n → ⊥
@@ -183,7 +183,7 @@ module _ (structs : List StructDef) where
       type_after structs ks (Some a) ≡ Some b → Encodes structs b whole new → Encodes structs a value held → with_value_at ks whole value ≡ Some made →
       Written a made ks new held
   part_written forked fits [] a b value made whole new held fit typed one holds is = λ js n h.
-      ap (λ o. new (way_to structs js o)) typed ∙ one.each js n (ap (number_at js) (same_Some whole made is) ∙ h)
+      ap (λ o. new (way_to structs js o)) typed ∙ one.each js n (ap (number_within js) (same_Some whole made is) ∙ h)
   part_written forked fits (k ∷ ks) a b value made whole new held fit typed one holds is =
       let parts = some_found (λ all. option_and_then (λ old. option_map (λ part. Parts (slice_set all k part)) (with_value_at ks whole old))
       (slice_get all k)) (parts_in value) made is in

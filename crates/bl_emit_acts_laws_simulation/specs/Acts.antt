@@ -15,7 +15,7 @@ use Rattle.bl_eval.specs.declared.datum.Left.{Left}
 use Rattle.bl_eval.specs.Meaning.{Callee}
 use Rattle.bl_eval.specs.Values.{values_fit}
 use Rattle.bl_ctext_semantics.specs.Course.{Outcome, goes_on, traps}
-use Rattle.bl_ctext_semantics.specs.Meaning.{ArgumentValue, CallResult, Scope, applied, by_address, by_value, start_of}
+use Rattle.bl_ctext_semantics.specs.Meaning.{ArgumentValue, CallResult, Scope, applied, by_address, by_value, named_location}
 use Rattle.bl_ctext_semantics.specs.Memory.{Location, Memory, Projection, Root, left_after, same_root, value_at}
 use Rattle.bl_emit_acts.specs.Types.{copy_name, unit_name}
 use Rattle.bl_emit_acts_laws_simulation.specs.Encodes.{CopiesEncoded, Encodes, VariablesEncoded, are_apart, copied_in, copied_in_path, is_live, location_in}
@@ -45,7 +45,7 @@ is_act _ = false
 
 -- the location of the copy of a variable
 abbrev pub copy_location : Scope → ℕ → Location
-copy_location scope k = start_of scope false (copy_name k)
+copy_location scope k = named_location scope false (copy_name k)
 
 -- the copies have nothing in common with the variables, nor with one another
 pub record CopiesApart (site : TypingContext) (copied : ℕ → Bool) (scope : Scope) : Type 0 where

@@ -15,7 +15,7 @@ use Rattle.bl_tree.specs.Program.{is_input}
 use Rattle.bl_tree.specs.Reduce.{all_of}
 use Rattle.bl_tree.specs.Typing.{TypingContext, field_in, is_activity, var_at}
 use Rattle.bl_eval.specs.Values.{number_in, value_at}
-use Rattle.bl_ctext_semantics.specs.Meaning.{Scope, further, start_of}
+use Rattle.bl_ctext_semantics.specs.Meaning.{Scope, further, named_location}
 use Rattle.bl_ctext_semantics.specs.Memory.{CValue, Location, Memory, Projection, Root, element, member, variable}
 use Rattle.bl_ctext_semantics.specs.Memory as memory
 use Rattle.bl_emit_acts.specs.declared.home.Home.{Home}
@@ -59,20 +59,20 @@ type_after structs (k ∷ ks) None = None
 type_after structs (k ∷ ks) (Some ty) = type_after structs ks (part_type structs k ty)
 
 -- the number at positions in a value
-abbrev pub number_at : List ℕ → Value → Option ℤ
-number_at ks value = option_and_then number_in (value_at ks value)
+abbrev pub number_within : List ℕ → Value → Option ℤ
+number_within ks value = option_and_then number_in (value_at ks value)
 
 -- a C value encodes a value of a type: each number in the value is that of its cell
 pub record Encodes (structs : List StructDef) (ty : Ty) (value : Value) (held : CValue) : Type 0 where
-  pub each : (ks : List ℕ) (n : ℤ) → number_at ks value ≡ Some n → held (way_to structs ks (Some ty)) ≡ n
+  pub each : (ks : List ℕ) (n : ℤ) → number_within ks value ≡ Some n → held (way_to structs ks (Some ty)) ≡ n
 
 -- ---- variables
 
 -- the location at which the place of a variable starts
 abbrev pub start_in : Scope → Bool → Home → ℕ → Location
-start_in scope activity Held k = start_of scope activity (codes "m")
-start_in scope activity Given k = start_of scope false (variable_name k)
-start_in scope activity Lent k = start_of scope true (variable_name k)
+start_in scope activity Held k = named_location scope activity (codes "m")
+start_in scope activity Given k = named_location scope false (variable_name k)
+start_in scope activity Lent k = named_location scope true (variable_name k)
 
 -- the steps from the start of a variable's place to the variable, by its home
 abbrev pub lead_in : Home → ℕ → List Projection
@@ -97,7 +97,7 @@ pub record VariablesEncoded (site : TypingContext) (now : List Value) (scope : S
 -- each copy of a variable, of those that are copied, has what the variable was when the tick began
 pub record CopiesEncoded (site : TypingContext) (before : List Value) (copied : ℕ → Bool) (scope : Scope) (here : Memory) : Type 0 where
   pub each : (k : ℕ) (var : Var) (value : Value) → copied k ≡ true → var_at site k ≡ Some var → slice_get before k ≡ Some value →
-      Encodes site.structs var.ty value (memory.value_at here (start_of scope false (copy_name k)))
+      Encodes site.structs var.ty value (memory.value_at here (named_location scope false (copy_name k)))
 
 -- ---- copies that an expression needs
 

@@ -3,7 +3,7 @@ use Rattle.std.specs.Prelude.{◌≡◌, ℕ, ◌≤◌, ◌^◌, Bool, true, fa
 use Rattle.bl_tree.specs.declared.tree.Var.{Var}
 use Rattle.bl_tree.specs.Program.{is_input}
 use Rattle.bl_tree.specs.Typing.{TypingContext, is_activity, var_at}
-use Rattle.bl_ctext_semantics.specs.Meaning.{Scope, start_of}
+use Rattle.bl_ctext_semantics.specs.Meaning.{Scope, named_location}
 use Rattle.bl_ctext_semantics.specs.Memory.{Location, Root, variable}
 use Rattle.bl_emit_acts.specs.declared.home.Home.TheVariants.{Held, Lent}
 use Rattle.bl_emit_acts.specs.Types.{variable_name}
@@ -17,11 +17,11 @@ is_older depth _ = true
 
 -- the location to which the pointer for a variable leads
 abbrev pub lent_at : Scope → ℕ → Location
-lent_at scope k = start_of scope true (variable_name k)
+lent_at scope k = named_location scope true (variable_name k)
 
 -- the location to which the pointer to what an activity remembers leads
 abbrev pub remembered_at : Scope → Location
-remembered_at scope = start_of scope true (codes "m")
+remembered_at scope = named_location scope true (codes "m")
 
 -- a unit's pointers are valid: they lead to older memory, and those that are written through are apart from all others. That to remembered variables counts
 -- only if there are any

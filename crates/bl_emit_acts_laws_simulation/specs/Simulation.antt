@@ -36,7 +36,7 @@ PlaceValueSimulates structs ty depth here _ _ = ⊥
 -- C simulates an expression of a type: it has the expression's number, or a place with its value, or it traps iff the expression does
 abbrev pub ExpressionSimulates : List StructDef → Ty → Scope → Memory → Made → Option Datum → Type 0
 ExpressionSimulates structs ty scope here (Number s code) datum =
-    (scalar_in ty ≡ Some s) × (option_map memory.number_in (value_c code scope here).answer ≡ option_map number_given datum)
+    (scalar_in ty ≡ Some s) × (option_map memory.scalar_number (value_c code scope here).answer ≡ option_map number_given datum)
 ExpressionSimulates structs ty scope here (Whole place) datum =
     (scalar_in ty ≡ None) × PlaceValueSimulates structs ty scope.depth here (location_c place scope here).answer datum
 
@@ -60,7 +60,7 @@ PlaceSimulates site view scope ty (Some place) spot = PathReaches site view.now 
 
 -- an argument has the value: a number by value, a struct or an array by its place, which is there while a function runs at this depth
 abbrev pub ArgumentEncoded : List StructDef → ℕ → Memory → Ty → Value → ArgumentValue → Type 0
-ArgumentEncoded structs depth here ty value (by_value held) = (s : ScalarType) × (scalar_in ty ≡ Some s) × (number_in value ≡ Some (memory.number_in held))
+ArgumentEncoded structs depth here ty value (by_value held) = (s : ScalarType) × (scalar_in ty ≡ Some s) × (number_in value ≡ Some (memory.scalar_number held))
 ArgumentEncoded structs depth here ty value (by_address place) =
     (scalar_in ty ≡ None) × (is_live depth place.root ≡ true) × Encodes structs ty value (memory.value_at here place)
 

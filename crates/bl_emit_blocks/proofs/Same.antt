@@ -15,8 +15,8 @@ use Rattle.bl_machine.specs.declared.slots.Slot.{Slot}
 use Rattle.bl_emit_acts.specs.Acts.{c_calling, c_clear, c_set, call_args, code_made, name_of_callee}
 use Rattle.bl_emit_acts.specs.Trees.{c_call, c_read}
 use Rattle.bl_emit_functions.specs.Trees.{c_if, c_truth}
-use Rattle.bl_machine_transitions.specs.declared.transition.Asked.{Asked}
-use Rattle.bl_machine_transitions.specs.declared.transition.Asked.TheVariants as asked
+use Rattle.bl_machine_transitions.specs.declared.transition.Condition.{Condition}
+use Rattle.bl_machine_transitions.specs.declared.transition.Condition.TheVariants as condition
 use Rattle.bl_machine_transitions.specs.declared.transition.Change.{Change}
 use Rattle.bl_machine_transitions.specs.declared.transition.Change.TheVariants as change
 use Rattle.bl_machine_transitions.specs.Told.{Acts, Enters, Nothing, NumberedTransition, Resumes, Task, Tests}
@@ -51,11 +51,11 @@ module _ (site : TypingContext) (copies : List Bool) (sizes : Sizes) (number oth
       ≡ (if all then all_tests (map (at_slot w) slots) else some_test (map (at_slot w) slots))
   ends_by all slots = ap (λ tests. if all then all_tests tests else some_test tests) (slots_same slots)
 
-  guard_same : (k : ℕ) (asked : Asked) → numbered_guard v k asked ≡ numbered_guard w k asked
-  guard_same k asked.Flagged = refl
-  guard_same k (asked.Rested slot) = refl
-  guard_same k (asked.RestedIn slots) = rested_same slots
-  guard_same k (asked.Ended age needed) = ap (numbered_aged age) (ends_by needed.all needed.slots)
+  guard_same : (k : ℕ) (condition : Condition) → numbered_guard v k condition ≡ numbered_guard w k condition
+  guard_same k condition.Flagged = refl
+  guard_same k (condition.Rested slot) = refl
+  guard_same k (condition.RestedIn slots) = rested_same slots
+  guard_same k (condition.Ended age needed) = ap (numbered_aged age) (ends_by needed.all needed.slots)
 
   -- ---- changes
 
@@ -94,22 +94,22 @@ module _ (site : TypingContext) (copies : List Bool) (sizes : Sizes) (number oth
   target_same k (Some path) = refl
   target_same k None = refl
 
-  begun_same : (k a : ℕ) (arguments : Arguments) (so : List Change) → numbered_begun v k a arguments so ≡ numbered_begun w k a arguments so
-  begun_same k a arguments so =
-      ap (λ code. c_clear (callee_frame k) (frame_name (name_in (slice_get site.earlier a))) ∷ (code ++ numbered_changes v so))
+  begun_same : (k a : ℕ) (arguments : Arguments) (on_true : List Change) → numbered_begun v k a arguments on_true ≡ numbered_begun w k a arguments on_true
+  begun_same k a arguments on_true =
+      ap (λ code. c_clear (callee_frame k) (frame_name (name_in (slice_get site.earlier a))) ∷ (code ++ numbered_changes v on_true))
       (run_same k a arguments)
       ∙ ap (λ code. c_clear (callee_frame k) (frame_name (name_in (slice_get site.earlier a))) ∷ (run_code w k a arguments ++ code))
-      (changes_same so)
+      (changes_same on_true)
 
-  resumed_same : (k a : ℕ) (arguments : Arguments) (so : List Change) →
-      numbered_resumed v k a arguments so ≡ numbered_resumed w k a arguments so
-  resumed_same k a arguments so =
-      ap (λ code. code ++ c_if (c_read (ended_place k)) (target_code v k arguments.target ++ numbered_changes v so) None ∷ [])
+  resumed_same : (k a : ℕ) (arguments : Arguments) (on_true : List Change) →
+      numbered_resumed v k a arguments on_true ≡ numbered_resumed w k a arguments on_true
+  resumed_same k a arguments on_true =
+      ap (λ code. code ++ c_if (c_read (ended_place k)) (target_code v k arguments.target ++ numbered_changes v on_true) None ∷ [])
       (run_same k a arguments)
-      ∙ (ap (λ code. run_code w k a arguments ++ c_if (c_read (ended_place k)) (code ++ numbered_changes v so) None ∷ [])
+      ∙ (ap (λ code. run_code w k a arguments ++ c_if (c_read (ended_place k)) (code ++ numbered_changes v on_true) None ∷ [])
       (target_same k arguments.target)
       ∙ ap (λ code. run_code w k a arguments ++ c_if (c_read (ended_place k)) (target_code w k arguments.target ++ code) None ∷ [])
-      (changes_same so))
+      (changes_same on_true))
 
   -- ---- blocks
 
@@ -133,25 +133,25 @@ module _ (site : TypingContext) (copies : List Bool) (sizes : Sizes) (number oth
 
   tested_same : (test : CExpr) (rule : NumberedTransition) → numbered_tested v test rule ≡ numbered_tested w test rule
   tested_same test rule =
-      ap (λ so. choice_code test (spelled_truth test) so (numbered_changes v rule.otherwise)) (changes_same rule.so)
-      ∙ ap (λ other. choice_code test (spelled_truth test) (numbered_changes w rule.so) other) (changes_same rule.otherwise)
+      ap (λ on_true. choice_code test (spelled_truth test) on_true (numbered_changes v rule.on_false)) (changes_same rule.on_true)
+      ∙ ap (λ other. choice_code test (spelled_truth test) (numbered_changes w rule.on_true) other) (changes_same rule.on_false)
 
   task_same : (rule : NumberedTransition) (task : Task) → numbered_task v rule task ≡ numbered_task w rule task
-  task_same rule Nothing = changes_same rule.so
-  task_same rule (Acts s) = ap (λ code. code ++ numbered_changes v rule.so) (acted_same s) ∙ ap (λ code. acted w s ++ code) (changes_same rule.so)
+  task_same rule Nothing = changes_same rule.on_true
+  task_same rule (Acts s) = ap (λ code. code ++ numbered_changes v rule.on_true) (acted_same s) ∙ ap (λ code. acted w s ++ code) (changes_same rule.on_true)
   task_same rule (Tests e) = tested_same (code_made site e) rule
   task_same rule (Enters at a arguments) =
-      begun_same (run at) a arguments rule.so ∙ ap (λ k. numbered_begun w k a arguments rule.so) (runs at)
+      begun_same (run at) a arguments rule.on_true ∙ ap (λ k. numbered_begun w k a arguments rule.on_true) (runs at)
   task_same rule (Resumes at a arguments) =
-      resumed_same (run at) a arguments rule.so ∙ ap (λ k. numbered_resumed w k a arguments rule.so) (runs at)
+      resumed_same (run at) a arguments rule.on_true ∙ ap (λ k. numbered_resumed w k a arguments rule.on_true) (runs at)
 
   abbrev turn : CExpr → List CStmt → NodeCode
   turn test code = record { test = test; code = code }
 
   pub turn_same : (rule : NumberedTransition) → numbered_turn v rule ≡ numbered_turn w rule
   turn_same rule =
-      ap (λ (test : CExpr). turn test (numbered_task v rule rule.task)) (guard_same rule.number rule.asked)
-      ∙ ap (λ (code : List CStmt). turn (numbered_guard w rule.number rule.asked) code) (task_same rule rule.task)
+      ap (λ (test : CExpr). turn test (numbered_task v rule rule.task)) (guard_same rule.number rule.condition)
+      ∙ ap (λ (code : List CStmt). turn (numbered_guard w rule.number rule.condition) code) (task_same rule rule.task)
 
 -- the same of any two such views
 pub blocks_alike : BlocksAlike

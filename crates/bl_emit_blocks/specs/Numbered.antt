@@ -9,8 +9,8 @@ use Rattle.bl_emit_acts.specs.Trees.{c_not, c_read, c_two}
 use Rattle.bl_emit_functions.specs.Trees.{c_if, c_truth}
 use Rattle.bl_machine_transitions.specs.declared.transition.Age.{Age}
 use Rattle.bl_machine_transitions.specs.declared.transition.Age.TheVariants as age
-use Rattle.bl_machine_transitions.specs.declared.transition.Asked.{Asked}
-use Rattle.bl_machine_transitions.specs.declared.transition.Asked.TheVariants as asked
+use Rattle.bl_machine_transitions.specs.declared.transition.Condition.{Condition}
+use Rattle.bl_machine_transitions.specs.declared.transition.Condition.TheVariants as condition
 use Rattle.bl_machine_transitions.specs.declared.transition.Change.{Change}
 use Rattle.bl_machine_transitions.specs.declared.transition.Change.TheVariants as change
 use Rattle.bl_machine_transitions.specs.declared.transition.Needed.{Needed}
@@ -33,11 +33,11 @@ numbered_aged (age.Old k) ends = c_two And (c_not (c_read (mark_place k))) ends
 numbered_aged age.Any ends = ends
 
 -- what is asked before the node with this number acts
-abbrev pub numbered_guard : ActivityView → ℕ → Asked → CExpr
-numbered_guard view k asked.Flagged = c_read (flag_place k)
-numbered_guard view k (asked.Rested slot) = rested_at view slot
-numbered_guard view k (asked.RestedIn slots) = rested_in view slots
-numbered_guard view k (asked.Ended age needed) = numbered_aged age (numbered_ends view needed)
+abbrev pub numbered_guard : ActivityView → ℕ → Condition → CExpr
+numbered_guard view k condition.Flagged = c_read (flag_place k)
+numbered_guard view k (condition.Rested slot) = rested_at view slot
+numbered_guard view k (condition.RestedIn slots) = rested_in view slots
+numbered_guard view k (condition.Ended age needed) = numbered_aged age (numbered_ends view needed)
 
 -- ---- changes
 
@@ -67,31 +67,31 @@ numbered_changes view (change ∷ rest) = numbered_change view change ++ numbere
 -- a test: changes where it is true, and others where it is false
 abbrev pub numbered_tested : ActivityView → CExpr → NumberedTransition → List CStmt
 numbered_tested view test rule =
-    choice_code test (spelled_truth test) (numbered_changes view rule.so) (numbered_changes view rule.otherwise)
+    choice_code test (spelled_truth test) (numbered_changes view rule.on_true) (numbered_changes view rule.on_false)
 
 -- the C of a `run` that begins, by the number of its place and the position of the activity that it calls
 abbrev pub numbered_begun : ActivityView → ℕ → ℕ → Arguments → List Change → List CStmt
-numbered_begun view k a arguments so =
+numbered_begun view k a arguments on_true =
     c_clear (callee_frame k) (frame_name (name_in (slice_get view.site.earlier a)))
-    ∷ (run_code view k a arguments ++ numbered_changes view so)
+    ∷ (run_code view k a arguments ++ numbered_changes view on_true)
 
 -- the C of a `run` that goes on, by the number of its place and the position of the activity that it calls
 abbrev pub numbered_resumed : ActivityView → ℕ → ℕ → Arguments → List Change → List CStmt
-numbered_resumed view k a arguments so =
+numbered_resumed view k a arguments on_true =
     run_code view k a arguments
-    ++ c_if (c_read (ended_place k)) (target_code view k arguments.target ++ numbered_changes view so) None ∷ []
+    ++ c_if (c_read (ended_place k)) (target_code view k arguments.target ++ numbered_changes view on_true) None ∷ []
 
 -- what a block does, by what is done at its node
 abbrev pub numbered_task : ActivityView → NumberedTransition → Task → List CStmt
-numbered_task view rule Nothing = numbered_changes view rule.so
-numbered_task view rule (Acts s) = acted view s ++ numbered_changes view rule.so
+numbered_task view rule Nothing = numbered_changes view rule.on_true
+numbered_task view rule (Acts s) = acted view s ++ numbered_changes view rule.on_true
 numbered_task view rule (Tests e) = numbered_tested view (code_made view.site e) rule
-numbered_task view rule (Enters at a arguments) = numbered_begun view (view.run at) a arguments rule.so
-numbered_task view rule (Resumes at a arguments) = numbered_resumed view (view.run at) a arguments rule.so
+numbered_task view rule (Enters at a arguments) = numbered_begun view (view.run at) a arguments rule.on_true
+numbered_task view rule (Resumes at a arguments) = numbered_resumed view (view.run at) a arguments rule.on_true
 
 -- the turn of a rule: what is asked before its node, and what that does then
 abbrev pub numbered_turn : ActivityView → NumberedTransition → NodeCode
-numbered_turn view rule = record { test = numbered_guard view rule.number rule.asked; code = numbered_task view rule rule.task }
+numbered_turn view rule = record { test = numbered_guard view rule.number rule.condition; code = numbered_task view rule rule.task }
 
 -- the `if` of a rule's node
 abbrev pub numbered_block : ActivityView → NumberedTransition → CStmt

@@ -11,7 +11,7 @@ ghost use Rattle.bl_machine_transitions.specs.Told.{rule_in, task_in};
 
 use crate::changes::changes;
 use crate::guards::guard;
-use crate::parts::{otherwise, value};
+use crate::parts::{else_block, value};
 use crate::places::returned;
 use crate::runs::{begun, resumed};
 use crate::turn::NodeCode;
@@ -58,15 +58,15 @@ fn spelled_truth(e: &CExpr) -> Option<bool>
 fn chosen(
     alloc: Global,
     test: CExpr,
-    so: List<CStmt>,
-    other: List<CStmt>,
+    on_true: List<CStmt>,
+    on_false: List<CStmt>,
 ) -> Result<List<CStmt>, NoMemory>
-    ensures { IfOk result (λ code. code ≡ blocks.choice_code test (blocks.spelled_truth test) so other) }
+    ensures { IfOk result (λ code. code ≡ blocks.choice_code test (blocks.spelled_truth test) on_true on_false) }
 {
     match spelled_truth(&test) {
-        Some(true) => Ok(so),
-        Some(false) => Ok(other),
-        None => single(alloc, choice(alloc, test, so, otherwise(other))?),
+        Some(true) => Ok(on_true),
+        Some(false) => Ok(on_false),
+        None => single(alloc, choice(alloc, test, on_true, else_block(on_false))?),
     }
 }
 
@@ -81,9 +81,9 @@ fn tested(
         ≡ numbered.numbered_tested (view_in view.entry.now) (code_made (view_in view.entry.now).site e.now) (rule_in rule.entry.now)) }
 {
     let test = value(alloc, &view.site, e)?;
-    let so = changes(alloc, view, &rule.so)?;
-    let other = changes(alloc, view, &rule.otherwise)?;
-    chosen(alloc, test, so, other)
+    let on_true = changes(alloc, view, &rule.on_true)?;
+    let on_false = changes(alloc, view, &rule.on_false)?;
+    chosen(alloc, test, on_true, on_false)
 }
 
 /// What a node does in its turn.
@@ -92,11 +92,11 @@ fn done(alloc: Global, view: &ActivityView, rule: &Transition) -> Result<List<CS
         ≡ numbered.numbered_task (view_in view.entry.now) (rule_in rule.entry.now) (task_in rule.entry.now.task)) }
 {
     match &rule.task {
-        Task::Nothing => changes(alloc, view, &rule.so),
-        Task::Act(s) => joined(acted(alloc, view, s)?, changes(alloc, view, &rule.so)?),
+        Task::Nothing => changes(alloc, view, &rule.on_true),
+        Task::Act(s) => joined(acted(alloc, view, s)?, changes(alloc, view, &rule.on_true)?),
         Task::Test(e) => tested(alloc, view, e, rule),
-        Task::Enter(run) => begun(alloc, view, run, &rule.so),
-        Task::Resume(run) => resumed(alloc, view, run, &rule.so),
+        Task::Enter(run) => begun(alloc, view, run, &rule.on_true),
+        Task::Resume(run) => resumed(alloc, view, run, &rule.on_true),
     }
 }
 
@@ -104,7 +104,7 @@ fn done(alloc: Global, view: &ActivityView, rule: &Transition) -> Result<List<CS
 pub fn turn(alloc: Global, view: &ActivityView, rule: &Transition) -> Result<NodeCode, NoMemory>
     ensures { IfOk result (λ made. turn_in made ≡ numbered.numbered_turn (view_in view.entry.now) (rule_in rule.entry.now)) }
 {
-    let test = guard(alloc, view, rule.number, &rule.asked)?;
+    let test = guard(alloc, view, rule.number, &rule.condition)?;
     let code = done(alloc, view, rule)?;
     Ok(NodeCode { test, code })
 }

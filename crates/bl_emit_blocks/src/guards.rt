@@ -9,7 +9,7 @@ use crate::places::{flag, mark};
 use crate::tests::ends;
 use crate::view::ActivityView;
 use bl_emit_acts::parts::{negated, read, two};
-use bl_machine_transitions::{Age, Asked};
+use bl_machine_transitions::{Age, Condition};
 use bl_tree::c::CExpr;
 use bl_tree::{NoMemory, Op};
 use std::alloc::Global;
@@ -33,14 +33,14 @@ pub fn guard(
     alloc: Global,
     view: &ActivityView,
     number: u32,
-    asked: &Asked,
+    condition: &Condition,
 ) -> Result<CExpr, NoMemory>
-    ensures { IfOk result (λ e. e ≡ numbered.numbered_guard (view_in view.entry.now) number asked.now) }
+    ensures { IfOk result (λ e. e ≡ numbered.numbered_guard (view_in view.entry.now) number condition.now) }
 {
-    match asked {
-        Asked::Flagged => Ok(read(flag(alloc, number)?)),
-        Asked::Rested(slot) => rested_at(alloc, view, *slot),
-        Asked::RestedIn(slots) => rested_in(alloc, view, slots),
-        Asked::Ended(age, needed) => aged(alloc, *age, ends(alloc, view, needed)?),
+    match condition {
+        Condition::Flagged => Ok(read(flag(alloc, number)?)),
+        Condition::Rested(slot) => rested_at(alloc, view, *slot),
+        Condition::RestedIn(slots) => rested_in(alloc, view, slots),
+        Condition::Ended(age, needed) => aged(alloc, *age, ends(alloc, view, needed)?),
     }
 }

@@ -19,7 +19,7 @@ pub fn value(alloc: Global, site: &UnitSite, e: &Expr) -> Result<CExpr, NoMemory
 }
 
 /// An `else`, which is left out where it is empty.
-pub fn otherwise(code: List<CStmt>) -> Option<List<CStmt>>
+pub fn else_block(code: List<CStmt>) -> Option<List<CStmt>>
     ensures { result ≡ else_code code }
 {
     if code.is_empty() { None } else { Some(code) }

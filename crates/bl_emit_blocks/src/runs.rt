@@ -183,15 +183,18 @@ pub fn begun(
     alloc: Global,
     view: &ActivityView,
     run: &Run,
-    so: &[Change],
+    on_true: &[Change],
 ) -> Result<List<CStmt>, NoMemory>
     ensures { IfOk result (λ code. code
-        ≡ numbered.numbered_begun (view_in view.entry.now) ((view_in view.entry.now).run run.entry.now.place) run.entry.now.unit (arguments_in run.entry.now) so.now) }
+        ≡ numbered.numbered_begun (view_in view.entry.now) ((view_in view.entry.now).run run.entry.now.place) run.entry.now.unit (arguments_in run.entry.now) on_true.now) }
 {
     let k = view.runs.find(run.place);
     let at = callee_frame(alloc, k)?;
     let start = single(alloc, clear(alloc, at, frame(alloc, view, run.unit)?)?)?;
-    let rest = joined(run_code(alloc, view, k, run)?, changes(alloc, view, so)?)?;
+    let rest = joined(
+        run_code(alloc, view, k, run)?,
+        changes(alloc, view, on_true)?,
+    )?;
     joined(start, rest)
 }
 
@@ -200,15 +203,15 @@ pub fn resumed(
     alloc: Global,
     view: &ActivityView,
     run: &Run,
-    so: &[Change],
+    on_true: &[Change],
 ) -> Result<List<CStmt>, NoMemory>
     ensures { IfOk result (λ code. code
-        ≡ numbered.numbered_resumed (view_in view.entry.now) ((view_in view.entry.now).run run.entry.now.place) run.entry.now.unit (arguments_in run.entry.now) so.now) }
+        ≡ numbered.numbered_resumed (view_in view.entry.now) ((view_in view.entry.now).run run.entry.now.place) run.entry.now.unit (arguments_in run.entry.now) on_true.now) }
 {
     let k = view.runs.find(run.place);
     let call = run_code(alloc, view, k, run)?;
     let target = target_code(alloc, view, k, run.target)?;
-    let then = joined(target, changes(alloc, view, so)?)?;
+    let then = joined(target, changes(alloc, view, on_true)?)?;
     let test = read(ended(alloc, k)?);
     joined(call, single(alloc, choice(alloc, test, then, None)?)?)
 }

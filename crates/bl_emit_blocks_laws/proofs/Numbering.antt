@@ -30,9 +30,9 @@ use Rattle.bl_machine_pass.specs.Transitions.{ClearsBoth, ClearsCounter, Ended, 
 use Rattle.bl_machine_pass.specs.Numbered.{slots_of}
 use Rattle.bl_machine_transitions.specs.Callees.{callees_in}
 use Rattle.bl_machine_transitions_laws.specs.Laws.{RulesAreListed}
-use Rattle.bl_machine_transitions.specs.Told.{all_told, task_at, told, told_asked, told_change}
+use Rattle.bl_machine_transitions.specs.Told.{all_told, task_at, told_change, told_condition, told_rule}
 use Rattle.bl_emit_spec.specs.Blocks.{ActivityView, NodeCode, acted, change_code, changes_code, choice_code, guard_of, name_in, node_code, run_code}
-use Rattle.bl_emit_spec.specs.Blocks.{spelled_truth, target_code, turn_of, turns_of}
+use Rattle.bl_emit_spec.specs.Blocks.{node_turn, spelled_truth, target_code, turns_of}
 use Rattle.bl_emit_spec.specs.Names.{callee_frame, ended_place, frame_name}
 use Rattle.bl_emit_blocks.specs.Numbered.{numbered_change, numbered_changes, numbered_guard, numbered_task, numbered_turn}
 use Rattle.bl_emit_blocks_laws.specs.Laws.{BlocksAreNumbered, BodiesAreNumbered}
@@ -53,7 +53,7 @@ module _ (view : ActivityView) where
       ap (λ xs. xs ++ changes_code view rest) (change_is change)
       ∙ ap (λ xs. numbered_change view (told_change view.number change) ++ xs) (changes_are rest)
 
-  guard_is : (n : Node) (asked : nodes.Asked) → guard_of view n asked ≡ numbered_guard view (view.number n) (told_asked view.number asked)
+  guard_is : (n : Node) (condition : nodes.Condition) → guard_of view n condition ≡ numbered_guard view (view.number n) (told_condition view.number condition)
   guard_is n Flagged = refl
   guard_is n (Rested slot) = refl
   guard_is n (RestedIn slots) = refl
@@ -63,45 +63,45 @@ module _ (view : ActivityView) where
 
   -- a test, by what changes where it is true and where it is false
   abbrev test_with : CExpr → List CStmt → List CStmt → List CStmt
-  test_with test so otherwise = choice_code test (spelled_truth test) so otherwise
+  test_with test on_true on_false = choice_code test (spelled_truth test) on_true on_false
 
-  test_is : (e : Expr) (so to otherwise other : List CStmt) → so ≡ to → otherwise ≡ other →
-      test_with (code_made view.site e) so otherwise ≡ test_with (code_made view.site e) to other
-  test_is e so to otherwise other one two =
-      ap (λ x. test_with (code_made view.site e) x otherwise) one ∙ ap (λ x. test_with (code_made view.site e) to x) two
+  test_is : (e : Expr) (on_true to on_false other : List CStmt) → on_true ≡ to → on_false ≡ other →
+      test_with (code_made view.site e) on_true on_false ≡ test_with (code_made view.site e) to other
+  test_is e on_true to on_false other one two =
+      ap (λ x. test_with (code_made view.site e) x on_false) one ∙ ap (λ x. test_with (code_made view.site e) to x) two
 
   -- a `run` that begins, and one that goes on, by what changes then
   abbrev begun_with : ℕ → ℕ → Arguments → List CStmt → List CStmt
-  begun_with unit k arguments so =
-      c_clear (callee_frame k) (frame_name (name_in (slice_get view.site.earlier unit))) ∷ (run_code view k unit arguments ++ so)
+  begun_with unit k arguments on_true =
+      c_clear (callee_frame k) (frame_name (name_in (slice_get view.site.earlier unit))) ∷ (run_code view k unit arguments ++ on_true)
 
   abbrev resumed_with : ℕ → ℕ → Arguments → List CStmt → List CStmt
-  resumed_with unit k arguments so =
-      run_code view k unit arguments ++ c_if (c_read (ended_place k)) (target_code view k arguments.target ++ so) None ∷ []
+  resumed_with unit k arguments on_true =
+      run_code view k unit arguments ++ c_if (c_read (ended_place k)) (target_code view k arguments.target ++ on_true) None ∷ []
 
   node_is : (unit : ℕ) (rule : nodes.Transition) (n : Node) →
-      node_code view unit rule n ≡ numbered_task view (told view.number unit rule) (task_at view.number unit n)
-  node_is unit rule (ActAt l s) = ap (λ xs. acted view s ++ xs) (changes_are rule.so)
-  node_is unit rule (TestAt l at e) = test_is e _ _ _ _ (changes_are rule.so) (changes_are rule.otherwise)
-  node_is unit rule (CheckAt l at e) = test_is e _ _ _ _ (changes_are rule.so) (changes_are rule.otherwise)
-  node_is unit rule (EnterAt l at arguments) = ap (begun_with unit (view.run at) arguments) (changes_are rule.so)
-  node_is unit rule (ResumeAt l at arguments) = ap (resumed_with unit (view.run at) arguments) (changes_are rule.so)
-  node_is unit rule (PauseAt l at) = changes_are rule.so
-  node_is unit rule (HeadAt l at) = changes_are rule.so
-  node_is unit rule (StartAt l at) = changes_are rule.so
-  node_is unit rule (SurfaceEndAt l at) = changes_are rule.so
-  node_is unit rule (DepthEndAt l at) = changes_are rule.so
-  node_is unit rule (ForkAt l at) = changes_are rule.so
-  node_is unit rule (SurfaceJoinAt l at) = changes_are rule.so
-  node_is unit rule (DepthJoinAt l at) = changes_are rule.so
+      node_code view unit rule n ≡ numbered_task view (told_rule view.number unit rule) (task_at view.number unit n)
+  node_is unit rule (ActAt l s) = ap (λ xs. acted view s ++ xs) (changes_are rule.on_true)
+  node_is unit rule (TestAt l at e) = test_is e _ _ _ _ (changes_are rule.on_true) (changes_are rule.on_false)
+  node_is unit rule (CheckAt l at e) = test_is e _ _ _ _ (changes_are rule.on_true) (changes_are rule.on_false)
+  node_is unit rule (EnterAt l at arguments) = ap (begun_with unit (view.run at) arguments) (changes_are rule.on_true)
+  node_is unit rule (ResumeAt l at arguments) = ap (resumed_with unit (view.run at) arguments) (changes_are rule.on_true)
+  node_is unit rule (PauseAt l at) = changes_are rule.on_true
+  node_is unit rule (HeadAt l at) = changes_are rule.on_true
+  node_is unit rule (StartAt l at) = changes_are rule.on_true
+  node_is unit rule (SurfaceEndAt l at) = changes_are rule.on_true
+  node_is unit rule (DepthEndAt l at) = changes_are rule.on_true
+  node_is unit rule (ForkAt l at) = changes_are rule.on_true
+  node_is unit rule (SurfaceJoinAt l at) = changes_are rule.on_true
+  node_is unit rule (DepthJoinAt l at) = changes_are rule.on_true
 
   abbrev turn : CExpr → List CStmt → NodeCode
   turn test code = record { test = test; code = code }
 
-  turn_is : (unit : ℕ) (rule : nodes.Transition) → turn_of view unit rule ≡ numbered_turn view (told view.number unit rule)
+  turn_is : (unit : ℕ) (rule : nodes.Transition) → node_turn view unit rule ≡ numbered_turn view (told_rule view.number unit rule)
   turn_is unit rule =
-      ap (λ (guard : CExpr). turn guard (node_code view unit rule rule.node)) (guard_is rule.node rule.asked)
-      ∙ ap (λ (body : List CStmt). turn (numbered_guard view (view.number rule.node) (told_asked view.number rule.asked)) body)
+      ap (λ (guard : CExpr). turn guard (node_code view unit rule rule.node)) (guard_is rule.node rule.condition)
+      ∙ ap (λ (body : List CStmt). turn (numbered_guard view (view.number rule.node) (told_condition view.number rule.condition)) body)
       (node_is unit rule rule.node)
 
   turns_are : (units : List ℕ) (rules : List nodes.Transition) →
@@ -110,7 +110,7 @@ module _ (view : ActivityView) where
   turns_are (unit ∷ units) [] = refl
   turns_are (unit ∷ units) (rule ∷ rules) =
       ap (λ (x : NodeCode). x ∷ turns_of view units rules) (turn_is unit rule)
-      ∙ ap (λ (xs : List NodeCode). numbered_turn view (told view.number unit rule) ∷ xs) (turns_are units rules)
+      ∙ ap (λ (xs : List NodeCode). numbered_turn view (told_rule view.number unit rule) ∷ xs) (turns_are units rules)
 
 pub blocks_are_numbered : BlocksAreNumbered
 blocks_are_numbered = record { one = turn_is; all = turns_are }

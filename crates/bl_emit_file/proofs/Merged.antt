@@ -46,7 +46,7 @@ made_known accepted plain merged made is_accepted text countable one two are_mer
     let to : List Activity = merged.activities in
     let of_tree : AreMergedFrom tree.units from to = subst (λ (of : Program). AreMergedFrom of.units from to) one are_merged in record {
       known = record {
-        keeps = tree.keeps;
+        well_typed = tree.keeps;
         passes = is_accepted.tree_passes;
         limits = subst (λ (of : Program). KeepsLimits of.structs of.units of.entry) (sym is_accepted.is_tree) is_accepted.limits;
         text = text;
@@ -62,7 +62,7 @@ pub made_spelled : (program : Program) (machine : List Activity) (made : Written
     is_spellable made.structs made.funcs ≡ true
 made_spelled program machine made spelled it =
     subst (λ (it : Written). is_spellable it.structs it.funcs ≡ true) (sym it.is)
-    (spelled machine it.known.keeps it.known.passes it.known.limits it.known.agrees)
+    (spelled machine it.known.well_typed it.known.passes it.known.limits it.known.agrees)
 
 -- and it is of a machine whose blocks are merged
 pub made_of_merged : (program : Program) (machine : List Activity) (made : Written) → IsMadeOf program machine made →

@@ -111,7 +111,7 @@ module _ (program : Program) (machine : List InMachine) (laws : Laws program) (k
 
   compiled : CompilationContext structs units entry machine activities
   compiled =
-      laws.compile machine activities known.keeps known.passes known.text known.agrees (laws.built structs units machine known.agrees)
+      laws.compile machine activities known.well_typed known.passes known.text known.agrees (laws.built structs units machine known.agrees)
       known.countable
 
   none_overlap : NoneOverlaps units
@@ -119,7 +119,7 @@ module _ (program : Program) (machine : List InMachine) (laws : Laws program) (k
 
   module _ (unit : UnitDef) (there : slice_get units entry ≡ Some unit) where
     formed : WellFormed file
-    formed = laws.formed machine known.keeps known.passes known.limits known.agrees
+    formed = laws.formed machine known.well_typed known.passes known.limits known.agrees
 
     shows : FileShows W activities unit file
     shows = laws.shows machine unit compiled there none_overlap (laws.come machine activities known.limits compiled) formed
@@ -128,7 +128,7 @@ module _ (program : Program) (machine : List InMachine) (laws : Laws program) (k
         RunByRules structs units entry (rank_by W activities) (slots_by W activities) (cleared W) unit rows (λ i c. 0)
     by_rules rows fit =
         laws.runs structs units entry machine activities unit rows (λ i c. 0) compiled (entry_is structs units entry unit there)
-        (laws.rows structs units entry unit rows known.keeps there fit) refl
+        (laws.rows structs units entry unit rows known.well_typed there fit) refl
 
     traced : (rows : List (List ℤ)) (seen : ShownTrace) → RowsFit (input_columns unit) rows →
         Means structs units entry rows seen ↔ (seen ≡ shown_trace (c_trace file rows))
@@ -144,23 +144,23 @@ module _ (program : Program) (machine : List InMachine) (laws : Laws program) (k
       unit = unit;
       is_entry = there;
       well_formed = formed;
-      counted = laws.count machine unit known.keeps known.limits known.agrees there;
-      small = laws.small machine known.keeps known.passes known.limits known.agrees unit there;
+      counted = laws.count machine unit known.well_typed known.limits known.agrees there;
+      small = laws.small machine known.well_typed known.passes known.limits known.agrees unit there;
       inputs = shows.inputs;
       outputs = shows.outputs;
-      functions = laws.own machine unit known.keeps known.passes known.agrees there formed;
+      functions = laws.own machine unit known.well_typed known.passes known.agrees there formed;
       frames = laws.wide machine compiled;
       blocks = record {
         machine = machine;
         agrees = known.agrees;
         merged = known.merged;
-        each = laws.ifs machine unit known.keeps known.passes known.agrees there formed;
+        each = laws.ifs machine unit known.well_typed known.passes known.agrees there formed;
       };
       trace = traced;
     }
 
   pub shows_program : ShowsProgram structs units entry file
-  shows_program = let found = entry_there (slice_get units entry) known.keeps.entry_stands in shown_whole found.0 found.1
+  shows_program = let found = entry_there (slice_get units entry) known.well_typed.entry_stands in shown_whole found.0 found.1
 
 -- what is written of an accepted program's machine shows the program
 pub file_shows : (program : Program) (machine : List InMachine) (made : Written) → ProgramsShow program →

@@ -15,7 +15,7 @@ use Rattle.bl_emit_file.specs.Shows.{ShowsProgram}
 -- the program is made of a text, and no rule fails for it. Its machine has merged blocks, and 64 bits count the variables and statements of
 -- its units
 pub record Known (program : Program) (machine : List InMachine) : Type 0 where
-  pub keeps : IsWellTyped program.structs program.units program.entry
+  pub well_typed : IsWellTyped program.structs program.units program.entry
   pub passes : Passes program.units
   pub limits : KeepsLimits program.structs program.units program.entry
   pub text : FromText program.units

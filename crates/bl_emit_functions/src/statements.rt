@@ -106,12 +106,12 @@ pub fn block(alloc: Global, site: &UnitSite, body: &[Stmt], free: Free) -> Resul
 fn either(alloc: Global, test: CExpr, body: Coded, other: Coded) -> Result<Coded, NoMemory>
     ensures { IfOk result (λ coded. coded ≡ codes.either_by test body other) }
 {
-    let s = choice(alloc, test, body.code, otherwise(other.code))?;
+    let s = choice(alloc, test, body.code, else_block(other.code))?;
     Ok(only(single(alloc, s)?, other.free))
 }
 
 /// An `else`, which is left out where it is empty.
-fn otherwise(code: List<CStmt>) -> Option<List<CStmt>>
+fn else_block(code: List<CStmt>) -> Option<List<CStmt>>
     ensures { result ≡ codes.else_code code }
 {
     if code.is_empty() { None } else { Some(code) }

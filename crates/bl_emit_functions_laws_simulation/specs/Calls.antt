@@ -79,7 +79,7 @@ CallsKeepFrame =
 -- there before, and has the value
 abbrev pub ArgFor : List StructDef → ℕ → Memory → Var → Value → ArgumentValue → Type 0
 ArgFor structs depth here var value (by_value held) =
-    (is_output var.role ≡ false) × (is_some (scalar_in var.ty) ≡ true) × (number_in value ≡ Some (memory.number_in held))
+    (is_output var.role ≡ false) × (is_some (scalar_in var.ty) ≡ true) × (number_in value ≡ Some (memory.scalar_number held))
 ArgFor structs depth here var value (by_address place) =
     ((is_output var.role || is_none (scalar_in var.ty)) ≡ true) × (is_older depth place.root ≡ true) × Encodes structs var.ty value (value_at here place)
 

@@ -35,11 +35,11 @@ written_shows program declared found ends closed come states stand show machine 
     functions = functions_before program machine
 
     over : FileEnds program machine unit
-    over = ends machine unit compiled.keeps compiled.agrees there
+    over = ends machine unit compiled.well_typed compiled.agrees there
 
     comes : ActivitySimulates (setting_of program.structs program.units program.entry) (activities_in program machine) program.entry
         (known_after no_entries (functions_before program machine)) 0
-    comes = come machine (activities_in program machine) program.entry 0 compiled apart all (closed.entry_is compiled.keeps)
+    comes = come machine (activities_in program machine) program.entry 0 compiled apart all (closed.entry_is compiled.well_typed)
 
     stands : FileStands program.structs unit (remembers_any (activities_in program machine program.entry))
         (known_at_tick unit (functions_before program machine)) (written_file program machine)
@@ -55,4 +55,4 @@ written_shows program declared found ends closed come states stand show machine 
     kept =
         states program.structs program.units program.entry machine (activities_in program machine) unit (written_file program machine) compiled
         (found program.structs program.units program.entry machine (activities_in program machine) compiled) there formed
-        (declared machine unit compiled.keeps compiled.passes compiled.agrees there)
+        (declared machine unit compiled.well_typed compiled.passes compiled.agrees there)

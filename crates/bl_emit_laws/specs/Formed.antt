@@ -15,8 +15,8 @@ use Rattle.bl_emit_spec.specs.Programs.{ProgramParts, interface_structs, needed_
 use Rattle.bl_emit_spec_laws_wellformed_bodies.specs.Lists.{AllConditions}
 
 -- what is made of the units that the entry of a program needs
-abbrev pub parts_of : Program → List InMachine → ProgramParts
-parts_of program machine = parts_from program.structs [] [] program.units (needed_units program.units program.entry) machine
+abbrev pub parts_for_entry : Program → List InMachine → ProgramParts
+parts_for_entry program machine = parts_from program.structs [] [] program.units (needed_units program.units program.entry) machine
 
 -- the structs of a program's file by name
 abbrev pub table_of : Program → List InMachine → Table (Table CMember)
@@ -26,9 +26,9 @@ table_of program machine = struct_table (written program machine).structs
 pub record StructsSound (program : Program) (machine : List InMachine) (unit : UnitDef) : Type 0 where
   pub formed : struct_faults_after no_entries no_entries (written program machine).structs ≡ []
   pub types : AreDeclared (table_of program machine) (structs_for program.structs program.units)
-  pub parts : AreDeclared (table_of program machine) (parts_of program machine).structs
+  pub parts : AreDeclared (table_of program machine) (parts_for_entry program machine).structs
   pub interface : AreDeclared (table_of program machine)
-      (interface_structs program.structs unit (unwrap_or (slice_get (parts_of program machine).remember program.entry) false))
+      (interface_structs program.structs unit (unwrap_or (slice_get (parts_for_entry program machine).remember program.entry) false))
 
 -- no clause fails in a file whose structs are sound and whose needed units meet their conditions, where rules Frames and Cells hold
 abbrev pub FilesWellFormed : Program → Type 0

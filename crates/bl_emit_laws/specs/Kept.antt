@@ -18,7 +18,7 @@ use Rattle.bl_emit_spec_laws.specs.Calls.Built.{Activities}
 use Rattle.bl_emit_spec_laws.specs.Calls.Laws.{CompilationContext}
 use Rattle.bl_emit_spec_laws_files.specs.Files.{NoneOfInterface, file_with}
 use Rattle.bl_emit_spec_laws_files.specs.States.States.{FramesDeclared, RunsFound}
-use Rattle.bl_emit_spec_laws.specs.Tables.Tables.{activities_of, functions_of_all, kept}
+use Rattle.bl_emit_spec_laws.specs.Tables.Tables.{activities_of, functions_of_all, kept_where}
 
 -- ---- the file
 
@@ -39,7 +39,7 @@ structs_before program machine =
 -- the file's functions but those of the interface: those of needed units
 abbrev pub functions_before : Program → List InMachine → List CFunc
 functions_before program machine =
-    kept (needed_units program.units program.entry) (functions_of_all program.structs program.units (activities_in program machine))
+    kept_where (needed_units program.units program.entry) (functions_of_all program.structs program.units (activities_in program machine))
 
 -- ---- laws
 

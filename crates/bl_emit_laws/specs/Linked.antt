@@ -8,7 +8,7 @@ use Rattle.bl_ctext_semantics.specs.Meaning.{ArgumentValue, Meaning, function_c}
 use Rattle.bl_ctext_semantics.specs.Memory.{Memory}
 use Rattle.bl_ctext_semantics.specs.Parts.{Parts}
 use Rattle.bl_ctext_semantics.specs.Tables.{Table, no_entries}
-use Rattle.bl_ctext_semantics.specs.Trace.{entered}
+use Rattle.bl_ctext_semantics.specs.Trace.{call_from_outside}
 use Rattle.bl_ctree.specs.Instances.{setting_of}
 use Rattle.bl_machine.specs.declared.machine.Activity.{Activity as InMachine}
 use Rattle.bl_machine.specs.Machines.{AreActivitiesOf}
@@ -19,12 +19,12 @@ use Rattle.bl_emit_spec.specs.Programs.{init_function, needed_units, tick_functi
 use Rattle.bl_emit_spec_laws.specs.Calls.Built.{Activities, AreBuilt}
 use Rattle.bl_emit_spec_laws.specs.Calls.Calls.{ActivitySimulates}
 use Rattle.bl_emit_spec_laws.specs.Calls.Laws.{ActivitiesSimulate, CompilationContext}
-use Rattle.bl_emit_spec_laws.specs.Tables.Tables.{activities_of, functions_of_all, kept, table_of_all}
+use Rattle.bl_emit_spec_laws.specs.Tables.Tables.{activities_of, functions_of_all, kept_where, table_of_all}
 
 -- the table that the C functions of the units that the entry needs make
 abbrev pub table_of_needed : List StructDef → List UnitDef → ℕ → Activities → Table Meaning
 table_of_needed structs units entry activities =
-    known_after no_entries (kept (needed_units units entry) (functions_of_all structs units activities))
+    known_after no_entries (kept_where (needed_units units entry) (functions_of_all structs units activities))
 
 -- the table of needed functions has, for each needed unit, the function that the table of all units has
 abbrev pub NeededAreKnown : List StructDef → List UnitDef → ℕ → Type 0
@@ -42,7 +42,7 @@ NeededSimulate structs units entry =
 
 -- the file has the functions that are written of the program with its machine, whose entry is this unit
 pub record IsWritten (program : Program) (machine : List InMachine) (unit : UnitDef) (file : Parts) : Type 0 where
-  pub keeps : IsWellTyped program.structs program.units program.entry
+  pub well_typed : IsWellTyped program.structs program.units program.entry
   pub agrees : AreActivitiesOf program.units machine
   pub there : slice_get program.units program.entry ≡ Some unit
   pub funcs : file.funcs ≡ (written program machine).funcs
@@ -50,9 +50,9 @@ pub record IsWritten (program : Program) (machine : List InMachine) (unit : Unit
 -- the start and the tick of the file run over this table of functions
 pub record Enters (file : Parts) (known : Table Meaning) (unit : UnitDef) (activities : Activities) (entry : ℕ) : Type 0 where
   pub init : (passed : List ArgumentValue) (memory : Memory) →
-      entered file (codes "bl_init") passed memory ≡ function_c known init_function 0 passed memory
+      call_from_outside file (codes "bl_init") passed memory ≡ function_c known init_function 0 passed memory
   pub tick : (passed : List ArgumentValue) (memory : Memory) →
-      entered file (codes "bl_tick") passed memory ≡ function_c known (tick_function unit (remembers_any (activities entry))) 0 passed memory
+      call_from_outside file (codes "bl_tick") passed memory ≡ function_c known (tick_function unit (remembers_any (activities entry))) 0 passed memory
 
 -- the start and the tick of a file do what the needed functions do, in each file written of a program
 abbrev pub FilesEnter : Type 0

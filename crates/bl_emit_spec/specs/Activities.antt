@@ -29,9 +29,9 @@ use Rattle.bl_emit_acts.specs.Trees.{c_read, c_two, nowhere}
 use Rattle.bl_emit_acts.specs.Types.{c_scalar, copy_name, unit_name}
 use Rattle.bl_emit_acts.specs.Expressions.{scalar_at}
 use Rattle.bl_emit_functions.specs.Functions.{members_of, memory_name, params_from, struct_of}
-use Rattle.bl_machine_pass.specs.Transitions.{Asked, Change, Transition}
+use Rattle.bl_machine_pass.specs.Transitions.{Change, Condition, Transition}
 use Rattle.bl_machine_pass.specs.Transitions.{Ended, Flagged, Rested, RestedIn, SetsMark, rules}
-pub use Rattle.bl_machine_transitions.specs.Callees.{callees_in, number_in}
+pub use Rattle.bl_machine_transitions.specs.Callees.{callees_in, node_number}
 use Rattle.bl_emit_spec.specs.Blocks.{ActivityView, NodeCode, Sizes, counter_type, counter_value, merged_code, name_in, turns_of}
 use Rattle.bl_emit_spec.specs.Names.{callee_name, counter_name, counter_place, ended_name, flag_name, flag_place, frame_name}
 use Rattle.bl_emit_spec.specs.Names.{given_name, mark_name, rested_name, rested_place}
@@ -83,14 +83,14 @@ abbrev pub copies_of : UnitDef → List Bool
 copies_of unit = map (λ k. list_any (nat_eq k) (prevs_of unit)) (up_to (length unit.vars))
 
 -- whether a rule asks what the counter held when the tick began
-abbrev pub reads_counter : ℕ → Asked → Bool
+abbrev pub reads_counter : ℕ → Condition → Bool
 reads_counter k Flagged = false
 reads_counter k (Rested slot) = nat_eq k slot.counter
 reads_counter k (RestedIn slots) = list_any (λ slot. nat_eq k slot.counter) slots
 reads_counter k (Ended age needed) = false
 
 -- whether the rule asks for a flag
-abbrev pub is_flagged : Asked → Bool
+abbrev pub is_flagged : Condition → Bool
 is_flagged Flagged = true
 is_flagged (Rested slot) = false
 is_flagged (RestedIn slots) = false
@@ -98,15 +98,15 @@ is_flagged (Ended age needed) = false
 
 -- whether some rule asks what the counter held
 abbrev pub is_read_by : List Transition → ℕ → Bool
-is_read_by rules k = list_any (λ rule. reads_counter k rule.asked) rules
+is_read_by rules k = list_any (λ rule. reads_counter k rule.condition) rules
 
 -- the view that an activity's blocks have of it
-abbrev pub view_of : Activity → ActivityView
-view_of a = record {
+abbrev pub activity_view : Activity → ActivityView
+activity_view a = record {
   site = site_of a.structs a.earlier a.unit;
   copies = copies_of a.unit;
-  number = number_in a.order (body_of a);
-  run = run_number_in (number_in a.order (body_of a)) (rules_at a);
+  number = node_number a.order (body_of a);
+  run = run_number_in (node_number a.order (body_of a)) (rules_at a);
   sizes = a.sizes;
   is_read = is_read_by (rules_at a);
   remembers = λ k. unwrap_or (slice_get a.remember k) false;
@@ -132,7 +132,7 @@ one_a_place (run ∷ rest) = run ∷ filter (λ other. not (same_place run.place
 
 -- the first `run` of each place of an activity, in source order
 abbrev pub runs_in_body : Activity → List RunAt
-runs_in_body a = one_a_place (runs_at (view_of a).number (callees_in (body_of a)) (rules_at a))
+runs_in_body a = one_a_place (runs_at (activity_view a).number (callees_in (body_of a)) (rules_at a))
 
 -- ---- structs
 
@@ -159,7 +159,7 @@ frame_struct a = record {
 -- the struct member for what the activity that a `run` calls remembers, if anything
 abbrev pub memory_member : Activity → RunAt → List CMember
 memory_member a run =
-    if (view_of a).remembers run.unit
+    if (activity_view a).remembers run.unit
     then struct_member (callee_name run.number) (memory_name (name_in (slice_get a.earlier run.unit))) ∷ []
     else []
 
@@ -208,7 +208,7 @@ scalar_local s name = record { ty = OfScalar s; name = name }
 
 -- the counters of which some rule asks what they held, in order
 abbrev pub counters_read : Activity → List ℕ
-counters_read a = filter (view_of a).is_read (up_to (length a.sizes))
+counters_read a = filter (activity_view a).is_read (up_to (length a.sizes))
 
 -- the local of what a counter held when the tick began
 abbrev pub rested_local : Sizes → ℕ → CLocal
@@ -216,7 +216,7 @@ rested_local sizes k = scalar_local (counter_type sizes k) (rested_name k)
 
 -- the local for the flag of a node that waits by one
 abbrev pub flag_local : (Node → ℕ) → Transition → List CLocal
-flag_local number rule = if is_flagged rule.asked then scalar_local OfBool (flag_name (number rule.node)) ∷ [] else []
+flag_local number rule = if is_flagged rule.condition then scalar_local OfBool (flag_name (number rule.node)) ∷ [] else []
 
 -- the local for a mark that a change sets
 abbrev pub mark_local : (Node → ℕ) → Change → List CLocal
@@ -225,7 +225,7 @@ mark_local number change = []
 
 -- the locals for the marks that a rule sets
 abbrev pub mark_locals : (Node → ℕ) → Transition → List CLocal
-mark_locals number rule = joined (map (mark_local number) rule.so)
+mark_locals number rule = joined (map (mark_local number) rule.on_true)
 
 -- the local for the copy of a variable
 abbrev pub copy_local : Activity → ℕ → CLocal
@@ -249,8 +249,8 @@ run_locals a run =
 abbrev pub activity_locals : Activity → List CLocal
 activity_locals a =
     map (rested_local a.sizes) (counters_read a)
-    ++ (joined (map (flag_local (view_of a).number) (rules_at a))
-    ++ (joined (map (mark_locals (view_of a).number) (rules_at a))
+    ++ (joined (map (flag_local (activity_view a).number) (rules_at a))
+    ++ (joined (map (mark_locals (activity_view a).number) (rules_at a))
     ++ (map (copy_local a) (copied_in a) ++ joined (map (run_locals a) (runs_in_body a)))))
 
 -- what a counter holds as the tick begins is copied
@@ -270,7 +270,7 @@ picked all (k ∷ rest) = option_to_list (slice_get all k) ++ picked all rest
 
 -- the turns of nodes in source order
 abbrev pub turns_in_source : Activity → List NodeCode
-turns_in_source a = turns_of (view_of a) (callees_in (body_of a)) (rules_at a)
+turns_in_source a = turns_of (activity_view a) (callees_in (body_of a)) (rules_at a)
 
 -- the `if`s of blocks, which have nodes by their positions
 abbrev pub blocks_code : List NodeCode → List (List ℕ) → List CStmt
@@ -285,7 +285,7 @@ blocks_in_order a = blocks_code (turns_in_source a) a.blocks
 abbrev pub activity_code : Activity → List CStmt
 activity_code a =
     map rested_code (counters_read a)
-    ++ (entry_code (view_of a) (body_of a) ++ (map (c_copied (view_of a).site) (copied_in a) ++ blocks_in_order a))
+    ++ (entry_code (activity_view a) (body_of a) ++ (map (c_copied (activity_view a).site) (copied_in a) ++ blocks_in_order a))
 
 -- the C function of an activity
 abbrev pub activity_function : Activity → CFunc

@@ -27,7 +27,7 @@ use Rattle.bl_emit_acts.specs.Expressions.{c_compare, stands}
 use Rattle.bl_emit_acts.specs.Trees.{c_call, c_literal, c_not, c_read, c_two}
 use Rattle.bl_emit_functions.specs.Statements.{else_code}
 use Rattle.bl_emit_functions.specs.Trees.{c_if, c_truth}
-use Rattle.bl_machine_pass.specs.Transitions.{Age, Asked, Change, Needed, Transition}
+use Rattle.bl_machine_pass.specs.Transitions.{Age, Change, Condition, Needed, Transition}
 use Rattle.bl_machine_pass.specs.Transitions.{ClearsBoth, ClearsCounter, Ended, EndsWhen, Finishes, Flagged, IsAny, IsNew, IsOld, Rested, RestedIn, SetsCounter, SetsFlag, SetsMark}
 use Rattle.bl_emit_spec.specs.Names.{callee_frame, callee_memory, counter_place, ended_place, flag_place, frame_name, given_place}
 use Rattle.bl_emit_spec.specs.Names.{mark_place, over_place, rested_place, result_place}
@@ -161,7 +161,7 @@ aged_test view (IsOld n) ends = c_two And (c_not (c_read (mark_place (view.numbe
 aged_test view IsAny ends = ends
 
 -- what is asked before the node acts
-abbrev pub guard_of : ActivityView → Node → Asked → CExpr
+abbrev pub guard_of : ActivityView → Node → Condition → CExpr
 guard_of view n Flagged = c_read (flag_place (view.number n))
 guard_of view n (Rested slot) = rested_at view slot
 guard_of view n (RestedIn slots) = rested_in view slots
@@ -256,33 +256,33 @@ spelled_truth e = spelled_in_kind (out-CExprKind (out-CExpr e).what)
 
 -- the side that a test takes, where its truth is spelled, and else an `if`
 abbrev pub choice_code : CExpr → Option Bool → List CStmt → List CStmt → List CStmt
-choice_code test None so other = c_if test so (else_code other) ∷ []
-choice_code test (Some true) so other = so
-choice_code test (Some false) so other = other
+choice_code test None on_true on_false = c_if test on_true (else_code on_false) ∷ []
+choice_code test (Some true) on_true on_false = on_true
+choice_code test (Some false) on_true on_false = on_false
 
 -- a test: changes where it is true, and others where it is false. A literal takes its side without an `if`
-abbrev pub tested : ActivityView → CExpr → Transition → List CStmt
-tested view test rule = choice_code test (spelled_truth test) (changes_code view rule.so) (changes_code view rule.otherwise)
+abbrev pub test_code : ActivityView → CExpr → Transition → List CStmt
+test_code view test rule = choice_code test (spelled_truth test) (changes_code view rule.on_true) (changes_code view rule.on_false)
 
 -- what a `run` at a node does where it begins, and where it goes on; the number is that of its place
 abbrev pub begun_code : ActivityView → ℕ → ℕ → Arguments → Transition → List CStmt
 begun_code view k a arguments rule =
     c_clear (callee_frame k) (frame_name (name_in (slice_get view.site.earlier a)))
-    ∷ (run_code view k a arguments ++ changes_code view rule.so)
+    ∷ (run_code view k a arguments ++ changes_code view rule.on_true)
 
 abbrev pub resumed_code : ActivityView → ℕ → ℕ → Arguments → Transition → List CStmt
 resumed_code view k a arguments rule =
     run_code view k a arguments
-    ++ c_if (c_read (ended_place k)) (target_code view k arguments.target ++ changes_code view rule.so) None ∷ []
+    ++ c_if (c_read (ended_place k)) (target_code view k arguments.target ++ changes_code view rule.on_true) None ∷ []
 
 -- what a node does in its turn, by its rule; of a `run` the number tells the activity that it calls
 abbrev pub node_code : ActivityView → ℕ → Transition → Node → List CStmt
-node_code view a rule (ActAt l s) = acted view s ++ changes_code view rule.so
-node_code view a rule (TestAt l at e) = tested view (code_made view.site e) rule
-node_code view a rule (CheckAt l at e) = tested view (code_made view.site e) rule
+node_code view a rule (ActAt l s) = acted view s ++ changes_code view rule.on_true
+node_code view a rule (TestAt l at e) = test_code view (code_made view.site e) rule
+node_code view a rule (CheckAt l at e) = test_code view (code_made view.site e) rule
 node_code view a rule (EnterAt l at arguments) = begun_code view (view.run at) a arguments rule
 node_code view a rule (ResumeAt l at arguments) = resumed_code view (view.run at) a arguments rule
-node_code view a rule n = changes_code view rule.so
+node_code view a rule n = changes_code view rule.on_true
 
 -- the turn of a node in C: what is asked before it, and what it does then
 pub record NodeCode : Type 0 where
@@ -299,15 +299,15 @@ merged_code [] = []
 merged_code (first ∷ rest) = c_if first.test (first.code ++ map turn_code rest) None ∷ []
 
 -- the turn of a rule's node; of a `run` the number tells the activity that it calls
-abbrev pub turn_of : ActivityView → ℕ → Transition → NodeCode
-turn_of view a rule = record { test = guard_of view rule.node rule.asked; code = node_code view a rule rule.node }
+abbrev pub node_turn : ActivityView → ℕ → Transition → NodeCode
+node_turn view a rule = record { test = guard_of view rule.node rule.condition; code = node_code view a rule rule.node }
 
 -- the `if` of a rule's node
 abbrev pub block_code : ActivityView → ℕ → Transition → CStmt
-block_code view a rule = turn_code (turn_of view a rule)
+block_code view a rule = turn_code (node_turn view a rule)
 
 -- the turns of nodes that have these rules, each with the activity that it calls
 abbrev pub turns_of : ActivityView → List ℕ → List Transition → List NodeCode
 turns_of view [] rules = []
 turns_of view callees [] = []
-turns_of view (a ∷ callees) (rule ∷ rules) = turn_of view a rule ∷ turns_of view callees rules
+turns_of view (a ∷ callees) (rule ∷ rules) = node_turn view a rule ∷ turns_of view callees rules

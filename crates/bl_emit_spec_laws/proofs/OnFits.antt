@@ -8,7 +8,7 @@ pub turns_fit : PassesKeepTypes → AllTurnsFit
 turns_fit keep structs units entry machine activities = record {
   performs = λ i unit rule frames store answer frames' left compiled is has fits performs.
       let w = setting_of structs units entry in
-      (keep structs units entry compiled.keeps).performs (rank_by w activities) (slots_by w activities) (cleared w) i unit rule frames store answer
+      (keep structs units entry compiled.well_typed).performs (rank_by w activities) (slots_by w activities) (cleared w) i unit rule frames store answer
       frames' left is has fits performs;
-  copies = λ i unit n left copies compiled is fits all. (keep structs units entry compiled.keeps).copies i unit n left copies is fits all;
+  copies = λ i unit n left copies compiled is fits all. (keep structs units entry compiled.well_typed).copies i unit n left copies is fits all;
 }

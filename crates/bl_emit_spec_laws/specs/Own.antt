@@ -11,7 +11,7 @@ use Rattle.bl_machine.specs.Layout.{places_in}
 use Rattle.bl_machine.specs.Machines.{AreActivitiesOf}
 use Rattle.bl_machine_pass.specs.SlotLayout.{Spot, slot_at, spots_in}
 use Rattle.bl_machine_pass.specs.Transitions.{Transition, rules}
-use Rattle.bl_emit_spec.specs.Activities.{Activity, view_of}
+use Rattle.bl_emit_spec.specs.Activities.{Activity, activity_view}
 use Rattle.bl_emit_spec.specs.Blocks.{Sizes}
 use Rattle.bl_emit_spec_laws.specs.Registers.Laws.{CopiesAgree, asks_its_own, changes_its_own}
 use Rattle.bl_emit_spec_laws.specs.Registers.Registers.{FewRegisters}
@@ -42,11 +42,11 @@ PlacesCount =
 abbrev pub CopiesAreCounters : Type 0
 CopiesAreCounters =
     (structs : List StructDef) (units : List UnitDef) (machine : List InMachine) (activities : Activities) (k : ℕ) (unit : UnitDef) (c : ℕ) →
-    BuiltAt structs units machine activities k unit → (view_of (activities k)).is_read c ≡ true → c < length (activities k).sizes
+    BuiltAt structs units machine activities k unit → (activity_view (activities k)).is_read c ≡ true → c < length (activities k).sizes
 
 -- the registers have copies of exactly these
 abbrev pub CopiesAreRead : Type 0
-CopiesAreRead = (a : Activity) → CopiesAgree (view_of a) (registered a)
+CopiesAreRead = (a : Activity) → CopiesAgree (activity_view a) (registered a)
 
 -- all that a rule changes is a register
 abbrev pub ChangesAreOwn : Type 0
@@ -55,8 +55,8 @@ ChangesAreOwn =
     (rule : Transition) →
     BuiltAt structs units machine activities k unit → Contains (rules (activities k).slots (plain_body unit.body)) rule →
     let a = activities k in
-    (list_all (changes_its_own (view_of a).number (registered a)) rule.so ≡ true)
-    × (list_all (changes_its_own (view_of a).number (registered a)) rule.otherwise ≡ true)
+    (list_all (changes_its_own (activity_view a).number (registered a)) rule.on_true ≡ true)
+    × (list_all (changes_its_own (activity_view a).number (registered a)) rule.on_false ≡ true)
 
 -- all that a rule asks is told by registers, where there are few enough resting places for a counter
 abbrev pub AskedAreOwn : Type 0
@@ -65,7 +65,7 @@ AskedAreOwn =
     (rule : Transition) →
     BuiltAt structs units machine activities k unit → places_in (plain_body unit.body) < 2 ^ 32 →
     Contains (rules (activities k).slots (plain_body unit.body)) rule →
-    asks_its_own (view_of (activities k)) (registered (activities k)) rule.node rule.asked ≡ true
+    asks_its_own (activity_view (activities k)) (registered (activities k)) rule.node rule.condition ≡ true
 
 -- the numbers of registers are small, where there are few enough nodes and counters
 abbrev pub RegistersAreFew : Type 0

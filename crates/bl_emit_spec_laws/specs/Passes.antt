@@ -15,8 +15,8 @@ use Rattle.bl_machine_pass.specs.Transitions.{Change, Flagged, Transition}
 use Rattle.bl_machine_pass_laws_execution.specs.Executes.{HasRule, IsPoint, Performs, begun_registers, recopied}
 use Rattle.bl_machine_pass_laws.specs.Flags.{MayFlag}
 use Rattle.bl_machine_pass_laws_execution.specs.Frames.{Frames}
-use Rattle.bl_emit_spec.specs.Activities.{Activity, picked, turns_in_source, view_of}
-use Rattle.bl_emit_spec.specs.Blocks.{NodeCode, turn_of}
+use Rattle.bl_emit_spec.specs.Activities.{Activity, activity_view, picked, turns_in_source}
+use Rattle.bl_emit_spec.specs.Blocks.{NodeCode, node_turn}
 use Rattle.bl_emit_spec_laws.specs.Calls.Built.{Activities, activity_at, cleared, rank_by, slots_by}
 use Rattle.bl_emit_spec_laws.specs.Calls.Laws.{BlocksSimulate, CalledAt, CompilationContext, GuardsChoose, PassesSimulate}
 use Rattle.bl_emit_spec_laws.specs.Within.{PassesStayWithin}
@@ -45,7 +45,7 @@ IsBehind a number = slice_get (behind_firsts (turns_in_blocks a)) number ≡ Som
 pub record BlockAt (a : Activity) (unit : UnitDef) (number : ℕ) (rule : Transition) : Type 0 where
   pub u : ℕ
   pub called : CalledAt (plain_body unit.body) rule.node u
-  pub turn : slice_get (joined (turns_in_blocks a)) number ≡ Some (turn_of (view_of a) u rule)
+  pub turn : slice_get (joined (turns_in_blocks a)) number ≡ Some (node_turn (activity_view a) u rule)
 
 -- a rule whose node has the number
 pub record RuleAt (w : Setting) (activities : Activities) (i : ℕ) (unit : UnitDef) (number : ℕ) : Type 0 where
@@ -64,11 +64,11 @@ pub record BlocksPlaced (structs : List StructDef) (units : List UnitDef) (entry
   -- a node behind another one in its block waits by its flag
   pub waits : (i : ℕ) (unit : UnitDef) (rule : Transition) → let w = setting_of structs units entry in
       CompilationContext structs units entry machine activities → unit_at w i ≡ Some unit → HasRule (slots_by w activities) i unit rule →
-      IsBehind (activity_at w activities i) (rank_by w activities i rule.node) → rule.asked ≡ Flagged
+      IsBehind (activity_at w activities i) (rank_by w activities i rule.node) → rule.condition ≡ Flagged
   -- the flag of a node behind another one in its block is set only by the rule of the node before it
   pub before : (i : ℕ) (unit : UnitDef) (rule : Transition) (change : Change) (m : Node) → let w = setting_of structs units entry in
       CompilationContext structs units entry machine activities → unit_at w i ≡ Some unit → HasRule (slots_by w activities) i unit rule →
-      Contains rule.so change ⊎ Contains rule.otherwise change → MayFlag change m →
+      Contains rule.on_true change ⊎ Contains rule.on_false change → MayFlag change m →
       IsBehind (activity_at w activities i) (rank_by w activities i m) → rank_by w activities i m ≡ suc (rank_by w activities i rule.node)
   -- the flag of a node behind the first of its block isn't set as a body begins
   pub begins : (i : ℕ) (unit : UnitDef) (number : ℕ) → let w = setting_of structs units entry in

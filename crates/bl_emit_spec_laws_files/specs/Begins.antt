@@ -10,7 +10,7 @@ use Rattle.bl_ctree.specs.Instances.{setting_of, unit_at}
 use Rattle.bl_ctree.specs.Store.{Store, view_at}
 use Rattle.bl_emit_acts_laws_simulation.specs.Encodes.{VariablesEncoded}
 use Rattle.bl_emit_functions_laws_simulation.specs.Units.{AllAgree}
-use Rattle.bl_emit_spec.specs.Activities.{Activity, remembers_any, view_of}
+use Rattle.bl_emit_spec.specs.Activities.{Activity, activity_view, remembers_any}
 use Rattle.bl_machine.specs.declared.machine.Activity.{Activity as InMachine}
 use Rattle.bl_machine_pass_laws_execution.specs.Frames.{Frames}
 use Rattle.bl_emit_spec_laws.specs.Calls.Built.{Activities, activity_at, site_at, unit_number}
@@ -56,7 +56,7 @@ VariablesBegin structs units entry =
 -- all counters of which a rule asks what they held are counters of the activity, which has one at least
 pub record CountersSuffice (a : Activity) : Type 0 where
   pub some : 0 < length a.sizes
-  pub asked : (k : ℕ) → (view_of a).is_read k ≡ true → k < length a.sizes
+  pub asked : (k : ℕ) → (activity_view a).is_read k ≡ true → k < length a.sizes
 
 -- functions begin as passes do where that holds of each activity
 abbrev pub FunctionsBeginWhere : List StructDef → List UnitDef → ℕ → Type 0

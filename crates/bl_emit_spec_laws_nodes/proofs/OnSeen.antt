@@ -92,8 +92,8 @@ pub own_is_seen : ActsAreSeen → OwnIsSeen
 own_is_seen acts structs units entry machine activities compiled i unit l s store left values acted =
     let w = setting_of structs units entry in
     let at = stands_at structs units entry i unit acted.is_there in
-    acts structs units entry i at.instance unit s store left values compiled.keeps compiled.passes at.there at.of
-    (act_fits structs units entry compiled.keeps i unit acted.is_there acted.position l s acted.node) acted.fitting acted.outcome
+    acts structs units entry i at.instance unit s store left values compiled.well_typed compiled.passes at.there at.of
+    (act_fits structs units entry compiled.well_typed i unit acted.is_there acted.position l s acted.node) acted.fitting acted.outcome
     (acted_left (acted_kind w i s (stmt_kind s) store) left acted.done)
 
 -- ---- targets
@@ -111,9 +111,9 @@ module _ (targets : seen.TargetsAreSeen) (puts : PutsKeepOthers) (structs : List
 
   own : put_at (static_of path).root (static_of path).fields value (view_at W store i).now ≡ Some (view_at W left i).now
   own =
-      let run = run_fits structs units entry compiled.keeps i given.unit given.is_there given.label given.at given.arguments given.node in
+      let run = run_fits structs units entry compiled.well_typed i given.unit given.is_there given.label given.at given.arguments given.node in
       let at = stands_at structs units entry i given.unit given.is_there in
-      targets structs units entry i given.unit (take at.instance.unit units) run.callee.result path value store compiled.keeps compiled.passes
+      targets structs units entry i given.unit (take at.instance.unit units) run.callee.result path value store compiled.well_typed compiled.passes
       given.is_there
       (subst (λ target. target_fits (site_of structs (take at.instance.unit units) given.unit) run.callee.result target ≡ true) given.target
       run.target)

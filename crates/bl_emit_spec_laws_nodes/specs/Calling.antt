@@ -12,8 +12,8 @@ use Rattle.bl_tree.specs.Static.{static_of}
 use Rattle.bl_tree.specs.Typing.{TypingContext, is_activity, var_at}
 use Rattle.bl_graph_nodes.specs.Nodes.{Arguments, EnterAt, nodes_in}
 use Rattle.bl_graph_nodes.specs.Plain.{Label, plain_body}
-use Rattle.bl_ctext_semantics.specs.Meaning.{ArgumentValue, CallResult, Scope, applied, call_c, later_call, start_of}
-use Rattle.bl_ctext_semantics.specs.Memory.{Location, Memory, number_in, value_at}
+use Rattle.bl_ctext_semantics.specs.Meaning.{ArgumentValue, CallResult, Scope, applied, call_c, later_call, named_location}
+use Rattle.bl_ctext_semantics.specs.Memory.{Location, Memory, scalar_number, value_at}
 use Rattle.bl_ctree.specs.Actions.{Copies, Gives, result_at}
 use Rattle.bl_ctree.specs.Instances.{Setting, callee_of, setting_of, unit_at}
 use Rattle.bl_ctree.specs.Store.{Store, number_or_zero, view_at}
@@ -26,7 +26,7 @@ use Rattle.bl_emit_acts.specs.Acts.{is_copied, name_of_callee}
 use Rattle.bl_emit_acts.specs.Trees.{c_call}
 use Rattle.bl_emit_acts.specs.Types.{unit_name}
 use Rattle.bl_emit_acts_laws_simulation.specs.Encodes.{copied_in, copied_in_path, home_at, location_in, way_to}
-use Rattle.bl_emit_spec.specs.Activities.{copies_of, remembers_any, view_of}
+use Rattle.bl_emit_spec.specs.Activities.{activity_view, copies_of, remembers_any}
 use Rattle.bl_emit_spec.specs.Blocks.{run_args}
 use Rattle.bl_emit_spec.specs.Names.{ended_name, given_name}
 use Rattle.bl_emit_spec_laws.specs.Registers.Registers.{frame_at}
@@ -73,8 +73,8 @@ given_by scope n inputs outputs = record {
   memory = inner (remembered_at scope) n;
   inputs = inputs;
   outputs = outputs;
-  result = start_of scope false (given_name n);
-  over = start_of scope false (ended_name n);
+  result = named_location scope false (given_name n);
+  over = named_location scope false (ended_name n);
 }
 
 -- the place is that of the part of a variable to which a path of names leads
@@ -92,7 +92,7 @@ call_given w activities j other scope n inputs outputs here =
 -- the call that is written for a `run`
 abbrev pub call_written : Setting → Activities → ℕ → ℕ → ℕ → Arguments → Scope → Memory → CallResult
 call_written w activities i n u arguments scope here =
-    let view = view_of (activity_at w activities i) in
+    let view = activity_view (activity_at w activities i) in
     call_c (c_call (name_of_callee (slice_get view.site.earlier u)) (run_args view n u arguments)) scope here
 
 -- memory at the call of a `run` represents what a pass of the callee begins with. The places that it hands over are apart, and outputs are where their paths
@@ -111,7 +111,7 @@ pub record RunEstablishes (w : Setting) (activities : Activities) (i : ℕ) (sco
 
 -- the local that tells whether the callee's body has ended is false
 abbrev pub NotEnded : Scope → ℕ → Memory → Type 0
-NotEnded scope n here = number_in (value_at here (start_of scope false (ended_name n))) ≡ pos 0
+NotEnded scope n here = scalar_number (value_at here (named_location scope false (ended_name n))) ≡ pos 0
 
 -- the call of each `run` establishes what a pass of the callee begins with, and traps where its inputs do
 pub record RunsEstablish (structs : List StructDef) (units : List UnitDef) (entry : ℕ) (machine : List InMachine) (activities : Activities) : Type 0 where
@@ -134,9 +134,9 @@ pub record RunLeaves (w : Setting) (activities : Activities) (i : ℕ) (unit : U
     (frames : Frames) (left : Store) (copies : List Value) (r : Registers) (ended : Bool) (here after : Memory) : Type 0 where
   pub stands : PassRepresents w activities i unit scope frames left copies r after
   pub kept : PassKeepsFrame (site_at w activities i) unit (remembers_any (activity_at w activities i)) scope here after
-  pub over : number_in (value_at after (start_of scope false (ended_name n))) ≡ number_of ended
+  pub over : scalar_number (value_at after (named_location scope false (ended_name n))) ≡ number_of ended
   pub result : (value : Value) → ended ≡ true → is_some other.result ≡ true → result_at left j ≡ Some value →
-      number_in (value_at after (start_of scope false (given_name n))) ≡ number_or_zero value
+      scalar_number (value_at after (named_location scope false (given_name n))) ≡ number_or_zero value
 
 -- the call of each `run` leaves memory that represents what the callee's pass leaves
 abbrev pub RunsLeave : List StructDef → List UnitDef → ℕ → List InMachine → Activities → Type 0

@@ -69,11 +69,11 @@ module _ (structs : List StructDef) (units : List UnitDef) (entry : ℕ) (parts 
       remembering = parts.remembering W activities
           (λ i j unit l at arguments. parts.remember structs units entry machine activities i j unit l at arguments compiled);
       nodes = record {
-        fitting = λ k position unit n. parts.fitting k position unit n compiled.keeps compiled.passes;
-        copied = λ k position unit n. parts.copied structs units entry k position unit n compiled.keeps;
+        fitting = λ k position unit n. parts.fitting k position unit n compiled.well_typed compiled.passes;
+        copied = λ k position unit n. parts.copied structs units entry k position unit n compiled.well_typed;
       };
-      apart = parts.apart compiled.keeps compiled.passes;
-      views = λ i unit store there fits. (parts.views structs units entry i unit store compiled.keeps there fits).now;
+      apart = parts.apart compiled.well_typed compiled.passes;
+      views = λ i unit store there fits. (parts.views structs units entry i unit store compiled.well_typed there fits).now;
       agree = parts.prevs;
       seen = parts.acts structs units entry machine activities compiled (parts.seen structs units entry machine activities compiled);
     }
@@ -83,14 +83,14 @@ module _ (structs : List StructDef) (units : List UnitDef) (entry : ℕ) (parts 
         let points = parts.points machine activities (λ ok. points_stand) in
         parts.activities structs units entry machine activities parts.functions
         (parts.begin machine activities (parts.remember structs units entry machine activities)
-        (parts.counters structs units entry machine activities compiled.keeps compiled.passes compiled.agrees compiled.built))
+        (parts.counters structs units entry machine activities compiled.well_typed compiled.passes compiled.agrees compiled.built))
         (parts.pointers machine activities)
-        (λ i unit store ok there fits. (parts.views structs units entry i unit store ok.keeps there fits).now)
+        (λ i unit store ok there fits. (parts.views structs units entry i unit store ok.well_typed there fits).now)
         (parts.remember structs units entry machine activities)
         (parts.pass structs units entry machine activities (parts.placed structs units entry machine activities)
         (parts.turns structs units entry machine activities) (parts.stay structs units entry machine activities) points.0
         (parts.runs machine activities
-        (parts.given machine activities (parts.runs_copied structs units entry compiled.keeps)) (parts.left structs units entry machine activities)
+        (parts.given machine activities (parts.runs_copied structs units entry compiled.well_typed)) (parts.left structs units entry machine activities)
         (parts.targets structs units entry machine activities compiled) (λ ok. points_stand)) points.1)
 
 pub whole : (structs : List StructDef) (units : List UnitDef) (entry : ℕ) → Parts structs units entry → CompiledSimulate structs units entry

@@ -19,7 +19,7 @@ marks_in (change ∷ rest) = marks_in rest
 
 -- the flag that a rule asks for, and the marks that it sets
 abbrev pub rule_extras : Transition → ℕ
-rule_extras rule = (if is_flagged rule.asked then 1 else 0) + marks_in rule.so
+rule_extras rule = (if is_flagged rule.condition then 1 else 0) + marks_in rule.on_true
 
 -- the flags that rules ask for, and the marks that they set, counted
 abbrev pub extras : List Transition → ℕ

@@ -6,7 +6,8 @@ use Rattle.bl_tree.specs.Reduce.{joined}
 use Rattle.bl_tree.specs.Words.{are_distinct}
 use Rattle.bl_graph_nodes.specs.Nodes.{Node}
 use Rattle.bl_machine_pass.specs.Transitions.{Change, SetsMark, Transition}
-use Rattle.bl_emit_spec.specs.Activities.{Activity, activity_locals, activity_params, frame_struct, is_flagged, remembered, rules_at, runs_in_body, view_of}
+use Rattle.bl_emit_spec.specs.Activities.{Activity, activity_locals, activity_params, activity_view, frame_struct, is_flagged, remembered, rules_at}
+use Rattle.bl_emit_spec.specs.Activities.{runs_in_body}
 
 -- whether 64 bits hold some numbers, and no two are the same
 abbrev pub are_numbers : List ℕ → Bool
@@ -15,7 +16,7 @@ are_numbers (k ∷ rest) = nat_lt k (2 ^ 64) && (not (list_any (nat_eq k) rest) 
 
 -- the number of a rule's node, where the rule asks for its flag
 abbrev pub flag_number : (Node → ℕ) → Transition → List ℕ
-flag_number number rule = if is_flagged rule.asked then number rule.node ∷ [] else []
+flag_number number rule = if is_flagged rule.condition then number rule.node ∷ [] else []
 
 -- the number of the node whose mark a change sets
 abbrev pub mark_number : (Node → ℕ) → Change → List ℕ
@@ -24,14 +25,14 @@ mark_number number change = []
 
 -- the numbers of the nodes whose marks a rule sets
 abbrev pub mark_numbers : (Node → ℕ) → Transition → List ℕ
-mark_numbers number rule = joined (map (mark_number number) rule.so)
+mark_numbers number rule = joined (map (mark_number number) rule.on_true)
 
 -- 64 bits hold the numbers in the names of an activity's C, and those of flags, of marks and of `run`s differ
 pub record NumbersDiffer (a : Activity) : Type 0 where
   pub variables : length a.unit.vars ≤ 2 ^ 64
   pub counters : length a.sizes ≤ 2 ^ 64
-  pub flags : are_numbers (joined (map (flag_number (view_of a).number) (rules_at a))) ≡ true
-  pub marks : are_numbers (joined (map (mark_numbers (view_of a).number) (rules_at a))) ≡ true
+  pub flags : are_numbers (joined (map (flag_number (activity_view a).number) (rules_at a))) ≡ true
+  pub marks : are_numbers (joined (map (mark_numbers (activity_view a).number) (rules_at a))) ≡ true
   pub runs : are_numbers (map (λ run. run.number) (runs_in_body a)) ≡ true
 
 -- no two parameters and locals of the C function of an activity have one name

@@ -7,7 +7,7 @@ use Rattle.bl_tree.specs.Program.{IsWellTyped}
 use Rattle.bl_tree.specs.Typing.{TypingContext, site_of}
 use Rattle.bl_graph_nodes.specs.Nodes.{Node, nodes_in}
 use Rattle.bl_graph_nodes.specs.Plain.{plain_body}
-use Rattle.bl_emit_spec.specs.Activities.{Activity, body_of, callees_in, rules_at, view_of}
+use Rattle.bl_emit_spec.specs.Activities.{Activity, activity_view, body_of, callees_in, rules_at}
 use Rattle.bl_emit_spec_laws_wellformed.specs.Spelled.{all_fit, node_fits, rule_fits}
 
 -- whether what is done at each of these nodes fits where it stands, and is nested at most 200 deep, each with the activity that it calls
@@ -28,4 +28,4 @@ RulesFit structs units entry =
     (k : ℕ) (a : Activity) → IsWellTyped structs units entry → a.structs ≡ structs → a.earlier ≡ take k units →
     slice_get units k ≡ Some a.unit →
     list_all (rule_fits a.sizes) (rules_at a) ≡ true →
-    all_fit a.sizes (view_of a).site (callees_in (body_of a)) (rules_at a) ≡ true
+    all_fit a.sizes (activity_view a).site (callees_in (body_of a)) (rules_at a) ≡ true

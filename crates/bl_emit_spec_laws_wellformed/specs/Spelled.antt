@@ -12,9 +12,9 @@ use Rattle.bl_ctext.specs.Spellable.{has_any, spells_struct}
 use Rattle.bl_ctext.specs.inner.Fits.{func_fits}
 use Rattle.bl_machine.specs.declared.slots.Slot.{Slot}
 use Rattle.bl_graph_nodes.specs.Nodes.{ActAt, Arguments, CheckAt, EnterAt, Node, ResumeAt, TestAt}
-use Rattle.bl_machine_pass.specs.Transitions.{Asked, Change, Transition}
+use Rattle.bl_machine_pass.specs.Transitions.{Change, Condition, Transition}
 use Rattle.bl_machine_pass.specs.Transitions.{ClearsBoth, ClearsCounter, Ended, Flagged, Rested, RestedIn, SetsCounter}
-use Rattle.bl_emit_spec.specs.Activities.{Activity, activity_function, body_of, callees_in, frame_struct, remembered_struct, rules_at, view_of}
+use Rattle.bl_emit_spec.specs.Activities.{Activity, activity_function, activity_view, body_of, callees_in, frame_struct, remembered_struct, rules_at}
 use Rattle.bl_emit_spec.specs.Blocks.{Sizes, counter_type}
 
 -- whether 64 bits hold the number of a resting place's counter, and its value is one of the counter's type
@@ -35,16 +35,16 @@ slots_fit sizes (slot ∷ rest) =
     list_all (slot_fits sizes) (slot ∷ rest) && list_all (λ other. nat_eq other.counter slot.counter) rest
 
 -- whether 64 bits hold and count the counters in a rule's question, and the values are ones of them
-abbrev pub asked_fits : Sizes → Asked → Bool
-asked_fits sizes Flagged = true
-asked_fits sizes (Rested slot) = slot_fits sizes slot
-asked_fits sizes (RestedIn slots) = slots_fit sizes slots
-asked_fits sizes (Ended age needed) = list_all (slot_fits sizes) needed.slots && nat_le (length needed.slots) (2 ^ 64)
+abbrev pub condition_fits : Sizes → Condition → Bool
+condition_fits sizes Flagged = true
+condition_fits sizes (Rested slot) = slot_fits sizes slot
+condition_fits sizes (RestedIn slots) = slots_fit sizes slots
+condition_fits sizes (Ended age needed) = list_all (slot_fits sizes) needed.slots && nat_le (length needed.slots) (2 ^ 64)
 
 -- whether 64 bits hold the counters in a rule, and the values are ones of them
 abbrev pub rule_fits : Sizes → Transition → Bool
 rule_fits sizes rule =
-    asked_fits sizes rule.asked && (list_all (change_fits sizes) rule.so && list_all (change_fits sizes) rule.otherwise)
+    condition_fits sizes rule.condition && (list_all (change_fits sizes) rule.on_true && list_all (change_fits sizes) rule.on_false)
 
 -- whether a `run` of this activity fits where it stands, and is nested at most 200 deep
 abbrev pub run_stands : TypingContext → ℕ → Arguments → Bool
@@ -75,8 +75,8 @@ pub record CanSpell (structs : List StructDef) (units : List UnitDef) (k : ℕ) 
   pub there : slice_get units k ≡ Some a.unit
   pub variables : length a.unit.vars ≤ 2 ^ 64
   pub counters : length a.sizes ≤ 2 ^ 64
-  pub numbers : (n : Node) → (view_of a).number n < 2 ^ 64
-  pub rules : all_fit a.sizes (view_of a).site (callees_in (body_of a)) (rules_at a) ≡ true
+  pub numbers : (n : Node) → (activity_view a).number n < 2 ^ 64
+  pub rules : all_fit a.sizes (activity_view a).site (callees_in (body_of a)) (rules_at a) ≡ true
 
 -- the C function of an activity has a spelling, in which no more brackets are open at once than a C text may have
 abbrev pub ActivitiesFit : List StructDef → List UnitDef → ℕ → Type 0

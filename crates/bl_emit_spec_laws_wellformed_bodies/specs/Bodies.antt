@@ -32,12 +32,12 @@ use Rattle.bl_emit_spec.specs.Activities.{
   RunAt,
   activity_code,
   activity_function,
+  activity_view,
   copies_of,
   frame_struct,
   remembered_struct,
   rules_at,
   runs_in_body,
-  view_of,
 }
 use Rattle.bl_emit_spec.specs.Blocks.{name_in}
 use Rattle.bl_emit_spec.specs.Names.{frame_name}
@@ -80,17 +80,17 @@ pub record ActivityStands (units : List UnitDef) (a : Activity) (table : Table (
   pub known : (f : ℕ) (callee : UnitDef) → slice_get a.earlier f ≡ Some callee → is_function callee.kind ≡ true →
       functions (unit_name callee.name) ≡ Some (signature_for a.structs callee)
   pub called : (f : ℕ) (callee : UnitDef) → slice_get a.earlier f ≡ Some callee → is_activity callee.kind ≡ true →
-      functions (unit_name callee.name) ≡ Some (signature_of_activity a.structs callee ((view_of a).remembers f))
+      functions (unit_name callee.name) ≡ Some (signature_of_activity a.structs callee ((activity_view a).remembers f))
 
 -- ---- what is asked of an activity
 
 -- the rules of an activity ask for and change only registers that its function has, and there is a counter
 pub record OwnsRules (a : Activity) : Type 0 where
-  pub asks : (rule : Transition) → Contains (rules_at a) rule → asks_its_own (view_of a) (registered a) rule.node rule.asked ≡ true
-  pub so : (rule : Transition) → Contains (rules_at a) rule → list_all (changes_its_own (view_of a).number (registered a)) rule.so ≡ true
-  pub otherwise : (rule : Transition) → Contains (rules_at a) rule → list_all (changes_its_own (view_of a).number (registered a)) rule.otherwise ≡ true
+  pub asks : (rule : Transition) → Contains (rules_at a) rule → asks_its_own (activity_view a) (registered a) rule.node rule.condition ≡ true
+  pub on_true : (rule : Transition) → Contains (rules_at a) rule → list_all (changes_its_own (activity_view a).number (registered a)) rule.on_true ≡ true
+  pub on_false : (rule : Transition) → Contains (rules_at a) rule → list_all (changes_its_own (activity_view a).number (registered a)) rule.on_false ≡ true
   pub some : 0 < length a.sizes
-  pub read : (c : ℕ) → (view_of a).is_read c ≡ true → c < length a.sizes
+  pub read : (c : ℕ) → (activity_view a).is_read c ≡ true → c < length a.sizes
 
 -- whether all that an act or a `return` names under a `prev` is copied
 abbrev pub act_named : {A B C D : Type 0} → (ℕ → Bool) → StmtKind-F A B C D → Bool

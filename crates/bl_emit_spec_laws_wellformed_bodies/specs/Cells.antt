@@ -37,13 +37,13 @@ abbrev pub ports_of : List StructDef → UnitDef → ℕ
 ports_of structs unit = total (map (λ var. size structs var.ty) (parameters_of unit))
 
 -- the cells of the C function of an activity, and behind it the most that a unit reaches that it calls or runs
-abbrev pub reach_of : Sizes → (ℕ → ℕ) → Activity → ℕ
-reach_of known reach a = own_cells known (activity_function a) + greatest (map reach (needs_of a.unit))
+abbrev pub cells_reached : Sizes → (ℕ → ℕ) → Activity → ℕ
+cells_reached known reach a = own_cells known (activity_function a) + greatest (map reach (needs_of a.unit))
 
 -- what an activity rests at and remembers, and what its C function reaches
 abbrev pub cells_of_activity : Sizes → (ℕ → ℕ) → Activity → ℕ
 cells_of_activity known reach a =
-    total (map (size_of_member known) (frame_struct a).members) + total (map (size_of_member known) (remembered a)) + reach_of known reach a
+    total (map (size_of_member known) (frame_struct a).members) + total (map (size_of_member known) (remembered a)) + cells_reached known reach a
 
 -- the premises for counting the cells of an activity. The table and the reach of callees are within their counts, and there are no more counters than the body
 -- takes

@@ -4,7 +4,7 @@
 ghost use Rattle.std.specs.Prelude.{◌≡◌, IfOk, OnOk, map};
 ghost use Rattle.bl_tree.specs.Reduce.{joined};
 ghost use Rattle.bl_emit_structs.specs.Structs.{arrays_of, structs_for_definition, structs_for_unit, structs_of as needed};
-ghost use Rattle.bl_emit_structs.specs.inner.Added.{after};
+ghost use Rattle.bl_emit_structs.specs.inner.Added.{all_added};
 
 use crate::collected::Collected;
 use bl_emit_acts::{array, definition};
@@ -20,7 +20,7 @@ fn add_arrays(
     ty: &Ty,
     collected: &mut Collected,
 ) -> Result<(), NoMemory>
-    ensures { OnOk result (collected.new ≡ after collected.old (arrays_of structs.now ty.now)) }
+    ensures { OnOk result (collected.new ≡ all_added collected.old (arrays_of structs.now ty.now)) }
 {
     match ty {
         Ty::Scalar(_) | Ty::Struct(_) => Ok(()),
@@ -37,7 +37,7 @@ fn add_fields(
     fields: &[Field],
     collected: &mut Collected,
 ) -> Result<(), NoMemory>
-    ensures { OnOk result (collected.new ≡ after collected.old (joined (map (λ field. arrays_of structs.now field.ty) fields.now))) }
+    ensures { OnOk result (collected.new ≡ all_added collected.old (joined (map (λ field. arrays_of structs.now field.ty) fields.now))) }
 {
     for field in fields {
         add_arrays(alloc, structs, &field.ty, collected)?;
@@ -51,7 +51,7 @@ fn add_definition(
     def: &StructDef,
     collected: &mut Collected,
 ) -> Result<(), NoMemory>
-    ensures { OnOk result (collected.new ≡ after collected.old (structs_for_definition structs.now def.now)) }
+    ensures { OnOk result (collected.new ≡ all_added collected.old (structs_for_definition structs.now def.now)) }
 {
     add_fields(alloc, structs, &def.fields, collected)?;
     collected.add(alloc, definition(alloc, structs, def)?)
@@ -62,7 +62,7 @@ fn add_definitions(
     structs: &[StructDef],
     collected: &mut Collected,
 ) -> Result<(), NoMemory>
-    ensures { OnOk result (collected.new ≡ after collected.old (joined (map (structs_for_definition structs.now) structs.now))) }
+    ensures { OnOk result (collected.new ≡ all_added collected.old (joined (map (structs_for_definition structs.now) structs.now))) }
 {
     for def in structs {
         add_definition(alloc, structs, def, collected)?;
@@ -76,7 +76,7 @@ fn add_variables(
     vars: &[Var],
     collected: &mut Collected,
 ) -> Result<(), NoMemory>
-    ensures { OnOk result (collected.new ≡ after collected.old (joined (map (λ var. arrays_of structs.now var.ty) vars.now))) }
+    ensures { OnOk result (collected.new ≡ all_added collected.old (joined (map (λ var. arrays_of structs.now var.ty) vars.now))) }
 {
     for var in vars {
         add_arrays(alloc, structs, &var.ty, collected)?;
@@ -90,7 +90,7 @@ fn add_units(
     units: &[Unit],
     collected: &mut Collected,
 ) -> Result<(), NoMemory>
-    ensures { OnOk result (collected.new ≡ after collected.old (joined (map (structs_for_unit structs.now) units.now))) }
+    ensures { OnOk result (collected.new ≡ all_added collected.old (joined (map (structs_for_unit structs.now) units.now))) }
 {
     for unit in units {
         add_variables(alloc, structs, &unit.vars, collected)?;

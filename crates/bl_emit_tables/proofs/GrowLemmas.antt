@@ -10,7 +10,7 @@ use Rattle.bl_tree.specs.Reduce.{greatest}
 use Rattle.bl_machine.specs.Blocks.{up_to}
 use Rattle.bl_machine.specs.Slots.{times}
 use Rattle.bl_machine_pass.specs.Numbered.{sizes_for}
-use Rattle.bl_emit_tables.specs.Sizes.{all_counted, counted, grown}
+use Rattle.bl_emit_tables.specs.Sizes.{all_counted, grown, one_more_at}
 use Rattle.bl_emit_tables.proofs.SetLemmas.{length_up_to, no_eq}
 
 -- ---- growing
@@ -78,14 +78,14 @@ room none tests more c is =
 -- ---- counts
 
 pub counts_so : (k : ℕ) (table : List ℕ) (d n : ℕ) → n ≡ get_or (grown 0 (suc k) table) k d + 1 →
-    slice_set (grown 0 (suc k) table) k n ≡ counted k table
+    slice_set (grown 0 (suc k) table) k n ≡ one_more_at k table
 counts_so zero [] d n is = ap (λ n. n ∷ []) (is ∙ omega arith)
 counts_so zero (x ∷ table) d n is = ap (λ n. n ∷ table) (is ∙ omega arith)
 counts_so (suc k) [] d n is = ap (λ more. 0 ∷ more) (counts_so k [] d n is)
 counts_so (suc k) (x ∷ table) d n is = ap (λ more. x ∷ more) (counts_so k table d n is)
 
 pub count_made : (k : ℕ) (table more : List ℕ) (d n : ℕ) → more ≡ grown 0 (suc k) table → n ≡ get_or more k d + 1 →
-    slice_set more k n ≡ counted k table
+    slice_set more k n ≡ one_more_at k table
 count_made k table more d n is next =
     ap (λ (more : List ℕ). slice_set more k n) is ∙ counts_so k table d n (next ∙ ap (λ (more : List ℕ). get_or more k d + 1) is)
 
@@ -94,7 +94,7 @@ abbrev bound : List ℕ → ℕ
 bound [] = 0
 bound (k ∷ rest) = max (suc k) (bound rest)
 
-counted_length : (k : ℕ) (table : List ℕ) → length (counted k table) ≡ max (suc k) (length table)
+counted_length : (k : ℕ) (table : List ℕ) → length (one_more_at k table) ≡ max (suc k) (length table)
 counted_length zero [] = omega arith
 counted_length zero (n ∷ table) = omega arith
 counted_length (suc k) [] = let more = counted_length k [] in omega (arith, more)
@@ -102,13 +102,13 @@ counted_length (suc k) (n ∷ table) = let more = counted_length k table in omeg
 
 all_length : (ks table : List ℕ) → length (all_counted ks table) ≡ max (bound ks) (length table)
 all_length [] table = omega arith
-all_length (k ∷ rest) table = let more = all_length rest (counted k table) in let one = counted_length k table in omega (arith, more, one)
+all_length (k ∷ rest) table = let more = all_length rest (one_more_at k table) in let one = counted_length k table in omega (arith, more, one)
 
 bound_is : (k : ℕ) (rest : List ℕ) → bound (k ∷ rest) ≡ suc (greatest (k ∷ rest))
 bound_is k [] = omega arith
 bound_is k (j ∷ rest) = let more = bound_is j rest in omega (arith, more)
 
-counted_reads : (k : ℕ) (table : List ℕ) (j : ℕ) → entry_at 0 (counted k table) j ≡ cond (nat_eq k j) 1 0 + entry_at 0 table j
+counted_reads : (k : ℕ) (table : List ℕ) (j : ℕ) → entry_at 0 (one_more_at k table) j ≡ cond (nat_eq k j) 1 0 + entry_at 0 table j
 counted_reads zero [] zero = omega arith
 counted_reads zero [] (suc j) = rw (no_eq 0 (suc j) (λ same. omega (arith, same))) omega arith
 counted_reads zero (n ∷ table) zero = omega arith
@@ -128,7 +128,7 @@ times_cons j k rest = by (nat_eq k j) refl
 all_reads : (ks table : List ℕ) (j : ℕ) → entry_at 0 (all_counted ks table) j ≡ times j ks + entry_at 0 table j
 all_reads [] table j = omega arith
 all_reads (k ∷ rest) table j =
-    let more = all_reads rest (counted k table) j in
+    let more = all_reads rest (one_more_at k table) j in
     let one = counted_reads k table j in
     let here = times_cons j k rest in omega (arith, more, one, here)
 

@@ -4,8 +4,8 @@ use Rattle.std.specs.List.{list_any}
 use Rattle.bl_tree.specs.declared.c.CLocal.{CLocal}
 use Rattle.bl_tree.specs.declared.scalar.Scalar.TheVariants.{Bool as OfBool}
 use Rattle.bl_tree.specs.Reduce.{joined}
-use Rattle.bl_machine_transitions.specs.declared.transition.Asked.{Asked}
-use Rattle.bl_machine_transitions.specs.declared.transition.Asked.TheVariants.{Ended, Flagged, Rested, RestedIn}
+use Rattle.bl_machine_transitions.specs.declared.transition.Condition.{Condition}
+use Rattle.bl_machine_transitions.specs.declared.transition.Condition.TheVariants.{Ended, Flagged, Rested, RestedIn}
 use Rattle.bl_machine_transitions.specs.declared.transition.Change.{Change}
 use Rattle.bl_machine_transitions.specs.declared.transition.Change.TheVariants.{ClearBoth, ClearCounter, EndWhen, Finish, SetCounter, SetFlag, SetMark}
 use Rattle.bl_machine_transitions.specs.Told.{Acts, Enters, Nothing, NumberedTransition, Resumes, Task, Tests}
@@ -15,7 +15,7 @@ use Rattle.bl_emit_spec.specs.Names.{flag_name, mark_name}
 -- ---- counters
 
 -- whether a rule asks what the counter held when the tick began
-abbrev pub asks_counter : ℕ → Asked → Bool
+abbrev pub asks_counter : ℕ → Condition → Bool
 asks_counter k Flagged = false
 asks_counter k (Rested slot) = nat_eq k slot.counter
 asks_counter k (RestedIn slots) = list_any (λ slot. nat_eq k slot.counter) slots
@@ -23,7 +23,7 @@ asks_counter k (Ended age needed) = false
 
 -- whether some rule asks what the counter held
 abbrev pub read_told : List NumberedTransition → ℕ → Bool
-read_told rules k = list_any (λ rule. asks_counter k rule.asked) rules
+read_told rules k = list_any (λ rule. asks_counter k rule.condition) rules
 
 -- ---- runs
 
@@ -46,7 +46,7 @@ runs_told rules = one_a_place (all_runs_told rules)
 -- ---- flags and marks
 
 -- whether the rule asks for a flag
-abbrev pub asks_flag : Asked → Bool
+abbrev pub asks_flag : Condition → Bool
 asks_flag Flagged = true
 asks_flag (Rested slot) = false
 asks_flag (RestedIn slots) = false
@@ -54,7 +54,7 @@ asks_flag (Ended age needed) = false
 
 -- the local for the flag of a node that waits by one
 abbrev pub flag_told : NumberedTransition → List CLocal
-flag_told rule = if asks_flag rule.asked then scalar_local OfBool (flag_name rule.number) ∷ [] else []
+flag_told rule = if asks_flag rule.condition then scalar_local OfBool (flag_name rule.number) ∷ [] else []
 
 -- the locals for the flags of all nodes that wait by one
 abbrev pub flags_told : List NumberedTransition → List CLocal
@@ -72,7 +72,7 @@ mark_told Finish = []
 
 -- the locals for the marks that a rule sets
 abbrev pub rule_marks_told : NumberedTransition → List CLocal
-rule_marks_told rule = joined (map mark_told rule.so)
+rule_marks_told rule = joined (map mark_told rule.on_true)
 
 -- the locals for the marks that all rules set
 abbrev pub marks_told : List NumberedTransition → List CLocal

@@ -7,7 +7,7 @@ ghost use Rattle.bl_emit_tables.specs.Told.{asks_counter, read_told};
 ghost use Rattle.std.specs.List.{list_any};
 
 use bl_machine::Slot;
-use bl_machine_transitions::{Asked, Transition};
+use bl_machine_transitions::{Condition, Transition};
 use bl_tree::{List, NoMemory};
 use std::alloc::Global;
 
@@ -45,14 +45,14 @@ fn note_all(tests: &mut List<bool>, slots: &[Slot]) -> Result<(), NoMemory>
 }
 
 /// Sets the tests of the counters for which the rule asks.
-fn note_asked(tests: &mut List<bool>, asked: &Asked) -> Result<(), NoMemory>
+fn note_condition(tests: &mut List<bool>, condition: &Condition) -> Result<(), NoMemory>
     ensures { OnOk result ((k : ℕ) → unwrap_or (slice_get tests.new k) false
-        ≡ asks_counter k asked.now || unwrap_or (slice_get tests.old k) false) }
+        ≡ asks_counter k condition.now || unwrap_or (slice_get tests.old k) false) }
 {
-    match asked {
-        Asked::Flagged | Asked::Ended(_, _) => Ok(()),
-        Asked::Rested(slot) => note(tests, slot.counter),
-        Asked::RestedIn(slots) => note_all(tests, slots),
+    match condition {
+        Condition::Flagged | Condition::Ended(_, _) => Ok(()),
+        Condition::Rested(slot) => note(tests, slot.counter),
+        Condition::RestedIn(slots) => note_all(tests, slots),
     }
 }
 
@@ -63,7 +63,7 @@ pub fn read_by(alloc: Global, rules: &[Transition]) -> Result<List<bool>, NoMemo
 {
     let mut tests = List::new(alloc);
     for rule in rules {
-        note_asked(&mut tests, &rule.asked)?;
+        note_condition(&mut tests, &rule.condition)?;
     }
     Ok(tests)
 }

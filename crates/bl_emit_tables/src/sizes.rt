@@ -3,7 +3,7 @@
 ghost use Rattle.std.specs.Prelude.{◌≡◌, [], suc, IfOk, OnOk};
 ghost use Rattle.bl_machine_pass.specs.Numbered as numbered;
 ghost use Rattle.bl_machine.specs.Slots.{counters_at};
-ghost use Rattle.bl_emit_tables.specs.Sizes.{all_counted, counted, grown};
+ghost use Rattle.bl_emit_tables.specs.Sizes.{all_counted, grown, one_more_at};
 
 use bl_machine::Slot;
 use bl_tree::{List, NoMemory};
@@ -23,7 +23,7 @@ fn grow(counts: &mut List<u32>, at: usize) -> Result<(), NoMemory>
 /// Counts one more at the position.
 #[tactic(auto, using(crate::proofs::GrowLemmas::count_made, crate::proofs::GrowLemmas::room))]
 fn count(counts: &mut List<u32>, at: usize) -> Result<(), NoMemory>
-    ensures { OnOk result (counts.new ≡ counted at counts.old) }
+    ensures { OnOk result (counts.new ≡ one_more_at at counts.old) }
 {
     grow(counts, at)?;
     match counts[at].checked_add(1) {

@@ -21,8 +21,8 @@ sum_of [] = pos 0
 sum_of (row ∷ rows) = first_output row +ℤ sum_of rows
 
 -- the output in the last row; 0 where there is no row
-abbrev pub last_of : List (List ℤ) → ℤ
-last_of rows = first_output (slice_index_or rows (length rows - 1) [])
+abbrev pub last_output : List (List ℤ) → ℤ
+last_output rows = first_output (slice_index_or rows (length rows - 1) [])
 
 -- a word and a number on a line, with its line feed (10)
 unfoldable pub line_text : List ℕ → ℤ → List ℕ
@@ -31,4 +31,4 @@ line_text word number = word ++ (signed_decimal number ++ (10 ∷ []))
 -- the four lines of a run: how many stages the program has, how many ticks there were, the sum of its outputs, and the last of them
 unfoldable pub report_text : ℕ → List (List ℤ) → List ℕ
 report_text stages rows = line_text (codes "stages ") (pos stages)
-    ++ (line_text (codes "ticks ") (pos (length rows)) ++ (line_text (codes "sum ") (sum_of rows) ++ line_text (codes "last ") (last_of rows)))
+    ++ (line_text (codes "ticks ") (pos (length rows)) ++ (line_text (codes "sum ") (sum_of rows) ++ line_text (codes "last ") (last_output rows)))

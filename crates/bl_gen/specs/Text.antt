@@ -33,13 +33,13 @@ unfoldable pub branch : ℕ → List ℕ
 branch number = codes "with\nrun Stage(x" ++ (decimal number ++ (codes ")(x" ++ (decimal (number + 1) ++ codes ")\n")))
 
 -- the branches that write the variables from this one down to 1
-abbrev pub branches : ℕ → List ℕ
-branches zero = []
-branches (suc before) = branch before ++ branches before
+abbrev pub writing_branches : ℕ → List ℕ
+writing_branches zero = []
+writing_branches (suc before) = branch before ++ writing_branches before
 
 -- the statement of the entry that runs all stages, the last one first, and the entry's end
 unfoldable pub body_text : ℕ → List ℕ
-body_text variables = codes "cobegin\n" ++ (last_branch variables ++ (branches variables ++ codes "end\nend\n"))
+body_text variables = codes "cobegin\n" ++ (last_branch variables ++ (writing_branches variables ++ codes "end\nend\n"))
 
 -- the text of the program whose entry declares so many variables
 unfoldable pub text_with : ℕ → List ℕ

@@ -1,7 +1,7 @@
 //! The lines of the generated program that there are more of, appended to a text.
 
 ghost use Rattle.std.specs.Prelude.{◌≡◌, ◌++◌, ◌+◌, ◌<◌, ◌^◌, OnOk};
-ghost use Rattle.bl_gen.specs.Text.{branch, branches, declaration, declarations, last_branch};
+ghost use Rattle.bl_gen.specs.Text.{branch, declaration, declarations, last_branch, writing_branches};
 
 use itoa::Buffer;
 use std::alloc::AllocError;
@@ -43,7 +43,7 @@ pub fn append_last_branch(last: u32, text: &mut Vec<u8>) -> Result<(), AllocErro
 /// Appends the branches that write the variables `last` to 1, in this order.
 pub fn append_branches(last: u32, text: &mut Vec<u8>) -> Result<(), AllocError>
     requires { last + 1 < 2 ^ 32 }
-    ensures { OnOk result (text.new.items ≡ text.old.items ++ branches last) }
+    ensures { OnOk result (text.new.items ≡ text.old.items ++ writing_branches last) }
 {
     let mut left = last;
     'branches: while left > 0 {

@@ -1,7 +1,7 @@
 //! The rows over which the generated program is run, and the lines that tell its outputs.
 
 ghost use Rattle.std.specs.Prelude.{◌≡◌, ◌+ℤ◌, ◌++◌, [], ◌∷◌, pos, codes, length, IfOk, OnOk};
-ghost use Rattle.bl_gen.specs.Outputs.{first_output, input_rows, last_of, line_text, report_text, sum_of};
+ghost use Rattle.bl_gen.specs.Outputs.{first_output, input_rows, last_output, line_text, report_text, sum_of};
 
 use bl_tree::{List, NoMemory, Row};
 use itoa::Buffer;
@@ -84,7 +84,7 @@ fn sum_of(rows: &[Row]) -> Result<i128, NoMemory>
 
 /// The output of the last row, or 0 where there is none.
 fn last_of(rows: &[Row]) -> i128
-    ensures { result ≡ last_of rows.now }
+    ensures { result ≡ last_output rows.now }
 {
     if rows.is_empty() {
         return 0;

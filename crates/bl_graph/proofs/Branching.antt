@@ -50,7 +50,8 @@ use Rattle.bl_tree.specs.Instant.{branches_instant, instant as ends_at_once}
 use Rattle.bl_tree.specs.Static.{index_mentions, mentions, set_of, static_of, whole}
 use Rattle.bl_graph_nodes.specs.Laws.{plain_branch, stmt}
 use Rattle.bl_graph_nodes.specs.Nodes.{ActAt, DepthJoinAt, ForkAt, Node, SurfaceJoinAt, is_instant, nodes_in, nodes_in_each, nodes_of, where_so}
-use Rattle.bl_graph_nodes.specs.Plain.{Act, Await, Block, Bodies, Body, Cobegin, Label, Last, Position, Run, bodies_from, inside, label_at, plain, plain_block}
+use Rattle.bl_graph_nodes.specs.Plain.{Act, Await, Block, Bodies, Body, Cobegin, Label, Last, Position, Run, bodies_from, inside, label_at, plain_block}
+use Rattle.bl_graph_nodes.specs.Plain.{plain_stmt}
 use Rattle.bl_graph_nodes.proofs.Equations.{plain_statements}
 use Rattle.bl_graph_nodes.proofs.Instants.{instant_is}
 use Rattle.bl_graph.specs.declared.part.Branches.{Branches}
@@ -261,7 +262,7 @@ cobegin_made place branches so first join begins made result l0 l1 by_data so_is
     let l : Label = label_at at in
     let last : Links = record { control = l1.control; by_data = by_data } in
     let bodies : Bodies = bodies_of branches l in
-    let p : plain (stmt place (StmtKind-F.Cobegin branches)) at ≡ Cobegin l place bodies = plain_statements.parallel place at branches in
+    let p : plain_stmt (stmt place (StmtKind-F.Cobegin branches)) at ≡ Cobegin l place bodies = plain_statements.parallel place at branches in
     let instant : so ≡ is_instant (Cobegin l place bodies) =
     so_is ∙ sym (instant_is (stmt place (StmtKind-F.Cobegin branches)) at) ∙ ap is_instant p in
     let numbers : NamesEach naming bodies l place so first join =
@@ -279,7 +280,7 @@ cobegin_made place branches so first join begins made result l0 l1 by_data so_is
 
 -- an act that reads and writes what its statement does
 pub act_made : (at : Place) (layer : StmtKind-F StmtKind Arm Branch Stmt) (first : ℕ) (made : Made) (read wrote : List Static) (links : Links)
-    → ((position : Position) → plain (stmt at layer) position ≡ Act (label_at position) (stmt at layer))
+    → ((position : Position) → plain_stmt (stmt at layer) position ≡ Act (label_at position) (stmt at layer))
     → reads (stmt at layer) ≡ read → writes (stmt at layer) ≡ wrote → made ≡ act_part at read wrote first
     → StatementMade (stmt at layer) first made links links
 act_made at layer first made read wrote links acts reads_are writes_are same position naming named =

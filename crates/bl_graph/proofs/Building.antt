@@ -87,8 +87,8 @@ use Rattle.bl_graph_nodes.specs.Plain.{
   label_at,
   never,
   passed_one,
-  plain,
   plain_block,
+  plain_stmt,
 }
 use Rattle.bl_graph_nodes.proofs.Equations.{plain_statements}
 use Rattle.bl_graph_nodes.proofs.Instants.{blocks_are_instant}
@@ -119,7 +119,6 @@ use Rattle.bl_graph.specs.inner.Made.{
   whole_of,
 }
 use Rattle.bl_graph.specs.inner.Parts.{
-  beside,
   choice_part,
   endless_part,
   followed,
@@ -131,6 +130,7 @@ use Rattle.bl_graph.specs.inner.Parts.{
   links_from,
   nothing,
   past,
+  side_by_side,
   until_part,
   while_part,
 }
@@ -156,16 +156,16 @@ pub record First (s : Plain) : Type 0 where
   pub is : nodes_of s ≡ entry s ∷ further
 
 abbrev FirstAt : Stmt → Type 0
-FirstAt s = (at : Position) → First (plain s at)
+FirstAt s = (at : Position) → First (plain_stmt s at)
 
 by : (s p : Plain) → s ≡ p → First p → First s
 by s p is first = subst First (sym is) first
 
-if_bare : (place : Place) (other : List Stmt) (at : Position) → plain (stmt place (StmtKind-F.If [] other)) at
+if_bare : (place : Place) (other : List Stmt) (at : Position) → plain_stmt (stmt place (StmtKind-F.If [] other)) at
     ≡ If (label_at at) place (never place) (plain_block other (inside_at (label_at at) 0)) (plain_block other (inside_at (label_at at) 1))
 if_bare place other at = rw (fold-roll-Stmt, fold-roll-StmtKind) refl
 
-if_first : (place : Place) (arms : List Arm) (other : List Stmt) (at : Position) → First (plain (stmt place (StmtKind-F.If arms other)) at)
+if_first : (place : Place) (arms : List Arm) (other : List Stmt) (at : Position) → First (plain_stmt (stmt place (StmtKind-F.If arms other)) at)
 if_first place [] other at = by _ _ (if_bare place other at) (record { further = _; is = refl })
 if_first place (arm ∷ arms) other at = by _ _ (plain_statements.branching place at arm arms other) (record { further = _; is = refl })
 
@@ -185,7 +185,7 @@ firsts = record {
   returns = λ place e at. by _ _ (plain_statements.returns place at e) (record { further = []; is = refl });
 }
 
-pub first_at : (s : Stmt) (at : Position) → First (plain s at)
+pub first_at : (s : Stmt) (at : Position) → First (plain_stmt s at)
 first_at = induct FirstAt firsts
 
 -- ---- lists
@@ -213,15 +213,15 @@ empty_at [] at empty is = is
 empty_at (s ∷ body) at empty is = is ∙ none_of (length body)
 
 pub block_with : (body : List Stmt) (s : Stmt) (at : Position) →
-    plain_block (body ++ s ∷ []) at ≡ after (plain_block body at) (plain s (at ++ (0 + length (map plain body)) ∷ []))
-block_with body s at = ap (λ ps. block_from ps 0 at) (map-append plain body (s ∷ [])) ∙ block_after (map plain body) (plain s) 0 at
+    plain_block (body ++ s ∷ []) at ≡ after (plain_block body at) (plain_stmt s (at ++ (0 + length (map plain_stmt body)) ∷ []))
+block_with body s at = ap (λ ps. block_from ps 0 at) (map-append plain_stmt body (s ∷ [])) ∙ block_after (map plain_stmt body) (plain_stmt s) 0 at
 
 module _ (naming : Naming) where
-  pub leads_at : (s : Stmt) (at : Position) (n : ℕ) (more : List Node) → Names naming n (nodes_of (plain s at) ++ more)
-      → naming n ≡ Some (entry (plain s at))
+  pub leads_at : (s : Stmt) (at : Position) (n : ℕ) (more : List Node) → Names naming n (nodes_of (plain_stmt s at) ++ more)
+      → naming n ≡ Some (entry (plain_stmt s at))
   leads_at s at n more names =
-      let first : First (plain s at) = first_at s at in
-      let named : Names naming n ((entry (plain s at) ∷ first.further) ++ more) = subst (λ ns. Names naming n (ns ++ more)) first.is names in
+      let first : First (plain_stmt s at) = first_at s at in
+      let named : Names naming n ((entry (plain_stmt s at) ∷ first.further) ++ more) = subst (λ ns. Names naming n (ns ++ more)) first.is names in
       named.0
 
   pub leads_in : (body : List Stmt) (at : Position) (n : ℕ) → Names naming n (nodes_in (plain_block body at)) → NamesEntry naming n (plain_block body at)
@@ -239,7 +239,7 @@ pub block_more : (body : List Stmt) (s : Stmt) (first next : ℕ) (made more res
     → result ≡ followed made more → BlockMade (body ++ s ∷ []) first result l0 (record { control = control; by_data = l2.by_data })
 block_more body s first next made more result l0 l1 l2 control is one other grows same at naming named =
     let b : Block = plain_block body at in
-    let p : Plain = plain s (at ++ (0 + length (map plain body)) ∷ []) in
+    let p : Plain = plain_stmt s (at ++ (0 + length (map plain_stmt body)) ∷ []) in
     let last : Links = record { control = control; by_data = l2.by_data } in
     let both : Names naming first (nodes_in b ++ nodes_of p) =
     subst (Names naming first) (names_after b p) (subst (λ b. Names naming first (nodes_in b)) (block_with body s at) named) in
@@ -248,10 +248,10 @@ block_more body s first next made more result l0 l1 l2 control is one other grow
     (names_in b)) in
     let named_more : Names naming next (nodes_of p) = names_back naming first next (nodes_in b) (nodes_of p) here both in
     let leads : naming next ≡ Some (entry p) =
-    leads_at naming s (at ++ (0 + length (map plain body)) ∷ []) next [] (subst (Names naming next) (sym (append-nil (nodes_of p))) named_more) in
+    leads_at naming s (at ++ (0 + length (map plain_stmt body)) ∷ []) next [] (subst (Names naming next) (sym (append-nil (nodes_of p))) named_more) in
     subst (λ b. Makes naming (whole_in b) result l0 last) (sym (block_with body s at))
     (subst (λ made. Makes naming (whole_in (after b p)) made l0 last) (sym same)
-    (follow_makes naming b p next made more l0 l1 l2 last makes (other (at ++ (0 + length (map plain body)) ∷ []) naming named_more) leads grows refl))
+    (follow_makes naming b p next made more l0 l1 l2 last makes (other (at ++ (0 + length (map plain_stmt body)) ∷ []) naming named_more) leads grows refl))
 
 pub stmt_is : (s : Stmt) → kinded (out-Stmt s).place (out-Stmt s).what ≡ s
 stmt_is s = roll-out-Stmt s
@@ -284,7 +284,7 @@ pub endless_made : (place : Place) (body : List Stmt) (first start : ℕ) (insid
     → TurnMade body start first first inside l0 l1 → result ≡ endless_part place inside
     → StatementMade (stmt place (StmtKind-F.Repeat body)) first result l0 l1
 endless_made place body first start inside result l0 l1 is made same at naming named =
-    let p : plain (stmt place (StmtKind-F.Repeat body)) at ≡ Repeat (label_at at) place (plain_block body (inside_at (label_at at) 0)) =
+    let p : plain_stmt (stmt place (StmtKind-F.Repeat body)) at ≡ Repeat (label_at at) place (plain_block body (inside_at (label_at at) 0)) =
     plain_statements.endless place at body in
     let all : Names naming first (HeadAt (label_at at) place ∷ nodes_in (plain_block body (inside_at (label_at at) 0))) =
     subst (λ p. Names naming first (nodes_of p)) p named in
@@ -300,7 +300,7 @@ pub while_made : (place : Place) (e : Expr) (body : List Stmt) (first start : �
     → StatementMade (stmt place (StmtKind-F.While e body)) first result l0 l1
 while_made place e body first start reads inside result l0 l1 is read made same at naming named =
     let b : Block = plain_block body (inside_at (label_at at) 0) in
-    let p : plain (stmt place (StmtKind-F.While e body)) at ≡ While (label_at at) place e b = plain_statements.while place at e body in
+    let p : plain_stmt (stmt place (StmtKind-F.While e body)) at ≡ While (label_at at) place e b = plain_statements.while place at e body in
     let all : Names naming first (TestAt (label_at at) place e ∷ nodes_in b) = subst (λ p. Names naming first (nodes_of p)) p named in
     subst (λ p. Makes naming (whole_of p) result l0 l1) (sym p)
     (subst (λ made. Makes naming (whole_of (While (label_at at) place e b)) made l0 l1)
@@ -316,7 +316,7 @@ pub until_made : (place : Place) (body : List Stmt) (e : Expr) (first test start
 until_made place body e first test start empty reads inside result l0 l1 control tested is bare read made grows same at naming named =
     let last : Links = record { control = control; by_data = l1.by_data } in
     let b : Block = plain_block body (inside_at (label_at at) 0) in
-    let p : plain (stmt place (StmtKind-F.Until body e)) at ≡ Until (label_at at) place b e = plain_statements.until place at body e in
+    let p : plain_stmt (stmt place (StmtKind-F.Until body e)) at ≡ Until (label_at at) place b e = plain_statements.until place at body e in
     let all : Names naming first (HeadAt (label_at at) place ∷ TestAt (label_at at) place e ∷ nodes_in b) =
     subst (λ p. Names naming first (nodes_of p)) p named in
     let test_named : naming test ≡ Some (TestAt (label_at at) place e) = subst (λ n. naming n ≡ Some (TestAt (label_at at) place e))
@@ -361,7 +361,7 @@ choice_made place reads body more empty first start next inside result l0 l1 one
 
 -- ---- a whole that is made part by part
 
-beside_apart : (a b c : Made) → beside a (beside b c) ≡ beside (beside a b) c
+beside_apart : (a b c : Made) → side_by_side a (side_by_side b c) ≡ side_by_side (side_by_side a b) c
 beside_apart a b c = λ i. record {
   flows = sym (append_assoc a.flows b.flows c.flows) i;
   outs = sym (append_assoc a.outs b.outs c.outs) i;
@@ -380,12 +380,12 @@ module _ (naming : Naming) where
   }
 
   pub open_then : (whole : Whole) (p : Plain) (rest : Block) (n m : ℕ) (made part : Made) (l0 l1 l2 : Links) → Open naming whole (Then p Done) n made l0 l1
-      → Open naming (whole_of p) rest m part l1 l2 → Open naming whole rest m (beside made part) l0 l2
+      → Open naming (whole_of p) rest m part l1 l2 → Open naming whole rest m (side_by_side made part) l0 l2
   open_then whole p rest n m made part l0 l1 l2 one other = record {
     names = other.names;
     closes = λ more last closed.
         subst (λ all. Makes naming whole all l0 last) (beside_apart made part more)
-        (one.closes (beside part more) last (then_done p (beside part more) l1 last (other.closes more last closed)));
+        (one.closes (side_by_side part more) last (then_done p (side_by_side part more) l1 last (other.closes more last closed)));
   }
 
   leads_else : (l : Label) (arms : List Arm) (other : List Stmt) (n : ℕ) → Names naming n (nodes_in (else_at l (map plain_arm arms) (plain_block other)))
@@ -409,7 +409,7 @@ pub chain_more : (arms : List Arm) (other : List Stmt) (k : ℕ) (arm : Arm) (bo
     (made part result : Made) (l0 l1 l2 : Links) (naming : Naming) (whole : Whole) (at : Label) → k < length arms → arm ≡ get_or arms k arm
     → more ≡ (nat_lt 0 (length (drop (k + 1) arms)) || not (nat_eq (length other) 0)) → reads ≡ set_of (mentions (out-Arm arm).test)
     → body ≡ (out-Arm arm).body → ChoiceMade (out-Expr (out-Arm arm).test).place reads body more first part l1 l2 → next ≡ first + length part.flows
-    → result ≡ beside made part
+    → result ≡ side_by_side made part
     → Open naming whole (else_at at (map plain_arm (drop k arms)) (plain_block other)) first made l0 l1
     → Open naming whole (else_at (passed_one at) (map plain_arm (drop (k + 1) arms)) (plain_block other)) next result l0 l2
 chain_more arms other k arm body more reads first next made part result l0 l1 l2 naming whole at within is more_is read body_is chosen is_next same opens =
@@ -432,7 +432,7 @@ pub branching_made : (place : Place) (e : Expr) (body : List Stmt) (rest : List 
     (head part last result : Made) (l0 l1 l2 l3 : Links) → more ≡ (nat_lt 0 (length rest) || not (nat_eq (length other) 0))
     → reads ≡ set_of (mentions e)
     → ChoiceMade place reads body more first head l0 l1 → ChainMade rest (nat_eq (length other) 0) first head part l1 l2
-    → next ≡ first + length part.flows → BlockMade other next last l2 l3 → result ≡ beside part last
+    → next ≡ first + length part.flows → BlockMade other next last l2 l3 → result ≡ side_by_side part last
     → (at : Position) (naming : Naming)
     → Names naming first (nodes_of (If (label_at at) place e (plain_block body (inside_at (label_at at) 0))
     (else_at (passed_one (label_at at)) (map plain_arm rest) (plain_block other))))
@@ -459,7 +459,7 @@ never_reads place = rw (fold-roll-Expr, fold-roll-ExprKind) refl
 
 pub if_none : (place : Place) (arms : List Arm) (other : List Stmt) (more : Bool) (reads : List Static) (first next : ℕ) (head last result : Made)
     (l0 l1 l2 : Links) → arms ≡ [] → more ≡ not (nat_eq (length other) 0) → reads ≡ [] → ChoiceMade place reads other more first head l0 l1
-    → next ≡ first + length head.flows → BlockMade other next last l1 l2 → result ≡ beside head last
+    → next ≡ first + length head.flows → BlockMade other next last l1 l2 → result ≡ side_by_side head last
     → StatementMade (stmt place (StmtKind-F.If arms other)) first result l0 l2
 if_none place [] other more reads first next head last result l0 l1 l2 is more_is read choice is_next block same at naming named =
     let p = if_bare place other at in
@@ -472,7 +472,7 @@ pub if_some : (place : Place) (arms rest : List Arm) (arm : Arm) (body other : L
     (head part last result : Made) (l0 l1 l2 l3 : Links) → arms ≡ arm ∷ rest → more ≡ (nat_lt 0 (length rest) || not (nat_eq (length other) 0))
     → bare ≡ nat_eq (length other) 0 → reads ≡ set_of (mentions (out-Arm arm).test) → body ≡ (out-Arm arm).body
     → ChoiceMade place reads body more first head l0 l1 → ChainMade rest bare first head part l1 l2
-    → next ≡ first + length part.flows → BlockMade other next last l2 l3 → result ≡ beside part last
+    → next ≡ first + length part.flows → BlockMade other next last l2 l3 → result ≡ side_by_side part last
     → StatementMade (stmt place (StmtKind-F.If arms other)) first result l0 l3
 if_some place arms rest arm body other more bare reads first next head part last result l0 l1 l2 l3 is more_is bare_is read body_is chosen chain is_next
     block same =
@@ -533,7 +533,7 @@ guarded_made place guard e body instant empty first check start reads inside res
     let l : Label = label_at at in
     let last : Links = record { control = control; by_data = l1.by_data } in
     let b : Block = plain_block body (inside_at l 0) in
-    let p : plain (stmt place (StmtKind-F.When guard e body)) at ≡ When l place guard e b = plain_statements.guarded place at guard e body in
+    let p : plain_stmt (stmt place (StmtKind-F.When guard e body)) at ≡ When l place guard e b = plain_statements.guarded place at guard e body in
     let instant_is : instant ≡ are_instant b = soon ∙ sym (blocks_are_instant body (inside_at l 0)) in
     let frame : WhenNames naming l place e b first check instant =
     when_named naming l place e b first check instant is_check
@@ -552,7 +552,7 @@ pub chain_step : (arms : List Arm) (other : List Stmt) (k : ℕ) (arm : Arm) (bo
     (made part result : Made) (l0 l1 l2 : Links) (naming : Naming) (whole : Whole) (at : Label) → k < length arms → arm ≡ get_or arms k arm
     → more ≡ (nat_lt 0 (length (drop (k + 1) arms)) || not (nat_eq (length other) 0)) → reads ≡ set_of (mentions (out-Arm arm).test)
     → body ≡ (out-Arm arm).body → next ≡ first + length made.flows
-    → ChoiceMade (out-Expr (out-Arm arm).test).place reads body more next part l1 l2 → result ≡ beside made part
+    → ChoiceMade (out-Expr (out-Arm arm).test).place reads body more next part l1 l2 → result ≡ side_by_side made part
     → Open naming whole (else_at at (map plain_arm (drop k arms)) (plain_block other)) (first + length made.flows) made l0 l1
     → Open naming whole (else_at (passed_one at) (map plain_arm (drop (k + 1) arms)) (plain_block other)) (first + length result.flows) result l0 l2
 chain_step arms other k arm body more reads first next made part result l0 l1 l2 naming whole at within is more_is read body_is is_next chosen same opens =

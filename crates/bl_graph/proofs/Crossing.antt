@@ -44,7 +44,7 @@ use Rattle.bl_graph_nodes.specs.Plain.{Bodies, Body, Last}
 use Rattle.bl_graph.specs.declared.flow.Flow.{Flow}
 use Rattle.bl_graph.specs.declared.flow.Span.{Span}
 use Rattle.bl_graph.specs.Graph.{edge_between}
-use Rattle.bl_graph.specs.Listed.{Pair, across, between, flows_in, flows_in_each, pair, together, touching}
+use Rattle.bl_graph.specs.Listed.{Pair, across, between, flows_in, flows_in_each, in_same_phase, pair, touching}
 use Rattle.bl_graph.specs.Marks.{Mark, Marked, part_in, parts_of}
 use Rattle.bl_graph.specs.inner.Flows.{FlowBetween, FlowsAdded, InBranch}
 use Rattle.bl_graph.specs.inner.Made.{Adds, Crossed, Names, Naming, flow_of, flows_between, flows_within, spans_of}
@@ -202,34 +202,34 @@ swap_bools false false true false is = is
 swap_bools false false false true is = is
 swap_bools false false false false is = is
 
-together_back : (a b : Mark) → together a b ≡ true → together b a ≡ true
+together_back : (a b : Mark) → in_same_phase a b ≡ true → in_same_phase b a ≡ true
 together_back a b is = swap_bools a.surface b.surface a.depth b.depth is
 
 touches_there : (a b : Node) → meets (node_writes a) (node_reads b) ≡ true → Contains (touching a b) (pair a b)
 touches_there a b is = subst (λ t. Contains (cond t (pair a b ∷ []) []) (pair a b)) (sym is) (head_there (pair a b) [])
 
 -- what is between a node and those of other branches
-first_between : (a b : Marked) (bs : List Marked) → Contains bs b → together a.mark b.mark ≡ true
+first_between : (a b : Marked) (bs : List Marked) → Contains bs b → in_same_phase a.mark b.mark ≡ true
     → meets (node_writes a.node) (node_reads b.node) ≡ true
     → Contains (between a bs) (pair a.node b.node)
 first_between a b [] there so touch = absurd (no_element b there)
 first_between a b (c ∷ bs) there so touch =
     ⊎_elim
     (λ is. Contains-append_left _ (between a bs) (pair a.node b.node)
-    (subst (λ c. Contains (cond (together a.mark c.mark) (touching a.node c.node ++ touching c.node a.node) []) (pair a.node b.node)) (sym is)
+    (subst (λ c. Contains (cond (in_same_phase a.mark c.mark) (touching a.node c.node ++ touching c.node a.node) []) (pair a.node b.node)) (sym is)
     (subst (λ t. Contains (cond t (touching a.node b.node ++ touching b.node a.node) []) (pair a.node b.node)) (sym so)
     (Contains-append_left (touching a.node b.node) (touching b.node a.node) (pair a.node b.node) (touches_there a.node b.node touch)))))
     (λ later. Contains-append_right _ (between a bs) (pair a.node b.node) (first_between a b bs later so touch))
     (cons_cases c bs b there)
 
-second_between : (a b : Marked) (bs : List Marked) → Contains bs b → together a.mark b.mark ≡ true
+second_between : (a b : Marked) (bs : List Marked) → Contains bs b → in_same_phase a.mark b.mark ≡ true
     → meets (node_writes b.node) (node_reads a.node) ≡ true
     → Contains (between a bs) (pair b.node a.node)
 second_between a b [] there so touch = absurd (no_element b there)
 second_between a b (c ∷ bs) there so touch =
     ⊎_elim
     (λ is. Contains-append_left _ (between a bs) (pair b.node a.node)
-    (subst (λ c. Contains (cond (together a.mark c.mark) (touching a.node c.node ++ touching c.node a.node) []) (pair b.node a.node)) (sym is)
+    (subst (λ c. Contains (cond (in_same_phase a.mark c.mark) (touching a.node c.node ++ touching c.node a.node) []) (pair b.node a.node)) (sym is)
     (subst (λ t. Contains (cond t (touching a.node b.node ++ touching b.node a.node) []) (pair b.node a.node)) (sym so)
     (Contains-append_right (touching a.node b.node) (touching b.node a.node) (pair b.node a.node) (touches_there b.node a.node touch)))))
     (λ later. Contains-append_right _ (between a bs) (pair b.node a.node) (second_between a b bs later so touch))
@@ -248,7 +248,7 @@ record Meeting (firsts bs : List Marked) (p : Pair) : Type 0 where
   b : Marked
   in_first : Contains firsts a
   in_second : Contains bs b
-  so : together a.mark b.mark ≡ true
+  so : in_same_phase a.mark b.mark ≡ true
   touch : ((p ≡ pair a.node b.node) × (meets (node_writes a.node) (node_reads b.node) ≡ true))
       ⊎ ((p ≡ pair b.node a.node) × (meets (node_writes b.node) (node_reads a.node) ≡ true))
 
@@ -265,7 +265,7 @@ between_is a [] p there = absurd (no_element p there)
 between_is a (b ∷ bs) p there =
     ⊎_elim
     (λ own.
-    let test = if_there (together a.mark b.mark) (touching a.node b.node ++ touching b.node a.node) p own in
+    let test = if_there (in_same_phase a.mark b.mark) (touching a.node b.node ++ touching b.node a.node) p own in
     record {
       a = a;
       b = b;
@@ -285,7 +285,7 @@ between_is a (b ∷ bs) p there =
       so = more.so;
       touch = more.touch;
     })
-    (Contains-append_cases (cond (together a.mark b.mark) (touching a.node b.node ++ touching b.node a.node) []) (between a bs) p there)
+    (Contains-append_cases (cond (in_same_phase a.mark b.mark) (touching a.node b.node ++ touching b.node a.node) []) (between a bs) p there)
 
 across_is : (firsts bs : List Marked) (p : Pair) → Contains (across firsts bs) p → Meeting firsts bs p
 across_is [] bs p there = absurd (no_element p there)
@@ -312,7 +312,7 @@ across_is (c ∷ firsts) bs p there =
 
 -- ---- branches and the pairs between them
 
-pub across_sits : (bodies : Bodies) (k j i x : ℕ) (a b : Marked) → k ≢ j → Sits bodies k i a → Sits bodies j x b → together a.mark b.mark ≡ true
+pub across_sits : (bodies : Bodies) (k j i x : ℕ) (a b : Marked) → k ≢ j → Sits bodies k i a → Sits bodies j x b → in_same_phase a.mark b.mark ≡ true
     → meets (node_writes a.node) (node_reads b.node) ≡ true → Contains (flows_between bodies) (pair a.node b.node)
 across_sits Last k j i x a b differ one other so touch = absurd one
 across_sits (Body weak c rest) zero zero i x a b differ one other so touch = absurd (differ refl)
@@ -340,7 +340,7 @@ record Crossing (bodies : Bodies) (p : Pair) : Type 0 where
   b : Marked
   first : Sits bodies k i a
   second : Sits bodies j x b
-  so : together a.mark b.mark ≡ true
+  so : in_same_phase a.mark b.mark ≡ true
   touch : meets (node_writes a.node) (node_reads b.node) ≡ true
   is : p ≡ pair a.node b.node
 
@@ -476,8 +476,8 @@ crossed_adds naming bodies n flows spans before after flows_is spans_is named cr
           let b_is : flow.to ≡ flow_of other.m = same_flow flow.to (flow_of other.m)
           (sym flow.is_to ∙ ap (slice_get (map flow_of nodes)) to_is ∙ mapped_at nodes other.i other.m
           (sits_at bodies flow.other other.i other.m other.sits)) in
-          let so : together one.m.mark other.m.mark ≡ true =
-          sym (λ i. together (a_is i).mark (b_is i).mark) ∙ flow.together in
+          let so : in_same_phase one.m.mark other.m.mark ≡ true =
+          sym (λ i. in_same_phase (a_is i).mark (b_is i).mark) ∙ flow.together in
           let touch : meets (node_writes one.m.node) (node_reads other.m.node) ≡ true =
           sym (λ i. meets (a_is i).writes (b_is i).reads) ∙ flow.touches in
           record {

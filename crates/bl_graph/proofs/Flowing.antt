@@ -44,7 +44,7 @@ use Rattle.bl_graph_nodes.specs.Plain.{
 use Rattle.bl_graph.specs.DataEdges.{Across, Beside, BesideAll, BesideEach, Touches}
 use Rattle.bl_graph.specs.Edges.{In, InEach}
 use Rattle.bl_graph.specs.Laws.{FlowsAreListed}
-use Rattle.bl_graph.specs.Listed.{Pair, across, between, flows_in, flows_in_each, flows_of, pair, together, touching}
+use Rattle.bl_graph.specs.Listed.{Pair, across, between, flows_in, flows_in_each, flows_of, in_same_phase, pair, touching}
 use Rattle.bl_graph.specs.Marks.{Mark, Marked, again_by, moved, part_in, part_of, parts_of, some_of}
 use Rattle.bl_graph.proofs.Enclosing.{
   FullEach,
@@ -150,7 +150,7 @@ at_is false a n same mark so is = record { mark = a.mark; there = inl (same, ref
 at_is true a n same mark so is = record { mark = a.mark; there = inl (same, refl); so = sym is ∙ so }
 
 -- two nodes that are together
-two_sides : (a b : Marked) (n m : Node) → together a.mark b.mark ≡ true → ((n ≡ a.node) × (m ≡ b.node)) ⊎ ((n ≡ b.node) × (m ≡ a.node)) →
+two_sides : (a b : Marked) (n m : Node) → in_same_phase a.mark b.mark ≡ true → ((n ≡ a.node) × (m ≡ b.node)) ⊎ ((n ≡ b.node) × (m ≡ a.node)) →
     Sides false (a ∷ []) (b ∷ []) n m ⊎ Sides true (a ∷ []) (b ∷ []) n m
 two_sides a b n m so same = elim (or_cases (a.mark.surface && b.mark.surface) (a.mark.depth && b.mark.depth) so) [
   | inl one ↦ let both = and_cases a.mark.surface b.mark.surface one in inl (elim same [
@@ -163,7 +163,7 @@ two_sides a b n m so same = elim (or_cases (a.mark.surface && b.mark.surface) (a
   ])
 ]
 
-from_pair : (a b : Marked) (test : Bool) (n m : Node) → test ≡ together a.mark b.mark →
+from_pair : (a b : Marked) (test : Bool) (n m : Node) → test ≡ in_same_phase a.mark b.mark →
     HasPair (cond test (touching a.node b.node ++ touching b.node a.node) []) n m → Either (a ∷ []) (b ∷ []) n m
 from_pair a b true n m is h = elim (p_cases (touching a.node b.node) (touching b.node a.node) n m h) [
   | inl one ↦ let t = from_touching a.node b.node n m one in (two_sides a b n m (sym is) (inl (t.0, t.1)), t.2)
@@ -174,9 +174,9 @@ from_pair a b false n m is h = elim h [ ]
 from_between : (a : Marked) (ys : List Marked) (n m : Node) → HasPair (between a ys) n m → Either (a ∷ []) ys n m
 from_between a [] n m h = elim h [ ]
 from_between a (b ∷ ys) n m h =
-    elim (p_cases (cond (together a.mark b.mark) (touching a.node b.node ++ touching b.node a.node) []) (between a ys) n m h) [
+    elim (p_cases (cond (in_same_phase a.mark b.mark) (touching a.node b.node ++ touching b.node a.node) []) (between a ys) n m h) [
       | inl one ↦ either_more (a ∷ []) (a ∷ []) (b ∷ []) (b ∷ ys) n m (λ deep k is. is) (λ deep k is. first_is deep b ys k is)
-          (from_pair a b (together a.mark b.mark) n m refl one)
+          (from_pair a b (in_same_phase a.mark b.mark) n m refl one)
       | inr more ↦ either_more (a ∷ []) (a ∷ []) ys (b ∷ ys) n m (λ deep k is. is) (λ deep k is. later_is deep b ys k is) (from_between a ys n m more)
     ]
 
@@ -192,28 +192,28 @@ same_test true ps n m is h = h
 same_test false ps n m is h = absurd (false_true is)
 
 -- the marks of two nodes that are together
-marks_together : (deep : Bool) (j k : Mark) → pick deep j ≡ true → pick deep k ≡ true → together j k ≡ true
+marks_together : (deep : Bool) (j k : Mark) → pick deep j ≡ true → pick deep k ≡ true → in_same_phase j k ≡ true
 marks_together false j k one two = or_left (j.surface && k.surface) (j.depth && k.depth) (and_both j.surface k.surface one two)
 marks_together true j k one two = or_right (j.surface && k.surface) (j.depth && k.depth) (and_both j.depth k.depth one two)
 
-to_between : (a : Marked) (ys : List Marked) (y n m : Node) (k : Mark) → At ys y k → together a.mark k ≡ true →
+to_between : (a : Marked) (ys : List Marked) (y n m : Node) (k : Mark) → At ys y k → in_same_phase a.mark k ≡ true →
     ((n ≡ a.node) × (m ≡ y)) ⊎ ((n ≡ y) × (m ≡ a.node)) → Touches n m → HasPair (between a ys) n m
 to_between a [] y n m k there so same t = elim there [ ]
 to_between a (b ∷ ys) y n m k (inl h) so same t =
     let both = touching a.node b.node ++ touching b.node a.node in
-    p_left (cond (together a.mark b.mark) both []) (between a ys) n m
-    (same_test (together a.mark b.mark) both n m (sym (ap (together a.mark) h.1) ∙ so) (elim same [
+    p_left (cond (in_same_phase a.mark b.mark) both []) (between a ys) n m
+    (same_test (in_same_phase a.mark b.mark) both n m (sym (ap (in_same_phase a.mark) h.1) ∙ so) (elim same [
       | inl is ↦ p_left (touching a.node b.node) (touching b.node a.node) n m (to_touching a.node b.node n m is.0 (is.1 ∙ h.0) t)
       | inr is ↦ p_right (touching a.node b.node) (touching b.node a.node) n m (to_touching b.node a.node n m (is.0 ∙ h.0) is.1 t)
     ]))
 to_between a (b ∷ ys) y n m k (inr h) so same t =
-    p_right (cond (together a.mark b.mark) (touching a.node b.node ++ touching b.node a.node) []) (between a ys) n m (to_between a ys y n m k h so same t)
+    p_right (cond (in_same_phase a.mark b.mark) (touching a.node b.node ++ touching b.node a.node) []) (between a ys) n m (to_between a ys y n m k h so same t)
 
-to_across : (xs ys : List Marked) (x y n m : Node) (j k : Mark) → At xs x j → At ys y k → together j k ≡ true →
+to_across : (xs ys : List Marked) (x y n m : Node) (j k : Mark) → At xs x j → At ys y k → in_same_phase j k ≡ true →
     ((n ≡ x) × (m ≡ y)) ⊎ ((n ≡ y) × (m ≡ x)) → Touches n m → HasPair (across xs ys) n m
 to_across [] ys x y n m j k one two so same t = elim one [ ]
 to_across (a ∷ xs) ys x y n m j k (inl h) two so same t =
-    p_left (between a ys) (across xs ys) n m (to_between a ys y n m k two (sym (ap (λ i. together i k) h.1) ∙ so) (elim same [
+    p_left (between a ys) (across xs ys) n m (to_between a ys y n m k two (sym (ap (λ i. in_same_phase i k) h.1) ∙ so) (elim same [
       | inl is ↦ inl (is.0 ∙ h.0, is.1)
       | inr is ↦ inr (is.0, is.1 ∙ h.0)
     ]) t)

@@ -57,7 +57,7 @@ use Rattle.bl_graph.specs.inner.Found.{
   writes_in,
   writes_to,
 }
-use Rattle.bl_graph.specs.inner.Noted.{HasNotesAndFronts, Note, front, kept, numbers_at, numbers_met, numbers_to}
+use Rattle.bl_graph.specs.inner.Noted.{HasNotesAndFronts, Note, front, noted_at, numbers_at, numbers_met, numbers_to}
 use Rattle.bl_graph.proofs.MemberLemmas.{each-append, is_one, one_in}
 use Rattle.bl_graph.proofs.NoteLemmas.{tells_same}
 
@@ -148,12 +148,12 @@ fronts_end a b to ns path k n is = subst (λ n. Gains a b (links to (numbers_to 
 
 -- from the nodes at a front
 pub front_linked : (a b : Found) (to : ℕ) (notes : Notes) (ns : List Note) (at path : Static) (nodes : List ℕ) → at ≡ path →
-    nodes ≡ kept notes.exactly at → HasNotesAndFronts notes ns → Gains a b (links to nodes) → Gains a b (links to (numbers_at path ns))
+    nodes ≡ noted_at notes.exactly at → HasNotesAndFronts notes ns → Gains a b (links to nodes) → Gains a b (links to (numbers_at path ns))
 front_linked a b to notes ns at path nodes same is tells =
-    gains_same a b (links to nodes) (links to (numbers_at path ns)) (ap (links to) (is ∙ ap (kept notes.exactly) same ∙ tells.exactly path))
+    gains_same a b (links to nodes) (links to (numbers_at path ns)) (ap (links to) (is ∙ ap (noted_at notes.exactly) same ∙ tells.exactly path))
 
 -- from the nodes below a path, and from those at its fronts
-pub met_both : (a b c : Found) (to : ℕ) (notes : Notes) (ns : List Note) (path : Static) (near : List ℕ) → near ≡ kept notes.within path →
+pub met_both : (a b c : Found) (to : ℕ) (notes : Notes) (ns : List Note) (path : Static) (near : List ℕ) → near ≡ noted_at notes.within path →
     HasNotesAndFronts notes ns → Gains a b (links to near) → Gains b c (links to (numbers_to ns path (length path.fields))) →
     Gains a c (links to (numbers_met ns path))
 met_both a b c to notes ns path near is tells one two =

@@ -48,7 +48,7 @@ use Rattle.bl_tree.specs.Order.{static_cmp}
 use Rattle.bl_tree.specs.declared.static_path.Static.{Static}
 use Rattle.bl_graph.specs.declared.flow.notes.Notes.{Notes}
 use Rattle.bl_graph.specs.inner.Found.{notes_of}
-use Rattle.bl_graph.specs.inner.Noted.{HasNotes, HasNotesAndFronts, Note, front, fronts_of, fronts_to, kept, note, numbers_at, with_fronts}
+use Rattle.bl_graph.specs.inner.Noted.{HasNotes, HasNotesAndFronts, Note, front, fronts_of, fronts_to, note, noted_at, numbers_at, with_fronts}
 use Rattle.bl_graph.proofs.MemberLemmas.{each-append}
 
 -- ---- equal keys are equal paths
@@ -87,7 +87,7 @@ pub numbers-append : (path : Static) (xs ys : List Note) → numbers_at path (xs
 numbers-append path = each-append (λ n. cond (is_at (static_cmp n.path) path) (n.node ∷ []) [])
 
 -- a table in which the nodes at a path were replaced by those with one more
-pub keeps_one : (old between new : Table) (path : Static) (node : ℕ) (nodes : List ℕ) → nodes ≡ kept old path ++ node ∷ [] →
+pub keeps_one : (old between new : Table) (path : Static) (node : ℕ) (nodes : List ℕ) → nodes ≡ noted_at old path ++ node ∷ [] →
     ((q : Static) → lookup (is_at (static_cmp q)) between ≡ cond (is_at (static_cmp path) q) None (lookup (is_at (static_cmp q)) old)) →
     ((q : Static) → lookup (is_at (static_cmp q)) new ≡ cond (is_at (static_cmp path) q) (Some nodes) (lookup (is_at (static_cmp q)) between)) →
     (ns : List Note) → HasNotes old ns → HasNotes new (ns ++ note node path ∷ [])
@@ -98,7 +98,7 @@ keeps_one old between new path node nodes is_nodes is_between is_new ns keeps q 
   where
     step : (t : Bool) → is_at (static_cmp path) q ≡ t →
         unwrap_or (cond t (Some nodes) (cond t None (lookup (is_at (static_cmp q)) old))) [] ≡ numbers_at q ns ++ (cond t (node ∷ []) [] ++ [])
-    step true is = is_nodes ∙ ap (λ p. kept old p ++ node ∷ []) (same_path path q is) ∙ ap (λ xs. xs ++ node ∷ []) (keeps q)
+    step true is = is_nodes ∙ ap (λ p. noted_at old p ++ node ∷ []) (same_path path q is) ∙ ap (λ xs. xs ++ node ∷ []) (keeps q)
     step false is = keeps q ∙ sym (append-nil (numbers_at q ns))
 
 pub keeps_same : (table : Table) (xs ys : List Note) → xs ≡ ys → HasNotes table xs → HasNotes table ys

@@ -38,8 +38,8 @@ use Rattle.bl_graph_nodes.specs.Plain.{
   inside,
   label_at,
   passed_one,
-  plain,
   plain_block,
+  plain_stmt,
 }
 use Rattle.bl_graph.specs.DataEdges.{Across, Beside, BesideAll, BesideEach}
 use Rattle.bl_graph.specs.Edges.{In, InEach}
@@ -58,10 +58,10 @@ record Past (l : Label) (k : ℕ) (n : Node) : Type 0 where
   begins : Begins (inside l number) (label_of n).position
 
 abbrev Parted : Stmt → Type 0
-Parted s = (at : Position) (n m : Node) → Beside (plain s at) n m → (label_of n).position ≡ (label_of m).position → ⊥
+Parted s = (at : Position) (n m : Node) → Beside (plain_stmt s at) n m → (label_of n).position ≡ (label_of m).position → ⊥
 
 block_parted : (body : List Stmt) (k : ℕ) (block : Position) → Each Parted body → (n m : Node) →
-    BesideAll (block_from (map plain body) k block) n m → (label_of n).position ≡ (label_of m).position → ⊥
+    BesideAll (block_from (map plain_stmt body) k block) n m → (label_of n).position ≡ (label_of m).position → ⊥
 block_parted [] k block each n m h same = elim h [ ]
 block_parted (s ∷ rest) k block each n m (inl h) same = All-head Parted s rest each (block ++ k ∷ []) n m h same
 block_parted (s ∷ rest) k block each n m (inr h) same = block_parted rest (suc k) block (All-tail Parted s rest each) n m h same

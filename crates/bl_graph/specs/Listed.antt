@@ -160,8 +160,8 @@ abbrev mutual
 -- ---- data edges
 
 -- whether two nodes are in both surfaces or in both depths of their branches
-abbrev pub together : Mark → Mark → Bool
-together a b = (a.surface && b.surface) || (a.depth && b.depth)
+abbrev pub in_same_phase : Mark → Mark → Bool
+in_same_phase a b = (a.surface && b.surface) || (a.depth && b.depth)
 
 -- the data edge from the first node to the second, where the first writes what the second reads
 abbrev pub touching : Node → Node → List Pair
@@ -170,7 +170,7 @@ touching from to = if meets (node_writes from) (node_reads to) then pair from to
 -- the data edges between a node and those of other branches
 abbrev pub between : Marked → List Marked → List Pair
 between a [] = []
-between a (b ∷ rest) = (if together a.mark b.mark then touching a.node b.node ++ touching b.node a.node else []) ++ between a rest
+between a (b ∷ rest) = (if in_same_phase a.mark b.mark then touching a.node b.node ++ touching b.node a.node else []) ++ between a rest
 
 -- the data edges between the nodes of a branch and those of other branches
 abbrev pub across : List Marked → List Marked → List Pair

@@ -2,7 +2,7 @@
 
 ghost use Rattle.std.specs.Prelude.{◌≡◌, ◌+◌, [], ◌++◌, ◌||◌, IfOk, OnOk};
 ghost use Rattle.bl_graph.specs.Marks.{unreached};
-ghost use Rattle.bl_graph.specs.inner.Parts.{act_part, beside, branch_links, choice_part, cobegin_part, endless_part, exit_of, followed};
+ghost use Rattle.bl_graph.specs.inner.Parts.{act_part, branch_links, choice_part, cobegin_part, endless_part, exit_of, followed, side_by_side};
 ghost use Rattle.bl_graph.specs.inner.Parts.{guarded_links, guarded_part, guarded_to, joined_branch, leaving_outs, links_from};
 ghost use Rattle.bl_graph.specs.inner.Parts.{nothing, number_if, pause_part, until_part, while_part};
 
@@ -87,7 +87,7 @@ pub fn followed(alloc: Global, part: Part, more: Part) -> Result<Part, NoMemory>
 
 /// One part beside another.
 pub fn beside(part: Part, more: Part) -> Result<Part, NoMemory>
-    ensures { IfOk result (λ made. made ≡ beside part more) }
+    ensures { IfOk result (λ made. made ≡ side_by_side part more) }
 {
     let mut part = part;
     append_outs(&more.outs, &mut part.outs)?;

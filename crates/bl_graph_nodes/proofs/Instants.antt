@@ -49,22 +49,22 @@ use Rattle.bl_graph_nodes.specs.Plain.{
   inside,
   label_at,
   passed_one,
-  plain,
   plain_block,
+  plain_stmt,
 }
 use Rattle.bl_graph_nodes.specs.Laws.{plain_arm, plain_branch}
 use Rattle.bl_graph_nodes.proofs.Equations.{plain_statements}
 
 abbrev Same : Stmt → Type 0
-Same s = (at : Position) → is_instant (plain s at) ≡ instant s
+Same s = (at : Position) → is_instant (plain_stmt s at) ≡ instant s
 
 -- ---- blocks
 
 block_same : (body : List Stmt) (k : ℕ) (block : Position) → Each Same body →
-    are_instant (block_from (map plain body) k block) ≡ all_of (map instant body)
+    are_instant (block_from (map plain_stmt body) k block) ≡ all_of (map instant body)
 block_same [] k block each = refl
 block_same (s ∷ rest) k block each =
-    ap (λ first. first && are_instant (block_from (map plain rest) (suc k) block)) (All-head Same s rest each (block ++ k ∷ []))
+    ap (λ first. first && are_instant (block_from (map plain_stmt rest) (suc k) block)) (All-head Same s rest each (block ++ k ∷ []))
     ∙ ap (λ others. instant s && others) (block_same rest (suc k) block (All-tail Same s rest each))
 
 abbrev body_instant : Arm → Bool
@@ -189,7 +189,7 @@ cases = record {
   returns = λ place e at. rw (fold-roll-Stmt, fold-roll-StmtKind, fold-roll-Stmt, fold-roll-StmtKind) refl;
 }
 
-pub instant_is : (s : Stmt) (at : Position) → is_instant (plain s at) ≡ instant s
+pub instant_is : (s : Stmt) (at : Position) → is_instant (plain_stmt s at) ≡ instant s
 instant_is = induct Same cases
 
 each_same : (body : List Stmt) → Each Same body

@@ -38,8 +38,8 @@ use Rattle.bl_graph_nodes.specs.Plain.{
   inside,
   label_at,
   passed_one,
-  plain,
   plain_block,
+  plain_stmt,
 }
 use Rattle.bl_graph_nodes.specs.Laws.{Begins, Below, LabelsAreBelow, PositionsPart, plain_arm, plain_branch}
 use Rattle.bl_graph_nodes.proofs.Equations.{plain_statements}
@@ -94,9 +94,9 @@ perhaps at false n rest begins below = below
 -- ---- blocks
 
 abbrev Low : Stmt → Type 0
-Low s = (at : Position) → Below at (nodes_of (plain s at))
+Low s = (at : Position) → Below at (nodes_of (plain_stmt s at))
 
-pub block_low : (body : List Stmt) (k : ℕ) (block : Position) → Each Low body → Below block (nodes_in (block_from (map plain body) k block))
+pub block_low : (body : List Stmt) (k : ℕ) (block : Position) → Each Low body → Below block (nodes_in (block_from (map plain_stmt body) k block))
 block_low [] k block each = tt
 block_low (s ∷ rest) k block each =
     both block _ _ (further block (block ++ k ∷ []) _ (one_on block k) (All-head Low s rest each (block ++ k ∷ [])))

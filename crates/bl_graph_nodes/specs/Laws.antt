@@ -29,7 +29,7 @@ use Rattle.bl_graph_nodes.specs.Plain.{
   inside,
   label_at,
   passed_one,
-  plain,
+  plain_stmt,
   plain_block,
 }
 
@@ -48,34 +48,34 @@ plain_branch branch = record { weak = (out-Branch branch).weak; body = plain_blo
 -- a statement at a position
 pub record PlainStatements : Type 0 where
   pub declaration : (place : Place) (at : Position) (k : ℕ) (initial : Option Expr) →
-      let s : Stmt = stmt place (StmtKind-F.Declare k initial) in plain s at ≡ Act (label_at at) s
+      let s : Stmt = stmt place (StmtKind-F.Declare k initial) in plain_stmt s at ≡ Act (label_at at) s
   pub assignment : (place : Place) (at : Position) (path : Path) (e : Expr) →
-      let s : Stmt = stmt place (StmtKind-F.Assign path e) in plain s at ≡ Act (label_at at) s
+      let s : Stmt = stmt place (StmtKind-F.Assign path e) in plain_stmt s at ≡ Act (label_at at) s
   pub call : (place : Place) (at : Position) (f : ℕ) (inputs : List Expr) (outputs : List Path) →
-      let s : Stmt = stmt place (StmtKind-F.Call f inputs outputs) in plain s at ≡ Act (label_at at) s
+      let s : Stmt = stmt place (StmtKind-F.Call f inputs outputs) in plain_stmt s at ≡ Act (label_at at) s
   pub returns : (place : Place) (at : Position) (e : Option Expr) →
-      let s : Stmt = stmt place (StmtKind-F.Return e) in plain s at ≡ Act (label_at at) s
-  pub pause : (place : Place) (at : Position) (e : Expr) → plain (stmt place (StmtKind-F.Await e)) at ≡ Await (label_at at) place e
+      let s : Stmt = stmt place (StmtKind-F.Return e) in plain_stmt s at ≡ Act (label_at at) s
+  pub pause : (place : Place) (at : Position) (e : Expr) → plain_stmt (stmt place (StmtKind-F.Await e)) at ≡ Await (label_at at) place e
   pub run : (place : Place) (at : Position) (target : Option Path) (a : ℕ) (inputs : List Expr) (outputs : List Path) →
-      plain (stmt place (StmtKind-F.Run target a inputs outputs)) at ≡ Run (label_at at) place target a inputs outputs
+      plain_stmt (stmt place (StmtKind-F.Run target a inputs outputs)) at ≡ Run (label_at at) place target a inputs outputs
   pub branching : (place : Place) (at : Position) (arm : Arm) (arms : List Arm) (other : List Stmt) →
-      plain (stmt place (StmtKind-F.If (arm ∷ arms) other)) at
+      plain_stmt (stmt place (StmtKind-F.If (arm ∷ arms) other)) at
       ≡ If (label_at at) place (out-Arm arm).test (plain_block (out-Arm arm).body (inside (label_at at) 0))
       (else_at (passed_one (label_at at)) (map plain_arm arms) (plain_block other))
   pub parallel : (place : Place) (at : Position) (branches : List Branch) →
-      plain (stmt place (StmtKind-F.Cobegin branches)) at ≡ Cobegin (label_at at) place (bodies_from (map plain_branch branches) 0 (label_at at))
+      plain_stmt (stmt place (StmtKind-F.Cobegin branches)) at ≡ Cobegin (label_at at) place (bodies_from (map plain_branch branches) 0 (label_at at))
   pub guarded : (place : Place) (at : Position) (guard : Guard) (e : Expr) (body : List Stmt) →
-      plain (stmt place (StmtKind-F.When guard e body)) at ≡ When (label_at at) place guard e (plain_block body (inside (label_at at) 0))
+      plain_stmt (stmt place (StmtKind-F.When guard e body)) at ≡ When (label_at at) place guard e (plain_block body (inside (label_at at) 0))
   pub endless : (place : Place) (at : Position) (body : List Stmt) →
-      plain (stmt place (StmtKind-F.Repeat body)) at ≡ Repeat (label_at at) place (plain_block body (inside (label_at at) 0))
+      plain_stmt (stmt place (StmtKind-F.Repeat body)) at ≡ Repeat (label_at at) place (plain_block body (inside (label_at at) 0))
   pub until : (place : Place) (at : Position) (body : List Stmt) (e : Expr) →
-      plain (stmt place (StmtKind-F.Until body e)) at ≡ Until (label_at at) place (plain_block body (inside (label_at at) 0)) e
+      plain_stmt (stmt place (StmtKind-F.Until body e)) at ≡ Until (label_at at) place (plain_block body (inside (label_at at) 0)) e
   pub while : (place : Place) (at : Position) (e : Expr) (body : List Stmt) →
-      plain (stmt place (StmtKind-F.While e body)) at ≡ While (label_at at) place e (plain_block body (inside (label_at at) 0))
+      plain_stmt (stmt place (StmtKind-F.While e body)) at ≡ While (label_at at) place e (plain_block body (inside (label_at at) 0))
 
 -- a plain statement may end in the tick in which it begins exactly where its statement may
 abbrev pub InstantIsKept : Type 0
-InstantIsKept = (s : Stmt) (at : Position) → is_instant (plain s at) ≡ instant s
+InstantIsKept = (s : Stmt) (at : Position) → is_instant (plain_stmt s at) ≡ instant s
 
 -- a plain block may end in the tick in which it begins iff its block may
 abbrev pub BlocksAreInstant : Type 0
@@ -97,7 +97,7 @@ Below at (n ∷ nodes) = Begins at (label_of n).position × Below at nodes
 
 -- the nodes of a statement or block at a position are labelled below that position
 pub record LabelsAreBelow : Type 0 where
-  pub statements : (s : Stmt) (at : Position) → Below at (nodes_of (plain s at))
+  pub statements : (s : Stmt) (at : Position) → Below at (nodes_of (plain_stmt s at))
   pub blocks : (body : List Stmt) (at : Position) → Below at (nodes_in (plain_block body at))
 
 -- no position begins with those of two blocks of a statement, nor of two statements of a block
@@ -110,5 +110,5 @@ EachOnce nodes = (i j : ℕ) (n : Node) → slice_get nodes i ≡ Some n → sli
 
 -- the nodes of a statement at a position differ, and so do those of a block
 pub record NodesDiffer : Type 0 where
-  pub statements : (s : Stmt) (at : Position) → EachOnce (nodes_of (plain s at))
+  pub statements : (s : Stmt) (at : Position) → EachOnce (nodes_of (plain_stmt s at))
   pub blocks : (body : List Stmt) (at : Position) → EachOnce (nodes_in (plain_block body at))

@@ -147,12 +147,12 @@ abbrev pub stmt_plain : Stmt-F (Place → Position → Plain) Arm Branch (Positi
 stmt_plain s at = s.what s.place at
 
 -- the plain statement of a statement at a position
-abbrev pub plain : Stmt → Position → Plain
-plain = fold-Stmt (Place → Position → Plain) Arm Branch (Position → Plain) kind_plain arm_plain branch_plain stmt_plain
+abbrev pub plain_stmt : Stmt → Position → Plain
+plain_stmt = fold-Stmt (Place → Position → Plain) Arm Branch (Position → Plain) kind_plain arm_plain branch_plain stmt_plain
 
 -- the plain statements of a block at a position
 abbrev pub plain_block : List Stmt → Position → Block
-plain_block body = block_at (map plain body)
+plain_block body = block_at (map plain_stmt body)
 
 -- the plain statements of a unit's body
 abbrev pub plain_body : List Stmt → Block

@@ -9,7 +9,7 @@ use Rattle.bl_graph_nodes.specs.Plain.{Block, plain_body}
 use Rattle.bl_machine.specs.declared.slots.Slot.{Slot}
 use Rattle.bl_machine.specs.Counters.{AllRestAt}
 use Rattle.bl_machine.specs.Layout.{counters_in, width_in}
-use Rattle.bl_machine.specs.Slots.{Counters, counters_at, numbered}
+use Rattle.bl_machine.specs.Slots.{Counters, counters_at, numbered_slots}
 use Rattle.bl_machine.specs.inner.Laid.{counters_from, laid, widths}
 use Rattle.bl_machine.proofs.CounterLemmas.{Within, count_in, laid_rests, within_in}
 use Rattle.bl_machine.proofs.Laying.{laid_counters, laid_width}
@@ -29,15 +29,15 @@ laid_within laws body width counters wide are =
     below width wide e counter h = let lt = h.1 in omega arith
 
 -- numbers of them keep what those of a body do
-pub counters_keep : (body : Block) (slots : List Slot) → slots ≡ numbered (counters_in body 0) → Counters body slots
+pub counters_keep : (body : Block) (slots : List Slot) → slots ≡ numbered_slots (counters_in body 0) → Counters body slots
 counters_keep body slots is =
     let at : counters_at slots ≡ counters_in body 0 = ap counters_at is ∙ counters_numbered (counters_in body 0) in record {
       one_each = ap length is ∙ length_numbered (counters_in body 0) ∙ count_in body 0;
       rest = subst (λ counters. AllRestAt (slice_index counters) 0 0 body) (sym at) (laid_rests body 0);
-      values = is ∙ ap numbered (sym at);
+      values = is ∙ ap numbered_slots (sym at);
     }
 
 -- and those that are made are those of the plain body
 pub slots_are : PlainStatements → (body : List Stmt) (counters : List ℕ) (slots : List Slot) → counters ≡ counters_from 0 (map laid body) →
-    slots ≡ numbered counters → slots ≡ numbered (counters_in (plain_body body) 0)
-slots_are laws body counters slots are is = is ∙ ap numbered (are ∙ sym (laid_counters laws body [] 0))
+    slots ≡ numbered_slots counters → slots ≡ numbered_slots (counters_in (plain_body body) 0)
+slots_are laws body counters slots are is = is ∙ ap numbered_slots (are ∙ sym (laid_counters laws body [] 0))

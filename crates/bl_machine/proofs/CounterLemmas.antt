@@ -54,7 +54,7 @@ use Rattle.bl_machine.specs.Layout.{
   counters_of,
   places_in,
   places_in_each,
-  places_of,
+  resting_places,
   width_in,
   width_in_each,
   width_of,
@@ -63,7 +63,7 @@ use Rattle.bl_machine.specs.Layout.{
 -- ---- one counter for each place
 
 mutual
-  count_of : (s : Plain) (low : ℕ) → length (counters_of s low) ≡ places_of s
+  count_of : (s : Plain) (low : ℕ) → length (counters_of s low) ≡ resting_places s
   count_of (Act l s) low = refl
   count_of (Await l at e) low = refl
   count_of (Run l at target a inputs outputs) low = refl
@@ -199,8 +199,8 @@ mutual
   rest_in counter Done low first h = tt
   rest_in counter (Then s rest) low first h = (
     rest_of counter s low first (agrees_front counter first (counters_of s low) (counters_in rest low) h),
-    rest_in counter rest low (first + places_of s)
-        (agrees_back counter first (places_of s) (counters_of s low) (counters_in rest low) (count_of s low) h),
+    rest_in counter rest low (first + resting_places s)
+        (agrees_back counter first (resting_places s) (counters_of s low) (counters_in rest low) (count_of s low) h),
   )
 
   begins_at : (counter : ℕ → ℕ) (bodies : Bodies) (low first : ℕ) → Agrees counter first (counters_in_each bodies low) →

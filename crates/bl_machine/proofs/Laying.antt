@@ -37,8 +37,8 @@ use Rattle.bl_graph_nodes.specs.Plain.{
   inside,
   label_at,
   passed_one,
-  plain,
   plain_block,
+  plain_stmt,
 }
 use Rattle.bl_graph_nodes.specs.Laws.{PlainStatements, plain_arm, plain_branch}
 use Rattle.bl_machine.specs.Layout.{counters_in, counters_in_each, counters_of, width_in, width_in_each, width_of}
@@ -62,7 +62,7 @@ abbrev Alike : Plain → Laid → Type 0
 Alike p l = (width_of p ≡ l.width) × ((low : ℕ) → counters_of p low ≡ l.counters low)
 
 abbrev Same : Stmt → Type 0
-Same s = (at : Position) → Alike (plain s at) (laid s)
+Same s = (at : Position) → Alike (plain_stmt s at) (laid s)
 
 -- ---- numbers
 
@@ -75,17 +75,17 @@ max_apart a b c = omega arith
 -- ---- blocks
 
 block_width : (body : List Stmt) (k : ℕ) (block : Position) → Each Same body →
-    width_in (block_from (map plain body) k block) ≡ greatest (widths (map laid body))
+    width_in (block_from (map plain_stmt body) k block) ≡ greatest (widths (map laid body))
 block_width [] k block each = refl
 block_width (s ∷ rest) k block each =
-    ap (λ first. max first (width_in (block_from (map plain rest) (suc k) block))) (All-head Same s rest each (block ++ k ∷ [])).0
+    ap (λ first. max first (width_in (block_from (map plain_stmt rest) (suc k) block))) (All-head Same s rest each (block ++ k ∷ [])).0
     ∙ ap (λ others. max (laid s).width others) (block_width rest (suc k) block (All-tail Same s rest each))
 
 block_counters : (body : List Stmt) (k : ℕ) (block : Position) (low : ℕ) → Each Same body →
-    counters_in (block_from (map plain body) k block) low ≡ counters_from low (map laid body)
+    counters_in (block_from (map plain_stmt body) k block) low ≡ counters_from low (map laid body)
 block_counters [] k block low each = refl
 block_counters (s ∷ rest) k block low each =
-    ap (λ first. first ++ counters_in (block_from (map plain rest) (suc k) block) low) ((All-head Same s rest each (block ++ k ∷ [])).1 low)
+    ap (λ first. first ++ counters_in (block_from (map plain_stmt rest) (suc k) block) low) ((All-head Same s rest each (block ++ k ∷ [])).1 low)
     ∙ ap (λ others. (laid s).counters low ++ others) (block_counters rest (suc k) block low (All-tail Same s rest each))
 
 -- ---- arms

@@ -36,14 +36,14 @@ use Rattle.std.proofs.lemmas.Bool.{cases_eq}
 use Rattle.std.proofs.lemmas.Bool.Decides.{nat_tests}
 use Rattle.std.proofs.lemmas.Grind.{common_steps}
 use Rattle.bl_machine.specs.declared.slots.Slot.{Slot}
-use Rattle.bl_machine.specs.Slots.{counters_at, numbered, numbered_after, times}
+use Rattle.bl_machine.specs.Slots.{counters_at, numbered_after, numbered_slots, times}
 
 -- the counters of numbers are those that were numbered
 counters_after : (before rest : List ℕ) → counters_at (numbered_after before rest) ≡ rest
 counters_after before [] = refl
 counters_after before (counter ∷ rest) = ap (λ others. counter ∷ others) (counters_after (before ++ counter ∷ []) rest)
 
-pub counters_numbered : (counters : List ℕ) → counters_at (numbered counters) ≡ counters
+pub counters_numbered : (counters : List ℕ) → counters_at (numbered_slots counters) ≡ counters
 counters_numbered counters = counters_after [] counters
 
 -- and each has one
@@ -51,7 +51,7 @@ length_after : (before rest : List ℕ) → length (numbered_after before rest) 
 length_after before [] = refl
 length_after before (counter ∷ rest) = ap suc (length_after (before ++ counter ∷ []) rest)
 
-pub length_numbered : (counters : List ℕ) → length (numbered counters) ≡ length counters
+pub length_numbered : (counters : List ℕ) → length (numbered_slots counters) ≡ length counters
 length_numbered counters = length_after [] counters
 
 -- ---- one number after another
@@ -60,7 +60,7 @@ length_numbered counters = length_after [] counters
 pub record Numbering (width : ℕ) (counters : List ℕ) (i : ℕ) (last : List ℕ) (slots : List Slot) : Type 0 where
   pub one_each : length last ≡ width
   pub counted : (k : ℕ) → k < width → get_or last k 0 ≡ times k (take i counters)
-  pub goes_on : slots ++ numbered_after (take i counters) (drop i counters) ≡ numbered counters
+  pub goes_on : slots ++ numbered_after (take i counters) (drop i counters) ≡ numbered_slots counters
 
 pub numbering_begins : (width : ℕ) (counters : List ℕ) → Numbering width counters 0 (replicate width 0) []
 numbering_begins width counters = record {
@@ -82,8 +82,8 @@ module _ (counters : List ℕ) (i counter : ℕ) (lt : i < length counters) (is 
       unequal a b differs = grind (arith, nat_tests)
 
   goes_further : (value : ℕ) (slots : List Slot) → value ≡ suc (times counter (take i counters)) →
-      slots ++ numbered_after (take i counters) (drop i counters) ≡ numbered counters →
-      (slots ++ record { counter = counter; value = value } ∷ []) ++ numbered_after (take (i + 1) counters) (drop (i + 1) counters) ≡ numbered counters
+      slots ++ numbered_after (take i counters) (drop i counters) ≡ numbered_slots counters →
+      (slots ++ record { counter = counter; value = value } ∷ []) ++ numbered_after (take (i + 1) counters) (drop (i + 1) counters) ≡ numbered_slots counters
   goes_further value slots e h =
       let next : i + 1 ≡ suc i = omega arith in
       let front : take (i + 1) counters ≡ take i counters ++ counter ∷ [] =
@@ -121,7 +121,7 @@ numbering_goes_on width i counter value counters last slots all lt is adds h =
         case
 
 pub numbering_ends : (width i : ℕ) (counters last : List ℕ) (slots : List Slot) → length counters ≤ i → Numbering width counters i last slots →
-    slots ≡ numbered counters
+    slots ≡ numbered_slots counters
 numbering_ends width i counters last slots le h =
     sym (append-nil slots) ∙ ap (λ rest. slots ++ numbered_after (take i counters) rest) (sym (drop_all counters i le)) ∙ h.goes_on
   where

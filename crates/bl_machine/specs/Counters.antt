@@ -19,7 +19,7 @@ use Rattle.bl_graph_nodes.specs.Plain.{
   When,
   While,
 }
-use Rattle.bl_machine.specs.Layout.{places_in, places_in_each, places_of}
+use Rattle.bl_machine.specs.Layout.{places_in, places_in_each, resting_places}
 
 -- no place from `first` on and before `middle` has the counter of one from `middle` on and before `last`
 abbrev pub AreApart : (ℕ → ℕ) → ℕ → ℕ → ℕ → Type 0
@@ -48,7 +48,7 @@ abbrev mutual
   -- AllRestAt counter low first body: each statement of the block, whose places are numbered from `first` on, rests at the counter `low`
   pub AllRestAt : (ℕ → ℕ) → ℕ → ℕ → Block → Type 0
   AllRestAt counter low first Done = ⊤
-  AllRestAt counter low first (Then s rest) = RestsAt counter low first s × AllRestAt counter low (first + places_of s) rest
+  AllRestAt counter low first (Then s rest) = RestsAt counter low first s × AllRestAt counter low (first + resting_places s) rest
 
   -- each branch rests at the counter of its end, and no two branches have places with one counter, as they rest at once
   pub EachRests : (ℕ → ℕ) → ℕ → Bodies → Type 0

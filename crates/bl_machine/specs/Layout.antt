@@ -25,22 +25,22 @@ use Rattle.bl_graph_nodes.specs.Plain.{
 abbrev mutual
   -- how many resting places stand in a statement, in source order. An `await`, a `run` and the end of a branch are one each; the end stands before its branch's
   -- places
-  pub places_of : Plain → ℕ
-  places_of (Act l s) = 0
-  places_of (Await l at e) = 1
-  places_of (Run l at target a inputs outputs) = 1
-  places_of (If l at e body other) = places_in body + places_in other
-  places_of (Cobegin l at bodies) = places_in_each bodies
-  places_of (When l at guard e body) = places_in body
-  places_of (Repeat l at body) = places_in body
-  places_of (Until l at body e) = places_in body
-  places_of (While l at e body) = places_in body
-  places_of (Again l at body e) = places_in body
+  pub resting_places : Plain → ℕ
+  resting_places (Act l s) = 0
+  resting_places (Await l at e) = 1
+  resting_places (Run l at target a inputs outputs) = 1
+  resting_places (If l at e body other) = places_in body + places_in other
+  resting_places (Cobegin l at bodies) = places_in_each bodies
+  resting_places (When l at guard e body) = places_in body
+  resting_places (Repeat l at body) = places_in body
+  resting_places (Until l at body e) = places_in body
+  resting_places (While l at e body) = places_in body
+  resting_places (Again l at body e) = places_in body
 
   -- how many resting places stand in a block
   pub places_in : Block → ℕ
   places_in Done = 0
-  places_in (Then s rest) = places_of s + places_in rest
+  places_in (Then s rest) = resting_places s + places_in rest
 
   -- how many resting places stand in branches, their ends among them
   pub places_in_each : Bodies → ℕ

@@ -7,7 +7,7 @@ use Rattle.bl_graph_nodes.specs.Plain.{plain_body}
 use Rattle.bl_machine.specs.declared.machine.Activity.{Activity}
 use Rattle.bl_machine.specs.Blocks.{Ordered}
 use Rattle.bl_machine.specs.Layout.{counters_in}
-use Rattle.bl_machine.specs.Slots.{Counters, numbered}
+use Rattle.bl_machine.specs.Slots.{Counters, numbered_slots}
 
 -- what contracts see of a machine
 pub record SeenMachine : Type 0 where
@@ -20,7 +20,7 @@ pub record SeenMachine : Type 0 where
 pub record IsActivityOf (unit : UnitDef) (activity : Activity) : Type 0 where
   pub order : Ordered (plain_body unit.body) activity.blocks
   pub counters : Counters (plain_body unit.body) activity.slots
-  pub slots : activity.slots ≡ numbered (counters_in (plain_body unit.body) 0)
+  pub slots : activity.slots ≡ numbered_slots (counters_in (plain_body unit.body) 0)
 
 -- the list has one activity for each activity among the units, in their order
 abbrev pub AreActivitiesOf : List UnitDef → List Activity → Type 0

@@ -19,12 +19,12 @@ numbered_after before [] = []
 numbered_after before (counter ∷ rest) = record { counter = counter; value = suc (times counter before) } ∷ numbered_after (before ++ counter ∷ []) rest
 
 -- the values of each counter count up from one, so no two places have one number, and 0 is the number of none
-abbrev pub numbered : List ℕ → List Slot
-numbered counters = numbered_after [] counters
+abbrev pub numbered_slots : List ℕ → List Slot
+numbered_slots counters = numbered_after [] counters
 
 -- the places of the body have these numbers, one each: whatever rests one after another or instead of one another is at one counter, and
 -- branches that rest at once are at different ones
 pub record Counters (body : Block) (slots : List Slot) : Type 0 where
   pub one_each : length slots ≡ places_in body
   pub rest : AllRestAt (slice_index (counters_at slots)) 0 0 body
-  pub values : slots ≡ numbered (counters_at slots)
+  pub values : slots ≡ numbered_slots (counters_at slots)

@@ -21,7 +21,7 @@ use std::alloc::Global;
 fn activity(alloc: Global, unit: &Unit, graph: &Graph, order: &Order) -> Result<Activity, NoMemory>
     requires graph { IsGraphOf unit.now graph.now }
     requires order { IsOrderOf graph.now order.now }
-    ensures keeps { IfOk result (IsActivityOf unit.now) }
+    ensures agrees { IfOk result (IsActivityOf unit.now) }
     ensures plain { IfOk result (IsPlainActivityOf unit.now) }
 {
     plain_statements();
@@ -44,7 +44,7 @@ fn activity_at(
     requires graphs { at < length graphs.now }
     requires orders { at < length orders.now }
     requires found { IsFound unit.now graphs.now orders.now at }
-    ensures keeps { IfOk result (IsActivityOf unit.now) }
+    ensures agrees { IfOk result (IsActivityOf unit.now) }
     ensures plain { IfOk result (IsPlainActivityOf unit.now) }
 {
     activity(alloc, unit, &graphs[at], &orders[at])
@@ -59,7 +59,7 @@ pub fn all(
 ) -> Result<List<Activity>, NoMemory>
     requires graphs { AreGraphs program.now.units graphs.now }
     requires orders { AreOrders graphs.now orders.now }
-    ensures keeps { IfOk result (AreActivitiesOf program.now.units) }
+    ensures agrees { IfOk result (AreActivitiesOf program.now.units) }
     ensures plain { IfOk result (EachTwo IsPlainActivityOf (activities program.now.units)) }
 {
     graphs_are_found();

@@ -1,7 +1,7 @@
 //! Numbers for resting places.
 
 ghost use Rattle.std.specs.Prelude.{◌≡◌, ◌<◌, All, IfOk};
-ghost use Rattle.bl_machine.specs.Slots.{numbered};
+ghost use Rattle.bl_machine.specs.Slots.{numbered_slots};
 
 use crate::layout::after;
 use bl_tree::{List, NoMemory};
@@ -19,7 +19,7 @@ pub struct Slot {
 /// The numbers of places with these counters: the values of each counter count up from one.
 pub fn numbered(alloc: Global, width: u32, counters: &[u32]) -> Result<List<Slot>, NoMemory>
     requires { All (λ counter. counter < width) counters.now }
-    ensures { IfOk result (λ slots. slots ≡ numbered counters.now) }
+    ensures { IfOk result (λ slots. slots ≡ numbered_slots counters.now) }
 {
     let mut last = vec![in alloc; 0u32; width as usize]?;
     let mut slots = List::new(alloc);

@@ -3,7 +3,7 @@ use Rattle.std.specs.List.{list_all, list_any}
 use Rattle.std.specs.Prelude.{ℕ, Bool, true, false, ◌&&◌, not, List, [], ◌∷◌, if◌then◌else◌, nat_eq}
 use Rattle.bl_graph_nodes.specs.Nodes.{Node}
 use Rattle.bl_machine.specs.declared.slots.Slot.{Slot}
-use Rattle.bl_machine_pass.specs.Transitions.{Age, Asked, Change, Needed, Transition}
+use Rattle.bl_machine_pass.specs.Transitions.{Age, Change, Condition, Needed, Transition}
 use Rattle.bl_machine_pass.specs.Transitions.{ClearsBoth, ClearsCounter, Ended, EndsWhen, Finishes, Flagged, IsAny, IsNew, IsOld, Rested, RestedIn, SetsCounter, SetsFlag, SetsMark}
 
 -- the registers of a pass, by the numbers of nodes, which differ for the nodes of a body
@@ -62,7 +62,7 @@ all_changed number (change ∷ rest) r = all_changed number rest (changed number
 
 -- the registers after a rule whose node has acted with this answer
 abbrev pub after_rule : (Node → ℕ) → Transition → Bool → Registers → Registers
-after_rule number rule answer r = all_changed number (if answer then rule.so else rule.otherwise) r
+after_rule number rule answer r = all_changed number (if answer then rule.on_true else rule.on_false) r
 
 -- ---- what is asked
 
@@ -81,7 +81,7 @@ is_aged number marks (IsOld n) = not (marks (number n))
 is_aged number marks IsAny = true
 
 -- whether the answer to what is asked before a node acts is true
-abbrev pub due_by : (Node → ℕ) → Registers → Node → Asked → Bool
+abbrev pub due_by : (Node → ℕ) → Registers → Node → Condition → Bool
 due_by number r n Flagged = r.flags (number n)
 due_by number r n (Rested slot) = is_at r.rested slot
 due_by number r n (RestedIn slots) = list_any (is_at r.rested) slots
@@ -89,7 +89,7 @@ due_by number r n (Ended age needed) = is_aged number r.marks age && are_ended r
 
 -- whether the node of a rule is to act
 abbrev pub is_due : (Node → ℕ) → Transition → Registers → Bool
-is_due number rule r = due_by number r rule.node rule.asked
+is_due number rule r = due_by number r rule.node rule.condition
 
 -- ---- the start of a pass
 

@@ -90,27 +90,27 @@ pub record Needed : Type 0 where
   pub slots : List Slot
 
 -- what a pass asks before a node acts
-pub data Asked : Type 0 where
+pub data Condition : Type 0 where
   -- whether the node waits
-  Flagged : Asked
+  Flagged : Condition
   -- whether the instance rested at the number when the tick began
-  Rested : Slot → Asked
+  Rested : Slot → Condition
   -- whether the instance rested at one of these numbers, at which the body of a `when` may rest
-  RestedIn : List Slot → Asked
+  RestedIn : List Slot → Condition
   -- whether as many branches of a `cobegin` rest at their ends as are needed
-  Ended : Age → Needed → Asked
+  Ended : Age → Needed → Condition
 
 -- the rule of a node: what it asks, and what changes where the answer is true, and where it is false. A node without a test answers true; a `run` that goes on
 -- answers whether the callee's body has ended
 pub record Transition : Type 0 where
   pub node : Node
-  pub asked : Asked
-  pub so : List Change
-  pub otherwise : List Change
+  pub condition : Condition
+  pub on_true : List Change
+  pub on_false : List Change
 
 -- the rule of a node that waits by its flag and has one way on
 abbrev pub flagged : Node → List Change → Transition
-flagged n so = record { node = n; asked = Flagged; so = so; otherwise = [] }
+flagged n on_true = record { node = n; condition = Flagged; on_true = on_true; on_false = [] }
 
 -- ---- the places of a part
 
@@ -219,9 +219,9 @@ rule_where test rule = if test then rule ∷ [] else []
 abbrev pub joins : Slots → Label → Bodies → Age → Node → Change → Transition
 joins slots l bodies age n next = record {
   node = n;
-  asked = Ended age (needed slots l bodies);
-  so = map ClearsCounter (once (counters_in_each slots l 0 bodies)) ++ next ∷ [];
-  otherwise = [];
+  condition = Ended age (needed slots l bodies);
+  on_true = map ClearsCounter (once (counters_in_each slots l 0 bodies)) ++ next ∷ [];
+  on_false = [];
 }
 
 -- the age that a `cobegin` needs at its later join: any, if it can't end in the tick in which it begins
@@ -236,19 +236,19 @@ abbrev mutual
   rules_of slots (Act l s) next = flagged (ActAt l s) (next ∷ []) ∷ []
   rules_of slots (Await l at e) next =
       flagged (PauseAt l at) (SetsCounter (slots.rest l) ∷ [])
-      ∷ record { node = TestAt l at e; asked = Rested (slots.rest l); so = ClearsCounter (slots.rest l).counter ∷ next ∷ []; otherwise = [] }
+      ∷ record { node = TestAt l at e; condition = Rested (slots.rest l); on_true = ClearsCounter (slots.rest l).counter ∷ next ∷ []; on_false = [] }
       ∷ []
   rules_of slots (RunOf l at target a inputs outputs) next =
       flagged (EnterAt l at (arguments_of target inputs outputs)) (SetsCounter (slots.rest l) ∷ [])
       ∷ record {
         node = ResumeAt l at (arguments_of target inputs outputs);
-        asked = Rested (slots.rest l);
-        so = ClearsCounter (slots.rest l).counter ∷ next ∷ [];
-        otherwise = [];
+        condition = Rested (slots.rest l);
+        on_true = ClearsCounter (slots.rest l).counter ∷ next ∷ [];
+        on_false = [];
       }
       ∷ []
   rules_of slots (If l at e body other) next =
-      record { node = TestAt l at e; asked = Flagged; so = enter body next ∷ []; otherwise = enter other next ∷ [] }
+      record { node = TestAt l at e; condition = Flagged; on_true = enter body next ∷ []; on_false = enter other next ∷ [] }
       ∷ (rules_in slots body next ++ rules_in slots other next)
   rules_of slots (Cobegin l at bodies) next =
       flagged (ForkAt l at) (marked (is_instant (Cobegin l at bodies)) (ForkAt l at) (enter_each slots l 0 bodies))
@@ -260,9 +260,9 @@ abbrev mutual
       ∷ (rule_where (are_instant body) (flagged (SurfaceEndAt l at) (next ∷ []))
       ++ record {
         node = CheckAt l at e;
-        asked = RestedIn (rests_in slots body);
-        so = map ClearsBoth (once (counters_in slots body)) ++ fires guard l at body next ∷ [];
-        otherwise = [];
+        condition = RestedIn (rests_in slots body);
+        on_true = map ClearsBoth (once (counters_in slots body)) ++ fires guard l at body next ∷ [];
+        on_false = [];
       }
       ∷ flagged (DepthEndAt l at) (next ∷ [])
       ∷ rules_in slots body (body_ends l at body))
@@ -270,14 +270,14 @@ abbrev mutual
       flagged (HeadAt l at) (enter body (SetsFlag (HeadAt l at)) ∷ []) ∷ rules_in slots body (SetsFlag (HeadAt l at))
   rules_of slots (Until l at body e) next =
       flagged (HeadAt l at) (enter body (SetsFlag (TestAt l at e)) ∷ [])
-      ∷ record { node = TestAt l at e; asked = Flagged; so = next ∷ []; otherwise = SetsFlag (HeadAt l at) ∷ [] }
+      ∷ record { node = TestAt l at e; condition = Flagged; on_true = next ∷ []; on_false = SetsFlag (HeadAt l at) ∷ [] }
       ∷ rules_in slots body (SetsFlag (TestAt l at e))
   rules_of slots (While l at e body) next =
-      record { node = TestAt l at e; asked = Flagged; so = enter body (SetsFlag (TestAt l at e)) ∷ []; otherwise = next ∷ [] }
+      record { node = TestAt l at e; condition = Flagged; on_true = enter body (SetsFlag (TestAt l at e)) ∷ []; on_false = next ∷ [] }
       ∷ rules_in slots body (SetsFlag (TestAt l at e))
   rules_of slots (Again l at body e) next =
       flagged (HeadAt l at) (enter body (SetsFlag (TestAt l at e)) ∷ [])
-      ∷ record { node = TestAt l at e; asked = Flagged; so = next ∷ []; otherwise = SetsFlag (HeadAt l at) ∷ [] }
+      ∷ record { node = TestAt l at e; condition = Flagged; on_true = next ∷ []; on_false = SetsFlag (HeadAt l at) ∷ [] }
       ∷ rules_in slots body (SetsFlag (TestAt l at e))
 
   -- the rules of the nodes of a block, in their order, where that change follows the block

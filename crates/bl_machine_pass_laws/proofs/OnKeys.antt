@@ -53,8 +53,8 @@ use Rattle.bl_graph_nodes.specs.Plain.{
   never,
   passed_one,
   place_of_test,
-  plain,
   plain_block,
+  plain_stmt,
 }
 use Rattle.bl_graph_nodes.specs.Laws.{Begins, Below, plain_arm, plain_branch}
 use Rattle.bl_graph_nodes.proofs.Equations.{plain_statements}
@@ -173,17 +173,17 @@ past_apart block k n begins past =
 -- ---- blocks
 
 abbrev Alone : Stmt → Type 0
-Alone s = (at : Position) → Differ (nodes_of (plain s at))
+Alone s = (at : Position) → Differ (nodes_of (plain_stmt s at))
 
-block_past : (body : List Stmt) (k : ℕ) (block : Position) (n : Node) → Has (nodes_in (block_from (map plain body) k block)) n → Past block k n
+block_past : (body : List Stmt) (k : ℕ) (block : Position) (n : Node) → Has (nodes_in (block_from (map plain_stmt body) k block)) n → Past block k n
 block_past [] k block n h = elim h [ ]
 block_past (s ∷ rest) k block n h =
-    elim (has_cases (nodes_of (plain s (block ++ k ∷ []))) (nodes_in (block_from (map plain rest) (suc k) block)) n h) [
+    elim (has_cases (nodes_of (plain_stmt s (block ++ k ∷ []))) (nodes_in (block_from (map plain_stmt rest) (suc k) block)) n h) [
       | inl a ↦ record { number = k; past = omega arith; begins = below_has (block ++ k ∷ []) _ n (low s (block ++ k ∷ [])) a }
       | inr b ↦ past_more block k (suc k) n (omega arith) (block_past rest (suc k) block n b)
     ]
 
-block_differs : (body : List Stmt) (k : ℕ) (block : Position) → Each Alone body → Differ (nodes_in (block_from (map plain body) k block))
+block_differs : (body : List Stmt) (k : ℕ) (block : Position) → Each Alone body → Differ (nodes_in (block_from (map plain_stmt body) k block))
 block_differs [] k block each = tt
 block_differs (s ∷ rest) k block each =
     differ_append _ _ (All-head Alone s rest each (block ++ k ∷ [])) (block_differs rest (suc k) block (All-tail Alone s rest each))

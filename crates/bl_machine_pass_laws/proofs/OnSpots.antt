@@ -37,14 +37,14 @@ use Rattle.bl_graph_nodes.specs.Plain.{
   inside,
   label_at,
   passed_one,
-  plain,
   plain_block,
+  plain_stmt,
 }
 use Rattle.bl_graph_nodes.specs.Laws.{Begins, plain_arm, plain_branch}
 use Rattle.bl_graph_nodes.proofs.Equations.{plain_statements}
 use Rattle.bl_graph_nodes.proofs.Labels.{itself, one_on, positions_part, tail_same, through}
 use Rattle.bl_machine_pass.specs.SlotLayout.{EndOf, RestOf, Spot, spots_in, spots_in_each, spots_of}
-use Rattle.bl_machine_pass_laws.specs.Spots.{Has, SpotsAreDistinct, SpotsDiffer, position_of}
+use Rattle.bl_machine_pass_laws.specs.Spots.{Has, SpotsAreDistinct, SpotsDiffer, spot_position}
 
 -- ---- lists
 
@@ -76,35 +76,35 @@ is_no_further (x ∷ xs) k rest is = is_no_further xs k rest (tail_same x x xs (
 record Past (block : Position) (k : ℕ) (p : Spot) : Type 0 where
   number : ℕ
   past : k ≤ number
-  begins : Begins (block ++ number ∷ []) (position_of p)
+  begins : Begins (block ++ number ∷ []) (spot_position p)
 
 past_more : (block : Position) (j k : ℕ) (p : Spot) → j ≤ k → Past block k p → Past block j p
 past_more block j k p le past =
     let more = past.past in record { number = past.number; past = omega arith; begins = past.begins }
 
-past_apart : (block : Position) (k : ℕ) (p : Spot) → Begins (block ++ k ∷ []) (position_of p) → Past block (suc k) p → ⊥
+past_apart : (block : Position) (k : ℕ) (p : Spot) → Begins (block ++ k ∷ []) (spot_position p) → Past block (suc k) p → ⊥
 past_apart block k p begins past =
-    let same = positions_part block (position_of p) k past.number begins past.begins in let more = past.past in omega arith
+    let same = positions_part block (spot_position p) k past.number begins past.begins in let more = past.past in omega arith
 
-past_begins : (block : Position) (k : ℕ) (p : Spot) → Past block k p → Begins block (position_of p)
-past_begins block k p past = through block (block ++ past.number ∷ []) (position_of p) (one_on block past.number) past.begins
+past_begins : (block : Position) (k : ℕ) (p : Spot) → Past block k p → Begins block (spot_position p)
+past_begins block k p past = through block (block ++ past.number ∷ []) (spot_position p) (one_on block past.number) past.begins
 
 -- ---- blocks
 
 -- the places of a statement differ, and belong to statements below its position
 abbrev Alone : Stmt → Type 0
-Alone s = (at : Position) → SpotsAreDistinct (spots_of (plain s at)) × ((p : Spot) → Has (spots_of (plain s at)) p → Begins at (position_of p))
+Alone s = (at : Position) → SpotsAreDistinct (spots_of (plain_stmt s at)) × ((p : Spot) → Has (spots_of (plain_stmt s at)) p → Begins at (spot_position p))
 
 block_past : (body : List Stmt) (k : ℕ) (block : Position) → Each Alone body → (p : Spot) →
-    Has (spots_in (block_from (map plain body) k block)) p → Past block k p
+    Has (spots_in (block_from (map plain_stmt body) k block)) p → Past block k p
 block_past [] k block each p h = elim h [ ]
 block_past (s ∷ rest) k block each p h =
-    elim (has_cases (spots_of (plain s (block ++ k ∷ []))) (spots_in (block_from (map plain rest) (suc k) block)) p h) [
+    elim (has_cases (spots_of (plain_stmt s (block ++ k ∷ []))) (spots_in (block_from (map plain_stmt rest) (suc k) block)) p h) [
       | inl a ↦ record { number = k; past = omega arith; begins = (All-head Alone s rest each (block ++ k ∷ [])).1 p a }
       | inr b ↦ past_more block k (suc k) p (omega arith) (block_past rest (suc k) block (All-tail Alone s rest each) p b)
     ]
 
-block_differs : (body : List Stmt) (k : ℕ) (block : Position) → Each Alone body → SpotsAreDistinct (spots_in (block_from (map plain body) k block))
+block_differs : (body : List Stmt) (k : ℕ) (block : Position) → Each Alone body → SpotsAreDistinct (spots_in (block_from (map plain_stmt body) k block))
 block_differs [] k block each = tt
 block_differs (s ∷ rest) k block each =
     differ_append _ _ (All-head Alone s rest each (block ++ k ∷ [])).0 (block_differs rest (suc k) block (All-tail Alone s rest each))
@@ -113,7 +113,7 @@ block_differs (s ∷ rest) k block each =
 
 -- a block in a statement
 inner_begins : (body : List Stmt) (l : Label) (k : ℕ) → Each Alone body → (p : Spot) → Has (spots_in (plain_block body (inside l k))) p →
-    Begins (inside l k) (position_of p)
+    Begins (inside l k) (spot_position p)
 inner_begins body l k each p h = past_begins (inside l k) 0 p (block_past body 0 (inside l k) each p h)
 
 inner_differs : (body : List Stmt) (l : Label) (k : ℕ) → Each Alone body → SpotsAreDistinct (spots_in (plain_block body (inside l k)))
@@ -178,7 +178,7 @@ bodies_differ (b ∷ rest) k at each =
         ],
         differ_append body further (inner_differs (out-Branch b).body l k here) inner.0 (λ p one two. elim (inner.1 p two) [
           | inl past ↦ past_apart at k p (inner_begins (out-Branch b).body l k here p one) past
-          | inr end ↦ let begins = subst (λ x. Begins (at ++ k ∷ []) (position_of x)) end.2 (inner_begins (out-Branch b).body l k here p one) in
+          | inr end ↦ let begins = subst (λ x. Begins (at ++ k ∷ []) (spot_position x)) end.2 (inner_begins (out-Branch b).body l k here p one) in
               is_no_further at k begins.rest begins.is
         ]),
       ),
@@ -200,27 +200,27 @@ bodies_differ (b ∷ rest) k at each =
 -- ---- statements
 
 of_plain : (one other : Plain) (at : Position) → one ≡ other →
-    SpotsAreDistinct (spots_of other) × ((p : Spot) → Has (spots_of other) p → Begins at (position_of p)) →
-    SpotsAreDistinct (spots_of one) × ((p : Spot) → Has (spots_of one) p → Begins at (position_of p))
-of_plain one other at is shown = subst (λ s. SpotsAreDistinct (spots_of s) × ((p : Spot) → Has (spots_of s) p → Begins at (position_of p))) (sym is) shown
+    SpotsAreDistinct (spots_of other) × ((p : Spot) → Has (spots_of other) p → Begins at (spot_position p)) →
+    SpotsAreDistinct (spots_of one) × ((p : Spot) → Has (spots_of one) p → Begins at (spot_position p))
+of_plain one other at is shown = subst (λ s. SpotsAreDistinct (spots_of s) × ((p : Spot) → Has (spots_of s) p → Begins at (spot_position p))) (sym is) shown
 
 -- without places
-none : (at : Position) → SpotsAreDistinct [] × ((p : Spot) → Has [] p → Begins at (position_of p))
+none : (at : Position) → SpotsAreDistinct [] × ((p : Spot) → Has [] p → Begins at (spot_position p))
 none at = (tt, λ p h. elim h [ ])
 
 -- with one place, of the statement itself
-single : (at : Position) → SpotsAreDistinct (RestOf (label_at at) ∷ []) × ((p : Spot) → Has (RestOf (label_at at) ∷ []) p → Begins at (position_of p))
+single : (at : Position) → SpotsAreDistinct (RestOf (label_at at) ∷ []) × ((p : Spot) → Has (RestOf (label_at at) ∷ []) p → Begins at (spot_position p))
 single at = (
   (λ h. elim h [ ], tt),
-  λ p h. elim h [ inl is ↦ subst (λ x. Begins at (position_of x)) (sym is) (itself at) | inr other ↦ elim other [ ] ],
+  λ p h. elim h [ inl is ↦ subst (λ x. Begins at (spot_position x)) (sym is) (itself at) | inr other ↦ elim other [ ] ],
 )
 
 -- with the places of one block
 one_block : (body : List Stmt) (at : Position) → Each Alone body → SpotsAreDistinct (spots_in (plain_block body (inside (label_at at) 0)))
-    × ((p : Spot) → Has (spots_in (plain_block body (inside (label_at at) 0))) p → Begins at (position_of p))
+    × ((p : Spot) → Has (spots_in (plain_block body (inside (label_at at) 0))) p → Begins at (spot_position p))
 one_block body at each = (
   inner_differs body (label_at at) 0 each,
-  λ p h. through at (at ++ 0 ∷ []) (position_of p) (one_on at 0) (inner_begins body (label_at at) 0 each p h),
+  λ p h. through at (at ++ 0 ∷ []) (spot_position p) (one_on at 0) (inner_begins body (label_at at) 0 each p h),
 )
 
 branching_differs : (place : Place) (arms : List Arm) (other : List Stmt) → EachArm Alone arms → Each Alone other →
@@ -231,8 +231,8 @@ branching_differs place [] other each others at = rw (fold-roll-Stmt, fold-roll-
       (λ p a b. past_apart at 0 p (inner_begins other (label_at at) 0 others p a)
       (record { number = 1; past = omega arith; begins = inner_begins other (label_at at) 1 others p b })),
   λ p h. elim (has_cases (spots_in (plain_block other (inside (label_at at) 0))) (spots_in (plain_block other (inside (label_at at) 1))) p h) [
-    | inl a ↦ through at (at ++ 0 ∷ []) (position_of p) (one_on at 0) (inner_begins other (label_at at) 0 others p a)
-    | inr b ↦ through at (at ++ 1 ∷ []) (position_of p) (one_on at 1) (inner_begins other (label_at at) 1 others p b)
+    | inl a ↦ through at (at ++ 0 ∷ []) (spot_position p) (one_on at 0) (inner_begins other (label_at at) 0 others p a)
+    | inr b ↦ through at (at ++ 1 ∷ []) (spot_position p) (one_on at 1) (inner_begins other (label_at at) 1 others p b)
   ],
 )
 branching_differs place (arm ∷ rest) other each others at =
@@ -257,7 +257,7 @@ cobegin_differs place branches each at =
       inner.0,
       λ p h. elim (inner.1 p h) [
         | inl past ↦ past_begins at 0 p past
-        | inr end ↦ subst (λ x. Begins at (position_of x)) (sym end.2) (itself at)
+        | inr end ↦ subst (λ x. Begins at (spot_position x)) (sym end.2) (itself at)
       ],
     )
 

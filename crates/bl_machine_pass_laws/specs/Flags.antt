@@ -21,16 +21,16 @@ MayFlag Finishes m = ⊥
 abbrev pub FlagsComeFromBefore : Type 0
 FlagsComeFromBefore =
     (slots : Slots) (body : Block) (n m : Node) (rule : Transition) (change : Change) → CouldFollow body n m → Contains (rules slots body) rule →
-    Contains rule.so change ⊎ Contains rule.otherwise change → MayFlag change m → rule.node ≡ n
+    Contains rule.on_true change ⊎ Contains rule.on_false change → MayFlag change m → rule.node ≡ n
 
 -- the rule of a node that could stand in one block with the node before it asks for its flag
 abbrev pub FlagsAreAsked : Type 0
 FlagsAreAsked =
     (slots : Slots) (body : Block) (n m : Node) (rule : Transition) → CouldFollow body n m → Contains (rules slots body) rule → rule.node ≡ m →
-    rule.asked ≡ Flagged
+    rule.condition ≡ Flagged
 
 -- wherever a rule may set the flag of a node, a control edge leads there
 abbrev pub FlagsAreReached : Type 0
 FlagsAreReached =
     (slots : Slots) (body : Block) (m : Node) (rule : Transition) (change : Change) → Contains (rules slots body) rule →
-    Contains rule.so change ⊎ Contains rule.otherwise change → MayFlag change m → (via : Node) × EdgeAll body via m
+    Contains rule.on_true change ⊎ Contains rule.on_false change → MayFlag change m → (via : Node) × EdgeAll body via m

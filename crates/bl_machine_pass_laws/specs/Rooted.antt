@@ -25,7 +25,7 @@ ResumesBegin =
     FitsGraph w i c (whole stood (plain_body unit.body)) → SlotsAreDistinct slots (plain_body unit.body) → Placed slots (plain_body unit.body) c →
     Rooted slots (rules slots (plain_body unit.body)) (in_none (plain_body unit.body)) c → is_settled c ≡ true → is_nil c ≡ false →
     ((j : ℕ) → counters j ≡ numbers_of slots c Over j) → (rule : Transition) → Contains (rules slots (plain_body unit.body)) rule →
-    IsResume rule.asked →
+    IsResume rule.condition →
     Exactly (is_due number rule (started counters flags)) (Waits (woken c) None rule.node)
 
 -- nothing waits at nodes other than resume nodes as a pass goes on over a tree that rested
@@ -36,4 +36,4 @@ OnlyResumesBegin =
     FitsGraph w i c (whole stood (plain_body unit.body)) → SlotsAreDistinct slots (plain_body unit.body) → Placed slots (plain_body unit.body) c →
     Rooted slots (rules slots (plain_body unit.body)) (in_none (plain_body unit.body)) c → is_settled c ≡ true → is_nil c ≡ false →
     ((j : ℕ) → counters j ≡ numbers_of slots c Over j) → (rule : Transition) → Contains (rules slots (plain_body unit.body)) rule →
-    Waits (woken c) None rule.node → IsResume rule.asked
+    Waits (woken c) None rule.node → IsResume rule.condition

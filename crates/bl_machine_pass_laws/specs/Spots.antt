@@ -15,9 +15,9 @@ SpotsAreDistinct [] = ⊤
 SpotsAreDistinct (x ∷ xs) = (Has xs x → ⊥) × SpotsAreDistinct xs
 
 -- the position of the statement to which the place belongs
-abbrev pub position_of : Spot → Position
-position_of (RestOf l) = l.position
-position_of (EndOf l k) = l.position
+abbrev pub spot_position : Spot → Position
+spot_position (RestOf l) = l.position
+spot_position (EndOf l k) = l.position
 
 -- no two resting places of a body are one
 abbrev pub SpotsDiffer : Type 0

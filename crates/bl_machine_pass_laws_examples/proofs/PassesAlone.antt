@@ -39,10 +39,10 @@ Pass order c done after = Passes alone (ranked (order ∷ [])) 0 0 (woken c) don
 
 -- ---- a loop that pauses twice a turn
 
-pub blinking_begins : Pass blinking.order (Idle blinking.body) blinking.begins blinking.lit
+pub blinking_begins : Pass blinking.order (Idle blinking.body) blinking.first_half blinking.lit
 blinking_begins = then (point repeats) refl (then (in_seq (point acts)) refl (then (in_seq (point pauses)) refl (ends refl)))
 
-pub blinking_goes_on : Pass blinking.order blinking.lit blinking.goes_on blinking.dark
+pub blinking_goes_on : Pass blinking.order blinking.lit blinking.second_half blinking.dark
 blinking_goes_on = then (in_seq (point goes_on)) refl (then (in_seq (point acts)) refl (then (in_seq (point pauses)) refl (ends refl)))
 
 pub blinking_again : Pass blinking.order blinking.dark blinking.again blinking.lit
@@ -54,7 +54,7 @@ blinking_again =
 
 -- ---- two branches that need each other
 
-pub two_branches_begin : Pass two_branches.order (Idle plain_statements) two_branches.begins two_branches.begun
+pub two_branches_begin : Pass two_branches.order (Idle plain_statements) two_branches.first_tick two_branches.after_first_tick
 two_branches_begin =
     then (in_seq (point acts)) refl
     (then (in_seq (point acts)) refl
@@ -67,7 +67,7 @@ two_branches_begin =
     (then (in_par (first (in_seq (point pauses)))) refl
     (then (in_par (later (first (in_seq (point pauses))))) refl (ends refl))))))))))
 
-pub two_branches_go_on : Pass two_branches.order two_branches.begun two_branches.goes_on two_branches.later
+pub two_branches_go_on : Pass two_branches.order two_branches.after_first_tick two_branches.later_tick two_branches.later
 two_branches_go_on =
     then (in_par (first (in_seq (point goes_on)))) refl
     (then (in_par (first (point repeats))) refl
@@ -79,7 +79,7 @@ two_branches_go_on =
     (then (in_par (first (in_seq (point pauses)))) refl
     (then (in_par (later (first (in_seq (point pauses))))) refl (ends refl)))))))))
 
-pub fields_begin : Pass fields.order (Idle fields.body) fields.begins (fields.paused false)
+pub fields_begin : Pass fields.order (Idle fields.body) fields.first_tick (fields.paused false)
 fields_begin =
     then (in_seq (point acts)) refl
     (then (point forks) refl
@@ -91,7 +91,7 @@ fields_begin =
     (then (in_par (first (in_seq (point pauses)))) refl
     (then (in_par (later (first (in_seq (point pauses))))) refl (ends refl)))))))))
 
-pub fields_go_on : Pass fields.order (fields.paused false) fields.goes_on (fields.paused true)
+pub fields_go_on : Pass fields.order (fields.paused false) fields.later_tick (fields.paused true)
 fields_go_on =
     then (in_par (first (in_seq (point goes_on)))) refl
     (then (in_par (first (point repeats))) refl
@@ -105,14 +105,14 @@ fields_go_on =
 
 -- ---- a body that is given up
 
-pub aborting_begins : Pass aborting.order (Idle aborting.body) aborting.begins aborting.begun
+pub aborting_begins : Pass aborting.order (Idle aborting.body) aborting.first_tick aborting.after_first_tick
 aborting_begins =
     then (in_seq (point guards)) refl
     (then (in_seq (in_guard (in_seq (point acts)))) refl
     (then (in_seq (in_guard (point repeats))) refl
     (then (in_seq (in_guard (in_seq (point pauses)))) refl (ends refl))))
 
-pub aborting_ends : Pass aborting.order aborting.begun aborting.aborts aborting.over
+pub aborting_ends : Pass aborting.order aborting.after_first_tick aborting.aborts aborting.over
 aborting_ends =
     then (in_seq (point (abort_acts refl))) refl
     (then (in_seq (point acts)) refl
@@ -120,7 +120,7 @@ aborting_ends =
 
 -- ---- a reset beside a loop
 
-pub resetting_begins : Pass resetting.order (Idle resetting.body) resetting.begins (resetting.paused false)
+pub resetting_begins : Pass resetting.order (Idle resetting.body) resetting.first_tick (resetting.paused false)
 resetting_begins =
     then (point forks) refl
     (then (in_par (first (point guards))) refl
@@ -132,7 +132,7 @@ resetting_begins =
     (then (in_par (later (first (in_seq (point pauses))))) refl (ends refl))))))))
 
 -- whether the branches have begun in the last tick or before
-pub resetting_goes_on : Pass resetting.order (resetting.paused true) resetting.goes_on (resetting.paused true)
+pub resetting_goes_on : Pass resetting.order (resetting.paused true) resetting.later_tick (resetting.paused true)
 resetting_goes_on =
     then (in_par (first (point lets))) refl
     (then (in_par (first (in_guard (in_seq (point goes_on))))) refl
@@ -157,7 +157,7 @@ resetting_resets =
 
 -- ---- a weak branch
 
-pub weakly_begins : Pass weakly.order (Idle weakly.body) weakly.begins (weakly.paused false)
+pub weakly_begins : Pass weakly.order (Idle weakly.body) weakly.first_tick (weakly.paused false)
 weakly_begins =
     then (in_seq (point forks)) refl
     (then (in_seq (in_par (first (point repeats)))) refl
@@ -165,7 +165,7 @@ weakly_begins =
     (then (in_seq (in_par (first (in_seq (point pauses))))) refl
     (then (in_seq (in_par (later (first (point pauses))))) refl (ends refl)))))
 
-pub weakly_goes_on : Pass weakly.order (weakly.paused false) weakly.goes_on (weakly.paused true)
+pub weakly_goes_on : Pass weakly.order (weakly.paused false) weakly.later_tick (weakly.paused true)
 weakly_goes_on =
     then (in_seq (in_par (first (in_seq (point goes_on))))) refl
     (then (in_seq (in_par (first (point repeats)))) refl

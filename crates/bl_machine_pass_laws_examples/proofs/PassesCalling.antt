@@ -4,10 +4,10 @@ use Rattle.bl_tree.specs.declared.scalar.Op.TheVariants.{Add}
 use Rattle.bl_tree.specs.declared.tree.Expr.{Expr}
 use Rattle.bl_tree.specs.declared.tree.Stmt.{fold-roll-Stmt}
 use Rattle.bl_tree.specs.declared.tree.StmtKind.{fold-roll-StmtKind}
-use Rattle.bl_graph_nodes.specs.Plain.{Act, Await, Block, block_at, label_at, plain, plain_body}
+use Rattle.bl_graph_nodes.specs.Plain.{Act, Await, Block, block_at, label_at, plain_body, plain_stmt}
 use Rattle.bl_ctree_laws.specs.Trees.{Idle, Nil, Tree, do_block, woken}
 use Rattle.bl_ctree_laws_examples.specs.Trees.Calls.{first_called, second_called}
-use Rattle.bl_ctree_laws_examples.specs.Trees.Made.{always, at, number, pause, set, two, value}
+use Rattle.bl_ctree_laws_examples.specs.Trees.Made.{always, at, await_true, number, set, two, value}
 use Rattle.bl_machine_laws.specs.Numbers.Turns.{
   AnsweredDeed,
   Passes,
@@ -27,11 +27,11 @@ use Rattle.bl_machine_laws.specs.Numbers.Turns.{
 }
 use Rattle.bl_machine_pass_laws_examples.specs.Calling.{
   adds_x,
-  begins,
   body,
   first_body,
   first_paused,
-  goes_on as deeds_later,
+  first_tick,
+  later_tick as deeds_later,
   orders,
   paused,
   program,
@@ -44,10 +44,10 @@ use Rattle.bl_machine_pass_laws_examples.specs.Calling.{
 use Rattle.bl_machine_pass_laws_examples.specs.Worked.{act, asked, ranked, still}
 use Rattle.bl_machine_pass_laws_examples.proofs.Turning.{ends, then}
 
-set_is : (place k : ℕ) (e : Expr) → plain (set place k e) ≡ λ p. Act (label_at p) (set place k e)
+set_is : (place k : ℕ) (e : Expr) → plain_stmt (set place k e) ≡ λ p. Act (label_at p) (set place k e)
 set_is place k e = rw (fold-roll-Stmt, fold-roll-StmtKind) refl
 
-pause_is : (place : ℕ) → plain (pause place) ≡ λ p. Await (label_at p) (at place) always
+pause_is : (place : ℕ) → plain_stmt (await_true place) ≡ λ p. Await (label_at p) (at place) always
 pause_is place = rw (fold-roll-Stmt, fold-roll-StmtKind) refl
 
 first_plain : plain_body first_called.body ≡ first_body
@@ -83,7 +83,7 @@ second_entered = subst (λ (block : Block). Pass 2 (do_block block) (act 2 adds_
 
 -- ---- the caller
 
-pub calling_begins : Pass 0 (woken (Idle body)) begins paused
+pub calling_begins : Pass 0 (woken (Idle body)) first_tick paused
 calling_begins =
     then (in_seq (point acts)) refl
     (then (point repeats) refl

@@ -50,8 +50,8 @@ abbrev pub loop : Plain
 loop = Repeat loop_label (at 3) (Then (Await pause_label (at 4) always) (Then (Act raise_label raises_o) Done))
 
 -- the body of the `when`
-abbrev pub guarded : Block
-guarded = Then (Act (label_at (0 ∷ 0 ∷ 0 ∷ [])) begins_o) (Then loop Done)
+abbrev pub when_body : Block
+when_body = Then (Act (label_at (0 ∷ 0 ∷ 0 ∷ [])) begins_o) (Then loop Done)
 
 -- what follows the `when`
 abbrev pub rest : Block
@@ -59,11 +59,11 @@ rest = Then (Act (label_at (1 ∷ [])) ends_o) (Then (Await last_label (at 7) ne
 
 -- the body
 abbrev pub body : Block
-body = Then (When guard_label (at 1) Abort (flag 0) guarded) rest
+body = Then (When guard_label (at 1) Abort (flag 0) when_body) rest
 
 -- the tree after the first tick
-abbrev pub begun : Tree
-begun = Seq (Guard (watch guard_label (at 1) Abort (flag 0) guarded) Body false
+abbrev pub after_first_tick : Tree
+after_first_tick = Seq (Guard (watch guard_label (at 1) Abort (flag 0) when_body) Body false
     (Seq (Wait (pause pause_label (at 4) always)) (Then (Act raise_label raises_o) (Then loop Done)))) rest
 
 -- the tree after a tick in which c is true
@@ -78,8 +78,8 @@ order =
     ∷ DepthEndAt guard_label (at 1) ∷ TestAt last_label (at 7) never ∷ ActAt (label_at (1 ∷ [])) ends_o ∷ PauseAt last_label (at 7) ∷ []
 
 -- the first tick
-abbrev pub begins : List AnsweredDeed
-begins = still 0 1 ++ (act 0 begins_o ++ (still 0 3 ++ still 0 4))
+abbrev pub first_tick : List AnsweredDeed
+first_tick = still 0 1 ++ (act 0 begins_o ++ (still 0 3 ++ still 0 4))
 
 -- a tick in which c is true
 abbrev pub aborts : List AnsweredDeed

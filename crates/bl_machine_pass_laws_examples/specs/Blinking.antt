@@ -16,16 +16,16 @@ abbrev pub sets_on : ℕ → Expr → Stmt
 sets_on place e = stmt place (StmtKind-F.Assign (flag_path 0) e)
 
 -- the statement with the number in the loop
-abbrev pub inside : ℕ → Label
-inside k = label_at (0 ∷ 0 ∷ k ∷ [])
+abbrev pub label_in_loop : ℕ → Label
+label_in_loop k = label_at (0 ∷ 0 ∷ k ∷ [])
 
 -- the loop
 abbrev pub loop : Plain
 loop = Repeat (label_at (0 ∷ [])) (at 1)
-    (Then (Act (inside 0) (sets_on 2 always))
-    (Then (Await (inside 1) (at 3) always)
-    (Then (Act (inside 2) (sets_on 4 never))
-    (Then (Await (inside 3) (at 5) always) Done))))
+    (Then (Act (label_in_loop 0) (sets_on 2 always))
+    (Then (Await (label_in_loop 1) (at 3) always)
+    (Then (Act (label_in_loop 2) (sets_on 4 never))
+    (Then (Await (label_in_loop 3) (at 5) always) Done))))
 
 -- the body
 abbrev pub body : Block
@@ -33,30 +33,31 @@ body = Then loop Done
 
 -- what follows the first pause
 abbrev pub rest : Block
-rest = Then (Act (inside 2) (sets_on 4 never)) (Then (Await (inside 3) (at 5) always) (Then loop Done))
+rest = Then (Act (label_in_loop 2) (sets_on 4 never)) (Then (Await (label_in_loop 3) (at 5) always) (Then loop Done))
 
 -- between ticks, where on is true
 abbrev pub lit : Tree
-lit = Seq (Wait (pause (inside 1) (at 3) always)) rest
+lit = Seq (Wait (pause (label_in_loop 1) (at 3) always)) rest
 
 -- between ticks, where on is false
 abbrev pub dark : Tree
-dark = Seq (Wait (pause (inside 3) (at 5) always)) (Then loop Done)
+dark = Seq (Wait (pause (label_in_loop 3) (at 5) always)) (Then loop Done)
 
 -- the nodes in an order
 abbrev pub order : List Node
 order =
-    TestAt (inside 1) (at 3) always ∷ ActAt (inside 2) (sets_on 4 never) ∷ PauseAt (inside 3) (at 5)
-    ∷ TestAt (inside 3) (at 5) always ∷ HeadAt (label_at (0 ∷ [])) (at 1) ∷ ActAt (inside 0) (sets_on 2 always) ∷ PauseAt (inside 1) (at 3) ∷ []
+    TestAt (label_in_loop 1) (at 3) always ∷ ActAt (label_in_loop 2) (sets_on 4 never) ∷ PauseAt (label_in_loop 3) (at 5)
+    ∷ TestAt (label_in_loop 3) (at 5) always ∷ HeadAt (label_at (0 ∷ [])) (at 1) ∷ ActAt (label_in_loop 0) (sets_on 2 always)
+    ∷ PauseAt (label_in_loop 1) (at 3) ∷ []
 
 -- a turn begins, up to its first pause
-abbrev pub begins : List AnsweredDeed
-begins = still 0 1 ++ (act 0 (sets_on 2 always) ++ still 0 3)
+abbrev pub first_half : List AnsweredDeed
+first_half = still 0 1 ++ (act 0 (sets_on 2 always) ++ still 0 3)
 
 -- a turn goes on to its second pause
-abbrev pub goes_on : List AnsweredDeed
-goes_on = asked 0 3 always true ++ (act 0 (sets_on 4 never) ++ still 0 5)
+abbrev pub second_half : List AnsweredDeed
+second_half = asked 0 3 always true ++ (act 0 (sets_on 4 never) ++ still 0 5)
 
 -- a turn ends, and the next one begins
 abbrev pub again : List AnsweredDeed
-again = asked 0 5 always true ++ begins
+again = asked 0 5 always true ++ first_half

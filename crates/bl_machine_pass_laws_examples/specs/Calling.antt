@@ -160,13 +160,13 @@ abbrev pub second_ends : List AnsweredDeed
 second_ends = copies_second ++ ((asked 2 5 always true ++ act 2 raises_o) ++ did (deed 0 (at 9) (Gives 2 None)) true)
 
 -- a turn of the loop
-abbrev pub turn : List AnsweredDeed
-turn = still 0 11 ++ (still 0 7 ++ (first_begins ++ second_begins))
+abbrev pub loop_turn : List AnsweredDeed
+loop_turn = still 0 11 ++ (still 0 7 ++ (first_begins ++ second_begins))
 
 -- the first tick
-abbrev pub begins : List AnsweredDeed
-begins = act 0 declares_x ++ turn
+abbrev pub first_tick : List AnsweredDeed
+first_tick = act 0 declares_x ++ loop_turn
 
 -- a later tick
-abbrev pub goes_on : List AnsweredDeed
-goes_on = first_ends ++ (second_ends ++ (still 0 7 ++ turn))
+abbrev pub later_tick : List AnsweredDeed
+later_tick = first_ends ++ (second_ends ++ (still 0 7 ++ loop_turn))

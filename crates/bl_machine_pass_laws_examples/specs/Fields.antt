@@ -41,25 +41,27 @@ abbrev pub sets_b : Stmt
 sets_b = stmt 4 (StmtKind-F.Assign (field 1) (two Mul (field_value 0) (number 2)))
 
 -- the position of the first loop
-abbrev pub left : Position
-left = 1 ∷ 0 ∷ 0 ∷ []
+abbrev pub left_position : Position
+left_position = 1 ∷ 0 ∷ 0 ∷ []
 
 -- the position of the second loop
-abbrev pub right : Position
-right = 1 ∷ 1 ∷ 0 ∷ []
+abbrev pub right_position : Position
+right_position = 1 ∷ 1 ∷ 0 ∷ []
 
 -- the statement with the number in the body of a loop
-abbrev pub inside : Position → ℕ → Label
-inside loop k = label_at (loop ++ 0 ∷ k ∷ [])
+abbrev pub label_inside : Position → ℕ → Label
+label_inside loop k = label_at (loop ++ 0 ∷ k ∷ [])
 
 -- the first loop
 abbrev pub left_loop : Plain
-left_loop = Repeat (label_at left) (at 6)
-    (Then (Act (inside left 0) sets_a) (Then (Act (inside left 1) sets_o) (Then (Await (inside left 2) (at 3) always) Done)))
+left_loop = Repeat (label_at left_position) (at 6)
+    (Then (Act (label_inside left_position 0) sets_a) (Then (Act (label_inside left_position 1) sets_o)
+    (Then (Await (label_inside left_position 2) (at 3) always) Done)))
 
 -- the second
 abbrev pub right_loop : Plain
-right_loop = Repeat (label_at right) (at 7) (Then (Act (inside right 0) sets_b) (Then (Await (inside right 1) (at 5) always) Done))
+right_loop = Repeat (label_at right_position) (at 7) (Then (Act (label_inside right_position 0) sets_b)
+    (Then (Await (label_inside right_position 1) (at 5) always) Done))
 
 -- the branches
 abbrev pub branches : Bodies
@@ -73,26 +75,26 @@ body = Then (Act (label_at (0 ∷ [])) declares_s) (Then (Cobegin (label_at (1 �
 abbrev pub paused : Bool → Tree
 paused stood =
     Par (fork (label_at (1 ∷ [])) (at 9) branches) stood
-    (beside false (Seq (Wait (pause (inside left 2) (at 3) always)) (Then left_loop Done))
-    (beside false (Seq (Wait (pause (inside right 1) (at 5) always)) (Then right_loop Done)) no_tree))
+    (beside false (Seq (Wait (pause (label_inside left_position 2) (at 3) always)) (Then left_loop Done))
+    (beside false (Seq (Wait (pause (label_inside right_position 1) (at 5) always)) (Then right_loop Done)) no_tree))
 
 -- the nodes in an order
 abbrev pub order : List Node
 order =
     ActAt (label_at (0 ∷ [])) declares_s ∷ ForkAt (label_at (1 ∷ [])) (at 9)
-    ∷ TestAt (inside left 2) (at 3) always ∷ HeadAt (label_at left) (at 6)
-    ∷ TestAt (inside right 1) (at 5) always ∷ HeadAt (label_at right) (at 7)
-    ∷ ActAt (inside left 0) sets_a ∷ ActAt (inside right 0) sets_b ∷ ActAt (inside left 1) sets_o
-    ∷ PauseAt (inside left 2) (at 3) ∷ PauseAt (inside right 1) (at 5) ∷ DepthJoinAt (label_at (1 ∷ [])) (at 9) ∷ []
+    ∷ TestAt (label_inside left_position 2) (at 3) always ∷ HeadAt (label_at left_position) (at 6)
+    ∷ TestAt (label_inside right_position 1) (at 5) always ∷ HeadAt (label_at right_position) (at 7)
+    ∷ ActAt (label_inside left_position 0) sets_a ∷ ActAt (label_inside right_position 0) sets_b ∷ ActAt (label_inside left_position 1) sets_o
+    ∷ PauseAt (label_inside left_position 2) (at 3) ∷ PauseAt (label_inside right_position 1) (at 5) ∷ DepthJoinAt (label_at (1 ∷ [])) (at 9) ∷ []
 
 -- what each tick ends with
-abbrev pub turns : List AnsweredDeed
-turns = act 0 sets_a ++ (act 0 sets_b ++ (act 0 sets_o ++ (still 0 3 ++ still 0 5)))
+abbrev pub tick_end : List AnsweredDeed
+tick_end = act 0 sets_a ++ (act 0 sets_b ++ (act 0 sets_o ++ (still 0 3 ++ still 0 5)))
 
 -- the first tick
-abbrev pub begins : List AnsweredDeed
-begins = act 0 declares_s ++ (still 0 9 ++ (still 0 6 ++ (still 0 7 ++ turns)))
+abbrev pub first_tick : List AnsweredDeed
+first_tick = act 0 declares_s ++ (still 0 9 ++ (still 0 6 ++ (still 0 7 ++ tick_end)))
 
 -- a later tick
-abbrev pub goes_on : List AnsweredDeed
-goes_on = asked 0 3 always true ++ (still 0 6 ++ (asked 0 5 always true ++ (still 0 7 ++ turns)))
+abbrev pub later_tick : List AnsweredDeed
+later_tick = asked 0 3 always true ++ (still 0 6 ++ (asked 0 5 always true ++ (still 0 7 ++ tick_end)))

@@ -19,7 +19,7 @@ pub record NumbersOfRows : Type 0 where
       ((1 ∷ []) ∷ (2 ∷ []) ∷ (1 ∷ []) ∷ (2 ∷ []) ∷ [])
   -- two branches count beside each other: the end of each is the first of its counter
   pub two_branches : WorkedExample two_way.plain_statements (slot 0 1 ∷ slot 0 2 ∷ slot 1 1 ∷ slot 1 2 ∷ [])
-      (two_branches.begun ∷ two_branches.later ∷ [])
+      (two_branches.after_first_tick ∷ two_branches.later ∷ [])
       ((2 ∷ 2 ∷ []) ∷ (2 ∷ 2 ∷ []) ∷ [])
   -- two branches that write fields of one struct count beside each other
   pub fields : WorkedExample fields.body (slot 0 1 ∷ slot 0 2 ∷ slot 1 1 ∷ slot 1 2 ∷ [])
@@ -34,7 +34,7 @@ pub record NumbersOfRows : Type 0 where
   pub second_called : WorkedExample calling.second_body (slot 0 1 ∷ []) (calling.second_paused ∷ []) ((1 ∷ []) ∷ [])
   -- what is given up and what follows it rest at one counter
   pub aborting : WorkedExample aborting.body (slot 0 1 ∷ slot 0 2 ∷ [])
-      (aborting.begun ∷ aborting.over ∷ [])
+      (aborting.after_first_tick ∷ aborting.over ∷ [])
       ((1 ∷ []) ∷ (2 ∷ []) ∷ [])
   -- what begins anew rests where it did
   pub resetting : WorkedExample resetting.body (slot 0 1 ∷ slot 0 2 ∷ slot 1 1 ∷ slot 1 2 ∷ [])
@@ -48,25 +48,25 @@ pub record NumbersOfRows : Type 0 where
 -- the passes of the ticks lead to these trees, one after another, with these deeds and answers
 pub record PassesOfRows : Type 0 where
   pub blinking : Ticks alone (blinking.order ∷ []) (Idle blinking.body)
-      (blinking.begins ∷ blinking.goes_on ∷ blinking.again ∷ blinking.goes_on ∷ [])
+      (blinking.first_half ∷ blinking.second_half ∷ blinking.again ∷ blinking.second_half ∷ [])
       (blinking.lit ∷ blinking.dark ∷ blinking.lit ∷ blinking.dark ∷ [])
   pub two_branches : Ticks alone (two_branches.order ∷ []) (Idle two_way.plain_statements)
-      (two_branches.begins ∷ two_branches.goes_on ∷ [])
-      (two_branches.begun ∷ two_branches.later ∷ [])
+      (two_branches.first_tick ∷ two_branches.later_tick ∷ [])
+      (two_branches.after_first_tick ∷ two_branches.later ∷ [])
   pub fields : Ticks alone (fields.order ∷ []) (Idle fields.body)
-      (fields.begins ∷ fields.goes_on ∷ [])
+      (fields.first_tick ∷ fields.later_tick ∷ [])
       (fields.paused false ∷ fields.paused true ∷ [])
   pub calling : Ticks calling.program calling.orders (Idle calling.body)
-      (calling.begins ∷ calling.goes_on ∷ calling.goes_on ∷ [])
+      (calling.first_tick ∷ calling.later_tick ∷ calling.later_tick ∷ [])
       (calling.paused ∷ calling.paused ∷ calling.paused ∷ [])
   pub aborting : Ticks alone (aborting.order ∷ []) (Idle aborting.body)
-      (aborting.begins ∷ aborting.aborts ∷ [])
-      (aborting.begun ∷ aborting.over ∷ [])
+      (aborting.first_tick ∷ aborting.aborts ∷ [])
+      (aborting.after_first_tick ∷ aborting.over ∷ [])
   pub resetting : Ticks alone (resetting.order ∷ []) (Idle resetting.body)
-      (resetting.begins ∷ resetting.goes_on ∷ resetting.resets ∷ resetting.goes_on ∷ [])
+      (resetting.first_tick ∷ resetting.later_tick ∷ resetting.resets ∷ resetting.later_tick ∷ [])
       (resetting.paused false ∷ resetting.paused true ∷ resetting.paused true ∷ resetting.paused true ∷ [])
   pub weakly : Ticks alone (weakly.order ∷ []) (Idle weakly.body)
-      (weakly.begins ∷ weakly.goes_on ∷ weakly.ends ∷ [])
+      (weakly.first_tick ∷ weakly.later_tick ∷ weakly.ends ∷ [])
       (weakly.paused false ∷ weakly.paused true ∷ weakly.over ∷ [])
 
 -- the nodes of each body are those that stand in its order

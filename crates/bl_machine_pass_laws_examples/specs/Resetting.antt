@@ -57,12 +57,12 @@ abbrev pub second_goes_on : List AnsweredDeed
 second_goes_on = asked 0 5 always true ++ (act 0 raises_b ++ (still 0 8 ++ still 0 5))
 
 -- the first tick
-abbrev pub begins : List AnsweredDeed
-begins = still 0 10 ++ (still 0 9 ++ (begins_first ++ (act 0 begins_b ++ (still 0 8 ++ still 0 5))))
+abbrev pub first_tick : List AnsweredDeed
+first_tick = still 0 10 ++ (still 0 9 ++ (begins_first ++ (act 0 begins_b ++ (still 0 8 ++ still 0 5))))
 
 -- a tick in which c is false
-abbrev pub goes_on : List AnsweredDeed
-goes_on = asked 0 9 (flag c) false ++ (asked 0 2 always true ++ (act 0 raises_a ++ (still 0 7 ++ (still 0 2 ++ second_goes_on))))
+abbrev pub later_tick : List AnsweredDeed
+later_tick = asked 0 9 (flag c) false ++ (asked 0 2 always true ++ (act 0 raises_a ++ (still 0 7 ++ (still 0 2 ++ second_goes_on))))
 
 -- a tick in which c is true
 abbrev pub resets : List AnsweredDeed

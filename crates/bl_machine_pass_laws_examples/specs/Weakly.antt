@@ -73,17 +73,17 @@ order =
     ∷ DepthJoinAt (label_at (0 ∷ [])) (at 1) ∷ TestAt last_label (at 7) always ∷ ActAt (label_at (1 ∷ [])) sets_b ∷ PauseAt last_label (at 7) ∷ []
 
 -- a turn of the loop
-abbrev pub turn : List AnsweredDeed
-turn = still 0 2 ++ (act 0 raises_a ++ still 0 4)
+abbrev pub loop_turn : List AnsweredDeed
+loop_turn = still 0 2 ++ (act 0 raises_a ++ still 0 4)
 
 -- the first tick
-abbrev pub begins : List AnsweredDeed
-begins = still 0 1 ++ (turn ++ still 0 5)
+abbrev pub first_tick : List AnsweredDeed
+first_tick = still 0 1 ++ (loop_turn ++ still 0 5)
 
 -- a tick in which c is false
-abbrev pub goes_on : List AnsweredDeed
-goes_on = asked 0 4 always true ++ (turn ++ asked 0 5 (flag 0) false)
+abbrev pub later_tick : List AnsweredDeed
+later_tick = asked 0 4 always true ++ (loop_turn ++ asked 0 5 (flag 0) false)
 
 -- a tick in which c is true: the weak branch has its turn before it is dropped
 abbrev pub ends : List AnsweredDeed
-ends = asked 0 4 always true ++ (turn ++ (asked 0 5 (flag 0) true ++ (still 0 1 ++ (act 0 sets_b ++ still 0 7))))
+ends = asked 0 4 always true ++ (loop_turn ++ (asked 0 5 (flag 0) true ++ (still 0 1 ++ (act 0 sets_b ++ still 0 7))))

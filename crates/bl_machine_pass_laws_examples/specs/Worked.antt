@@ -14,7 +14,7 @@ use Rattle.bl_ctree_laws.specs.Trees.{Tree, is_settled, woken}
 use Rattle.bl_machine.specs.declared.slots.Slot.{Slot}
 use Rattle.bl_machine.specs.Blocks.{up_to}
 use Rattle.bl_machine.specs.Layout.{counters_in, width_in}
-use Rattle.bl_machine.specs.Slots.{numbered}
+use Rattle.bl_machine.specs.Slots.{numbered_slots}
 use Rattle.bl_machine_laws.specs.Numbers.Numbers.{Over, numbers_of}
 use Rattle.bl_machine_laws.specs.Numbers.Turns.{AnsweredDeed, Passes, did}
 use Rattle.bl_machine_pass.specs.Numbered.{position_where, same_node, slots_of}
@@ -32,7 +32,7 @@ alone = record { structs = []; units = []; instances = record { unit = 0; depth 
 
 -- the numbers of a body's resting places, in source order
 abbrev pub places : Block → List Slot
-places body = numbered (counters_in body 0)
+places body = numbered_slots (counters_in body 0)
 
 -- the number of a resting place, by its counter and its value
 abbrev pub slot : ℕ → ℕ → Slot

@@ -22,7 +22,7 @@ use Rattle.bl_machine_pass.specs.SlotLayout.{SlotsAreDistinct}
 use Rattle.bl_machine_pass.specs.Numbered.{slots_of}
 use Rattle.bl_machine_pass_laws.specs.Slots.Laws.{NumbersAreDistinct, TypedHaveBranches}
 use Rattle.bl_machine_pass_laws_turns.specs.Turns.{TurnContext}
-use Rattle.bl_machine_pass_laws_execution.specs.Machines.{HasActivity, MachinesGiveContexts, activity_of, slots_at, slots_in}
+use Rattle.bl_machine_pass_laws_execution.specs.Machines.{HasActivity, MachinesGiveContexts, activity_of_instance, slots_at, slots_in}
 
 none_is : {X A : Type 0} (x : X) → None ≡ Some x → A
 none_is x e = absurd (cc)
@@ -96,8 +96,8 @@ module _ (orderly : AcceptedIsOrderly) (give : MachinesGiveOrders) (laid : Numbe
       slice_get W.instances i ≡ Some instance → slice_get machine (graph_position units instance.unit) ≡ Some activity →
       slots_at W machine i ≡ slots_of (plain_body unit.body) activity.slots
   slots_are i instance unit activity of_unit is is_active =
-      ap (λ found. slots_in found (activity_of units machine (slice_get W.instances i))) of_unit
-      ∙ (ap (λ found. slots_in (Some unit) (activity_of units machine found)) is ∙ ap (λ found. slots_in (Some unit) found) is_active)
+      ap (λ found. slots_in found (activity_of_instance units machine (slice_get W.instances i))) of_unit
+      ∙ (ap (λ found. slots_in (Some unit) (activity_of_instance units machine found)) is ∙ ap (λ found. slots_in (Some unit) found) is_active)
 
   pub each : (rank : ℕ → Node → ℕ) (i : ℕ) (unit : UnitDef) → GoBy W machine rank → unit_at W i ≡ Some unit →
       TurnContext W rank i (slots_at W machine i) unit

@@ -179,13 +179,13 @@ module _ (runs_apart : AcceptedRunsApart) (begin_live : BodiesFitGraph) (all_cal
 
   pub record Ready (stood : Bool) (frames : Frames) (c : Tree) (r : Registers) : Type 0 where
     stands : FitsBody (slots i) (plain_body unit.body) c
-    keeps : PassInvariant (slots i) (rank i) (plain_body unit.body) 0 c r
+    pass_invariant : PassInvariant (slots i) (rank i) (plain_body unit.body) 0 c r
     standing : Standing W slots i unit stood frames c
 
   begun : (frames : Frames) → Ready false frames (do_block (plain_body unit.body)) (begun_registers rank i unit)
   begun frames = record {
     stands = trees.begins (slots i) unit (given i unit is).laid;
-    keeps = begin.begins W rank i (slots i) unit (λ k. 0) (given i unit is)
+    pass_invariant = begin.begins W rank i (slots i) unit (λ k. 0) (given i unit is)
         (body_open (plain_body unit.body) ((given i unit is).paces i unit is)) (λ j. refl);
     standing = record {
       lives = begin_live W i unit (all_callable structs units program typed) is;
@@ -199,7 +199,7 @@ module _ (runs_apart : AcceptedRunsApart) (begin_live : BodiesFitGraph) (all_cal
   resumed frames c resting =
       let old = resting.rested in record {
         stands = trees.wakes W i old.stood (slots i) unit c old.lives old.settled old.stands;
-        keeps = begin.resumes W rank i (slots i) unit old.stood c (frames i) (given i unit is) old.lives old.stands old.settled old.unended
+        pass_invariant = begin.resumes W rank i (slots i) unit old.stood c (frames i) (given i unit is) old.lives old.stands old.settled old.unended
             resting.holds.0;
         standing = record {
           lives = wake_live W i old.stood (plain_body unit.body) c old.settled old.lives;
@@ -236,7 +236,7 @@ module _ (runs_apart : AcceptedRunsApart) (begin_live : BodiesFitGraph) (all_cal
       TickExecuted W rank slots clear i unit frames store r c' left
   tick stood frames c r ready store known senses c' left follow =
       let one = execute.follows W rank slots clear i unit stood 0 frames c store known (view_at W store i).now r c' left (given i unit is)
-      (perform structs units program rank slots clear i unit stood typed passes from given clears is) follow ready.stands ready.keeps ready.standing
+      (perform structs units program rank slots clear i unit stood typed passes from given clears is) follow ready.stands ready.pass_invariant ready.standing
       senses in record {
         inner = one.inner;
         registers = one.registers;
@@ -258,7 +258,7 @@ module _ (runs_apart : AcceptedRunsApart) (begin_live : BodiesFitGraph) (all_cal
       PassTraps W rank slots clear i 0 frames store (view_at W store i).now r
   trap stood frames c r ready store known senses fail =
       execute.fails W rank slots clear i unit stood 0 frames c store known (view_at W store i).now r (given i unit is)
-      (perform structs units program rank slots clear i unit stood typed passes from given clears is) fail ready.stands ready.keeps ready.standing
+      (perform structs units program rank slots clear i unit stood typed passes from given clears is) fail ready.stands ready.pass_invariant ready.standing
       senses
 
   pub first_tick : (frames : Frames) (store : Store) (c' : Tree) (left : Store) → Framed W store →

@@ -17,9 +17,9 @@ use Rattle.bl_machine_pass.specs.Numbered.{slots_of}
 use Rattle.bl_machine_pass_laws_turns.specs.Turns.{TurnContext}
 
 -- the activity of the machine for an instance
-abbrev pub activity_of : List UnitDef → List Activity → Option Instance → Option Activity
-activity_of units machine None = None
-activity_of units machine (Some instance) = slice_get machine (graph_position units instance.unit)
+abbrev pub activity_of_instance : List UnitDef → List Activity → Option Instance → Option Activity
+activity_of_instance units machine None = None
+activity_of_instance units machine (Some instance) = slice_get machine (graph_position units instance.unit)
 
 -- the numbers of the resting places of a unit, as its activity lists them
 abbrev pub slots_in : Option UnitDef → Option Activity → Slots
@@ -29,7 +29,7 @@ slots_in (Some unit) (Some activity) = slots_of (plain_body unit.body) activity.
 
 -- the numbers of the resting places of the instance with this number
 abbrev pub slots_at : Setting → List Activity → ℕ → Slots
-slots_at w machine i = slots_in (unit_at w i) (activity_of w.units machine (slice_get w.instances i))
+slots_at w machine i = slots_in (unit_at w i) (activity_of_instance w.units machine (slice_get w.instances i))
 
 -- an instance of the unit, and the machine's activity for it
 pub record HasActivity (w : Setting) (machine : List Activity) (i : ℕ) (unit : UnitDef) : Type 0 where

@@ -12,7 +12,7 @@ use Rattle.bl_machine_laws.specs.Numbers.Numbers.{Over, numbers_of}
 use Rattle.bl_machine_laws.specs.Numbers.Waiting.{Waits}
 use Rattle.bl_machine_laws.specs.Waiting.Waking.{WakingKeepsNumbers}
 use Rattle.bl_machine_pass.specs.Registers.{Registers, due_by, is_due, started}
-use Rattle.bl_machine_pass.specs.Transitions.{Asked, Ended, Flagged, Rested, RestedIn, Transition, rules}
+use Rattle.bl_machine_pass.specs.Transitions.{Condition, Ended, Flagged, Rested, RestedIn, Transition, rules}
 use Rattle.bl_machine_pass_laws.specs.Turns.Dozes.{StaysDozing}
 use Rattle.bl_machine_pass_laws.specs.Turns.Invariant.{Exactly, IsFlagged, IsJoin, IsResume, PassInvariant}
 use Rattle.bl_machine_pass_laws.specs.Turns.Laws.{StaysPlaced, Turning, TurnsChangeNumbers}
@@ -59,9 +59,9 @@ woken_open w i (Guard s phase old c) stood body live unended = refl
 woken_open w i (Run s callee phase old c) stood body live unended = refl
 
 -- no flag is set yet, and no node that asks for one waits
-unflagged : (number : Node → ℕ) (counters : ℕ → ℕ) (rule : Transition) (There : Type 0) → (There → IsResume rule.asked) → (asked : Asked) →
-    rule.asked ≡ asked →
-    IsFlagged asked → Exactly (due_by number (started counters (λ k. false)) rule.node asked) There
+unflagged : (number : Node → ℕ) (counters : ℕ → ℕ) (rule : Transition) (There : Type 0) → (There → IsResume rule.condition) → (condition : Condition) →
+    rule.condition ≡ condition →
+    IsFlagged condition → Exactly (due_by number (started counters (λ k. false)) rule.node condition) There
 unflagged number counters rule There resumes Flagged is flagged = (λ set. absurd cc, λ there. absurd (subst IsResume is (resumes there)))
 unflagged number counters rule There resumes (Rested slot) is flagged = absurd flagged
 unflagged number counters rule There resumes (RestedIn slots) is flagged = absurd flagged
@@ -77,7 +77,7 @@ passes_begin placed bodies marks resumed only keep = record {
     flags = λ rule there flagged le.
         unflagged (rank i) counters rule (Waits (woken c) None rule.node)
         (only w (rank i) i slots unit stood c counters (λ k. false) live given.laid stands.placed stands.rooted settled unended holds rule there)
-        rule.asked refl flagged;
+        rule.condition refl flagged;
     resumes = λ rule there resume le.
         resumed w (rank i) i slots unit stood c counters (λ k. false) live given.laid stands.placed stands.rooted settled unended holds rule there resume;
     marks = marks.resumes (rank i) c counters (λ k. false);
@@ -120,7 +120,7 @@ numbers_pass rank i slots body k c n r least first keeps = record {
 }
 
 pub due_waits : StaysPlaced → JoinsWait → DueWaits
-due_waits placed joins w rank i slots unit stood k c rule r given live stands there keeps le = by_asked rule.asked refl
+due_waits placed joins w rank i slots unit stood k c rule r given live stands there keeps le = by_asked rule.condition refl
   where
     t : Turning w rank i slots unit stood c rule.node rule
     t = record {
@@ -135,7 +135,7 @@ due_waits placed joins w rank i slots unit stood k c rule r given live stands th
       of_node = refl;
     }
 
-    by_asked : (asked : Asked) → rule.asked ≡ asked → Exactly (is_due (rank i) rule r) (Waits c None rule.node)
+    by_asked : (condition : Condition) → rule.condition ≡ condition → Exactly (is_due (rank i) rule r) (Waits c None rule.node)
     by_asked Flagged is = keeps.flags rule there (subst IsFlagged (sym is) tt) le
     by_asked (Rested slot) is = keeps.resumes rule there (subst IsResume (sym is) tt) le
     by_asked (RestedIn list) is = keeps.resumes rule there (subst IsResume (sym is) tt) le

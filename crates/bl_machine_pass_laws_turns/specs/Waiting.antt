@@ -11,18 +11,18 @@ use Rattle.bl_machine_laws.specs.Numbers.Waiting.{Waits}
 use Rattle.bl_machine_laws.specs.Passes.Orders.{Orders}
 use Rattle.bl_machine_pass.specs.SlotLayout.{SlotsAreDistinct}
 use Rattle.bl_machine_pass.specs.Registers.{Registers, after_rule, is_due, started}
-use Rattle.bl_machine_pass.specs.Transitions.{Asked, Transition, rules}
+use Rattle.bl_machine_pass.specs.Transitions.{Condition, Transition, rules}
 use Rattle.bl_machine_pass_laws.specs.Turns.Invariant.{Exactly, IsFlagged, IsResume, PassInvariant}
 use Rattle.bl_machine_pass_laws.specs.Turns.Laws.{StaysPlaced, Turning, answer_of, entry_flag}
 
 -- a turn keeps each later rule with such a question due iff something waits at its node
-abbrev pub KeepsDue : (Asked → Type 0) → Type 0
+abbrev pub KeepsDue : (Condition → Type 0) → Type 0
 KeepsDue Asks =
     (w : Setting) (rank : ℕ → Node → ℕ) (i : ℕ) (slots : Slots) (unit : UnitDef) (stood : Bool) (c : Tree) (done : List AnsweredDeed) (n : Node)
     (c' : Tree)
     (rule : Transition) (r : Registers) (turn : Turns w rank i c done n c') → Turning w rank i slots unit stood c n rule →
     PassInvariant slots (rank i) (plain_body unit.body) (rank i n) c r → (other : Transition) → Contains (rules slots (plain_body unit.body)) other →
-    Asks other.asked → suc (rank i n) ≤ rank i other.node →
+    Asks other.condition → suc (rank i n) ≤ rank i other.node →
     Exactly (is_due (rank i) other (after_rule (rank i) rule (answer_of turn) r)) (Waits c' None other.node)
 
 -- the turn of the first waiting node leaves only nodes with greater numbers waiting

@@ -13,16 +13,18 @@ use Rattle.bl_tree.specs.declared.tree.Stmt.{Stmt}
 use Rattle.bl_tree.proofs.StmtInduction.{Each, EachArm}
 use Rattle.bl_graph_nodes.specs.Laws.{plain_arm}
 use Rattle.bl_graph_nodes.specs.Nodes.{are_instant, is_instant, nodes_in, nodes_in_each, nodes_of, some_instant, some_strong, strong_instant}
-use Rattle.bl_graph_nodes.specs.Plain.{Block, Bodies, Done, If, Label, Plain, Position, Then, block_from, else_at, inside, passed_one, plain, plain_block}
+use Rattle.bl_graph_nodes.specs.Plain.{Block, Bodies, Done, If, Label, Plain, Position, Then, block_from, else_at, inside, passed_one, plain_block, plain_stmt}
 use Rattle.bl_machine_pass.specs.SlotLayout.{spots_in, spots_in_each, spots_of}
 use Rattle.bl_machine_transitions.specs.declared.transition.Change.{Change}
 use Rattle.bl_machine_transitions.specs.declared.transition.Change.TheVariants.{SetMark}
-use Rattle.bl_machine_transitions.specs.Listed.{Layout, body_ends, endings, enter, enter_each, fires, flagged, guarded as guarded_in, node_count}
+use Rattle.bl_machine_transitions.specs.Listed.{Layout, endings, enter_block, enter_each, fires, flagged_rule, node_count, when_body_end}
+use Rattle.bl_machine_transitions.specs.Listed.{when_rules as guarded_in}
 use Rattle.bl_machine_transitions.specs.Listed.{nodes_within, place_count, places_in_branches, places_within, rests_in}
-use Rattle.bl_machine_transitions.specs.Listed.{rests_in_first, rests_of, rules_in, rules_in_each, rules_of, strong_endings, tested}
+use Rattle.bl_machine_transitions.specs.Listed.{rests_in_first, rests_of, rules_in, rules_in_each, rules_of, strong_endings, tested_rule}
 use Rattle.bl_machine_transitions.specs.Told.{Nothing, Task, Tests}
-use Rattle.bl_machine_transitions.specs.inner.Joined.{entered, fired, looked, watched}
-use Rattle.bl_machine_transitions.specs.inner.Parts.{ArmPart, BranchPart, Part, arm_of, arm_part, begins, block, branch_of, chain, choice, each, ends}
+use Rattle.bl_machine_transitions.specs.inner.Joined.{enter_unless_empty, fired, looked, watched}
+use Rattle.bl_machine_transitions.specs.inner.Parts.{ArmPart, BranchPart, Part, arm_of, arm_part, branch_of, chain, condition_part, each, ends, entry_changes}
+use Rattle.bl_machine_transitions.specs.inner.Parts.{part_of_block}
 use Rattle.bl_machine_transitions.specs.inner.Parts.{first_rests, follow, forked, kind_part, nothing, part, stmt_of}
 
 -- ---- what it means that a statement, a block and branches are listed as a part is
@@ -36,7 +38,7 @@ pub record Alike (s : Plain) (a : Part) : Type 0 where
   pub rules : (layout : Layout) (k p : ℕ) (next : Change) → rules_of layout k p s next ≡ a.rules layout k p next
 
 pub record AlikeIn (body : Block) (a : Part) : Type 0 where
-  pub enters : (layout : Layout) (k : ℕ) (next : Change) → enter layout k body next ≡ entered layout a.empty k next
+  pub enters : (layout : Layout) (k : ℕ) (next : Change) → enter_block layout k body next ≡ enter_unless_empty layout a.empty k next
   pub nodes : node_count body ≡ a.size.nodes
   pub places : place_count body ≡ a.size.places
   pub instant : are_instant body ≡ a.size.instant
@@ -53,7 +55,7 @@ pub record AlikeEach (bodies : Bodies) (all : List BranchPart) : Type 0 where
   pub rests : (layout : Layout) (p : ℕ) → rests_in_first layout p bodies ≡ first_rests layout p all
   pub endings_all : (layout : Layout) (p : ℕ) → endings layout p bodies ≡ ends false layout p all
   pub endings_strong : (layout : Layout) (p : ℕ) → strong_endings layout p bodies ≡ ends true layout p all
-  pub begin : (layout : Layout) (k p : ℕ) → enter_each layout k p bodies ≡ begins layout k p all
+  pub begin : (layout : Layout) (k p : ℕ) → enter_each layout k p bodies ≡ entry_changes layout k p all
   pub rules : (layout : Layout) (k p : ℕ) → rules_in_each layout k p bodies ≡ each layout k p all
 
 -- ---- blocks
@@ -75,7 +77,7 @@ and_true false = refl
 
 pub single_alike : (s : Plain) (a : Part) → Alike s a → AlikeIn (Then s Done) a
 single_alike s a h = record {
-  enters = λ layout k next. ap (λ empty. entered layout empty k next) (sym h.filled);
+  enters = λ layout k next. ap (λ empty. enter_unless_empty layout empty k next) (sym h.filled);
   nodes = ap length (append-nil (nodes_of s)) ∙ h.nodes;
   places = ap length (append-nil (spots_of s)) ∙ h.places;
   instant = and_true (is_instant s) ∙ h.instant;
@@ -94,13 +96,13 @@ done_alike = record {
 }
 
 abbrev pub Same : Stmt → Type 0
-Same s = (at : Position) → Alike (plain s at) (part s)
+Same s = (at : Position) → Alike (plain_stmt s at) (part s)
 
 pub block_alike : (body : List Stmt) (k : ℕ) (at : Position) → Each Same body →
-    AlikeIn (block_from (map plain body) k at) (block (map part body))
+    AlikeIn (block_from (map plain_stmt body) k at) (part_of_block (map part body))
 block_alike [] k at all = done_alike
 block_alike (s ∷ rest) k at all =
-    then_alike (plain s (at ++ k ∷ [])) (block_from (map plain rest) (suc k) at) (part s) (block (map part rest))
+    then_alike (plain_stmt s (at ++ k ∷ [])) (block_from (map plain_stmt rest) (suc k) at) (part s) (part_of_block (map part rest))
     (All-head Same s rest all (at ++ k ∷ [])) (block_alike rest (suc k) at (All-tail Same s rest all))
 
 -- ---- choices
@@ -109,7 +111,7 @@ choice_nodes : (m n : ℕ) → suc (m + n) ≡ 1 + m + n
 choice_nodes m n = omega arith
 
 pub choice_alike : (l : Label) (at : Place) (e : Expr) (body other : Block) (a b : Part) → AlikeIn body a → AlikeIn other b →
-    Alike (If l at e body other) (choice e a b)
+    Alike (If l at e body other) (condition_part e a b)
 choice_alike l at e body other a b h t = record {
   filled = refl;
   nodes = ap suc (length-append (nodes_in body) (nodes_in other)) ∙ (λ i. suc (h.nodes i + t.nodes i)) ∙ choice_nodes a.size.nodes b.size.nodes;
@@ -117,12 +119,12 @@ choice_alike l at e body other a b h t = record {
   instant = λ i. h.instant i || t.instant i;
   rests = λ layout p i. h.rests layout p i ++ t.rests layout (p + h.places i) i;
   rules = λ layout k p next i.
-      tested layout k (Tests e) (h.enters layout (k + 1) next i ∷ []) (t.enters layout (k + 1 + h.nodes i) next i ∷ [])
+      tested_rule layout k (Tests e) (h.enters layout (k + 1) next i ∷ []) (t.enters layout (k + 1 + h.nodes i) next i ∷ [])
       ∷ (h.rules layout (k + 1) p next i ++ t.rules layout (k + 1 + h.nodes i) (p + h.places i) next i);
 }
 
 abbrev pub arm_view : Arm → ArmPart
-arm_view arm = record { test = (out-Arm arm).test; body = block (map part (out-Arm arm).body) }
+arm_view arm = record { test = (out-Arm arm).test; body = part_of_block (map part (out-Arm arm).body) }
 
 abbrev pub InArm : Arm → Type 0
 InArm arm = Each Same (out-Arm arm).body
@@ -132,7 +134,7 @@ arms_are [] = refl
 arms_are (arm ∷ rest) = λ i. fold_out-Arm (Place → Part) ArmPart BranchPart Part kind_part arm_of branch_of stmt_of arm i ∷ arms_are rest i
 
 pub chain_alike : (at : Label) (arms : List Arm) (other : List Stmt) → EachArm Same arms → Each Same other →
-    AlikeIn (else_at at (map plain_arm arms) (plain_block other)) (chain (map arm_view arms) (block (map part other)))
+    AlikeIn (else_at at (map plain_arm arms) (plain_block other)) (chain (map arm_view arms) (part_of_block (map part other)))
 chain_alike at [] other all others = block_alike other 0 (inside at at.passed) others
 chain_alike at (arm ∷ rest) other all others =
     single_alike _ _ (choice_alike at _ (out-Arm arm).test _ _ _ _
@@ -150,13 +152,13 @@ pub watched_alike : (layout : Layout) (instant : Bool) (k p : ℕ) (guard : Guar
     AlikeIn body a → guarded_in layout instant k p guard task body next
     ≡ watched layout k p guard task a.empty (record { nodes = a.size.nodes; places = a.size.places; instant = instant }) (a.rests layout p) next
 watched_alike layout true k p guard task body a next h = λ i.
-    flagged layout k Nothing (SetMark (layout.number k) ∷ h.enters layout (k + 4) (body_ends layout k true) i ∷ [])
-    ∷ flagged layout (k + 1) Nothing (next ∷ [])
-    ∷ looked layout (k + 2) p (h.places i) (h.rests layout p i) task (fires_alike layout (k + 4) guard body a (body_ends layout k true) next h i)
-    ∷ flagged layout (k + 3) Nothing (next ∷ [])
+    flagged_rule layout k Nothing (SetMark (layout.number k) ∷ h.enters layout (k + 4) (when_body_end layout k true) i ∷ [])
+    ∷ flagged_rule layout (k + 1) Nothing (next ∷ [])
+    ∷ looked layout (k + 2) p (h.places i) (h.rests layout p i) task (fires_alike layout (k + 4) guard body a (when_body_end layout k true) next h i)
+    ∷ flagged_rule layout (k + 3) Nothing (next ∷ [])
     ∷ []
 watched_alike layout false k p guard task body a next h = λ i.
-    flagged layout k Nothing (h.enters layout (k + 3) (body_ends layout k false) i ∷ [])
-    ∷ looked layout (k + 1) p (h.places i) (h.rests layout p i) task (fires_alike layout (k + 3) guard body a (body_ends layout k false) next h i)
-    ∷ flagged layout (k + 2) Nothing (next ∷ [])
+    flagged_rule layout k Nothing (h.enters layout (k + 3) (when_body_end layout k false) i ∷ [])
+    ∷ looked layout (k + 1) p (h.places i) (h.rests layout p i) task (fires_alike layout (k + 3) guard body a (when_body_end layout k false) next h i)
+    ∷ flagged_rule layout (k + 2) Nothing (next ∷ [])
     ∷ []

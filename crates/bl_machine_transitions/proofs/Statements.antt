@@ -23,13 +23,13 @@ use Rattle.bl_machine_transitions.specs.declared.transition.Age.TheVariants.{New
 use Rattle.bl_machine_transitions.specs.declared.transition.Change.{Change}
 use Rattle.bl_machine_transitions.specs.declared.transition.Change.TheVariants.{SetCounter, SetFlag}
 use Rattle.bl_machine_transitions.specs.declared.transition.Needed.{Needed}
-use Rattle.bl_machine_transitions.specs.Listed.{Layout, body_ends, flagged, fork_nodes, guard_nodes, joins_of, marked, needed, tested}
+use Rattle.bl_machine_transitions.specs.Listed.{Layout, flagged_rule, fork_nodes, guard_nodes, joins_of, mark_change, needed, tested_rule, when_body_end}
 use Rattle.bl_machine_transitions.specs.Listed.{endings, strong_endings}
 use Rattle.bl_machine_transitions.specs.Told.{Nothing, Tests}
 use Rattle.bl_machine_transitions.specs.inner.Joined.{all_joined, fork_instant, joined}
-use Rattle.bl_machine_transitions.specs.inner.Parts.{ArmPart, BranchPart, Part, act, arm_of, block, branch_of, branch_part}
+use Rattle.bl_machine_transitions.specs.inner.Parts.{ArmPart, BranchPart, Part, act, arm_of, branch_of, branch_part, part_of_block}
 use Rattle.bl_machine_transitions.specs.inner.Parts.{chain, cobegin, ends, endless, forked}
-use Rattle.bl_machine_transitions.specs.inner.Parts.{guarded, kind_part, needs, part, stmt_of, until, while}
+use Rattle.bl_machine_transitions.specs.inner.Parts.{kind_part, needs, part, stmt_of, until, when_part, while}
 use Rattle.bl_machine_transitions.proofs.Listing.{
   Alike,
   AlikeEach,
@@ -47,7 +47,7 @@ use Rattle.bl_machine_transitions.proofs.Listing.{
 -- ---- branches
 
 abbrev branch_view : Branch → BranchPart
-branch_view branch = record { weak = (out-Branch branch).weak; body = block (map part (out-Branch branch).body) }
+branch_view branch = record { weak = (out-Branch branch).weak; body = part_of_block (map part (out-Branch branch).body) }
 
 abbrev InBranch : Branch → Type 0
 InBranch branch = Each Same (out-Branch branch).body
@@ -153,7 +153,7 @@ cobegin_alike l at bodies all h =
       instant = instant;
       rests = h.rests;
       rules = λ layout k p next i.
-          flagged layout k Nothing (marked (instant i) (layout.number k) (h.begin layout (k + fork_nodes (instant i)) p i))
+          flagged_rule layout k Nothing (mark_change (instant i) (layout.number k) (h.begin layout (k + fork_nodes (instant i)) p i))
           ∷ (joins_alike layout (instant i) k p bodies all next h i ++ h.rules layout (k + fork_nodes (instant i)) p i);
     }
 
@@ -165,7 +165,7 @@ guard_length true first second third fourth rest = omega arith
 guard_length false first second third fourth rest = omega arith
 
 guarded_alike : (l : Label) (at : Place) (guard : Guard) (e : Expr) (body : Block) (a : Part) → AlikeIn body a →
-    Alike (When l at guard e body) (guarded guard e a)
+    Alike (When l at guard e body) (when_part guard e a)
 guarded_alike l at guard e body a h = record {
   filled = refl;
   nodes = guard_length (are_instant body) (StartAt l at) (SurfaceEndAt l at) (CheckAt l at e) (DepthEndAt l at) (nodes_in body)
@@ -175,7 +175,7 @@ guarded_alike l at guard e body a h = record {
   rests = h.rests;
   rules = λ layout k p next i.
       watched_alike layout (h.instant i) k p guard (Tests e) body a next h i
-      ++ h.rules layout (k + guard_nodes (h.instant i)) p (body_ends layout k (h.instant i)) i;
+      ++ h.rules layout (k + guard_nodes (h.instant i)) p (when_body_end layout k (h.instant i)) i;
 }
 
 add_one : (n : ℕ) → suc n ≡ 1 + n
@@ -192,7 +192,7 @@ endless_alike l at body a h = record {
   instant = refl;
   rests = h.rests;
   rules = λ layout k p next i.
-      flagged layout k Nothing (h.enters layout (k + 1) (SetFlag (layout.number k)) i ∷ []) ∷ h.rules layout (k + 1) p (SetFlag (layout.number k)) i;
+      flagged_rule layout k Nothing (h.enters layout (k + 1) (SetFlag (layout.number k)) i ∷ []) ∷ h.rules layout (k + 1) p (SetFlag (layout.number k)) i;
 }
 
 until_alike : (l : Label) (at : Place) (body : Block) (e : Expr) (a : Part) → AlikeIn body a → Alike (Until l at body e) (until a e)
@@ -203,8 +203,8 @@ until_alike l at body e a h = record {
   instant = h.instant;
   rests = h.rests;
   rules = λ layout k p next i.
-      flagged layout k Nothing (h.enters layout (k + 2) (SetFlag (layout.number (k + 1))) i ∷ [])
-      ∷ tested layout (k + 1) (Tests e) (next ∷ []) (SetFlag (layout.number k) ∷ [])
+      flagged_rule layout k Nothing (h.enters layout (k + 2) (SetFlag (layout.number (k + 1))) i ∷ [])
+      ∷ tested_rule layout (k + 1) (Tests e) (next ∷ []) (SetFlag (layout.number k) ∷ [])
       ∷ h.rules layout (k + 2) p (SetFlag (layout.number (k + 1))) i;
 }
 
@@ -216,7 +216,7 @@ while_alike l at e body a h = record {
   instant = refl;
   rests = h.rests;
   rules = λ layout k p next i.
-      tested layout k (Tests e) (h.enters layout (k + 1) (SetFlag (layout.number k)) i ∷ []) (next ∷ [])
+      tested_rule layout k (Tests e) (h.enters layout (k + 1) (SetFlag (layout.number k)) i ∷ []) (next ∷ [])
       ∷ h.rules layout (k + 1) p (SetFlag (layout.number k)) i;
 }
 
@@ -239,8 +239,8 @@ module _ (laws : PlainStatements) where
       (choice_alike (label_at at) place (never place) _ _ _ _ (block_alike other 0 (inside (label_at at) 0) others)
       (block_alike other 0 (inside (label_at at) 1) others))
   branching_same place (arm ∷ rest) other all others at =
-      let made : part (stmt place (StmtKind-F.If (arm ∷ rest) other)) ≡ chain (map arm_view (arm ∷ rest)) (block (map part other)) =
-      rw (fold-roll-Stmt, fold-roll-StmtKind) (ap (λ arms. chain arms (block (map part other))) (arms_are (arm ∷ rest))) in
+      let made : part (stmt place (StmtKind-F.If (arm ∷ rest) other)) ≡ chain (map arm_view (arm ∷ rest)) (part_of_block (map part other)) =
+      rw (fold-roll-Stmt, fold-roll-StmtKind) (ap (λ arms. chain arms (part_of_block (map part other))) (arms_are (arm ∷ rest))) in
       subst (λ s. Alike s (part (stmt place (StmtKind-F.If (arm ∷ rest) other)))) (sym (laws.branching place at arm rest other))
       (subst (λ a. Alike (If (label_at at) place (out-Arm arm).test (plain_block (out-Arm arm).body (inside (label_at at) 0))
       (else_at (passed_one (label_at at)) (map plain_arm rest) (plain_block other))) a) (sym made)
@@ -294,5 +294,5 @@ module _ (laws : PlainStatements) where
   each_same body k s lt = induct Same cases _
 
   -- a block is listed as its part
-  pub body_alike_in : (body : List Stmt) (at : Position) → AlikeIn (plain_block body at) (block (map part body))
+  pub body_alike_in : (body : List Stmt) (at : Position) → AlikeIn (plain_block body at) (part_of_block (map part body))
   body_alike_in body at = block_alike body 0 at (each_same body)

@@ -9,7 +9,7 @@ use Rattle.bl_machine.specs.declared.slots.Slot.{Slot}
 use Rattle.bl_machine_pass.specs.Numbered.{no_slot, position_where}
 use Rattle.bl_machine_transitions.specs.declared.transition.Change.TheVariants.{Finish}
 use Rattle.bl_machine_transitions.specs.Listed.{Layout, layout_of, listed}
-use Rattle.bl_machine_transitions.specs.inner.Parts.{block, part}
+use Rattle.bl_machine_transitions.specs.inner.Parts.{part, part_of_block}
 use Rattle.bl_machine_transitions.proofs.Statements.{body_alike_in}
 
 -- the numbers of a table
@@ -18,7 +18,7 @@ table ranks count slots = record { number = λ k. unwrap_or (slice_get ranks k) 
 
 pub whole : PlainStatements → (body : List Stmt) (order ranks : List ℕ) (count : ℕ) (slots : List Slot) → count ≡ length order →
     ((k : ℕ) → get_or ranks k (length order) ≡ position_where (nat_eq k) order) →
-    (block (map part body)).rules (table ranks count slots) 0 0 Finish ≡ listed (layout_of order slots) (plain_body body)
+    (part_of_block (map part body)).rules (table ranks count slots) 0 0 Finish ≡ listed (layout_of order slots) (plain_body body)
 whole laws body order ranks count slots counts numbers =
     let same : (k : ℕ) → unwrap_or (slice_get ranks k) count ≡ position_where (nat_eq k) order =
     λ k. ap (λ count. unwrap_or (slice_get ranks k) count) counts ∙ unwrap_or-slice_get ranks k (length order) ∙ numbers k in

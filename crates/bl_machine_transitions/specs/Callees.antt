@@ -56,5 +56,5 @@ abbrev mutual
 -- ---- numbers of nodes
 
 -- the number of a node in C names: where it stands in the order of the blocks, which has the positions of nodes in the body
-abbrev pub number_in : List ℕ → Block → Node → ℕ
-number_in order body n = position_where (nat_eq (position_where (same_node n) (nodes_in body))) order
+abbrev pub node_number : List ℕ → Block → Node → ℕ
+node_number order body n = position_where (nat_eq (position_where (same_node n) (nodes_in body))) order

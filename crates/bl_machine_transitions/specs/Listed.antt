@@ -29,7 +29,7 @@ use Rattle.bl_machine_pass.specs.Numbered.{no_slot, position_where}
 use Rattle.bl_machine_pass.specs.Transitions.{once}
 use Rattle.bl_machine_transitions.specs.declared.transition.Age.{Age}
 use Rattle.bl_machine_transitions.specs.declared.transition.Age.TheVariants.{New, Old, Any}
-use Rattle.bl_machine_transitions.specs.declared.transition.Asked.TheVariants.{Flagged, Rested, RestedIn, Ended}
+use Rattle.bl_machine_transitions.specs.declared.transition.Condition.TheVariants.{Flagged, Rested, RestedIn, Ended}
 use Rattle.bl_machine_transitions.specs.declared.transition.Change.{Change}
 use Rattle.bl_machine_transitions.specs.declared.transition.Change.TheVariants.{SetFlag, SetCounter, ClearCounter, ClearBoth, SetMark, EndWhen, Finish}
 use Rattle.bl_machine_transitions.specs.declared.transition.Needed.{Needed}
@@ -121,30 +121,30 @@ needed layout p bodies =
 -- ---- changes
 
 -- the change where a block is entered, whose first node has the position
-abbrev pub enter : Layout → ℕ → Block → Change → Change
-enter layout k Done next = next
-enter layout k (Then s rest) next = SetFlag (layout.number k)
+abbrev pub enter_block : Layout → ℕ → Block → Change → Change
+enter_block layout k Done next = next
+enter_block layout k (Then s rest) next = SetFlag (layout.number k)
 
 -- the changes by which branches begin, where the first node and place in them have these positions
 abbrev pub enter_each : Layout → ℕ → ℕ → Bodies → List Change
 enter_each layout k p Last = []
 enter_each layout k p (BodyOf weak body rest) =
-    enter layout k body (SetCounter (layout.slot p)) ∷ enter_each layout (k + node_count body) (suc (p + place_count body)) rest
+    enter_block layout k body (SetCounter (layout.slot p)) ∷ enter_each layout (k + node_count body) (suc (p + place_count body)) rest
 
 -- the change where the body of a `when` ends, which begins at the node with the position
-abbrev pub body_ends : Layout → ℕ → Bool → Change
-body_ends layout k true = EndWhen (layout.number k) (layout.number (k + 1)) (layout.number (k + 3))
-body_ends layout k false = SetFlag (layout.number (k + 2))
+abbrev pub when_body_end : Layout → ℕ → Bool → Change
+when_body_end layout k true = EndWhen (layout.number k) (layout.number (k + 1)) (layout.number (k + 3))
+when_body_end layout k false = SetFlag (layout.number (k + 2))
 
 -- the change of a condition that was true: `abort` goes on behind the body, and `reset` begins it anew
 abbrev pub fires : Layout → ℕ → Guard → Block → Change → Change → Change
 fires layout k Abort body ends next = next
-fires layout k Reset body ends next = enter layout k body ends
+fires layout k Reset body ends next = enter_block layout k body ends
 
 -- a mark, where the test is true
-abbrev pub marked : Bool → ℕ → List Change → List Change
-marked true number rest = SetMark number ∷ rest
-marked false number rest = rest
+abbrev pub mark_change : Bool → ℕ → List Change → List Change
+mark_change true number rest = SetMark number ∷ rest
+mark_change false number rest = rest
 
 -- the changes that free or forget counters, each once
 abbrev pub freed : Layout → ℕ → ℕ → List Change
@@ -156,64 +156,64 @@ forgotten layout p n = map ClearBoth (once (counters_from layout p n))
 -- ---- rules
 
 -- the rule of the node at the position, which waits by its flag and has one way on
-abbrev pub flagged : Layout → ℕ → Task → List Change → NumberedTransition
-flagged layout k task so = record { number = layout.number k; asked = Flagged; task = task; so = so; otherwise = [] }
+abbrev pub flagged_rule : Layout → ℕ → Task → List Change → NumberedTransition
+flagged_rule layout k task on_true = record { number = layout.number k; condition = Flagged; task = task; on_true = on_true; on_false = [] }
 
 -- the rule of a node with a test at the position, which waits by its flag
-abbrev pub tested : Layout → ℕ → Task → List Change → List Change → NumberedTransition
-tested layout k task so otherwise =
-    record { number = layout.number k; asked = Flagged; task = task; so = so; otherwise = otherwise }
+abbrev pub tested_rule : Layout → ℕ → Task → List Change → List Change → NumberedTransition
+tested_rule layout k task on_true on_false =
+    record { number = layout.number k; condition = Flagged; task = task; on_true = on_true; on_false = on_false }
 
 -- the rule of a node that asks whether the instance rested at the number, and clears the counter where the answer is true
-abbrev pub woken : Layout → ℕ → Slot → Task → Change → NumberedTransition
-woken layout k slot task next =
-    record { number = layout.number k; asked = Rested slot; task = task; so = ClearCounter slot.counter ∷ next ∷ []; otherwise = [] }
+abbrev pub resting_rule : Layout → ℕ → Slot → Task → Change → NumberedTransition
+resting_rule layout k slot task next =
+    record { number = layout.number k; condition = Rested slot; task = task; on_true = ClearCounter slot.counter ∷ next ∷ []; on_false = [] }
 
 -- the rule of the node at which a `cobegin` ends: it asks for the ends of branches, and clears the counters of all their places
-abbrev pub joins : Layout → ℕ → ℕ → Bodies → Age → Change → NumberedTransition
-joins layout k p bodies age next = record {
+abbrev pub joining_rule : Layout → ℕ → ℕ → Bodies → Age → Change → NumberedTransition
+joining_rule layout k p bodies age next = record {
   number = layout.number k;
-  asked = Ended age (needed layout p bodies);
+  condition = Ended age (needed layout p bodies);
   task = Nothing;
-  so = freed layout p (places_in_branches bodies) ++ next ∷ [];
-  otherwise = [];
+  on_true = freed layout p (places_in_branches bodies) ++ next ∷ [];
+  on_false = [];
 }
 
 -- the rules of the joins of a `cobegin` that begins at the node with the position: two if it may end in the tick in which it begins
 abbrev pub joins_of : Layout → Bool → ℕ → ℕ → Bodies → Change → List NumberedTransition
 joins_of layout true k p bodies next =
-    joins layout (k + 1) p bodies (New (layout.number k)) next ∷ joins layout (k + 2) p bodies (Old (layout.number k)) next ∷ []
-joins_of layout false k p bodies next = joins layout (k + 1) p bodies Any next ∷ []
+    joining_rule layout (k + 1) p bodies (New (layout.number k)) next ∷ joining_rule layout (k + 2) p bodies (Old (layout.number k)) next ∷ []
+joins_of layout false k p bodies next = joining_rule layout (k + 1) p bodies Any next ∷ []
 
 -- the rule of the check of a `when` at the node with the position, where its body's first node has the second position
 abbrev pub checked : Layout → ℕ → ℕ → ℕ → Guard → Task → Block → Change → Change → NumberedTransition
 checked layout k inner p guard task body ends next = record {
   number = layout.number k;
-  asked = RestedIn (rests_in layout p body);
+  condition = RestedIn (rests_in layout p body);
   task = task;
-  so = forgotten layout p (place_count body) ++ fires layout inner guard body ends next ∷ [];
-  otherwise = [];
+  on_true = forgotten layout p (place_count body) ++ fires layout inner guard body ends next ∷ [];
+  on_false = [];
 }
 
 -- the rules of the nodes of a `when` itself, which begins at the node with the position
-abbrev pub guarded : Layout → Bool → ℕ → ℕ → Guard → Task → Block → Change → List NumberedTransition
-guarded layout true k p guard task body next =
-    flagged layout k Nothing (SetMark (layout.number k) ∷ enter layout (k + 4) body (body_ends layout k true) ∷ [])
-    ∷ flagged layout (k + 1) Nothing (next ∷ [])
-    ∷ checked layout (k + 2) (k + 4) p guard task body (body_ends layout k true) next
-    ∷ flagged layout (k + 3) Nothing (next ∷ [])
+abbrev pub when_rules : Layout → Bool → ℕ → ℕ → Guard → Task → Block → Change → List NumberedTransition
+when_rules layout true k p guard task body next =
+    flagged_rule layout k Nothing (SetMark (layout.number k) ∷ enter_block layout (k + 4) body (when_body_end layout k true) ∷ [])
+    ∷ flagged_rule layout (k + 1) Nothing (next ∷ [])
+    ∷ checked layout (k + 2) (k + 4) p guard task body (when_body_end layout k true) next
+    ∷ flagged_rule layout (k + 3) Nothing (next ∷ [])
     ∷ []
-guarded layout false k p guard task body next =
-    flagged layout k Nothing (enter layout (k + 3) body (body_ends layout k false) ∷ [])
-    ∷ checked layout (k + 1) (k + 3) p guard task body (body_ends layout k false) next
-    ∷ flagged layout (k + 2) Nothing (next ∷ [])
+when_rules layout false k p guard task body next =
+    flagged_rule layout k Nothing (enter_block layout (k + 3) body (when_body_end layout k false) ∷ [])
+    ∷ checked layout (k + 1) (k + 3) p guard task body (when_body_end layout k false) next
+    ∷ flagged_rule layout (k + 2) Nothing (next ∷ [])
     ∷ []
 
 -- the rules of the nodes of a loop with its test at the end, which the change flags
-abbrev pub turns : Layout → ℕ → Task → Block → Change → Change → List NumberedTransition
-turns layout k task body test next =
-    flagged layout k Nothing (enter layout (k + 2) body test ∷ [])
-    ∷ tested layout (k + 1) task (next ∷ []) (SetFlag (layout.number k) ∷ [])
+abbrev pub loop_rules : Layout → ℕ → Task → Block → Change → Change → List NumberedTransition
+loop_rules layout k task body test next =
+    flagged_rule layout k Nothing (enter_block layout (k + 2) body test ∷ [])
+    ∷ tested_rule layout (k + 1) task (next ∷ []) (SetFlag (layout.number k) ∷ [])
     ∷ []
 
 -- how many nodes stand before the branches of a `cobegin`, and before the body of a `when`
@@ -228,42 +228,42 @@ guard_nodes false = 3
 abbrev mutual
   -- the rules of a statement's nodes, in their order, where that change follows the statement. Its first node and place have these positions
   pub rules_of : Layout → ℕ → ℕ → Plain → Change → List NumberedTransition
-  rules_of layout k p (Act l s) next = flagged layout k (Acts s) (next ∷ []) ∷ []
+  rules_of layout k p (Act l s) next = flagged_rule layout k (Acts s) (next ∷ []) ∷ []
   rules_of layout k p (Await l at e) next =
-      flagged layout k Nothing (SetCounter (layout.slot p) ∷ []) ∷ woken layout (k + 1) (layout.slot p) (Tests e) next ∷ []
+      flagged_rule layout k Nothing (SetCounter (layout.slot p) ∷ []) ∷ resting_rule layout (k + 1) (layout.slot p) (Tests e) next ∷ []
   rules_of layout k p (RunOf l at target a inputs outputs) next =
       let arguments = arguments_of target inputs outputs in
-      flagged layout k (Enters at a arguments) (SetCounter (layout.slot p) ∷ [])
-      ∷ woken layout (k + 1) (layout.slot p) (Resumes at a arguments) next
+      flagged_rule layout k (Enters at a arguments) (SetCounter (layout.slot p) ∷ [])
+      ∷ resting_rule layout (k + 1) (layout.slot p) (Resumes at a arguments) next
       ∷ []
   rules_of layout k p (If l at e body other) next =
       let after = k + 1 + node_count body in
-      tested layout k (Tests e) (enter layout (k + 1) body next ∷ []) (enter layout after other next ∷ [])
+      tested_rule layout k (Tests e) (enter_block layout (k + 1) body next ∷ []) (enter_block layout after other next ∷ [])
       ∷ (rules_in layout (k + 1) p body next ++ rules_in layout after (p + place_count body) other next)
   rules_of layout k p (Cobegin l at bodies) next =
       let instant = is_instant (Cobegin l at bodies) in
       let inner = k + fork_nodes instant in
-      flagged layout k Nothing (marked instant (layout.number k) (enter_each layout inner p bodies))
+      flagged_rule layout k Nothing (mark_change instant (layout.number k) (enter_each layout inner p bodies))
       ∷ (joins_of layout instant k p bodies next ++ rules_in_each layout inner p bodies)
   rules_of layout k p (When l at guard e body) next =
       let instant = are_instant body in
-      guarded layout instant k p guard (Tests e) body next ++ rules_in layout (k + guard_nodes instant) p body (body_ends layout k instant)
+      when_rules layout instant k p guard (Tests e) body next ++ rules_in layout (k + guard_nodes instant) p body (when_body_end layout k instant)
   rules_of layout k p (Repeat l at body) next =
-      flagged layout k Nothing (enter layout (k + 1) body (SetFlag (layout.number k)) ∷ [])
+      flagged_rule layout k Nothing (enter_block layout (k + 1) body (SetFlag (layout.number k)) ∷ [])
       ∷ rules_in layout (k + 1) p body (SetFlag (layout.number k))
   rules_of layout k p (Until l at body e) next =
-      turns layout k (Tests e) body (SetFlag (layout.number (k + 1))) next ++ rules_in layout (k + 2) p body (SetFlag (layout.number (k + 1)))
+      loop_rules layout k (Tests e) body (SetFlag (layout.number (k + 1))) next ++ rules_in layout (k + 2) p body (SetFlag (layout.number (k + 1)))
   rules_of layout k p (While l at e body) next =
-      tested layout k (Tests e) (enter layout (k + 1) body (SetFlag (layout.number k)) ∷ []) (next ∷ [])
+      tested_rule layout k (Tests e) (enter_block layout (k + 1) body (SetFlag (layout.number k)) ∷ []) (next ∷ [])
       ∷ rules_in layout (k + 1) p body (SetFlag (layout.number k))
   rules_of layout k p (Again l at body e) next =
-      turns layout k (Tests e) body (SetFlag (layout.number (k + 1))) next ++ rules_in layout (k + 2) p body (SetFlag (layout.number (k + 1)))
+      loop_rules layout k (Tests e) body (SetFlag (layout.number (k + 1))) next ++ rules_in layout (k + 2) p body (SetFlag (layout.number (k + 1)))
 
   -- the rules of the nodes of a block, in their order, where that change follows it and its first node and place have these positions
   pub rules_in : Layout → ℕ → ℕ → Block → Change → List NumberedTransition
   rules_in layout k p Done next = []
   rules_in layout k p (Then s rest) next =
-      rules_of layout k p s (enter layout (k + nodes_within s) rest next)
+      rules_of layout k p s (enter_block layout (k + nodes_within s) rest next)
       ++ rules_in layout (k + nodes_within s) (p + places_within s) rest next
 
   -- the rules of the nodes of branches, in their order, where the first node and place have these positions

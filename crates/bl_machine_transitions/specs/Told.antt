@@ -8,8 +8,8 @@ use Rattle.bl_machine_pass.specs.Transitions as nodes
 use Rattle.bl_machine_pass.specs.Transitions.{ClearsBoth, ClearsCounter, Ended, EndsWhen, Finishes, Flagged, IsAny, IsNew, IsOld, Rested, RestedIn, SetsCounter, SetsFlag, SetsMark}
 use Rattle.bl_machine_transitions.specs.declared.transition.Age.{Age}
 use Rattle.bl_machine_transitions.specs.declared.transition.Age.TheVariants as age
-use Rattle.bl_machine_transitions.specs.declared.transition.Asked.{Asked}
-use Rattle.bl_machine_transitions.specs.declared.transition.Asked.TheVariants as asked
+use Rattle.bl_machine_transitions.specs.declared.transition.Condition.{Condition}
+use Rattle.bl_machine_transitions.specs.declared.transition.Condition.TheVariants as condition
 use Rattle.bl_machine_transitions.specs.declared.transition.Change.{Change}
 use Rattle.bl_machine_transitions.specs.declared.transition.Change.TheVariants as change
 use Rattle.bl_machine_transitions.specs.declared.transition.Needed.{Needed}
@@ -31,10 +31,10 @@ pub data Task : Type 0 where
 -- the rule of a node, by numbers
 pub record NumberedTransition : Type 0 where
   pub number : ℕ
-  pub asked : Asked
+  pub condition : Condition
   pub task : Task
-  pub so : List Change
-  pub otherwise : List Change
+  pub on_true : List Change
+  pub on_false : List Change
 
 -- ---- as the code has them
 
@@ -52,7 +52,7 @@ task_in (task.Resume run) = Resumes run.place run.unit (arguments_in run)
 
 -- the rule
 abbrev pub rule_in : Kept → NumberedTransition
-rule_in rule = record { number = rule.number; asked = rule.asked; task = task_in rule.task; so = rule.so; otherwise = rule.otherwise }
+rule_in rule = record { number = rule.number; condition = rule.condition; task = task_in rule.task; on_true = rule.on_true; on_false = rule.on_false }
 
 -- ---- from the rules of nodes
 
@@ -76,12 +76,12 @@ told_age number IsAny = age.Any
 abbrev pub told_needed : nodes.Needed → Needed
 told_needed needed = record { all = needed.all; slots = needed.slots }
 
--- what is asked
-abbrev pub told_asked : (Node → ℕ) → nodes.Asked → Asked
-told_asked number Flagged = asked.Flagged
-told_asked number (Rested slot) = asked.Rested slot
-told_asked number (RestedIn slots) = asked.RestedIn slots
-told_asked number (Ended age needed) = asked.Ended (told_age number age) (told_needed needed)
+-- a condition, where nodes have these numbers
+abbrev pub told_condition : (Node → ℕ) → nodes.Condition → Condition
+told_condition number Flagged = condition.Flagged
+told_condition number (Rested slot) = condition.Rested slot
+told_condition number (RestedIn slots) = condition.RestedIn slots
+told_condition number (Ended age needed) = condition.Ended (told_age number age) (told_needed needed)
 
 -- what is done at a node, which calls this activity where it is one of a `run`
 abbrev pub task_at : (Node → ℕ) → ℕ → Node → Task
@@ -93,17 +93,17 @@ task_at number unit (ResumeAt l at arguments) = Resumes at unit arguments
 task_at number unit n = Nothing
 
 -- the rule of a node
-abbrev pub told : (Node → ℕ) → ℕ → nodes.Transition → NumberedTransition
-told number unit rule = record {
+abbrev pub told_rule : (Node → ℕ) → ℕ → nodes.Transition → NumberedTransition
+told_rule number unit rule = record {
   number = number rule.node;
-  asked = told_asked number rule.asked;
+  condition = told_condition number rule.condition;
   task = task_at number unit rule.node;
-  so = map (told_change number) rule.so;
-  otherwise = map (told_change number) rule.otherwise;
+  on_true = map (told_change number) rule.on_true;
+  on_false = map (told_change number) rule.on_false;
 }
 
 -- the rules of nodes, each with the activity that its node calls
 abbrev pub all_told : (Node → ℕ) → List ℕ → List nodes.Transition → List NumberedTransition
 all_told number [] rules = []
 all_told number units [] = []
-all_told number (unit ∷ units) (rule ∷ rules) = told number unit rule ∷ all_told number units rules
+all_told number (unit ∷ units) (rule ∷ rules) = told_rule number unit rule ∷ all_told number units rules

@@ -3,8 +3,8 @@
 ghost use Rattle.std.specs.Prelude.{◌≡◌, ◌+◌, ◌<◌, ◌∷◌, ◌++◌, [], length, replicate, slice_index_or, slice_set, IfOk, OnOk};
 ghost use Rattle.std.specs.Prelude.{false, true, if◌then◌else◌};
 ghost use Rattle.bl_machine_pass.specs.Transitions.{once};
-ghost use Rattle.bl_machine_transitions.specs.Listed.{body_ends, counters_from, forgotten, freed};
-ghost use Rattle.bl_machine_transitions.specs.inner.Joined.{entered, fired, layout_in};
+ghost use Rattle.bl_machine_transitions.specs.Listed.{counters_from, forgotten, freed, when_body_end};
+ghost use Rattle.bl_machine_transitions.specs.inner.Joined.{enter_unless_empty, fired, layout_in};
 
 use crate::size::after;
 use crate::table::Table;
@@ -34,7 +34,7 @@ pub fn two(alloc: Global, first: Change, second: Change) -> Result<List<Change>,
 
 /// What a block does where it is entered, which may be empty, and whose first node has the position.
 pub fn entered(t: &Table<'_>, empty: bool, k: u32, next: Change) -> Change
-    ensures { result ≡ entered (layout_in t.now) empty k next }
+    ensures { result ≡ enter_unless_empty (layout_in t.now) empty k next }
 {
     if empty {
         next
@@ -45,7 +45,7 @@ pub fn entered(t: &Table<'_>, empty: bool, k: u32, next: Change) -> Change
 
 /// Where the body of a `when` ends, which begins at the node with the position.
 pub fn body_ends(t: &Table<'_>, k: u32, instant: bool) -> Result<Change, NoMemory>
-    ensures { IfOk result (λ change. change ≡ body_ends (layout_in t.now) k instant) }
+    ensures { IfOk result (λ change. change ≡ when_body_end (layout_in t.now) k instant) }
 {
     if instant {
         let surface = t.number(after(k, 1)?);

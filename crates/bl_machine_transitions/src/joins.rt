@@ -2,16 +2,16 @@
 
 ghost use Rattle.std.specs.Prelude.{◌≡◌, ◌+◌, ◌∷◌, ◌++◌, [], map, IfOk, OnOk};
 ghost use Rattle.std.specs.Prelude.{if◌then◌else◌};
-ghost use Rattle.bl_machine_transitions.specs.Listed.{fork_nodes, marked};
+ghost use Rattle.bl_machine_transitions.specs.Listed.{fork_nodes, mark_change};
 ghost use Rattle.bl_machine_transitions.specs.Told.{rule_in};
 ghost use Rattle.bl_machine_transitions.specs.inner.Joined.{all_joined, joined, layout_in, old, where_so};
-ghost use Rattle.bl_machine_transitions.specs.inner.Parts.{begins, branch_part, ends, needs};
+ghost use Rattle.bl_machine_transitions.specs.inner.Parts.{branch_part, ends, entry_changes, needs};
 
 use crate::changes::{entered, freed};
 use crate::nodes::{later, put};
 use crate::size::{after, is_bare, of_block, of_branches};
 use crate::table::Table;
-use crate::transition::{Age, Asked, Change, Needed, Task, Transition};
+use crate::transition::{Age, Change, Condition, Needed, Task, Transition};
 use bl_machine::Slot;
 use bl_tree::tree::Branch;
 use bl_tree::{List, NoMemory};
@@ -76,7 +76,7 @@ pub fn begun_branches(
     k: u32,
     p: u32,
 ) -> Result<List<Change>, NoMemory>
-    ensures { IfOk result (λ all. all ≡ marked instant number (begins (layout_in t.now) k p (map branch_part branches.now))) }
+    ensures { IfOk result (λ all. all ≡ mark_change instant number (entry_changes (layout_in t.now) k p (map branch_part branches.now))) }
 {
     let mut all = List::new(alloc);
     if instant {
@@ -93,7 +93,7 @@ fn begin(
     p: u32,
     into: &mut List<Change>,
 ) -> Result<(), NoMemory>
-    ensures { OnOk result (into.new ≡ into.old ++ begins (layout_in t.now) k p (map branch_part branches.now)) }
+    ensures { OnOk result (into.new ≡ into.old ++ entry_changes (layout_in t.now) k p (map branch_part branches.now)) }
 {
     let mut node = k;
     let mut place = p;
@@ -103,8 +103,8 @@ fn begin(
         let wide = after(size.places, 1)?;
         let rest = Change::SetCounter(t.slot(place));
         let empty = is_bare(body);
-        let so = entered(t, empty, node, rest);
-        into.push(so)?;
+        let enters = entered(t, empty, node, rest);
+        into.push(enters)?;
         node = after(node, size.nodes)?;
         place = after(place, wide)?;
     }
@@ -129,10 +129,10 @@ fn put_joined<'a>(
     put(
         Transition {
             number: t.number(k),
-            asked: Asked::Ended(age, needed),
+            condition: Condition::Ended(age, needed),
             task: Task::Nothing,
-            so: freed(alloc, t, p, places, next)?,
-            otherwise: List::new(alloc),
+            on_true: freed(alloc, t, p, places, next)?,
+            on_false: List::new(alloc),
         },
         into,
     )

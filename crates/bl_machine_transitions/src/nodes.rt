@@ -2,14 +2,14 @@
 
 ghost use Rattle.std.specs.Prelude.{◌≡◌, ◌∷◌, ◌++◌, [], map, IfOk, OnOk};
 ghost use Rattle.bl_graph_nodes.specs.Nodes.{arguments_of};
-ghost use Rattle.bl_machine_transitions.specs.Listed.{flagged, guard_nodes, marked, tested, woken};
+ghost use Rattle.bl_machine_transitions.specs.Listed.{flagged_rule, guard_nodes, mark_change, resting_rule, tested_rule};
 ghost use Rattle.bl_machine_transitions.specs.Told.{Acts, Enters, Nothing, Resumes, Tests, rule_in, task_in};
 ghost use Rattle.bl_machine_transitions.specs.inner.Joined.{last, later, layout_in, looked, paused, turned, watched, where_so};
 
 use crate::changes::{body_ends, entered, fired, forgotten, one, two};
 use crate::size::{Size, after};
 use crate::table::Table;
-use crate::transition::{Asked, Change, Run, Task, Transition};
+use crate::transition::{Change, Condition, Run, Task, Transition};
 use bl_machine::Slot;
 use bl_tree::tree::{Expr, Guard, Path, Stmt};
 use bl_tree::{List, NoMemory, Place};
@@ -29,18 +29,18 @@ pub fn put_flagged<'a>(
     t: &Table<'_>,
     k: u32,
     task: Task<'a>,
-    so: List<Change>,
+    on_true: List<Change>,
     into: &mut List<Transition<'a>>,
 ) -> Result<(), NoMemory>
-    ensures { OnOk result (map rule_in into.new ≡ map rule_in into.old ++ flagged (layout_in t.now) k (task_in task.entry) so ∷ []) }
+    ensures { OnOk result (map rule_in into.new ≡ map rule_in into.old ++ flagged_rule (layout_in t.now) k (task_in task.entry) on_true ∷ []) }
 {
     put(
         Transition {
             number: t.number(k),
-            asked: Asked::Flagged,
+            condition: Condition::Flagged,
             task,
-            so,
-            otherwise: List::new(alloc),
+            on_true,
+            on_false: List::new(alloc),
         },
         into,
     )
@@ -52,20 +52,20 @@ pub fn put_tested<'a>(
     t: &Table<'_>,
     k: u32,
     e: &'a Expr,
-    so: Change,
-    otherwise: Change,
+    on_true: Change,
+    on_false: Change,
     into: &mut List<Transition<'a>>,
 ) -> Result<(), NoMemory>
     ensures { OnOk result (map rule_in into.new
-        ≡ map rule_in into.old ++ tested (layout_in t.now) k (Tests e.now) (so ∷ []) (otherwise ∷ []) ∷ []) }
+        ≡ map rule_in into.old ++ tested_rule (layout_in t.now) k (Tests e.now) (on_true ∷ []) (on_false ∷ []) ∷ []) }
 {
     put(
         Transition {
             number: t.number(k),
-            asked: Asked::Flagged,
+            condition: Condition::Flagged,
             task: Task::Test(e),
-            so: one(alloc, so)?,
-            otherwise: one(alloc, otherwise)?,
+            on_true: one(alloc, on_true)?,
+            on_false: one(alloc, on_false)?,
         },
         into,
     )
@@ -82,15 +82,15 @@ fn put_woken<'a>(
     into: &mut List<Transition<'a>>,
 ) -> Result<(), NoMemory>
     ensures { OnOk result (map rule_in into.new
-        ≡ map rule_in into.old ++ woken (layout_in t.now) k slot (task_in task.entry) next ∷ []) }
+        ≡ map rule_in into.old ++ resting_rule (layout_in t.now) k slot (task_in task.entry) next ∷ []) }
 {
     put(
         Transition {
             number: t.number(k),
-            asked: Asked::Rested(slot),
+            condition: Condition::Rested(slot),
             task,
-            so: two(alloc, Change::ClearCounter(slot.counter), next)?,
-            otherwise: List::new(alloc),
+            on_true: two(alloc, Change::ClearCounter(slot.counter), next)?,
+            on_false: List::new(alloc),
         },
         into,
     )
@@ -105,7 +105,7 @@ pub fn put_act<'a>(
     next: Change,
     into: &mut List<Transition<'a>>,
 ) -> Result<(), NoMemory>
-    ensures { OnOk result (map rule_in into.new ≡ map rule_in into.old ++ flagged (layout_in t.now) k (Acts s.now) (next ∷ []) ∷ []) }
+    ensures { OnOk result (map rule_in into.new ≡ map rule_in into.old ++ flagged_rule (layout_in t.now) k (Acts s.now) (next ∷ []) ∷ []) }
 {
     put_flagged(alloc, t, k, Task::Act(s), one(alloc, next)?, into)
 }
@@ -206,10 +206,10 @@ fn put_looked<'a>(
     put(
         Transition {
             number: t.number(k),
-            asked: Asked::RestedIn(rests),
+            condition: Condition::RestedIn(rests),
             task: Task::Test(e),
-            so: forgotten(alloc, t, p, places, fires)?,
-            otherwise: List::new(alloc),
+            on_true: forgotten(alloc, t, p, places, fires)?,
+            on_false: List::new(alloc),
         },
         into,
     )
@@ -225,7 +225,7 @@ fn put_where<'a>(
     into: &mut List<Transition<'a>>,
 ) -> Result<(), NoMemory>
     ensures { OnOk result (map rule_in into.new
-        ≡ map rule_in into.old ++ where_so test (flagged (layout_in t.now) k Nothing (next ∷ []))) }
+        ≡ map rule_in into.old ++ where_so test (flagged_rule (layout_in t.now) k Nothing (next ∷ []))) }
 {
     if test {
         put_flagged(alloc, t, k, Task::Nothing, one(alloc, next)?, into)?;
@@ -261,7 +261,7 @@ fn begun(
     number: u32,
     change: Change,
 ) -> Result<List<Change>, NoMemory>
-    ensures { IfOk result (λ all. all ≡ marked instant number (change ∷ [])) }
+    ensures { IfOk result (λ all. all ≡ mark_change instant number (change ∷ [])) }
 {
     if instant {
         two(alloc, Change::SetMark(number), change)

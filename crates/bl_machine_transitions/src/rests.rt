@@ -2,7 +2,7 @@
 
 ghost use Rattle.std.specs.Prelude.{◌≡◌, ◌+◌, ◌++◌, map, IfOk, OnOk};
 ghost use Rattle.bl_machine_transitions.specs.inner.Joined.{layout_in};
-ghost use Rattle.bl_machine_transitions.specs.inner.Parts.{ArmsRest, arm_part, block, branch_part, first_rests, forked, part};
+ghost use Rattle.bl_machine_transitions.specs.inner.Parts.{ArmsRest, arm_part, branch_part, first_rests, forked, part, part_of_block};
 
 use crate::size::{after, of_branches};
 use crate::table::Table;
@@ -50,8 +50,8 @@ pub fn in_block(
     p: u32,
     into: &mut List<Slot>,
 ) -> Result<u32, NoMemory>
-    ensures next { IfOk result (λ next. next ≡ p + (block (map part body.now)).size.places) }
-    ensures rests { OnOk result (into.new ≡ into.old ++ (block (map part body.now)).rests (layout_in t.now) p) }
+    ensures next { IfOk result (λ next. next ≡ p + (part_of_block (map part body.now)).size.places) }
+    ensures rests { OnOk result (into.new ≡ into.old ++ (part_of_block (map part body.now)).rests (layout_in t.now) p) }
 {
     let mut at = p;
     for s in body {

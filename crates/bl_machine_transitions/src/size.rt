@@ -2,7 +2,7 @@
 
 ghost use Rattle.std.specs.Prelude.{◌≡◌, ◌+◌, map, IfOk};
 ghost use Rattle.bl_machine_transitions.specs.inner.Joined.{fork_instant, fork_of, fork_size, guarded_size, join_fork, or_size, sized, then_size};
-ghost use Rattle.bl_machine_transitions.specs.inner.Parts.{Part, arm_part, block, branch_part, chain, forked, part};
+ghost use Rattle.bl_machine_transitions.specs.inner.Parts.{Part, arm_part, branch_part, chain, forked, part, part_of_block};
 
 use bl_tree::NoMemory;
 use bl_tree::tree::{Arm, Branch, Stmt, StmtKind};
@@ -126,7 +126,7 @@ fn of_guarded(body: Size) -> Result<Size, NoMemory>
 /// Statements one after another.
 #[cycle(measuring)]
 pub fn of_block(body: &[Stmt]) -> Result<Size, NoMemory>
-    ensures { IfOk result (λ size. size ≡ (block (map part body.now)).size) }
+    ensures { IfOk result (λ size. size ≡ (part_of_block (map part body.now)).size) }
 {
     let mut all = Size {
         nodes: 0,
@@ -223,7 +223,7 @@ pub fn of_branches(branches: &[Branch]) -> Result<Fork, NoMemory>
 
 /// Whether nothing stands in a block.
 pub fn is_bare(body: &[Stmt]) -> bool
-    ensures { result ≡ (block (map part body.now)).empty }
+    ensures { result ≡ (part_of_block (map part body.now)).empty }
 {
     body.is_empty()
 }

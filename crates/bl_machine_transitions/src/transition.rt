@@ -43,7 +43,7 @@ pub struct Needed {
 
 /// What a pass asks before a node acts.
 #[derive(Drop)]
-pub enum Asked {
+pub enum Condition {
     /// Whether the node waits.
     Flagged,
     /// Whether the instance rested at the number when the tick began.
@@ -83,11 +83,11 @@ pub enum Task<'a> {
 pub struct Transition<'a> {
     /// The number of its node.
     pub number: u32,
-    pub asked: Asked,
+    pub condition: Condition,
     pub task: Task<'a>,
     /// What changes where the answer is true; that of a node without a test is, and that of a `run` which goes on tells whether the body of the
     /// activity that it calls has ended.
-    pub so: List<Change>,
+    pub on_true: List<Change>,
     /// What changes where it is false.
-    pub otherwise: List<Change>,
+    pub on_false: List<Change>,
 }

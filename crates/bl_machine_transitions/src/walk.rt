@@ -5,7 +5,8 @@ ghost use Rattle.bl_graph_nodes.specs.Plain.{plain_body};
 ghost use Rattle.bl_machine_transitions.specs.Listed.{layout_of, listed};
 ghost use Rattle.bl_machine_transitions.specs.Told.{rule_in};
 ghost use Rattle.bl_machine_transitions.specs.inner.Joined.{layout_in};
-ghost use Rattle.bl_machine_transitions.specs.inner.Parts.{ArmsListed, arm_part, block, branch_part, cobegin, each, endless, guarded, part, until, while};
+ghost use Rattle.bl_machine_transitions.specs.inner.Parts.{ArmsListed, arm_part, branch_part, cobegin, each, endless, part, part_of_block, until, when_part};
+ghost use Rattle.bl_machine_transitions.specs.inner.Parts.{while};
 
 use crate::changes::{body_ends, entered, one};
 use crate::joins::{begun_branches, fork_nodes, put_joins};
@@ -34,7 +35,7 @@ pub fn in_block<'a>(
     next: Change,
     into: &mut List<Transition<'a>>,
 ) -> Result<(), NoMemory>
-    ensures { OnOk result (map rule_in into.new ≡ map rule_in into.old ++ (block (map part body.now)).rules (layout_in t.now) k p next) }
+    ensures { OnOk result (map rule_in into.new ≡ map rule_in into.old ++ (part_of_block (map part body.now)).rules (layout_in t.now) k p next) }
 {
     let mut node = k;
     let mut place = p;
@@ -46,8 +47,8 @@ pub fn in_block<'a>(
         let at = place;
         node = after(start, size.nodes)?;
         place = after(at, size.places)?;
-        let so = entered(t, left == 0, node, next);
-        in_statement(alloc, t, s, start, at, so, into)?;
+        let enters = entered(t, left == 0, node, next);
+        in_statement(alloc, t, s, start, at, enters, into)?;
     }
     Ok(())
 }
@@ -124,9 +125,9 @@ fn in_arms<'a>(
         node = after(inner, size.nodes)?;
         place = after(at, size.places)?;
         let empty = is_bare(body);
-        let so = entered(t, empty, inner, next);
-        let otherwise = entered(t, (left == 0) & bare, node, next);
-        put_tested(alloc, t, start, &arm.test, so, otherwise, into)?;
+        let on_true = entered(t, empty, inner, next);
+        let on_false = entered(t, (left == 0) & bare, node, next);
+        put_tested(alloc, t, start, &arm.test, on_true, on_false, into)?;
         in_block(alloc, t, body, inner, at, next, into)?;
     }
     Ok((node, place))
@@ -196,7 +197,7 @@ fn in_guarded<'a>(
     into: &mut List<Transition<'a>>,
 ) -> Result<(), NoMemory>
     ensures { OnOk result (map rule_in into.new ≡ map rule_in into.old
-        ++ (guarded guard e.now (block (map part body.now))).rules (layout_in t.now) k p next) }
+        ++ (when_part guard e.now (part_of_block (map part body.now))).rules (layout_in t.now) k p next) }
 {
     let size = of_block(body)?;
     let mut rests = List::new(alloc);
@@ -219,7 +220,7 @@ fn in_endless<'a>(
     into: &mut List<Transition<'a>>,
 ) -> Result<(), NoMemory>
     ensures { OnOk result (map rule_in into.new ≡ map rule_in into.old
-        ++ (endless (block (map part body.now))).rules (layout_in t.now) k p Change.Finish) }
+        ++ (endless (part_of_block (map part body.now))).rules (layout_in t.now) k p Change.Finish) }
 {
     let inner = after(k, 1)?;
     let again = Change::SetFlag(t.number(k));
@@ -241,7 +242,7 @@ fn in_until<'a>(
     into: &mut List<Transition<'a>>,
 ) -> Result<(), NoMemory>
     ensures { OnOk result (map rule_in into.new ≡ map rule_in into.old
-        ++ (until (block (map part body.now)) e.now).rules (layout_in t.now) k p next) }
+        ++ (until (part_of_block (map part body.now)) e.now).rules (layout_in t.now) k p next) }
 {
     put_turned(alloc, t, k, e, is_bare(body), next, into)?;
     let test = Change::SetFlag(t.number(after(k, 1)?));
@@ -261,12 +262,12 @@ fn in_while<'a>(
     into: &mut List<Transition<'a>>,
 ) -> Result<(), NoMemory>
     ensures { OnOk result (map rule_in into.new ≡ map rule_in into.old
-        ++ (while e.now (block (map part body.now))).rules (layout_in t.now) k p next) }
+        ++ (while e.now (part_of_block (map part body.now))).rules (layout_in t.now) k p next) }
 {
     let inner = after(k, 1)?;
     let again = Change::SetFlag(t.number(k));
-    let so = entered(t, is_bare(body), inner, again);
-    put_tested(alloc, t, k, e, so, next, into)?;
+    let on_true = entered(t, is_bare(body), inner, again);
+    put_tested(alloc, t, k, e, on_true, next, into)?;
     in_block(alloc, t, body, inner, p, again, into)
 }
 

@@ -3,9 +3,9 @@ use Rattle.std.proofs.Common.{◌≡◌, ℕ, suc, ◌+◌, List, [], ◌∷◌,
 use Rattle.std.specs.Prelude.{slice_get, ⊤}
 use Rattle.bl_graph_nodes.specs.Nodes.{Node}
 use Rattle.bl_machine_pass.specs.Transitions as nodes
-use Rattle.bl_machine_transitions.specs.declared.transition.Asked.{Asked}
+use Rattle.bl_machine_transitions.specs.declared.transition.Condition.{Condition}
 use Rattle.bl_machine_transitions.specs.declared.transition.Change.{Change}
-use Rattle.bl_machine_transitions.specs.Told.{NumberedTransition, Task, all_told, told}
+use Rattle.bl_machine_transitions.specs.Told.{NumberedTransition, Task, all_told, told_rule}
 
 -- ---- elements at positions
 
@@ -50,15 +50,15 @@ module _ {X Y : Type 0} (f : X → Y) (at : ℕ → Y) where
 -- ---- rules
 
 -- a rule by its parts
-abbrev pub rule_with : ℕ → Asked → Task → List Change → List Change → NumberedTransition
-rule_with n asked task so otherwise = record { number = n; asked = asked; task = task; so = so; otherwise = otherwise }
+abbrev pub rule_with : ℕ → Condition → Task → List Change → List Change → NumberedTransition
+rule_with n condition task on_true on_false = record { number = n; condition = condition; task = task; on_true = on_true; on_false = on_false }
 
 -- two rules with the same parts are one
-pub rule_is : (n m : ℕ) (a b : Asked) (t u : Task) (so to : List Change) (otherwise other : List Change) → n ≡ m →
-    a ≡ b → t ≡ u → so ≡ to → otherwise ≡ other → rule_with n a t so otherwise ≡ rule_with m b u to other
-rule_is n m a b t u so to otherwise other number asked task sos others =
-    ap (λ x. rule_with x a t so otherwise) number ∙ ap (λ x. rule_with m x t so otherwise) asked ∙ ap (λ x. rule_with m b x so otherwise) task
-    ∙ ap (λ x. rule_with m b u x otherwise) sos
+pub rule_is : (n m : ℕ) (a b : Condition) (t u : Task) (on_true to : List Change) (on_false other : List Change) → n ≡ m →
+    a ≡ b → t ≡ u → on_true ≡ to → on_false ≡ other → rule_with n a t on_true on_false ≡ rule_with m b u to other
+rule_is n m a b t u on_true to on_false other number condition task sos others =
+    ap (λ x. rule_with x a t on_true on_false) number ∙ ap (λ x. rule_with m x t on_true on_false) condition ∙ ap (λ x. rule_with m b x on_true on_false) task
+    ∙ ap (λ x. rule_with m b u x on_false) sos
     ∙ ap (λ x. rule_with m b u to x) others
 
 -- the rules of nodes tell these, each with the activity that its node calls
@@ -68,7 +68,7 @@ Tells number [] [] (o ∷ os) = ⊥
 Tells number [] (r ∷ rs) os = ⊥
 Tells number (c ∷ cs) [] os = ⊥
 Tells number (c ∷ cs) (r ∷ rs) [] = ⊥
-Tells number (c ∷ cs) (r ∷ rs) (o ∷ os) = (told number c r ≡ o) × Tells number cs rs os
+Tells number (c ∷ cs) (r ∷ rs) (o ∷ os) = (told_rule number c r ≡ o) × Tells number cs rs os
 
 module _ (number : Node → ℕ) where
   -- one list after another

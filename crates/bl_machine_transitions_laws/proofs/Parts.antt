@@ -33,13 +33,14 @@ use Rattle.bl_machine_pass.specs.Transitions as nodes
 use Rattle.bl_machine_pass.specs.Transitions.{ClearsBoth, ClearsCounter, EndsWhen, IsAny, IsNew, IsOld, RestedIn, SetsCounter, SetsFlag, age_of, once, rule_where}
 use Rattle.bl_machine_transitions.specs.declared.transition.Age.{Age}
 use Rattle.bl_machine_transitions.specs.declared.transition.Age.TheVariants as age
-use Rattle.bl_machine_transitions.specs.declared.transition.Asked.TheVariants as asked
+use Rattle.bl_machine_transitions.specs.declared.transition.Condition.TheVariants as condition
 use Rattle.bl_machine_transitions.specs.declared.transition.Change.{Change}
 use Rattle.bl_machine_transitions.specs.declared.transition.Change.TheVariants as change
 use Rattle.bl_machine_transitions.specs.Callees.{zero_where}
-use Rattle.bl_machine_transitions.specs.Listed.{Layout, body_ends, enter, enter_each, fires, flagged, forgotten, fork_nodes, freed, guard_nodes, guarded}
-use Rattle.bl_machine_transitions.specs.Listed.{joins, joins_of, marked, needed, node_count, place_count, places_in_branches, rests_in}
-use Rattle.bl_machine_transitions.specs.Told.{Nothing, NumberedTransition, Task, Tests, task_at, told, told_age, told_change, told_needed}
+use Rattle.bl_machine_transitions.specs.Listed.{Layout, enter_block, enter_each, fires, flagged_rule, forgotten, fork_nodes, freed, guard_nodes, when_body_end}
+use Rattle.bl_machine_transitions.specs.Listed.{when_rules}
+use Rattle.bl_machine_transitions.specs.Listed.{joining_rule, joins_of, mark_change, needed, node_count, place_count, places_in_branches, rests_in}
+use Rattle.bl_machine_transitions.specs.Told.{Nothing, NumberedTransition, Task, Tests, task_at, told_age, told_change, told_needed, told_rule}
 use Rattle.bl_machine_transitions_laws.proofs.Agreeing.{Agrees, Tells, after, in_first, in_second_at, rule_is}
 use Rattle.bl_machine_transitions_laws.proofs.Places.{Placed, cons_is, counters_each_told, counters_told, further, joined_is, needed_told, pair_is}
 use Rattle.bl_machine_transitions_laws.proofs.Places.{rests_told, single_is}
@@ -65,7 +66,7 @@ module _ (number : Node → ℕ) (slots : Slots) (layout : Layout) where
   entry_told (Again l at body e) k w agrees = absurd w
 
   pub enter_told : (body : Block) (k : ℕ) (next : nodes.Change) (goes : Change) → WrittenIn body → Numbered k (nodes_in body) →
-      told_change number next ≡ goes → told_change number (nodes.enter body next) ≡ enter layout k body goes
+      told_change number next ≡ goes → told_change number (nodes.enter body next) ≡ enter_block layout k body goes
   enter_told Done k next goes w agrees is = is
   enter_told (Then s rest) k next goes w agrees is =
       ap change.SetFlag (entry_told s k w.0 (in_first number layout.number (nodes_of s) (nodes_in rest) k agrees))
@@ -75,7 +76,7 @@ module _ (number : Node → ℕ) (slots : Slots) (layout : Layout) where
       map (told_change number) (nodes.enter_each slots l j bodies) ≡ enter_each layout k p bodies
   enter_each_told l j Last k p w agrees placed = refl
   enter_each_told l j (BodyOf weak body rest) k p w agrees placed =
-      cons_is (told_change number (nodes.enter body (SetsCounter (slots.ending l j)))) (enter layout k body (change.SetCounter (layout.slot p)))
+      cons_is (told_change number (nodes.enter body (SetsCounter (slots.ending l j)))) (enter_block layout k body (change.SetCounter (layout.slot p)))
       (map (told_change number) (nodes.enter_each slots l (suc j) rest))
       (enter_each layout (k + node_count body) (suc (p + place_count body)) rest)
       (enter_told body k (SetsCounter (slots.ending l j)) (change.SetCounter (layout.slot p)) w.0
@@ -119,12 +120,12 @@ module _ (number : Node → ℕ) (slots : Slots) (layout : Layout) where
 
   -- ---- nodes that wait by their flags
 
-  pub flagged_told : (unit : ℕ) (n : Node) (k : ℕ) (so : List nodes.Change) (goes : List Change) (task : Task) →
+  pub flagged_told : (unit : ℕ) (n : Node) (k : ℕ) (on_true : List nodes.Change) (goes : List Change) (task : Task) →
       number n ≡ layout.number k →
-      task_at number unit n ≡ task → map (told_change number) so ≡ goes → told number unit (nodes.flagged n so) ≡ flagged layout k task goes
-  flagged_told unit n k so goes task is tasks sos =
-      rule_is (number n) (layout.number k) asked.Flagged asked.Flagged (task_at number unit n) task
-      (map (told_change number) so) goes [] [] is refl tasks
+      task_at number unit n ≡ task → map (told_change number) on_true ≡ goes → told_rule number unit (nodes.flagged n on_true) ≡ flagged_rule layout k task goes
+  flagged_told unit n k on_true goes task is tasks sos =
+      rule_is (number n) (layout.number k) condition.Flagged condition.Flagged (task_at number unit n) task
+      (map (told_change number) on_true) goes [] [] is refl tasks
       sos refl
 
   -- ---- `cobegin`
@@ -147,14 +148,14 @@ module _ (number : Node → ℕ) (slots : Slots) (layout : Layout) where
   joins_told : (l : Label) (bodies : Bodies) (n : Node) (k p : ℕ) (old : nodes.Age) (age : Age) (next : nodes.Change) (goes : Change) →
       number n ≡ layout.number k → task_at number 0 n ≡ Nothing → Placed slots layout p (spots_in_each l 0 bodies) →
       told_age number old ≡ age →
-      told_change number next ≡ goes → told number 0 (nodes.joins slots l bodies old n next) ≡ joins layout k p bodies age goes
+      told_change number next ≡ goes → told_rule number 0 (nodes.joins slots l bodies old n next) ≡ joining_rule layout k p bodies age goes
   joins_told l bodies n k p old age next goes is tasks placed aged nexts =
       let ends : told_needed (nodes.needed slots l bodies) ≡ needed layout p bodies = needed_told slots layout l bodies p placed in
-      rule_is (number n) (layout.number k) (asked.Ended (told_age number old) (told_needed (nodes.needed slots l bodies)))
-      (asked.Ended age (needed layout p bodies)) (task_at number 0 n) Nothing
+      rule_is (number n) (layout.number k) (condition.Ended (told_age number old) (told_needed (nodes.needed slots l bodies)))
+      (condition.Ended age (needed layout p bodies)) (task_at number 0 n) Nothing
       (map (told_change number) (map ClearsCounter (once (nodes.counters_in_each slots l 0 bodies)) ++ next ∷ []))
       (freed layout p (places_in_branches bodies) ++ goes ∷ []) [] [] is
-      (ap (λ a. asked.Ended a (told_needed (nodes.needed slots l bodies))) aged ∙ ap (asked.Ended age) ends) tasks
+      (ap (λ a. condition.Ended a (told_needed (nodes.needed slots l bodies))) aged ∙ ap (condition.Ended age) ends) tasks
       (freed_told l bodies p next goes placed nexts) refl
 
   -- the rules of the nodes of a `cobegin`, where the rules of its branches tell those
@@ -167,7 +168,7 @@ module _ (number : Node → ℕ) (slots : Slots) (layout : Layout) where
       ∷ (rule_where instant (nodes.joins slots l bodies (IsNew (ForkAt l at)) (SurfaceJoinAt l at) next)
       ++ nodes.joins slots l bodies (age_of instant (ForkAt l at)) (DepthJoinAt l at) next
       ∷ rs))
-      (flagged layout k Nothing (marked instant (layout.number k) (enter_each layout (k + fork_nodes instant) p bodies))
+      (flagged_rule layout k Nothing (mark_change instant (layout.number k) (enter_each layout (k + fork_nodes instant) p bodies))
       ∷ (joins_of layout instant k p bodies goes ++ os))
   fork_told true l at bodies k p next goes cs rs os w agrees placed is tells =
       let one : suc k ≡ k + 1 = omega arith in
@@ -176,7 +177,7 @@ module _ (number : Node → ℕ) (slots : Slots) (layout : Layout) where
       let third = after number layout.number (SurfaceJoinAt l at) (DepthJoinAt l at ∷ nodes_in_each bodies) (k + 1) (k + 2) two second in
       let entered = enter_each_told l 0 bodies (k + 3) p w (fork_inner true l at (nodes_in_each bodies) k agrees) placed in (
         flagged_told 0 (ForkAt l at) k (nodes.marked true (ForkAt l at) (nodes.enter_each slots l 0 bodies))
-            (marked true (layout.number k) (enter_each layout (k + 3) p bodies)) Nothing agrees.0 refl
+            (mark_change true (layout.number k) (enter_each layout (k + 3) p bodies)) Nothing agrees.0 refl
             (cons_is (change.SetMark (number (ForkAt l at))) (change.SetMark (layout.number k))
             (map (told_change number) (nodes.enter_each slots l 0 bodies))
             (enter_each layout (k + 3) p bodies) (ap change.SetMark agrees.0) entered),
@@ -226,7 +227,7 @@ module _ (number : Node → ℕ) (slots : Slots) (layout : Layout) where
   -- where its body ends
   pub ends_told : (instant : Bool) (l : Label) (at : Place) (e : Expr) (xs : List Node) (k : ℕ) → Numbered k (guard_list instant l at e xs) →
       told_change number (if instant then EndsWhen (StartAt l at) (SurfaceEndAt l at) (DepthEndAt l at) else SetsFlag (DepthEndAt l at))
-      ≡ body_ends layout k instant
+      ≡ when_body_end layout k instant
   ends_told true l at e xs k agrees =
       let one : suc k ≡ k + 1 = omega arith in
       let two : suc (k + 1) ≡ k + 2 = omega arith in
@@ -254,45 +255,45 @@ module _ (number : Node → ℕ) (slots : Slots) (layout : Layout) where
   -- the rule of its check
   check_told : (l : Label) (at : Place) (e : Expr) (body : Block) (k p : ℕ) (fired : nodes.Change) (goes : Change) →
       number (CheckAt l at e) ≡ layout.number k → Placed slots layout p (spots_in body) → told_change number fired ≡ goes →
-      told number 0 (record {
+      told_rule number 0 (record {
         node = CheckAt l at e;
-        asked = RestedIn (nodes.rests_in slots body);
-        so = map ClearsBoth (once (nodes.counters_in slots body)) ++ fired ∷ [];
-        otherwise = [];
+        condition = RestedIn (nodes.rests_in slots body);
+        on_true = map ClearsBoth (once (nodes.counters_in slots body)) ++ fired ∷ [];
+        on_false = [];
       })
       ≡ record {
         number = layout.number k;
-        asked = asked.RestedIn (rests_in layout p body);
+        condition = condition.RestedIn (rests_in layout p body);
         task = Tests e;
-        so = forgotten layout p (place_count body) ++ goes ∷ [];
-        otherwise = [];
+        on_true = forgotten layout p (place_count body) ++ goes ∷ [];
+        on_false = [];
       }
   check_told l at e body k p fired goes is placed fires_so =
-      rule_is (number (CheckAt l at e)) (layout.number k) (asked.RestedIn (nodes.rests_in slots body)) (asked.RestedIn (rests_in layout p body))
+      rule_is (number (CheckAt l at e)) (layout.number k) (condition.RestedIn (nodes.rests_in slots body)) (condition.RestedIn (rests_in layout p body))
       (Tests e)
       (Tests e) (map (told_change number) (map ClearsBoth (once (nodes.counters_in slots body)) ++ fired ∷ []))
-      (forgotten layout p (place_count body) ++ goes ∷ []) [] [] is (ap asked.RestedIn (rests_told slots layout body p placed)) refl
+      (forgotten layout p (place_count body) ++ goes ∷ []) [] [] is (ap condition.RestedIn (rests_told slots layout body p placed)) refl
       (forgotten_told body p fired goes placed fires_so) refl
 
   -- the rules of its nodes, where the rules of its body tell those
   pub guard_told : (instant : Bool) (l : Label) (at : Place) (guard : Guard) (e : Expr) (body : Block) (k p : ℕ) (begun fired next : nodes.Change)
       (goes : Change) (cs : List ℕ) (rs : List nodes.Transition) (os : List NumberedTransition) → Numbered k (guard_list instant l at e (nodes_in body)) →
       Placed slots layout p (spots_in body) →
-      told_change number begun ≡ enter layout (k + guard_nodes instant) body (body_ends layout k instant) →
-      told_change number fired ≡ fires layout (k + guard_nodes instant) guard body (body_ends layout k instant) goes →
+      told_change number begun ≡ enter_block layout (k + guard_nodes instant) body (when_body_end layout k instant) →
+      told_change number fired ≡ fires layout (k + guard_nodes instant) guard body (when_body_end layout k instant) goes →
       told_change number next ≡ goes → Tells number cs rs os →
       Tells number (0 ∷ (zero_where instant ++ 0 ∷ 0 ∷ cs))
       (nodes.flagged (StartAt l at) (nodes.marked instant (StartAt l at) (begun ∷ []))
       ∷ (rule_where instant (nodes.flagged (SurfaceEndAt l at) (next ∷ []))
       ++ record {
         node = CheckAt l at e;
-        asked = RestedIn (nodes.rests_in slots body);
-        so = map ClearsBoth (once (nodes.counters_in slots body)) ++ fired ∷ [];
-        otherwise = [];
+        condition = RestedIn (nodes.rests_in slots body);
+        on_true = map ClearsBoth (once (nodes.counters_in slots body)) ++ fired ∷ [];
+        on_false = [];
       }
       ∷ nodes.flagged (DepthEndAt l at) (next ∷ [])
       ∷ rs))
-      (guarded layout instant k p guard (Tests e) body goes ++ os)
+      (when_rules layout instant k p guard (Tests e) body goes ++ os)
   guard_told true l at guard e body k p begun fired next goes cs rs os agrees placed begins fires_so is tells =
       let one : suc k ≡ k + 1 = omega arith in
       let two : suc (k + 1) ≡ k + 2 = omega arith in
@@ -303,13 +304,13 @@ module _ (number : Node → ℕ) (slots : Slots) (layout : Layout) where
       let third = after number layout.number (SurfaceEndAt l at) (CheckAt l at e ∷ DepthEndAt l at ∷ inner) (k + 1) (k + 2) two second in
       let fourth = after number layout.number (CheckAt l at e) (DepthEndAt l at ∷ inner) (k + 2) (k + 3) three third in (
         flagged_told 0 (StartAt l at) k (nodes.marked true (StartAt l at) (begun ∷ []))
-            (change.SetMark (layout.number k) ∷ enter layout (k + 4) body (body_ends layout k true) ∷ []) Nothing agrees.0 refl
+            (change.SetMark (layout.number k) ∷ enter_block layout (k + 4) body (when_body_end layout k true) ∷ []) Nothing agrees.0 refl
             (pair_is (change.SetMark (number (StartAt l at))) (change.SetMark (layout.number k)) (told_change number begun)
-            (enter layout (k + 4) body (body_ends layout k true)) (ap change.SetMark agrees.0) begins),
+            (enter_block layout (k + 4) body (when_body_end layout k true)) (ap change.SetMark agrees.0) begins),
         (
           flagged_told 0 (SurfaceEndAt l at) (k + 1) (next ∷ []) (goes ∷ []) Nothing second.0 refl (single_is (told_change number next) goes is),
           (
-            check_told l at e body (k + 2) p fired (fires layout (k + 4) guard body (body_ends layout k true) goes) third.0 placed fires_so,
+            check_told l at e body (k + 2) p fired (fires layout (k + 4) guard body (when_body_end layout k true) goes) third.0 placed fires_so,
             (
               flagged_told 0 (DepthEndAt l at) (k + 3) (next ∷ []) (goes ∷ []) Nothing fourth.0 refl
                   (single_is (told_change number next) goes is),
@@ -324,10 +325,10 @@ module _ (number : Node → ℕ) (slots : Slots) (layout : Layout) where
       let inner : List Node = nodes_in body in
       let second = after number layout.number (StartAt l at) (CheckAt l at e ∷ DepthEndAt l at ∷ inner) k (k + 1) one agrees in
       let third = after number layout.number (CheckAt l at e) (DepthEndAt l at ∷ inner) (k + 1) (k + 2) two second in (
-        flagged_told 0 (StartAt l at) k (begun ∷ []) (enter layout (k + 3) body (body_ends layout k false) ∷ []) Nothing agrees.0 refl
-            (single_is (told_change number begun) (enter layout (k + 3) body (body_ends layout k false)) begins),
+        flagged_told 0 (StartAt l at) k (begun ∷ []) (enter_block layout (k + 3) body (when_body_end layout k false) ∷ []) Nothing agrees.0 refl
+            (single_is (told_change number begun) (enter_block layout (k + 3) body (when_body_end layout k false)) begins),
         (
-          check_told l at e body (k + 1) p fired (fires layout (k + 3) guard body (body_ends layout k false) goes) second.0 placed fires_so,
+          check_told l at e body (k + 1) p fired (fires layout (k + 3) guard body (when_body_end layout k false) goes) second.0 placed fires_so,
           (
             flagged_told 0 (DepthEndAt l at) (k + 2) (next ∷ []) (goes ∷ []) Nothing third.0 refl
                 (single_is (told_change number next) goes is),

@@ -13,7 +13,7 @@ use Rattle.bl_machine_pass.specs.SlotLayout.{EndOf, RestOf, Spot, slot_at, spots
 use Rattle.bl_machine_pass.specs.Numbered.{no_slot, position_where, same_label, same_node, same_spot, slots_of, sort}
 use Rattle.bl_machine_pass_laws.specs.Keys.{NodesHaveKeys}
 use Rattle.bl_machine_pass_laws.specs.Spots.{Has, SpotsAreDistinct, SpotsDiffer}
-use Rattle.bl_machine_transitions.specs.Callees.{number_in}
+use Rattle.bl_machine_transitions.specs.Callees.{node_number}
 use Rattle.bl_machine_transitions.specs.Listed.{layout_of}
 use Rattle.bl_machine_transitions_laws.proofs.Agreeing.{Agrees, each_agrees}
 
@@ -115,9 +115,9 @@ node_at law body i n is =
 
 -- nodes have the numbers of their positions
 pub nodes_stand : NodesHaveKeys → (body : List Stmt) (order : List ℕ) (list : List Slot) →
-    Agrees (number_in order (plain_body body)) (layout_of order list).number 0 (nodes_in (plain_body body))
+    Agrees (node_number order (plain_body body)) (layout_of order list).number 0 (nodes_in (plain_body body))
 nodes_stand law body order list =
-    each_agrees (number_in order (plain_body body)) (layout_of order list).number (nodes_in (plain_body body)) 0
+    each_agrees (node_number order (plain_body body)) (layout_of order list).number (nodes_in (plain_body body)) 0
     (λ i n is.
     (let there : i ≡ 0 + i = omega arith in ap (λ k. position_where (nat_eq k) order) (node_at law body i n is ∙ there)))
 

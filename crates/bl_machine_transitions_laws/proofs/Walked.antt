@@ -48,13 +48,14 @@ use Rattle.bl_machine_pass.specs.Transitions as nodes
 use Rattle.bl_machine_pass.specs.Transitions.{ClearsCounter, Finishes, SetsCounter, SetsFlag}
 use Rattle.bl_machine_pass_laws.specs.Keys.{NodesHaveKeys}
 use Rattle.bl_machine_pass_laws.specs.Spots.{SpotsDiffer}
-use Rattle.bl_machine_transitions.specs.declared.transition.Asked.TheVariants as asked
+use Rattle.bl_machine_transitions.specs.declared.transition.Condition.TheVariants as condition
 use Rattle.bl_machine_transitions.specs.declared.transition.Change.{Change}
 use Rattle.bl_machine_transitions.specs.declared.transition.Change.TheVariants as change
-use Rattle.bl_machine_transitions.specs.Callees.{callees_in, callees_in_each, callees_of, number_in}
-use Rattle.bl_machine_transitions.specs.Listed.{Layout, body_ends, enter, fork_nodes, guard_nodes, guarded, layout_of, listed, node_count, nodes_within}
-use Rattle.bl_machine_transitions.specs.Listed.{place_count, places_within, rules_in, rules_in_each, rules_of, tested}
-use Rattle.bl_machine_transitions.specs.Told.{Acts, Enters, Nothing, NumberedTransition, Resumes, Task, Tests, task_at, told, told_change}
+use Rattle.bl_machine_transitions.specs.Callees.{callees_in, callees_in_each, callees_of, node_number}
+use Rattle.bl_machine_transitions.specs.Listed.{Layout, enter_block, fork_nodes, guard_nodes, layout_of, listed, node_count, nodes_within, when_body_end}
+use Rattle.bl_machine_transitions.specs.Listed.{when_rules}
+use Rattle.bl_machine_transitions.specs.Listed.{place_count, places_within, rules_in, rules_in_each, rules_of, tested_rule}
+use Rattle.bl_machine_transitions.specs.Told.{Acts, Enters, Nothing, NumberedTransition, Resumes, Task, Tests, task_at, told_change, told_rule}
 use Rattle.bl_machine_transitions_laws.specs.Laws.{RulesAreListed, entries, first_number}
 use Rattle.bl_machine_transitions_laws.proofs.Agreeing.{Tells, after, in_first, in_second_at, rule_is, tells_all, tells_append, tells_each}
 use Rattle.bl_machine_transitions_laws.proofs.Parts.{Numbered, ends_told, enter_told, entry_told, fires_told, flagged_told, fork_inner, fork_told}
@@ -65,51 +66,51 @@ use Rattle.bl_machine_transitions_laws.proofs.Written.{WrittenEach, WrittenIn, W
 
 module _ (number : Node → ℕ) (slots : Slots) (layout : Layout) where
   -- a change, by numbers
-  abbrev so_told : nodes.Change → Change
-  so_told next = told_change number next
+  abbrev change_told : nodes.Change → Change
+  change_told next = told_change number next
 
   -- a node with a test that waits by its flag
-  tested_told : (l : Label) (at : Place) (e : Expr) (k : ℕ) (so otherwise : nodes.Change) (goes other : Change) →
-      number (TestAt l at e) ≡ layout.number k → so_told so ≡ goes → so_told otherwise ≡ other →
-      told number 0 (record { node = TestAt l at e; asked = nodes.Flagged; so = so ∷ []; otherwise = otherwise ∷ [] })
-      ≡ tested layout k (Tests e) (goes ∷ []) (other ∷ [])
-  tested_told l at e k so otherwise goes other is one two =
-      rule_is (number (TestAt l at e)) (layout.number k) asked.Flagged asked.Flagged (Tests e) (Tests e) (so_told so ∷ []) (goes ∷ [])
-      (so_told otherwise ∷ []) (other ∷ []) is refl refl (single_is (so_told so) goes one) (single_is (so_told otherwise) other two)
+  tested_told : (l : Label) (at : Place) (e : Expr) (k : ℕ) (on_true on_false : nodes.Change) (goes other : Change) →
+      number (TestAt l at e) ≡ layout.number k → change_told on_true ≡ goes → change_told on_false ≡ other →
+      told_rule number 0 (record { node = TestAt l at e; condition = nodes.Flagged; on_true = on_true ∷ []; on_false = on_false ∷ [] })
+      ≡ tested_rule layout k (Tests e) (goes ∷ []) (other ∷ [])
+  tested_told l at e k on_true on_false goes other is one two =
+      rule_is (number (TestAt l at e)) (layout.number k) condition.Flagged condition.Flagged (Tests e) (Tests e) (change_told on_true ∷ []) (goes ∷ [])
+      (change_told on_false ∷ []) (other ∷ []) is refl refl (single_is (change_told on_true) goes one) (single_is (change_told on_false) other two)
 
   -- a node that asks whether the instance rested at the number
   woken_told : (unit : ℕ) (n : Node) (k : ℕ) (slot rest : Slot) (task : Task) (next : nodes.Change) (goes : Change) → number n
       ≡ layout.number k →
-      task_at number unit n ≡ task → slot ≡ rest → so_told next ≡ goes →
-      told number unit (record { node = n; asked = nodes.Rested slot; so = ClearsCounter slot.counter ∷ next ∷ []; otherwise = [] })
+      task_at number unit n ≡ task → slot ≡ rest → change_told next ≡ goes →
+      told_rule number unit (record { node = n; condition = nodes.Rested slot; on_true = ClearsCounter slot.counter ∷ next ∷ []; on_false = [] })
       ≡ record {
         number = layout.number k;
-        asked = asked.Rested rest;
+        condition = condition.Rested rest;
         task = task;
-        so = change.ClearCounter rest.counter ∷ goes ∷ [];
-        otherwise = [];
+        on_true = change.ClearCounter rest.counter ∷ goes ∷ [];
+        on_false = [];
       }
   woken_told unit n k slot rest task next goes is tasks same nexts =
-      rule_is (number n) (layout.number k) (asked.Rested slot) (asked.Rested rest) (task_at number unit n) task
-      (change.ClearCounter slot.counter ∷ so_told next ∷ []) (change.ClearCounter rest.counter ∷ goes ∷ []) [] [] is (ap asked.Rested same) tasks
-      (pair_is (change.ClearCounter slot.counter) (change.ClearCounter rest.counter) (so_told next) goes (ap (λ (s : Slot). change.ClearCounter s.counter) same) nexts) refl
+      rule_is (number n) (layout.number k) (condition.Rested slot) (condition.Rested rest) (task_at number unit n) task
+      (change.ClearCounter slot.counter ∷ change_told next ∷ []) (change.ClearCounter rest.counter ∷ goes ∷ []) [] [] is (ap condition.Rested same) tasks
+      (pair_is (change.ClearCounter slot.counter) (change.ClearCounter rest.counter) (change_told next) goes (ap (λ (s : Slot). change.ClearCounter s.counter) same) nexts) refl
 
   -- the nodes of a loop with its test at the end
   turns_told : (l : Label) (at : Place) (e : Expr) (body : Block) (k p : ℕ) (next : nodes.Change) (goes : Change) (cs : List ℕ)
       (rs : List nodes.Transition) (os : List NumberedTransition) → WrittenIn body →
-      Numbered number slots layout k (HeadAt l at ∷ TestAt l at e ∷ nodes_in body) → so_told next ≡ goes → Tells number cs rs os →
+      Numbered number slots layout k (HeadAt l at ∷ TestAt l at e ∷ nodes_in body) → change_told next ≡ goes → Tells number cs rs os →
       Tells number (0 ∷ 0 ∷ cs)
       (nodes.flagged (HeadAt l at) (nodes.enter body (SetsFlag (TestAt l at e)) ∷ [])
-      ∷ record { node = TestAt l at e; asked = nodes.Flagged; so = next ∷ []; otherwise = SetsFlag (HeadAt l at) ∷ [] }
+      ∷ record { node = TestAt l at e; condition = nodes.Flagged; on_true = next ∷ []; on_false = SetsFlag (HeadAt l at) ∷ [] }
       ∷ rs)
       (record {
         number = layout.number k;
-        asked = asked.Flagged;
+        condition = condition.Flagged;
         task = Nothing;
-        so = enter layout (k + 2) body (change.SetFlag (layout.number (k + 1))) ∷ [];
-        otherwise = [];
+        on_true = enter_block layout (k + 2) body (change.SetFlag (layout.number (k + 1))) ∷ [];
+        on_false = [];
       }
-      ∷ tested layout (k + 1) (Tests e) (goes ∷ []) (change.SetFlag (layout.number k) ∷ [])
+      ∷ tested_rule layout (k + 1) (Tests e) (goes ∷ []) (change.SetFlag (layout.number k) ∷ [])
       ∷ os)
   turns_told l at e body k p next goes cs rs os w agrees is tells =
       let one : suc k ≡ k + 1 = omega arith in
@@ -117,8 +118,8 @@ module _ (number : Node → ℕ) (slots : Slots) (layout : Layout) where
       let second = after number layout.number (HeadAt l at) (TestAt l at e ∷ nodes_in body) k (k + 1) one agrees in
       let inner = after number layout.number (TestAt l at e) (nodes_in body) (k + 1) (k + 2) two second in (
         flagged_told number slots layout 0 (HeadAt l at) k (nodes.enter body (SetsFlag (TestAt l at e)) ∷ [])
-            (enter layout (k + 2) body (change.SetFlag (layout.number (k + 1))) ∷ []) Nothing agrees.0 refl
-            (single_is (so_told (nodes.enter body (SetsFlag (TestAt l at e)))) (enter layout (k + 2) body (change.SetFlag (layout.number (k + 1))))
+            (enter_block layout (k + 2) body (change.SetFlag (layout.number (k + 1))) ∷ []) Nothing agrees.0 refl
+            (single_is (change_told (nodes.enter body (SetsFlag (TestAt l at e)))) (enter_block layout (k + 2) body (change.SetFlag (layout.number (k + 1))))
             (enter_told number slots layout body (k + 2) (SetsFlag (TestAt l at e)) (change.SetFlag (layout.number (k + 1))) w inner
             (ap change.SetFlag second.0))),
         (tested_told l at e (k + 1) next (SetsFlag (HeadAt l at)) goes (change.SetFlag (layout.number k)) second.0 is (ap change.SetFlag agrees.0), tells),
@@ -141,10 +142,10 @@ module _ (number : Node → ℕ) (slots : Slots) (layout : Layout) where
 
   mutual
     of_statement : (s : Plain) (k p : ℕ) (next : nodes.Change) (goes : Change) → WrittenOf s → Numbered number slots layout k (nodes_of s) →
-        Placed slots layout p (spots_of s) → so_told next ≡ goes →
+        Placed slots layout p (spots_of s) → change_told next ≡ goes →
         Tells number (callees_of s) (nodes.rules_of slots s next) (rules_of layout k p s goes)
     of_statement (Act l s) k p next goes w agrees placed is =
-        (flagged_told number slots layout 0 _ k (next ∷ []) (goes ∷ []) (Acts s) agrees.0 refl (single_is (so_told next) goes is), tt)
+        (flagged_told number slots layout 0 _ k (next ∷ []) (goes ∷ []) (Acts s) agrees.0 refl (single_is (change_told next) goes is), tt)
     of_statement (Await l at e) k p next goes w agrees placed is =
         let one : suc k ≡ k + 1 = omega arith in
         let second = after number layout.number (PauseAt l at) (TestAt l at e ∷ []) k (k + 1) one agrees in (
@@ -173,8 +174,8 @@ module _ (number : Node → ℕ) (slots : Slots) (layout : Layout) where
         let right = in_second_at number layout.number (nodes_in body) (nodes_in other) (k + 1) (k + 1 + node_count body) refl inner in
         let left_placed = in_first (slot_at slots) layout.slot (spots_in body) (spots_in other) p placed in
         let right_placed = in_second_at (slot_at slots) layout.slot (spots_in body) (spots_in other) p (p + place_count body) refl placed in (
-          tested_told l at e k (nodes.enter body next) (nodes.enter other next) (enter layout (k + 1) body goes)
-              (enter layout (k + 1 + node_count body) other goes) agrees.0
+          tested_told l at e k (nodes.enter body next) (nodes.enter other next) (enter_block layout (k + 1) body goes)
+              (enter_block layout (k + 1 + node_count body) other goes) agrees.0
               (enter_told number slots layout body (k + 1) next goes w.0 left is)
               (enter_told number slots layout other (k + 1 + node_count body) next goes w.1 right is),
           tells_append number (callees_in body) (callees_in other) (nodes.rules_in slots body next) (nodes.rules_in slots other next)
@@ -193,21 +194,21 @@ module _ (number : Node → ℕ) (slots : Slots) (layout : Layout) where
         let ended = ends_told number slots layout (are_instant body) l at e (nodes_in body) k agrees in
         guard_told number slots layout (are_instant body) l at guard e body k p (nodes.enter body (nodes.body_ends l at body))
         (nodes.fires guard l at body next) next goes (callees_in body) (nodes.rules_in slots body (nodes.body_ends l at body))
-        (rules_in layout (k + guard_nodes (are_instant body)) p body (body_ends layout k (are_instant body))) agrees placed
+        (rules_in layout (k + guard_nodes (are_instant body)) p body (when_body_end layout k (are_instant body))) agrees placed
         (enter_told number slots layout body (k + guard_nodes (are_instant body)) (nodes.body_ends l at body)
-        (body_ends layout k (are_instant body)) w
+        (when_body_end layout k (are_instant body)) w
         inner ended)
-        (fires_told number slots layout guard l at body (k + guard_nodes (are_instant body)) next goes (body_ends layout k (are_instant body)) w inner
+        (fires_told number slots layout guard l at body (k + guard_nodes (are_instant body)) next goes (when_body_end layout k (are_instant body)) w inner
         ended is)
         is
         (of_block body (k + guard_nodes (are_instant body)) p (nodes.body_ends l at body)
-        (body_ends layout k (are_instant body)) w inner placed ended)
+        (when_body_end layout k (are_instant body)) w inner placed ended)
     of_statement (Repeat l at body) k p next goes w agrees placed is =
         let one : suc k ≡ k + 1 = omega arith in
         let inner = after number layout.number (HeadAt l at) (nodes_in body) k (k + 1) one agrees in (
           flagged_told number slots layout 0 (HeadAt l at) k (nodes.enter body (SetsFlag (HeadAt l at)) ∷ [])
-              (enter layout (k + 1) body (change.SetFlag (layout.number k)) ∷ []) Nothing agrees.0 refl
-              (single_is (so_told (nodes.enter body (SetsFlag (HeadAt l at)))) (enter layout (k + 1) body (change.SetFlag (layout.number k)))
+              (enter_block layout (k + 1) body (change.SetFlag (layout.number k)) ∷ []) Nothing agrees.0 refl
+              (single_is (change_told (nodes.enter body (SetsFlag (HeadAt l at)))) (enter_block layout (k + 1) body (change.SetFlag (layout.number k)))
               (enter_told number slots layout body (k + 1) (SetsFlag (HeadAt l at)) (change.SetFlag (layout.number k)) w inner (ap change.SetFlag agrees.0))),
           of_block body (k + 1) p (SetsFlag (HeadAt l at)) (change.SetFlag (layout.number k)) w inner placed (ap change.SetFlag agrees.0),
         )
@@ -220,7 +221,7 @@ module _ (number : Node → ℕ) (slots : Slots) (layout : Layout) where
         let one : suc k ≡ k + 1 = omega arith in
         let inner = after number layout.number (TestAt l at e) (nodes_in body) k (k + 1) one agrees in (
           tested_told l at e k (nodes.enter body (SetsFlag (TestAt l at e))) next
-              (enter layout (k + 1) body (change.SetFlag (layout.number k))) goes agrees.0
+              (enter_block layout (k + 1) body (change.SetFlag (layout.number k))) goes agrees.0
               (enter_told number slots layout body (k + 1) (SetsFlag (TestAt l at e)) (change.SetFlag (layout.number k)) w inner
               (ap change.SetFlag agrees.0)) is,
           of_block body (k + 1) p (SetsFlag (TestAt l at e)) (change.SetFlag (layout.number k)) w inner placed (ap change.SetFlag agrees.0),
@@ -229,15 +230,15 @@ module _ (number : Node → ℕ) (slots : Slots) (layout : Layout) where
 
     of_block : (body : Block) (k p : ℕ) (next : nodes.Change) (goes : Change) → WrittenIn body →
         Numbered number slots layout k (nodes_in body) →
-        Placed slots layout p (spots_in body) → so_told next ≡ goes →
+        Placed slots layout p (spots_in body) → change_told next ≡ goes →
         Tells number (callees_in body) (nodes.rules_in slots body next) (rules_in layout k p body goes)
     of_block Done k p next goes w agrees placed is = tt
     of_block (Then s rest) k p next goes w agrees placed is =
         let right = in_second_at number layout.number (nodes_of s) (nodes_in rest) k (k + nodes_within s) refl agrees in
         let right_placed = in_second_at (slot_at slots) layout.slot (spots_of s) (spots_in rest) p (p + places_within s) refl placed in
         tells_append number (callees_of s) (callees_in rest) (nodes.rules_of slots s (nodes.enter rest next)) (nodes.rules_in slots rest next)
-        (rules_of layout k p s (enter layout (k + nodes_within s) rest goes)) (rules_in layout (k + nodes_within s) (p + places_within s) rest goes)
-        (of_statement s k p (nodes.enter rest next) (enter layout (k + nodes_within s) rest goes) w.0
+        (rules_of layout k p s (enter_block layout (k + nodes_within s) rest goes)) (rules_in layout (k + nodes_within s) (p + places_within s) rest goes)
+        (of_statement s k p (nodes.enter rest next) (enter_block layout (k + nodes_within s) rest goes) w.0
         (in_first number layout.number (nodes_of s) (nodes_in rest) k agrees)
         (in_first (slot_at slots) layout.slot (spots_of s) (spots_in rest) p placed)
         (enter_told number slots layout rest (k + nodes_within s) next goes w.1 right is))
@@ -261,7 +262,7 @@ module _ (number : Node → ℕ) (slots : Slots) (layout : Layout) where
   -- ---- the first rule
 
   guarded_first : (instant : Bool) (k p : ℕ) (guard : Guard) (task : Task) (body : Block) (goes : Change) (os more : List NumberedTransition) →
-      first_number ((guarded layout instant k p guard task body goes ++ os) ++ more) ≡ layout.number k ∷ []
+      first_number ((when_rules layout instant k p guard task body goes ++ os) ++ more) ≡ layout.number k ∷ []
   guarded_first true k p guard task body goes os more = refl
   guarded_first false k p guard task body goes os more = refl
 
@@ -274,7 +275,7 @@ module _ (number : Node → ℕ) (slots : Slots) (layout : Layout) where
   first_is (Cobegin l at bodies) k p goes more = refl
   first_is (When l at guard e body) k p goes more =
       guarded_first (are_instant body) k p guard (Tests e) body goes
-      (rules_in layout (k + guard_nodes (are_instant body)) p body (body_ends layout k (are_instant body))) more
+      (rules_in layout (k + guard_nodes (are_instant body)) p body (when_body_end layout k (are_instant body))) more
   first_is (Repeat l at body) k p goes more = refl
   first_is (Until l at body e) k p goes more = refl
   first_is (While l at e body) k p goes more = refl
@@ -286,25 +287,25 @@ module _ (number : Node → ℕ) (slots : Slots) (layout : Layout) where
   begins_at (Then s rest) k p goes w agrees =
       single_is (number (entry s)) (layout.number k)
       (entry_told number slots layout s k w.0 (in_first number layout.number (nodes_of s) (nodes_in rest) k agrees))
-      ∙ sym (first_is s k p (enter layout (k + nodes_within s) rest goes) (rules_in layout (k + nodes_within s) (p + places_within s) rest goes))
+      ∙ sym (first_is s k p (enter_block layout (k + nodes_within s) rest goes) (rules_in layout (k + nodes_within s) (p + places_within s) rest goes))
 
 -- the rules of a whole body tell those
 body_tells : NodesHaveKeys → SpotsDiffer → (body : List Stmt) (order : List ℕ) (list : List Slot) →
-    Tells (number_in order (plain_body body)) (callees_in (plain_body body)) (nodes.rules (slots_of (plain_body body) list) (plain_body body))
+    Tells (node_number order (plain_body body)) (callees_in (plain_body body)) (nodes.rules (slots_of (plain_body body) list) (plain_body body))
     (listed (layout_of order list) (plain_body body))
 body_tells keys differ body order list =
-    of_block (number_in order (plain_body body)) (slots_of (plain_body body) list) (layout_of order list) (plain_body body) 0 0 Finishes change.Finish
+    of_block (node_number order (plain_body body)) (slots_of (plain_body body) list) (layout_of order list) (plain_body body) 0 0 Finishes change.Finish
     (body_written body) (nodes_stand keys body order list) (places_stand differ body order list) refl
 
 pub rules_are_listed : NodesHaveKeys → SpotsDiffer → RulesAreListed
 rules_are_listed keys differ = record {
   told = λ body order list.
-      tells_all (number_in order (plain_body body)) (callees_in (plain_body body)) (nodes.rules (slots_of (plain_body body) list) (plain_body body))
+      tells_all (node_number order (plain_body body)) (callees_in (plain_body body)) (nodes.rules (slots_of (plain_body body) list) (plain_body body))
       (listed (layout_of order list) (plain_body body)) (body_tells keys differ body order list);
   each = λ body list.
-      tells_each (number_in [] (plain_body body)) (callees_in (plain_body body)) (nodes.rules (slots_of (plain_body body) list) (plain_body body))
+      tells_each (node_number [] (plain_body body)) (callees_in (plain_body body)) (nodes.rules (slots_of (plain_body body) list) (plain_body body))
       (listed (layout_of [] list) (plain_body body)) (body_tells keys differ body [] list);
   begins = λ body order list.
-      begins_at (number_in order (plain_body body)) (slots_of (plain_body body) list) (layout_of order list) (plain_body body) 0 0 change.Finish
+      begins_at (node_number order (plain_body body)) (slots_of (plain_body body) list) (layout_of order list) (plain_body body) 0 0 change.Finish
       (body_written body) (nodes_stand keys body order list);
 }

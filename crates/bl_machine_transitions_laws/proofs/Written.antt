@@ -37,9 +37,9 @@ use Rattle.bl_graph_nodes.specs.Plain.{
   label_at,
   never,
   passed_one,
-  plain,
   plain_block,
   plain_body,
+  plain_stmt,
 }
 use Rattle.bl_graph_nodes.proofs.Equations.{plain_statements}
 
@@ -68,9 +68,9 @@ abbrev mutual
   WrittenEach (BodyOf weak body rest) = WrittenIn body × WrittenEach rest
 
 abbrev Fine : Stmt → Type 0
-Fine s = (at : Position) → WrittenOf (plain s at)
+Fine s = (at : Position) → WrittenOf (plain_stmt s at)
 
-block_written : (body : List Stmt) (k : ℕ) (block : Position) → Each Fine body → WrittenIn (block_from (map plain body) k block)
+block_written : (body : List Stmt) (k : ℕ) (block : Position) → Each Fine body → WrittenIn (block_from (map plain_stmt body) k block)
 block_written [] k block each = tt
 block_written (s ∷ rest) k block each =
     (All-head Fine s rest each (block ++ k ∷ []), block_written rest (suc k) block (All-tail Fine s rest each))
@@ -100,7 +100,7 @@ bodies_written (b ∷ rest) k l each = (
 of_plain : (one other : Plain) → one ≡ other → WrittenOf other → WrittenOf one
 of_plain one other is has = subst (λ s. WrittenOf s) (sym is) has
 
-no_arms : (place : Place) (other : List Stmt) (at : Position) → plain (stmt place (StmtKind-F.If [] other)) at
+no_arms : (place : Place) (other : List Stmt) (at : Position) → plain_stmt (stmt place (StmtKind-F.If [] other)) at
     ≡ If (label_at at) place (never place) (plain_block other (inside (label_at at) 0)) (plain_block other (inside (label_at at) 1))
 no_arms place other at = rw (fold-roll-Stmt, fold-roll-StmtKind) refl
 

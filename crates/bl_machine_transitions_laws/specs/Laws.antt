@@ -6,7 +6,7 @@ use Rattle.bl_graph_nodes.specs.Plain.{Block, Done, Then, plain_body}
 use Rattle.bl_machine.specs.declared.slots.Slot.{Slot}
 use Rattle.bl_machine_pass.specs.Numbered.{slots_of}
 use Rattle.bl_machine_pass.specs.Transitions.{rules}
-use Rattle.bl_machine_transitions.specs.Callees.{callees_in, number_in}
+use Rattle.bl_machine_transitions.specs.Callees.{callees_in, node_number}
 use Rattle.bl_machine_transitions.specs.Listed.{layout_of, listed}
 use Rattle.bl_machine_transitions.specs.Told.{NumberedTransition, all_told}
 
@@ -24,11 +24,11 @@ first_number (rule ∷ rest) = rule.number ∷ []
 pub record RulesAreListed : Type 0 where
   -- the rules of nodes, by numbers, are the list of numbered rules
   pub told : (body : List Stmt) (order : List ℕ) (list : List Slot) →
-      all_told (number_in order (plain_body body)) (callees_in (plain_body body)) (rules (slots_of (plain_body body) list) (plain_body body))
+      all_told (node_number order (plain_body body)) (callees_in (plain_body body)) (rules (slots_of (plain_body body) list) (plain_body body))
       ≡ listed (layout_of order list) (plain_body body)
   -- the list of callees has the activity that each rule's node calls
   pub each : (body : List Stmt) (list : List Slot) →
       length (callees_in (plain_body body)) ≡ length (rules (slots_of (plain_body body) list) (plain_body body))
   -- the first rule is that of the entry
   pub begins : (body : List Stmt) (order : List ℕ) (list : List Slot) →
-      map (number_in order (plain_body body)) (entries (plain_body body)) ≡ first_number (listed (layout_of order list) (plain_body body))
+      map (node_number order (plain_body body)) (entries (plain_body body)) ≡ first_number (listed (layout_of order list) (plain_body body))

@@ -71,7 +71,6 @@ use Rattle.bl_peel.specs.inner.Parts.{
   count_repeated,
   count_tested,
   count_then,
-  counted,
   counted_arm,
   counted_arms,
   counted_block,
@@ -81,6 +80,7 @@ use Rattle.bl_peel.specs.inner.Parts.{
   ends_with,
   fronted,
   kind_has_no_block,
+  peeled_count,
   peeling_of_arm,
   peeling_of_branch,
   peeling_of_kind,
@@ -168,7 +168,7 @@ front_counts : (c : Bool) (s : Peeling) (n a : ℕ) → n ≡ a + statement_coun
 front_counts true s n a is = sum_is n a (statement_count s.front) is
 front_counts false s n a is = sum_is n a (stmt_count s.deep) (omega arith)
 
-block_more : (body : List Peeling) (s : Peeling) → counted_block (body ++ s ∷ []) ≡ count_then (counted_block body) (counted s)
+block_more : (body : List Peeling) (s : Peeling) → counted_block (body ++ s ∷ []) ≡ count_then (counted_block body) (peeled_count s)
 block_more body s = λ i. record {
   deep = sum_is (statement_count (deep_of (body ++ s ∷ []))) (statement_count (deep_of body)) (stmt_count s.deep)
       (total_mapped (λ (s : Peeling). s.deep) stmt_count body s) i;
@@ -178,7 +178,7 @@ block_more body s = λ i. record {
 }
 
 pub block_step : (body : List Stmt) (k : ℕ) (s : Stmt) (before next after : Count) → k < length body → s ≡ get_or body k s →
-    next ≡ counted (peeling s) → after ≡ count_then before next → before ≡ counted_block (map peeling (take k body)) →
+    next ≡ peeled_count (peeling s) → after ≡ count_then before next → before ≡ counted_block (map peeling (take k body)) →
     after ≡ counted_block (map peeling (take (k + 1) body))
 block_step body k s before next after within is one made so_far =
     made ∙ (λ i. count_then (so_far i) (one i))
@@ -285,7 +285,7 @@ alone_one n m is = omega arith
 
 alone_counts : (place : Place) (layer : StmtKind-F StmtKind Arm Branch Stmt) (instant : Bool) → kind_deep (peeling_parts layer) ≡ layer →
     kind_front (peeling_parts layer) place ≡ made_stmt place layer ∷ [] → kind_statement_count (count_parts layer) ≡ 1 →
-    kind_instant (instants_within (peeling_parts layer)) ≡ instant → count_alone instant ≡ counted (kind_peeling (peeling_parts layer) place)
+    kind_instant (instants_within (peeling_parts layer)) ≡ instant → count_alone instant ≡ peeled_count (kind_peeling (peeling_parts layer) place)
 alone_counts place layer instant deep_is front_is one ends =
     let counts = count_at place layer ∙ one in
     λ i. record {
@@ -296,7 +296,7 @@ alone_counts place layer instant deep_is front_is one ends =
     }
 
 counted_if : (place : Place) (arms : List ArmPeeling) (other : List Peeling) →
-    count_around (count_beside (counted_arms arms) (counted_block other)) ≡ counted (kind_peeling (StmtKind-F.If arms other) place)
+    count_around (count_beside (counted_arms arms) (counted_block other)) ≡ peeled_count (kind_peeling (StmtKind-F.If arms other) place)
 counted_if place arms other =
     let deep_is = count_at place (StmtKind-F.If (map (λ (arm : ArmPeeling). arm.deep) arms) (deep_of other)) in
     let front_is = count_at place (StmtKind-F.If (map (λ (arm : ArmPeeling). arm.front) arms) (front_of other)) in
@@ -310,7 +310,7 @@ counted_if place arms other =
     }
 
 counted_cobegin : (place : Place) (branches : List BranchPeeling) →
-    count_cobegin (counted_branches branches) ≡ counted (kind_peeling (StmtKind-F.Cobegin branches) place)
+    count_cobegin (counted_branches branches) ≡ peeled_count (kind_peeling (StmtKind-F.Cobegin branches) place)
 counted_cobegin place branches =
     let made = count_at place (StmtKind-F.Cobegin (map (λ (branch : BranchPeeling). branch.branch) branches)) in
     λ i. record {
@@ -323,7 +323,7 @@ counted_cobegin place branches =
     }
 
 counted_when : (place : Place) (guard : Guard) (e : Expr) (body : List Peeling) →
-    count_around (counted_block body) ≡ counted (kind_peeling (StmtKind-F.When guard e body) place)
+    count_around (counted_block body) ≡ peeled_count (kind_peeling (StmtKind-F.When guard e body) place)
 counted_when place guard e body = λ i. record {
   deep = sym (one_more (stmt_count (made_stmt place (StmtKind-F.When guard e (deep_of body)))) (statement_count (deep_of body))
       (count_at place (StmtKind-F.When guard e (deep_of body)))) i;
@@ -333,7 +333,7 @@ counted_when place guard e body = λ i. record {
   instant = front_ends body;
 }
 
-counted_repeat : (place : Place) (body : List Peeling) → count_repeated (counted_block body) ≡ counted (kind_peeling (StmtKind-F.Repeat body) place)
+counted_repeat : (place : Place) (body : List Peeling) → count_repeated (counted_block body) ≡ peeled_count (kind_peeling (StmtKind-F.Repeat body) place)
 counted_repeat place body =
     let loop = made_stmt place (StmtKind-F.Repeat (deep_of body)) in
     let own : stmt_count (made_stmt place (StmtKind-F.Repeat (deep_of body))) ≡ 1 + statement_count (deep_of body) =
@@ -353,7 +353,7 @@ until_counts : (n a test loop : ℕ) → n ≡ a + (test + 0) → test ≡ 1 + (
 until_counts n a test loop is own = omega arith
 
 counted_until : (place : Place) (body : List Peeling) (e : Expr) →
-    count_tested (counted_block body) (front_ends body) ≡ counted (kind_peeling (StmtKind-F.Until body e) place)
+    count_tested (counted_block body) (front_ends body) ≡ peeled_count (kind_peeling (StmtKind-F.Until body e) place)
 counted_until place body e =
     let loop = made_stmt place (StmtKind-F.Until (deep_of body) e) in
     let own : stmt_count (made_stmt place (StmtKind-F.Until (deep_of body) e)) ≡ 1 + statement_count (deep_of body) =
@@ -372,7 +372,7 @@ while_counts : (turn a test loop : ℕ) → turn ≡ a + (loop + 0) → test ≡
 while_counts turn a test loop is own = omega arith
 
 counted_while : (place : Place) (e : Expr) (body : List Peeling) →
-    count_tested (counted_block body) true ≡ counted (kind_peeling (StmtKind-F.While e body) place)
+    count_tested (counted_block body) true ≡ peeled_count (kind_peeling (StmtKind-F.While e body) place)
 counted_while place e body =
     let loop = made_stmt place (StmtKind-F.While e (deep_of body)) in
     let own : stmt_count (made_stmt place (StmtKind-F.While e (deep_of body))) ≡ 1 + statement_count (deep_of body) =
@@ -393,13 +393,13 @@ module _ (what : StmtKind) (place : Place) (made : Count) where
   alone_layer : (layer : StmtKind-F StmtKind Arm Branch Stmt) (instant : Bool) → kind_deep (peeling_parts layer) ≡ layer →
       kind_front (peeling_parts layer) place ≡ made_stmt place layer ∷ [] → kind_statement_count (count_parts layer) ≡ 1 →
       kind_instant (instants_within (peeling_parts layer)) ≡ instant → out-StmtKind what ≡ layer → made ≡ count_alone instant →
-      made ≡ counted (peeling_of_kind what place)
+      made ≡ peeled_count (peeling_of_kind what place)
   alone_layer layer instant deep front one ends is counts =
-      counts ∙ alone_counts place layer instant deep front one ends ∙ sym (ap counted (kind_is what layer is place))
+      counts ∙ alone_counts place layer instant deep front one ends ∙ sym (ap peeled_count (kind_is what layer is place))
 
   by_layer : (layer : StmtKind-F StmtKind Arm Branch Stmt) (instant : Bool) → kind_has_no_block layer ≡ true →
       kind_instant (instants_within (peeling_parts layer)) ≡ instant → out-StmtKind what ≡ layer → made ≡ count_alone instant →
-      made ≡ counted (peeling_of_kind what place)
+      made ≡ peeled_count (peeling_of_kind what place)
   by_layer (StmtKind-F.Declare k initial) instant none = alone_layer (StmtKind-F.Declare k initial) instant refl refl refl
   by_layer (StmtKind-F.Assign path e) instant none = alone_layer (StmtKind-F.Assign path e) instant refl refl refl
   by_layer (StmtKind-F.Call f inputs outputs) instant none = alone_layer (StmtKind-F.Call f inputs outputs) instant refl refl refl
@@ -415,36 +415,36 @@ module _ (what : StmtKind) (place : Place) (made : Count) where
 
   pub is_alone : (instant : Bool) → kind_has_no_block (out-StmtKind what) ≡ true →
       kind_instant (instants_within (peeling_parts (out-StmtKind what))) ≡ instant → made ≡ count_alone instant →
-      made ≡ counted (peeling_of_kind what place)
+      made ≡ peeled_count (peeling_of_kind what place)
   is_alone instant none ends counts = by_layer (out-StmtKind what) instant none ends refl counts
 
   pub is_if : (arms : List Arm) (other : List Stmt) → out-StmtKind what ≡ StmtKind-F.If arms other →
       made ≡ count_around (count_beside (counted_arms (map peeling_of_arm arms)) (counted_block (map peeling other))) →
-      made ≡ counted (peeling_of_kind what place)
+      made ≡ peeled_count (peeling_of_kind what place)
   is_if arms other is counts =
-      counts ∙ counted_if place (map peeling_of_arm arms) (map peeling other) ∙ sym (ap counted (kind_is what (StmtKind-F.If arms other) is place))
+      counts ∙ counted_if place (map peeling_of_arm arms) (map peeling other) ∙ sym (ap peeled_count (kind_is what (StmtKind-F.If arms other) is place))
 
   pub is_cobegin : (branches : List Branch) → out-StmtKind what ≡ StmtKind-F.Cobegin branches →
-      made ≡ count_cobegin (counted_branches (map peeling_of_branch branches)) → made ≡ counted (peeling_of_kind what place)
+      made ≡ count_cobegin (counted_branches (map peeling_of_branch branches)) → made ≡ peeled_count (peeling_of_kind what place)
   is_cobegin branches is counts =
-      counts ∙ counted_cobegin place (map peeling_of_branch branches) ∙ sym (ap counted (kind_is what (StmtKind-F.Cobegin branches) is place))
+      counts ∙ counted_cobegin place (map peeling_of_branch branches) ∙ sym (ap peeled_count (kind_is what (StmtKind-F.Cobegin branches) is place))
 
   pub is_when : (guard : Guard) (e : Expr) (body : List Stmt) → out-StmtKind what ≡ StmtKind-F.When guard e body →
-      made ≡ count_around (counted_block (map peeling body)) → made ≡ counted (peeling_of_kind what place)
+      made ≡ count_around (counted_block (map peeling body)) → made ≡ peeled_count (peeling_of_kind what place)
   is_when guard e body is counts =
-      counts ∙ counted_when place guard e (map peeling body) ∙ sym (ap counted (kind_is what (StmtKind-F.When guard e body) is place))
+      counts ∙ counted_when place guard e (map peeling body) ∙ sym (ap peeled_count (kind_is what (StmtKind-F.When guard e body) is place))
 
   pub is_repeat : (body : List Stmt) → out-StmtKind what ≡ StmtKind-F.Repeat body →
-      made ≡ count_repeated (counted_block (map peeling body)) → made ≡ counted (peeling_of_kind what place)
+      made ≡ count_repeated (counted_block (map peeling body)) → made ≡ peeled_count (peeling_of_kind what place)
   is_repeat body is counts =
-      counts ∙ counted_repeat place (map peeling body) ∙ sym (ap counted (kind_is what (StmtKind-F.Repeat body) is place))
+      counts ∙ counted_repeat place (map peeling body) ∙ sym (ap peeled_count (kind_is what (StmtKind-F.Repeat body) is place))
 
   pub is_until : (body : List Stmt) (e : Expr) → out-StmtKind what ≡ StmtKind-F.Until body e →
-      made ≡ count_tested (counted_block (map peeling body)) (front_ends (map peeling body)) → made ≡ counted (peeling_of_kind what place)
+      made ≡ count_tested (counted_block (map peeling body)) (front_ends (map peeling body)) → made ≡ peeled_count (peeling_of_kind what place)
   is_until body e is counts =
-      counts ∙ counted_until place (map peeling body) e ∙ sym (ap counted (kind_is what (StmtKind-F.Until body e) is place))
+      counts ∙ counted_until place (map peeling body) e ∙ sym (ap peeled_count (kind_is what (StmtKind-F.Until body e) is place))
 
   pub is_while : (e : Expr) (body : List Stmt) → out-StmtKind what ≡ StmtKind-F.While e body →
-      made ≡ count_tested (counted_block (map peeling body)) true → made ≡ counted (peeling_of_kind what place)
+      made ≡ count_tested (counted_block (map peeling body)) true → made ≡ peeled_count (peeling_of_kind what place)
   is_while e body is counts =
-      counts ∙ counted_while place e (map peeling body) ∙ sym (ap counted (kind_is what (StmtKind-F.While e body) is place))
+      counts ∙ counted_while place e (map peeling body) ∙ sym (ap peeled_count (kind_is what (StmtKind-F.While e body) is place))

@@ -4,7 +4,7 @@ ghost use Rattle.std.specs.Prelude.{◌≡◌, map};
 ghost use Rattle.bl_tree.specs.declared.place.Place.{Place as APlace};
 ghost use Rattle.bl_peel.specs.Peeled.{peeling};
 ghost use Rattle.bl_peel.specs.inner.Parts.{count_alone, count_around, count_beside, count_cobegin, count_repeated, count_tested, count_then};
-ghost use Rattle.bl_peel.specs.inner.Parts.{counted, counted_arm, counted_arms, counted_block, counted_branches};
+ghost use Rattle.bl_peel.specs.inner.Parts.{counted_arm, counted_arms, counted_block, counted_branches, peeled_count};
 ghost use Rattle.bl_peel.specs.inner.Parts.{peeling_of_arm, peeling_of_branch, peeling_of_kind};
 
 use crate::ends::Ends;
@@ -117,7 +117,7 @@ fn tested(body: Count, instant: bool) -> Count
 
 #[cycle(counting)]
 fn in_statement(s: &Stmt) -> Count
-    ensures { result ≡ counted (peeling s.now) }
+    ensures { result ≡ peeled_count (peeling s.now) }
 {
     in_kind(&s.what)
 }
@@ -125,7 +125,7 @@ fn in_statement(s: &Stmt) -> Count
 /// How many statements a statement of the kind becomes.
 #[cycle(counting)]
 fn in_kind(what: &StmtKind) -> Count
-    ensures { (place : APlace) → result ≡ counted (peeling_of_kind what.now place) }
+    ensures { (place : APlace) → result ≡ peeled_count (peeling_of_kind what.now place) }
 {
     match what {
         StmtKind::Declare(_, _)

@@ -10,7 +10,7 @@ use Rattle.std.proofs.lemmas.Grind.{flat_map-append}
 use Rattle.std.proofs.lemmas.List.{append-nil, map-append, take-append-le}
 use Rattle.bl_plant.specs.Plants.{Gives, PlantView}
 use Rattle.bl_plant_drive.specs.Roles.{IsCast, PlantRecord, Plays, Role, after_part, gone_at, gone_before}
-use Rattle.bl_plant_drive.specs.Roles.{gone_in, inputs_at, inputs_before, last_of, left_in, left_of, numbers_at}
+use Rattle.bl_plant_drive.specs.Roles.{gone_in, inputs_at, inputs_before, last_row, left_in, left_of, numbers_at}
 use Rattle.bl_plant_drive.specs.declared.driven.Gone.{Gone}
 use Rattle.bl_plant.specs.declared.plant.Give.TheVariants as give
 use Rattle.bl_plant_drive.specs.declared.seat.Seat.{Seat}
@@ -69,9 +69,9 @@ pub gone-now : (k : ℕ) (r : Role) (faults : ℕ) → length r.part.given ≡ k
 gone-now k r faults is = gone-by k (dropped r faults) true true refl (eq-eqb (length r.part.given) k is)
 
 pub numbers-gave : (k : ℕ) (r : Role) (row : List ℤ) (faults : ℕ) → k < length r.part.given → numbers_at k (gave r row faults) ≡ numbers_at k r
-numbers-gave k r row faults low = ap (last_of (replicate r.plant.width (pos 0))) (take-append-le (suc k) r.part.given (row ∷ []) (omega (arith, low)))
+numbers-gave k r row faults low = ap (last_row (replicate r.plant.width (pos 0))) (take-append-le (suc k) r.part.given (row ∷ []) (omega (arith, low)))
 
-pub last-snoc : (first : List ℤ) (rows : List (List ℤ)) (row : List ℤ) → last_of first (rows ++ row ∷ []) ≡ row
+pub last-snoc : (first : List ℤ) (rows : List (List ℤ)) (row : List ℤ) → last_row first (rows ++ row ∷ []) ≡ row
 last-snoc first [] row = refl
 last-snoc first (x ∷ rows) row = last-snoc x rows row
 

@@ -11,11 +11,11 @@ use Rattle.bl_crun.specs.Running.{Running, answer_of, outputs_after, reply_at}
 use Rattle.bl_crun.specs.declared.tick.TickAnswer.{TickAnswer}
 use Rattle.bl_crun.specs.declared.tick.TickAnswer.TheVariants as tick
 use Rattle.bl_plant_drive.specs.Drives.{DriveIsOver, DriveSetting, HasDriven, IsShort, MayGoOn, columns_in, rowless, runner_after, trace_over}
-use Rattle.bl_plant_drive.specs.Roles.{IsCast, IsGone, Plays, Role, gone_at, gone_before, gone_in, inputs_at, inputs_before, last_of, left_in, numbers_at}
+use Rattle.bl_plant_drive.specs.Roles.{IsCast, IsGone, Plays, Role, gone_at, gone_before, gone_in, inputs_at, inputs_before, last_row, left_in, numbers_at}
 use Rattle.bl_plant_drive.specs.declared.driven.Driven.{Driven}
 use Rattle.bl_plant_drive.specs.declared.driven.Gone.{Gone}
 use Rattle.bl_plant_drive.specs.declared.seat.Seat.{Seat}
-use Rattle.bl_plant_drive.specs.inner.Round.{numbers_in}
+use Rattle.bl_plant_drive.specs.inner.Round.{seat_numbers}
 use Rattle.bl_plant_drive.specs.inner.Stands.{AskedSoFar, seat_of}
 use Rattle.bl_plant_drive.specs.inner.Ticks.{Goes, HasInputs, IsTickOfRunner, RunsOn, ToldSoFar, hearing_of, scene_of, with_tick, with_trap}
 use Rattle.bl_plant_drive.proofs.Asking.{gone-by, gone-not}
@@ -29,14 +29,14 @@ use Rattle.bl_tree.specs.declared.row.Last.TheVariants as last
 -- ---- inputs
 
 columns-at : (r : Role) (n : ℕ) → length r.part.given ≤ suc n → (seat_of r).columns ≡ numbers_at n r
-columns-at r n low = ap (last_of (replicate r.plant.width (pos 0))) (sym (take_all (suc n) r.part.given low))
+columns-at r n low = ap (last_row (replicate r.plant.width (pos 0))) (sym (take_all (suc n) r.part.given low))
 
 -- the numbers of the seats of plants that were asked are those of this tick
 pub numbers-at : (cast : List Role) (outs told : List (List ℤ)) (n : ℕ) → AllByRecursion (Plays outs told (suc n)) cast →
-    numbers_in (map seat_of cast) ≡ inputs_at n cast
+    seat_numbers (map seat_of cast) ≡ inputs_at n cast
 numbers-at [] outs told n plays = refl
 numbers-at (r ∷ cast) outs told n plays =
-    ap (λ z. z ++ numbers_in (map seat_of cast)) (columns-at r n (given-low r outs told (suc n) plays.0))
+    ap (λ z. z ++ seat_numbers (map seat_of cast)) (columns-at r n (given-low r outs told (suc n) plays.0))
     ∙ ap (λ z. numbers_at n r ++ z) (numbers-at cast outs told n plays.1)
 
 -- ---- plants that were dropped
@@ -86,7 +86,7 @@ all-asked-by : (s : DriveSetting) (plants : List PlantView) (seats : List Seat) 
     length done ≡ length seats → IsCast s.plants s.names (done ++ rest) → plants ≡ left_in (done ++ rest) [] s.plants →
     seats ≡ map seat_of (done ++ rest) → AllByRecursion (Plays d.trace.rows d.trace.rows (suc (length d.ins))) done →
     d.ins ≡ inputs_before (done ++ rest) (length d.ins) → d.gone ≡ gone_before (done ++ rest) (length d.ins) ++ gone_at (length d.ins) done →
-    length d.trace.rows ≡ length d.ins → ins ≡ numbers_in seats → AllAsked s plants seats d ins
+    length d.trace.rows ≡ length d.ins → ins ≡ seat_numbers seats → AllAsked s plants seats d ins
 all-asked-by s plants seats d ins done [] asked cast left seats_are plays before gone long row = record {
   cast = done ++ [];
   is = cast;
@@ -95,7 +95,7 @@ all-asked-by s plants seats d ins done [] asked cast left seats_are plays before
   plays = all-both (Plays d.trace.rows d.trace.rows (suc (length d.ins))) done [] plays tt;
   before = before;
   row =
-      row ∙ ap numbers_in seats_are
+      row ∙ ap seat_numbers seats_are
       ∙ numbers-at (done ++ []) d.trace.rows d.trace.rows (length d.ins)
       (all-both (Plays d.trace.rows d.trace.rows (suc (length d.ins))) done [] plays tt);
   gone = gone ∙ gone-both d.trace.rows d.trace.rows (length d.ins) done [] tt;

@@ -7,7 +7,7 @@ use Rattle.bl_plant_drive.specs.declared.driven.Gone.{Gone}
 use Rattle.bl_plant_drive.specs.declared.fault.DriveFault.{DriveFault}
 use Rattle.bl_plant_drive.specs.declared.fault.DriveFault.TheVariants as fault
 use Rattle.bl_plant_drive.specs.declared.seat.Seat.{Seat}
-use Rattle.bl_plant_drive.specs.inner.Round.{FrontFits, IsAsked, IsTested, RoundEnds, numbers_in}
+use Rattle.bl_plant_drive.specs.inner.Round.{FrontFits, IsAsked, IsTested, RoundEnds, seat_numbers}
 use Rattle.bl_plant_drive.specs.inner.Stands.{AskedSoFar, Scene}
 use Rattle.bl_tree.specs.declared.row.Column.{Column}
 
@@ -24,7 +24,7 @@ asked-ends s inputs k plants seats gone fault.NoMemory asked front = record { k 
 -- a number outside its range ends the round
 pub tested-ends : (s : Scene) (inputs : List Column) (k first : ℕ) (plants : List PlantView) (seats : List Seat) (gone : List Gone) (seat : Seat)
     (e : DriveFault) → AskedSoFar s (suc k) plants seats gone → FrontFits inputs k seats → k < length seats → seat ≡ get_or seats k seat →
-    first ≡ length (numbers_in (take k seats)) → IsTested inputs first seat.columns (Err e) → RoundEnds s inputs plants seats gone (Err e)
+    first ≡ length (seat_numbers (take k seats)) → IsTested inputs first seat.columns (Err e) → RoundEnds s inputs plants seats gone (Err e)
 tested-ends s inputs k first plants seats gone seat (fault.Failed name) st front low is at tested = absurd tested
 tested-ends s inputs k first plants seats gone seat (fault.Absent name) st front low is at tested = absurd tested
 tested-ends s inputs k first plants seats gone seat (fault.Twice name) st front low is at tested = absurd tested
@@ -50,7 +50,7 @@ asked-passed s inputs k plants seats gone e (Err x) is asked front =
 -- a number outside its range does
 pub tested-passed : (s : Scene) (inputs : List Column) (k first : ℕ) (plants : List PlantView) (seats : List Seat) (gone : List Gone) (seat : Seat)
     (e : DriveFault) (r : Result (Unit {0}) DriveFault) → IsErrAnd r (λ x. x ≡ e) → AskedSoFar s (suc k) plants seats gone → FrontFits inputs k seats →
-    k < length seats → seat ≡ get_or seats k seat → first ≡ length (numbers_in (take k seats)) → IsTested inputs first seat.columns (Err e) →
+    k < length seats → seat ≡ get_or seats k seat → first ≡ length (seat_numbers (take k seats)) → IsTested inputs first seat.columns (Err e) →
     RoundEnds s inputs plants seats gone r
 tested-passed s inputs k first plants seats gone seat e (Ok u) is_err st front low is at tested = absurd is_err
 tested-passed s inputs k first plants seats gone seat e (Err x) is_err st front low is at tested =

@@ -8,7 +8,7 @@ use Rattle.std.proofs.lemmas.List.{length-take-le}
 use Rattle.std.proofs.lemmas.Option.{get_or_from_slice_get}
 use Rattle.std.proofs.lemmas.List.Folds.{length-flat_map-take}
 use Rattle.bl_plant_drive.specs.declared.seat.Seat.{Seat}
-use Rattle.bl_plant_drive.specs.inner.Round.{numbers_in}
+use Rattle.bl_plant_drive.specs.inner.Round.{seat_numbers}
 use Rattle.bl_plant_drive.proofs.Ranges.{numbers-more}
 
 -- the first numbers of a row, then so many of these, and the rest of the row
@@ -60,7 +60,7 @@ written-all first k numbers row now past are = are ∙ ap (λ z. written first z
 
 -- the numbers of the first seats, and the rest of a row
 abbrev pub filled : ℕ → List Seat → List ℤ → List ℤ
-filled k seats row = numbers_in (take k seats) ++ drop (length (numbers_in (take k seats))) row
+filled k seats row = seat_numbers (take k seats) ++ drop (length (seat_numbers (take k seats))) row
 
 drop-none : (n : ℕ) → drop {A = ℤ} n [] ≡ []
 drop-none zero = refl
@@ -73,13 +73,13 @@ drop-twice (suc a) b (x ∷ xs) = drop-twice a b xs ∙ sym (ap (λ n. drop n (x
 
 -- the numbers of one more seat
 pub filled-more : (k first : ℕ) (seats : List Seat) (row now : List ℤ) (seat again : Seat) → k < length seats → seat ≡ get_or seats k seat →
-    again ≡ seat → first ≡ length (numbers_in (take k seats)) → now ≡ filled k seats row →
-    (written first seat.columns now ≡ filled (k + 1) seats row) × (first + length again.columns ≡ length (numbers_in (take (k + 1) seats)))
+    again ≡ seat → first ≡ length (seat_numbers (take k seats)) → now ≡ filled k seats row →
+    (written first seat.columns now ≡ filled (k + 1) seats row) × (first + length again.columns ≡ length (seat_numbers (take (k + 1) seats)))
 filled-more k first seats row now seat again low is same at are =
-    let front : List ℤ = numbers_in (take k seats) in
-    let more : numbers_in (take (k + 1) seats) ≡ front ++ seat.columns =
-    ap (λ m. numbers_in (take m seats)) (add-one k) ∙ numbers-more seats k seat low is in
-    let ends : length (numbers_in (take (k + 1) seats)) ≡ length front + length seat.columns = ap length more ∙ length-append front seat.columns in (
+    let front : List ℤ = seat_numbers (take k seats) in
+    let more : seat_numbers (take (k + 1) seats) ≡ front ++ seat.columns =
+    ap (λ m. seat_numbers (take m seats)) (add-one k) ∙ numbers-more seats k seat low is in
+    let ends : length (seat_numbers (take (k + 1) seats)) ≡ length front + length seat.columns = ap length more ∙ length-append front seat.columns in (
       ap (λ z. take first z ++ (seat.columns ++ drop (first + length seat.columns) z)) are
           ∙ ap (λ m. take m (front ++ drop (length front) row) ++ (seat.columns ++ drop (m + length seat.columns) (front ++ drop (length front) row))) at
           ∙ ap (λ z. z ++ (seat.columns ++ drop (length front + length seat.columns) (front ++ drop (length front) row)))
@@ -88,7 +88,7 @@ filled-more k first seats row now seat again low is same at are =
           (drop-append-add front (drop (length front) row) (length seat.columns) ∙ drop-twice (length front) (length seat.columns) row)
           ∙ sym (append_assoc front seat.columns (drop (length front + length seat.columns) row))
           ∙ ap (λ z. z ++ drop (length front + length seat.columns) row) (sym more)
-          ∙ ap (λ m. numbers_in (take (k + 1) seats) ++ drop m row) (sym ends),
+          ∙ ap (λ m. seat_numbers (take (k + 1) seats) ++ drop m row) (sym ends),
       ap (λ m. m + length again.columns) at ∙ ap (λ (x : Seat). length front + length x.columns) same ∙ sym ends,
     )
 
@@ -101,11 +101,11 @@ rest-of (suc n) (x ∷ xs) low =
     let f : suc n + length (drop n xs) ≡ suc (length xs) = omega (arith, e) in f
 
 -- the row keeps its length
-pub filled-long : (k : ℕ) (seats : List Seat) (row now : List ℤ) (seat : Seat) → k < length seats → length (numbers_in seats) ≡ length row →
+pub filled-long : (k : ℕ) (seats : List Seat) (row now : List ℤ) (seat : Seat) → k < length seats → length (seat_numbers seats) ≡ length row →
     now ≡ filled k seats row → length now ≡ length row
 filled-long k seats row now seat low wide are =
-    let front : List ℤ = numbers_in (take k seats) in
-    let most : length front + length (get_or seats k seat).columns ≤ length (numbers_in seats) =
+    let front : List ℤ = seat_numbers (take k seats) in
+    let most : length front + length (get_or seats k seat).columns ≤ length (seat_numbers seats) =
     length-flat_map-take (λ (x : Seat). x.columns) seats k seat low in
     let whole : length now ≡ length front + length (drop (length front) row) = ap length are ∙ length-append front (drop (length front) row) in
     let rest : length front + length (drop (length front) row) ≡ length row = rest-of (length front) row (omega (arith, most, wide)) in
@@ -113,23 +113,23 @@ filled-long k seats row now seat low wide are =
 
 -- they fit into the row
 pub filled-within : (k first : ℕ) (seats : List Seat) (row now : List ℤ) (seat : Seat) → k < length seats → seat ≡ get_or seats k seat →
-    first ≡ length (numbers_in (take k seats)) → length (numbers_in seats) ≡ length row → now ≡ filled k seats row →
+    first ≡ length (seat_numbers (take k seats)) → length (seat_numbers seats) ≡ length row → now ≡ filled k seats row →
     first + length seat.columns ≤ length now
 filled-within k first seats row now seat low is at wide are =
-    let front : List ℤ = numbers_in (take k seats) in
-    let most : length front + length (get_or seats k seat).columns ≤ length (numbers_in seats) =
+    let front : List ℤ = seat_numbers (take k seats) in
+    let most : length front + length (get_or seats k seat).columns ≤ length (seat_numbers seats) =
     length-flat_map-take (λ (x : Seat). x.columns) seats k seat low in
     let same : length seat.columns ≡ length (get_or seats k seat).columns = ap (λ (x : Seat). length x.columns) is in
     let long = filled-long k seats row now seat low wide are in
     omega (arith, most, same, long, wide, at)
 
 -- the row is filled
-pub filled-all : (k : ℕ) (seats : List Seat) (row now : List ℤ) → length seats ≤ k → length (numbers_in seats) ≡ length row → now
+pub filled-all : (k : ℕ) (seats : List Seat) (row now : List ℤ) → length seats ≤ k → length (seat_numbers seats) ≡ length row → now
     ≡ filled k seats row →
-    now ≡ numbers_in seats
+    now ≡ seat_numbers seats
 filled-all k seats row now past wide are =
-    are ∙ ap (λ z. numbers_in z ++ drop (length (numbers_in z)) row) (take_all k seats past)
-    ∙ ap (λ z. numbers_in seats ++ z) (drop_of_length-le row (let w = wide in omega (arith, w))) ∙ append-none (numbers_in seats)
+    are ∙ ap (λ z. seat_numbers z ++ drop (length (seat_numbers z)) row) (take_all k seats past)
+    ∙ ap (λ z. seat_numbers seats ++ z) (drop_of_length-le row (let w = wide in omega (arith, w))) ∙ append-none (seat_numbers seats)
   where
     append-none : (xs : List ℤ) → xs ++ [] ≡ xs
     append-none [] = refl

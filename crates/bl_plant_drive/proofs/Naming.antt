@@ -10,7 +10,7 @@ use Rattle.std.proofs.lemmas.List.{length-map, take-append-drop}
 use Rattle.std.proofs.Math.Nat.{min-eq_left, min-eq_right}
 use Rattle.std.proofs.lemmas.Bool.{cases_lt}
 use Rattle.bl_ctext_semantics.specs.Saturated.{saturated}
-use Rattle.bl_plant_drive.specs.Drives.{AreThere, widths_of, width_of}
+use Rattle.bl_plant_drive.specs.Drives.{AreThere, widths_of, plant_width}
 use Rattle.bl_plant_drive.specs.Roles.{first_named}
 use Rattle.bl_plant_drive.specs.declared.fault.DriveFault.{DriveFault}
 use Rattle.bl_plant_drive.specs.declared.fault.DriveFault.TheVariants as fault
@@ -73,11 +73,11 @@ named-some plants name at e =
 
 -- the width of what is there
 pub named-width : (plants : List PlantView) (name at width : ℕ) → Some at ≡ position_from (λ (p : PlantView). nat_eq p.name name) 0 plants →
-    ((p : PlantView) → slice_get plants at ≡ Some p → width ≡ p.width) → width ≡ width_of (first_named name plants)
+    ((p : PlantView) → slice_get plants at ≡ Some p → width ≡ p.width) → width ≡ plant_width (first_named name plants)
 named-width plants name at width e told =
     let n = named-at plants name at e in
     let x = element plants at n.0 in
-    told x.0 x.1 ∙ sym (ap width_of (n.1 ∙ x.1))
+    told x.0 x.1 ∙ sym (ap plant_width (n.1 ∙ x.1))
 
 -- it is within the list
 pub within-place : {A : Type 0} (f : A → PlantView) (xs : List A) (name at : ℕ) →
@@ -210,11 +210,11 @@ both-named plants names (Err fault.NoMemory) there bad = bad
 -- ---- widths
 
 widths-snoc : (plants : List PlantView) (names : List ℕ) (n : ℕ) → widths_of plants (names ++ n ∷ [])
-    ≡ widths_of plants names + width_of (first_named n plants)
+    ≡ widths_of plants names + plant_width (first_named n plants)
 widths-snoc plants [] n = omega arith
 widths-snoc plants (m ∷ names) n =
-    ap (λ z. width_of (first_named m plants) + z) (widths-snoc plants names n)
-    ∙ add-assoc (width_of (first_named m plants)) (widths_of plants names) (width_of (first_named n plants))
+    ap (λ z. plant_width (first_named m plants) + z) (widths-snoc plants names n)
+    ∙ add-assoc (plant_width (first_named m plants)) (widths_of plants names) (plant_width (first_named n plants))
   where
     add-assoc : (a b c : ℕ) → a + (b + c) ≡ (a + b) + c
     add-assoc a b c = omega arith
@@ -236,7 +236,7 @@ capped-more : (a b c most : ℕ) → a ≡ min c most → min (a + b) most ≡ m
 capped-more a b c most e = capped-by a b c most e (either-way c most)
 
 pub widths-more : {A : Type 0} (f : A → ℕ) (plants : List PlantView) (xs : List A) (k : ℕ) (x : A) (sum width : ℕ) → k < length xs →
-    x ≡ get_or xs k x → sum ≡ saturated (widths_of plants (take k (map f xs))) → width ≡ width_of (first_named (f x) plants) →
+    x ≡ get_or xs k x → sum ≡ saturated (widths_of plants (take k (map f xs))) → width ≡ plant_width (first_named (f x) plants) →
     min (sum + width) (2 ^ 64 - 1) ≡ saturated (widths_of plants (take (k + 1) (map f xs)))
 widths-more f plants xs k x sum width low is so_far own =
     capped-more sum width (widths_of plants (take k (map f xs))) (2 ^ 64 - 1) so_far

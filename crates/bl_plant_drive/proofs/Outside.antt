@@ -7,7 +7,7 @@ use Rattle.std.proofs.lemmas.Grind.{flat_map-append}
 use Rattle.std.proofs.lemmas.List.{length-replicate}
 use Rattle.std.proofs.lemmas.List.Folds.{list_all-append}
 use Rattle.bl_plant_drive.specs.Drives.{IsFirstOutside}
-use Rattle.bl_plant_drive.specs.Roles.{IsGone, Plays, Role, inputs_at, inputs_before, last_of, numbers_at}
+use Rattle.bl_plant_drive.specs.Roles.{IsGone, Plays, Role, inputs_at, inputs_before, last_row, numbers_at}
 use Rattle.bl_tree.specs.Ports.{RowsFit, in_ranges, row_fits, types_of}
 use Rattle.bl_tree.specs.Scalar.{in_range}
 use Rattle.bl_tree.specs.declared.row.Column.{Column}
@@ -73,7 +73,7 @@ behind-front (f ∷ front) rest more k x e =
 -- ---- widths
 
 last-wide : (w : ℕ) (first : List ℤ) (rows : List (List ℤ)) → length first ≡ w → AllByRecursion (λ row. length row ≡ w) rows →
-    length (last_of first rows) ≡ w
+    length (last_row first rows) ≡ w
 last-wide w first [] is all = is
 last-wide w first (row ∷ rows) is all = last-wide w row rows all.0 all.1
 
@@ -102,7 +102,7 @@ same-wide j k outs told n (r ∷ cast) plays =
 
 kept-numbers : (r : Role) (m : ℕ) → length r.part.given ≤ suc m → numbers_at (suc m) r ≡ numbers_at m r
 kept-numbers r m low =
-    ap (last_of (replicate r.plant.width (pos 0)))
+    ap (last_row (replicate r.plant.width (pos 0)))
     (take_all (suc (suc m)) r.part.given (omega (arith, low)) ∙ sym (take_all (suc m) r.part.given low))
 
 pub none-outside : (columns : List Column) (ins outs : List (List ℤ)) (asked : List Role) (role : Role) (others : List Role) (column : ℕ) (number : ℤ)
@@ -113,7 +113,7 @@ none-outside columns ins outs asked role others column number zero long fit are 
     let was : IsGone outs 1 role = plays.gone over in
     let low = was.earlier in
     let nothing : numbers_at 0 role ≡ replicate role.plant.width (pos 0) =
-    ap (λ (g : List (List ℤ)). last_of (replicate role.plant.width (pos 0)) (take 1 g)) (no-rows role.part.given low) in
+    ap (λ (g : List (List ℤ)). last_row (replicate role.plant.width (pos 0)) (take 1 g)) (no-rows role.part.given low) in
     let is : number ≡ pos 0 = zeros-at role.plant.width outside.at number (ap (λ z. slice_get z outside.at) (sym nothing) ∙ outside.is) in
     let bad : true ≡ false = sym (zero-fits outside.input.ty) ∙ ap (in_range outside.input.ty) (sym is) ∙ outside.outside in
     cc

@@ -5,11 +5,11 @@ use Rattle.std.specs.List.{AllByRecursion, slice_get}
 use Rattle.std.proofs.lemmas.Grind.{flat_map-append}
 use Rattle.std.proofs.lemmas.List.{append-nil, length-replicate}
 use Rattle.bl_plant.specs.Plants.{PlantView}
-use Rattle.bl_plant_drive.specs.Drives.{width_of, widths_of}
-use Rattle.bl_plant_drive.specs.Roles.{Plays, Role, first_named, last_of}
+use Rattle.bl_plant_drive.specs.Drives.{plant_width, widths_of}
+use Rattle.bl_plant_drive.specs.Roles.{Plays, Role, first_named, last_row}
 use Rattle.bl_plant_drive.specs.declared.driven.Gone.{Gone}
 use Rattle.bl_plant_drive.specs.declared.seat.Seat.{Seat}
-use Rattle.bl_plant_drive.specs.inner.Round.{FrontFits, numbers_in}
+use Rattle.bl_plant_drive.specs.inner.Round.{FrontFits, seat_numbers}
 use Rattle.bl_plant_drive.specs.inner.Stands.{AskedSoFar, Scene, seat_of}
 use Rattle.bl_tree.specs.declared.row.Column.{Column}
 use Rattle.bl_tree.specs.Ports.{in_ranges, types_of}
@@ -65,36 +65,36 @@ ranges-both (c ∷ inputs) (x ∷ xs) ys b first then =
 -- ---- the numbers of seats
 
 pub numbers-more : (seats : List Seat) (k : ℕ) (seat : Seat) → k < length seats → seat ≡ get_or seats k seat →
-    numbers_in (take (suc k) seats) ≡ numbers_in (take k seats) ++ seat.columns
+    seat_numbers (take (suc k) seats) ≡ seat_numbers (take k seats) ++ seat.columns
 numbers-more seats k seat low is =
-    ap numbers_in (take-suc seats k seat low ∙ ap (λ x. take k seats ++ x ∷ []) (sym is))
+    ap seat_numbers (take-suc seats k seat low ∙ ap (λ x. take k seats ++ x ∷ []) (sym is))
     ∙ flat_map-append (λ (x : Seat). x.columns) (take k seats) (seat ∷ [])
-    ∙ ap (λ z. numbers_in (take k seats) ++ z) (append-nil seat.columns)
+    ∙ ap (λ z. seat_numbers (take k seats) ++ z) (append-nil seat.columns)
 
 -- one more seat's numbers are in the ranges of their inputs
 pub front-more : (inputs : List Column) (seats : List Seat) (k : ℕ) (seat : Seat) → k < length seats → seat ≡ get_or seats k seat →
     FrontFits inputs k seats →
-    in_ranges (types_of (take (length seat.columns) (drop (length (numbers_in (take k seats))) inputs))) seat.columns ≡ true →
+    in_ranges (types_of (take (length seat.columns) (drop (length (seat_numbers (take k seats))) inputs))) seat.columns ≡ true →
     FrontFits inputs (suc k) seats
 front-more inputs seats k seat low is before now =
     let e = numbers-more seats k seat low is in
     ap (λ z. in_ranges (types_of (take (length z) inputs)) z) e
-    ∙ ap (λ n. in_ranges (types_of (take n inputs)) (numbers_in (take k seats) ++ seat.columns)) (length-append (numbers_in (take k seats)) seat.columns)
-    ∙ ranges-both inputs (numbers_in (take k seats)) seat.columns (length seat.columns) before now
+    ∙ ap (λ n. in_ranges (types_of (take n inputs)) (seat_numbers (take k seats) ++ seat.columns)) (length-append (seat_numbers (take k seats)) seat.columns)
+    ∙ ranges-both inputs (seat_numbers (take k seats)) seat.columns (length seat.columns) before now
 
 -- the seats before one stay
 pub front-kept : (inputs : List Column) (k : ℕ) (seats now : List Seat) → take k now ≡ take k seats → FrontFits inputs k seats →
     FrontFits inputs k now
-front-kept inputs k seats now same fit = ap (λ z. in_ranges (types_of (take (length (numbers_in z)) inputs)) (numbers_in z)) same ∙ fit
+front-kept inputs k seats now same fit = ap (λ z. in_ranges (types_of (take (length (seat_numbers z)) inputs)) (seat_numbers z)) same ∙ fit
 
 -- all seats' numbers are
-pub front-all : (inputs : List Column) (k : ℕ) (seats : List Seat) → length seats ≤ k → length (numbers_in seats) ≡ length inputs →
-    FrontFits inputs k seats → in_ranges (types_of inputs) (numbers_in seats) ≡ true
+pub front-all : (inputs : List Column) (k : ℕ) (seats : List Seat) → length seats ≤ k → length (seat_numbers seats) ≡ length inputs →
+    FrontFits inputs k seats → in_ranges (types_of inputs) (seat_numbers seats) ≡ true
 front-all inputs k seats past wide fit =
     let all : take k seats ≡ seats = take_all k seats past in
-    let whole : take (length (numbers_in seats)) inputs ≡ inputs = take_all (length (numbers_in seats)) inputs (omega (arith, wide)) in
-    sym (ap (λ z. in_ranges (types_of z) (numbers_in seats)) whole)
-    ∙ sym (ap (λ z. in_ranges (types_of (take (length (numbers_in z)) inputs)) (numbers_in z)) all) ∙ fit
+    let whole : take (length (seat_numbers seats)) inputs ≡ inputs = take_all (length (seat_numbers seats)) inputs (omega (arith, wide)) in
+    sym (ap (λ z. in_ranges (types_of z) (seat_numbers seats)) whole)
+    ∙ sym (ap (λ z. in_ranges (types_of (take (length (seat_numbers z)) inputs)) (seat_numbers z)) all) ∙ fit
 
 -- ---- how many numbers seats have
 
@@ -102,7 +102,7 @@ abbrev IsWide : Role → Type 0
 IsWide r = AllByRecursion (λ row. length row ≡ r.plant.width) r.part.given
 
 last-wide : (w : ℕ) (first : List ℤ) (rows : List (List ℤ)) → length first ≡ w → AllByRecursion (λ row. length row ≡ w) rows →
-    length (last_of first rows) ≡ w
+    length (last_row first rows) ≡ w
 last-wide w first [] is all = is
 last-wide w first (row ∷ rows) is all = last-wide w row rows all.0 all.1
 
@@ -113,24 +113,24 @@ all-wide outs told a b [] (r ∷ rest) earlier later = (later.0.widths, all-wide
 all-wide outs told a b (d ∷ done) rest earlier later = (earlier.0.widths, all-wide outs told a b done rest earlier.1 later)
 
 cast-wide : (plants : List PlantView) (cast : List Role) → AllByRecursion (λ (r : Role). first_named r.plant.name plants ≡ Some r.plant) cast →
-    AllByRecursion IsWide cast → length (numbers_in (map seat_of cast)) ≡ widths_of plants (map (λ (r : Role). r.plant.name) cast)
+    AllByRecursion IsWide cast → length (seat_numbers (map seat_of cast)) ≡ widths_of plants (map (λ (r : Role). r.plant.name) cast)
 cast-wide plants [] meant wide = refl
 cast-wide plants (r ∷ cast) meant wide =
-    length-append (seat_of r).columns (numbers_in (map seat_of cast))
-    ∙ ap (λ n. n + length (numbers_in (map seat_of cast)))
+    length-append (seat_of r).columns (seat_numbers (map seat_of cast))
+    ∙ ap (λ n. n + length (seat_numbers (map seat_of cast)))
     (last-wide r.plant.width (replicate r.plant.width (pos 0)) r.part.given (length-replicate r.plant.width (pos 0)) wide.0
-    ∙ sym (ap width_of meant.0))
-    ∙ ap (λ n. width_of (first_named r.plant.name plants) + n) (cast-wide plants cast meant.1 wide.1)
+    ∙ sym (ap plant_width meant.0))
+    ∙ ap (λ n. plant_width (first_named r.plant.name plants) + n) (cast-wide plants cast meant.1 wide.1)
 
 pub wide-by : (s : Scene) (k : ℕ) (plants : List PlantView) (seats : List Seat) (gone : List Gone) → AskedSoFar s k plants seats gone →
-    length (numbers_in seats) ≡ widths_of s.plants s.names
+    length (seat_numbers seats) ≡ widths_of s.plants s.names
 wide-by s k plants seats gone st =
-    ap (λ z. length (numbers_in z)) st.seats_are
+    ap (λ z. length (seat_numbers z)) st.seats_are
     ∙ cast-wide s.plants (st.done ++ st.rest) st.cast.meant
     (all-wide s.outs s.outs (suc (length s.ins)) (length s.ins) st.done st.rest st.earlier st.later)
     ∙ ap (widths_of s.plants) st.cast.named
 
 -- it stays while plants are asked
 pub wide-kept : (s : Scene) (j k : ℕ) (plants now : List PlantView) (seats next : List Seat) (gone later : List Gone) →
-    AskedSoFar s j plants seats gone → AskedSoFar s k now next later → length (numbers_in next) ≡ length (numbers_in seats)
+    AskedSoFar s j plants seats gone → AskedSoFar s k now next later → length (seat_numbers next) ≡ length (seat_numbers seats)
 wide-kept s j k plants now seats next gone later before st = wide-by s k now next later st ∙ sym (wide-by s j plants seats gone before)

@@ -8,7 +8,7 @@ use Rattle.std.proofs.lemmas.List.{append-nil, map-append}
 use Rattle.std.proofs.lemmas.List.Folds.{list_any-append}
 use Rattle.bl_plant_drive.specs.Roles.{IsCast, Plays, Role, after_part, first_named, left_by, left_in, left_of, log_at, role_of}
 use Rattle.bl_plant_drive.specs.declared.seat.Seat.{Seat}
-use Rattle.bl_plant_drive.specs.Drives.{AreThere, width_of}
+use Rattle.bl_plant_drive.specs.Drives.{AreThere, plant_width}
 use Rattle.bl_plant_drive.specs.inner.Stands.{AskedSoFar, Scene, seat_of}
 use Rattle.bl_plant_drive.specs.inner.Ticks.{new_seat}
 use Rattle.bl_plant_drive.proofs.Casts.{eq-flip, eq-refl, eq-same, or-false, or-left, or-right, split}
@@ -87,7 +87,7 @@ new-is-cast plants names there apart = record {
 new-seats : (plants : List PlantView) (names : List ℕ) → AreThere plants names → map (new_seat plants) names ≡ map seat_of (new_cast plants names)
 new-seats plants names there =
     sym (list-new plants seat_of (new_seat plants)
-    (λ p name is. seat-same p name (width_of (first_named name plants)) (named-is name plants p is) (sym (ap width_of is))) names there)
+    (λ p name is. seat-same p name (plant_width (first_named name plants)) (named-is name plants p is) (sym (ap plant_width is))) names there)
   where
     seat-same : (p : PlantView) (name width : ℕ) → p.name ≡ name → p.width ≡ width →
         seat_of (new_role p) ≡ record { name = record { number = name }; columns = replicate width (pos 0); finished = false }

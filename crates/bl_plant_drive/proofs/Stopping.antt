@@ -12,7 +12,7 @@ use Rattle.bl_plant_drive.specs.declared.driven.Gone.{Gone}
 use Rattle.bl_plant_drive.specs.declared.fault.DriveFault.{DriveFault}
 use Rattle.bl_plant_drive.specs.declared.fault.DriveFault.TheVariants as fault
 use Rattle.bl_plant_drive.specs.declared.seat.Seat.{Seat}
-use Rattle.bl_plant_drive.specs.inner.Round.{FrontFits, HasFailedIn, IsOutsideIn, RoundEnds, numbers_in}
+use Rattle.bl_plant_drive.specs.inner.Round.{FrontFits, HasFailedIn, IsOutsideIn, RoundEnds, seat_numbers}
 use Rattle.bl_plant_drive.specs.inner.Stands.{AskedSoFar, seat_of}
 use Rattle.bl_plant_drive.specs.inner.Ticks.{RunsOn, scene_of}
 use Rattle.bl_plant_drive.proofs.Closing.{driven-by, numbers-at, short-asking}
@@ -56,11 +56,11 @@ stopped s runner plants seats d gone k runs within st = record {
 -- ---- numbers
 
 first-numbers : (done rest : List Role) (outs : List (List ℤ)) (n k : ℕ) (seats : List Seat) → length done ≡ k →
-    seats ≡ map seat_of (done ++ rest) → AllByRecursion (Plays outs outs (suc n)) done → numbers_in (take k seats) ≡ inputs_at n done
+    seats ≡ map seat_of (done ++ rest) → AllByRecursion (Plays outs outs (suc n)) done → seat_numbers (take k seats) ≡ inputs_at n done
 first-numbers done rest outs n k seats long are plays =
-    ap (λ z. numbers_in (take k z)) (are ∙ map-append seat_of done rest)
-    ∙ ap (λ m. numbers_in (take m (map seat_of done ++ map seat_of rest))) (sym long ∙ sym (long-map done))
-    ∙ ap numbers_in (take-append_seam (map seat_of done) (map seat_of rest))
+    ap (λ z. seat_numbers (take k z)) (are ∙ map-append seat_of done rest)
+    ∙ ap (λ m. seat_numbers (take m (map seat_of done ++ map seat_of rest))) (sym long ∙ sym (long-map done))
+    ∙ ap seat_numbers (take-append_seam (map seat_of done) (map seat_of rest))
     ∙ numbers-at done outs outs n plays
   where
     long-map : (xs : List Role) → length (map seat_of xs) ≡ length xs
@@ -127,7 +127,7 @@ same-seat a b e = cc
 outside-by : (s : DriveSetting) (runner : Running) (plants : List PlantView) (seats : List Seat) (d : Driven) (gone : List Gone) (k column : ℕ) (number : ℤ)
     (done rest : List Role) (seat : Seat) → LastOf done k → HasStopped s (left_with runner plants d gone) done rest →
     seats ≡ map seat_of (done ++ rest) → slice_get seats k ≡ Some seat → FrontFits (columns_in s) k seats →
-    IsFirstOutside (columns_in s) (length (numbers_in (take k seats))) seat.columns column number →
+    IsFirstOutside (columns_in s) (length (seat_numbers (take k seats))) seat.columns column number →
     HasGivenOutside s (left_with runner plants d gone) column number
 outside-by s runner plants seats d gone k column number done rest seat l stops are seat_is front outside =
     let n : ℕ = length d.ins in
@@ -139,7 +139,7 @@ outside-by s runner plants seats d gone k column number done rest seat l stops a
     same-seat seat (seat_of l.role)
     (sym seat_is ∙ ap (slice_get seats) (sym l.long) ∙ ap (λ z. slice_get z (length l.asked)) (are ∙ ap (λ z. map seat_of (z ++ rest)) l.is)
     ∙ get-mid l.asked l.role rest) in
-    let numbers : numbers_in (take k seats) ≡ inputs_at n l.asked = first-numbers l.asked (l.role ∷ rest) outs n k seats l.long regroup parts.0 in
+    let numbers : seat_numbers (take k seats) ≡ inputs_at n l.asked = first-numbers l.asked (l.role ∷ rest) outs n k seats l.long regroup parts.0 in
     let own : (seat_of l.role).columns ≡ numbers_at n l.role =
     sym (append-none (seat_of l.role).columns) ∙ numbers-at (l.role ∷ []) outs outs n (parts.1, tt) ∙ append-none (numbers_at n l.role) in
     let stops-so : HasStopped s (left_with runner plants d gone) (l.asked ++ l.role ∷ []) rest =

@@ -22,7 +22,7 @@ use Rattle.bl_plant_drive.specs.declared.fault.DriveFault.TheVariants as fault
 use Rattle.bl_plant_drive.specs.declared.seat.Seat.{Seat}
 use Rattle.bl_plant_drive.specs.inner.Begins.{HasBegun, HasNotBegun}
 use Rattle.bl_plant_drive.specs.inner.Names.{AreNamed, HasOtherWidth, IsWide}
-use Rattle.bl_plant_drive.specs.inner.Round.{RoundEnds, numbers_in}
+use Rattle.bl_plant_drive.specs.inner.Round.{RoundEnds, seat_numbers}
 use Rattle.bl_plant_drive.specs.inner.Stands.{Scene}
 use Rattle.bl_plant_drive.specs.inner.Ticks.{AreTold, Goes, IsTickOfRunner, RowCloses, RowEnds, RunsOn, TickCloses, TickEnds, hearing_of, new_seat}
 use Rattle.bl_plant_drive.specs.inner.Ticks.{scene_of, with_tick, with_trap}
@@ -50,7 +50,7 @@ same-inputs s runner d inputs runs is = is ∙ ap inputs_of (same-file s runner 
 
 -- the seats have as many numbers as there are inputs
 pub seats-wide : (s : DriveSetting) (ticks : ℕ) (runner : Running) (plants : List PlantView) (seats : List Seat) (d : Driven) (inputs : List Column) →
-    Goes s ticks runner plants seats d → inputs ≡ inputs_of runner.parts → length (numbers_in seats) ≡ length inputs
+    Goes s ticks runner plants seats d → inputs ≡ inputs_of runner.parts → length (seat_numbers seats) ≡ length inputs
 seats-wide s ticks runner plants seats d inputs goes is =
     wide-by (scene_of s d) 0 plants seats d.gone goes.stands ∙ goes.runs.wide ∙ ap length (sym (same-inputs s runner d inputs goes.runs is))
 

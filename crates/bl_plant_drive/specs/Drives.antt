@@ -69,14 +69,14 @@ pub record HasDriven (s : DriveSetting) (cast : List Role) (d : Driven) : Type 0
 -- ---- names and widths
 
 -- the width of a plant that a name means; 0 where it means none
-abbrev pub width_of : Option PlantView → ℕ
-width_of None = 0
-width_of (Some p) = p.width
+abbrev pub plant_width : Option PlantView → ℕ
+plant_width None = 0
+plant_width (Some p) = p.width
 
 -- how many columns the plants have that the names mean
 abbrev pub widths_of : List PlantView → List ℕ → ℕ
 widths_of plants [] = 0
-widths_of plants (name ∷ names) = width_of (first_named name plants) + widths_of plants names
+widths_of plants (name ∷ names) = plant_width (first_named name plants) + widths_of plants names
 
 -- each name means a plant
 abbrev pub AreThere : List PlantView → List ℕ → Type 0

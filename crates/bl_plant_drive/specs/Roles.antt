@@ -99,13 +99,13 @@ pub record Plays (outs told : List (List ℤ)) (asked : ℕ) (r : Role) : Type 0
 -- ---- inputs
 
 -- the last row of a list, or this one
-abbrev pub last_of : List ℤ → List (List ℤ) → List ℤ
-last_of first [] = first
-last_of first (row ∷ rows) = last_of row rows
+abbrev pub last_row : List ℤ → List (List ℤ) → List ℤ
+last_row first [] = first
+last_row first (row ∷ rows) = last_row row rows
 
 -- the numbers of a plant's columns in the tick after so many complete ones: the last row that it gave, or zeros
 abbrev pub numbers_at : ℕ → Role → List ℤ
-numbers_at k r = last_of (replicate r.plant.width (pos 0)) (take (suc k) r.part.given)
+numbers_at k r = last_row (replicate r.plant.width (pos 0)) (take (suc k) r.part.given)
 
 -- the row of inputs of that tick
 abbrev pub inputs_at : ℕ → List Role → List ℤ

@@ -1,7 +1,7 @@
 //! The row of inputs of a tick.
 
 ghost use Rattle.std.specs.Prelude.{◌≡◌, ◌+◌, ◌<◌, ◌≤◌, ◌^◌, ◌++◌, drop, length, take, IfOk};
-ghost use Rattle.bl_plant_drive.specs.inner.Round.{numbers_in};
+ghost use Rattle.bl_plant_drive.specs.inner.Round.{seat_numbers};
 
 use crate::seat::Seat;
 use bl_tree::{NoMemory, Row};
@@ -9,8 +9,8 @@ use std::alloc::Global;
 
 /// The numbers of all seats as one row, of which it is known how many they are.
 pub fn row_of(alloc: Global, seats: &[Seat], wide: u32) -> Result<Row, NoMemory>
-    requires { length (numbers_in seats.now) ≡ wide }
-    ensures { IfOk result (λ row. row ≡ numbers_in seats.now) }
+    requires { length (seat_numbers seats.now) ≡ wide }
+    ensures { IfOk result (λ row. row ≡ seat_numbers seats.now) }
 {
     let mut row = Row::new(alloc, wide)?;
     write_seats(seats, &mut row);
@@ -18,9 +18,9 @@ pub fn row_of(alloc: Global, seats: &[Seat], wide: u32) -> Result<Row, NoMemory>
 }
 
 fn write_seats(seats: &[Seat], into: &mut Row)
-    requires wide { length (numbers_in seats.now) ≡ length into.old }
+    requires wide { length (seat_numbers seats.now) ≡ length into.old }
     requires few { length into.old < 2 ^ 32 }
-    ensures { into.new ≡ numbers_in seats.now }
+    ensures { into.new ≡ seat_numbers seats.now }
 {
     let mut first = 0;
     for k in 0..seats.len() {

@@ -3,7 +3,7 @@
 ghost use Rattle.std.specs.Prelude.{◌≡◌, map, nat_eq};
 ghost use Rattle.std.specs.List.{list_any};
 ghost use Rattle.bl_ctext_semantics.specs.Saturated.{saturated};
-ghost use Rattle.bl_plant_drive.specs.Drives.{widths_of, width_of};
+ghost use Rattle.bl_plant_drive.specs.Drives.{widths_of, plant_width};
 ghost use Rattle.bl_plant_drive.specs.Roles.{first_named};
 ghost use Rattle.bl_plant_drive.specs.inner.Names.{AreDistinct, AreMeant, AreNamed, IsWide};
 
@@ -51,7 +51,7 @@ fn is_among(names: &[PlantName], name: PlantName) -> bool
 
 /// The width of the plant that a name means; 0 where it means none.
 pub fn width_named(plants: &[Box<dyn Plant>], name: PlantName) -> u32
-    ensures { result ≡ width_of (first_named name.number (map (λ b. shown b) plants.now)) }
+    ensures { result ≡ plant_width (first_named name.number (map (λ b. shown b) plants.now)) }
 {
     match place_of(plants, name) {
         Some(at) => width_at(plants, at),

@@ -2,7 +2,7 @@
 
 ghost use Rattle.std.specs.Prelude.{◌≡◌, ◌+◌, ◌<◌, ◌≤◌, ◌^◌, map, length, take, drop};
 ghost use Rattle.bl_tree.specs.Scalar.{in_range};
-ghost use Rattle.bl_plant_drive.specs.inner.Round.{IsAsked, IsTested, RoundEnds, numbers_in};
+ghost use Rattle.bl_plant_drive.specs.inner.Round.{IsAsked, IsTested, RoundEnds, seat_numbers};
 ghost use Rattle.bl_plant_drive.specs.inner.Stands.{AskedSoFar, Scene};
 
 use crate::ask::ask;
@@ -70,7 +70,7 @@ pub fn ask_all(
     gone: &mut List<Gone>,
 ) -> Result<(), DriveFault>
     requires stands { (s : Scene) × (length s.ins ≡ ticks) × AskedSoFar s 0 (map (λ b. shown b) plants.old.items) seats.old.items gone.old }
-    requires wide { length (numbers_in seats.old.items) ≡ length inputs.now }
+    requires wide { length (seat_numbers seats.old.items) ≡ length inputs.now }
     requires few { length inputs.now < 2 ^ 32 }
     ensures { (s : Scene) → length s.ins ≡ ticks → AskedSoFar s 0 (map (λ b. shown b) plants.old.items) seats.old.items gone.old →
         RoundEnds s inputs.now (map (λ b. shown b) plants.new.items) seats.new.items gone.new result }

@@ -4,7 +4,7 @@ ghost use Rattle.std.specs.Prelude.{◌≡◌, ◌<◌, ◌^◌, IfOk, length, m
 ghost use Rattle.bl_ctext_semantics.specs.Cells.{outputs_of};
 ghost use Rattle.bl_crun.specs.Running.{Running};
 ghost use Rattle.bl_plant_drive.specs.Drives.{DriveSetting};
-ghost use Rattle.bl_plant_drive.specs.inner.Round.{numbers_in};
+ghost use Rattle.bl_plant_drive.specs.inner.Round.{seat_numbers};
 ghost use Rattle.bl_plant_drive.specs.inner.Stands.{AskedSoFar, Scene};
 ghost use Rattle.bl_plant_drive.specs.inner.Ticks.{Goes, HasInputs, IsTickOfRunner, RowCloses, RowEnds, TickCloses, TickEnds};
 
@@ -51,7 +51,7 @@ fn ask_row(
     gone: &mut List<Gone>,
 ) -> Result<Row, DriveFault>
     requires stands { (s : Scene) × (length s.ins ≡ ticks) × AskedSoFar s 0 (map (λ b. shown b) plants.old.items) seats.old.items gone.old }
-    requires wide { length (numbers_in seats.old.items) ≡ length inputs.now }
+    requires wide { length (seat_numbers seats.old.items) ≡ length inputs.now }
     requires few { length inputs.now < 2 ^ 32 }
     ensures { (s : Scene) → length s.ins ≡ ticks → AskedSoFar s 0 (map (λ b. shown b) plants.old.items) seats.old.items gone.old →
         RowEnds s inputs.now (map (λ b. shown b) plants.new.items) seats.new.items gone.new result }

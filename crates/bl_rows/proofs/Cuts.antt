@@ -43,7 +43,7 @@ use Rattle.std.proofs.lemmas.List.{get_or-take}
 use Rattle.std.proofs.lemmas.Bool.Decides.{nat_tests}
 use Rattle.std.proofs.Math.Seq.{split_at}
 use Rattle.std.specs.List.{prefix_len, position_or_len}
-use Rattle.bl_rows.specs.Lines.{Cut, cut, led_by, whole_lines, unfinished, last_line, lines_of, has_feed}
+use Rattle.bl_rows.specs.Lines.{Cut, cut, led_by_byte, whole_lines, unfinished, last_line, lines_of, has_feed}
 
 pub or_false : (a b : Bool) → (a || b) ≡ false → (a ≡ false) × (b ≡ false)
 or_false true b h = cc
@@ -66,7 +66,7 @@ cut_none (b ∷ l) h = let p = or_false (b == 10) (has_feed l) h in rw (p.0, cut
 cut_feed : (b : ℕ) (bytes : List ℕ) → (b == 10) ≡ true → cut (b ∷ bytes) ≡ record { whole = [] ∷ (cut bytes).whole; rest = (cut bytes).rest }
 cut_feed b bytes h = rw h refl
 
-pub cut_other : (b : ℕ) (bytes : List ℕ) → (b == 10) ≡ false → cut (b ∷ bytes) ≡ led_by b (cut bytes).whole (cut bytes).rest
+pub cut_other : (b : ℕ) (bytes : List ℕ) → (b == 10) ≡ false → cut (b ∷ bytes) ≡ led_by_byte b (cut bytes).whole (cut bytes).rest
 cut_other b bytes h = rw h refl
 
 -- the lines of bytes in two pieces, by the lines of the first
@@ -74,7 +74,7 @@ abbrev pub after_piece : Cut → List ℕ → Cut
 after_piece c rest = record { whole = c.whole ++ whole_lines (c.rest ++ rest); rest = unfinished (c.rest ++ rest) }
 
 led_append : (b : ℕ) (w : List (List ℕ)) (u rest : List ℕ) → (b == 10) ≡ false
-    → led_by b (w ++ whole_lines (u ++ rest)) (unfinished (u ++ rest)) ≡ after_piece (led_by b w u) rest
+    → led_by_byte b (w ++ whole_lines (u ++ rest)) (unfinished (u ++ rest)) ≡ after_piece (led_by_byte b w u) rest
 led_append b [] u rest h = sym (cut_other b (u ++ rest) h)
 led_append b (l ∷ w) u rest h = refl
 
@@ -85,14 +85,14 @@ cut_append (b ∷ x) rest = by_byte (b == 10) refl (cut_append x rest)
     by_byte : (t : Bool) → (b == 10) ≡ t → cut (x ++ rest) ≡ after_piece (cut x) rest → cut (b ∷ (x ++ rest)) ≡ after_piece (cut (b ∷ x)) rest
     by_byte true h e = cut_feed b (x ++ rest) h ∙ (ap (λ (c : Cut). let r : Cut = record { whole = [] ∷ c.whole; rest = c.rest } in
         r) e ∙ ap (λ (c : Cut). after_piece c rest) (sym (cut_feed b x h)))
-    by_byte false h e = cut_other b (x ++ rest) h ∙ (ap (λ (c : Cut). led_by b c.whole c.rest) e
+    by_byte false h e = cut_other b (x ++ rest) h ∙ (ap (λ (c : Cut). led_by_byte b c.whole c.rest) e
         ∙ (led_append b (whole_lines x) (unfinished x) rest h ∙ ap (λ (c : Cut). after_piece c rest) (sym (cut_other b x h))))
 
 pub lines_append : (x rest : List ℕ) → lines_of (x ++ rest) ≡ whole_lines x ++ lines_of (unfinished x ++ rest)
 lines_append x rest = ap (λ (c : Cut). c.whole ++ last_line c.rest) (cut_append x rest) ∙ append_assoc (whole_lines x) _ _
 
 -- what follows the last line feed has none
-led_feedless : (b : ℕ) (w : List (List ℕ)) (u : List ℕ) → (b == 10) ≡ false → has_feed u ≡ false → has_feed (led_by b w u).rest ≡ false
+led_feedless : (b : ℕ) (w : List (List ℕ)) (u : List ℕ) → (b == 10) ≡ false → has_feed u ≡ false → has_feed (led_by_byte b w u).rest ≡ false
 led_feedless b [] u h e = rw (h, e) refl
 led_feedless b (l ∷ w) u h e = e
 

@@ -37,7 +37,7 @@ use Rattle.bl_rows.specs.declared.fault.RowFault.TheVariants.{BadHeader, BadRow,
 use Rattle.bl_rows.specs.declared.verdict.Verdict.{Verdict}
 use Rattle.bl_rows.specs.declared.verdict.Verdict.TheVariants.{Passed, Header, Numbers, Bad}
 use Rattle.bl_rows.specs.declared.verdict.RowPlace.{RowPlace}
-use Rattle.bl_rows.specs.Lines.{Cut, cut, led_by, whole_lines, unfinished, last_line, lines_of, has_feed}
+use Rattle.bl_rows.specs.Lines.{Cut, cut, led_by_byte, whole_lines, unfinished, last_line, lines_of, has_feed}
 use Rattle.bl_rows.specs.Reading.{
   Reading,
   Scan,
@@ -46,11 +46,11 @@ use Rattle.bl_rows.specs.Reading.{
   verdict,
   over_limit,
   overrun,
-  after,
+  place_after,
   led_by_line,
   RowsRead,
-  told,
-  first_of,
+  read_to_end,
+  earlier_fault,
   fault_in,
   rows_in,
   read_on,
@@ -60,7 +60,7 @@ use Rattle.bl_rows.specs.Reading.{
   fault_at_end,
   Front,
   Unrefused,
-  answer_of,
+  call_answer,
 }
 use Rattle.bl_rows.specs.inner.Steps.{fault_of, rows_by, with_rows}
 use Rattle.bl_rows.proofs.Scans.{ok_by, rows_of_scan}
@@ -86,15 +86,15 @@ scan_append : (columns : List Column) (at : RowPlace) (a b : List (List ℕ)) �
 unfolding then_by
 scan_append columns at [] b = refl
 scan_append columns at (line ∷ a) b =
-    ap (λ (s : Scan). led_by_line at (verdict columns at line) s) (scan_append columns (after at (verdict columns at line)) a b)
-    ∙ led_then columns at (verdict columns at line) _ (scan columns (after at (verdict columns at line)) a) b refl
+    ap (λ (s : Scan). led_by_line at (verdict columns at line) s) (scan_append columns (place_after at (verdict columns at line)) a b)
+    ∙ led_then columns at (verdict columns at line) _ (scan columns (place_after at (verdict columns at line)) a) b refl
 
 -- the lines of bytes that go on after a start without a line feed
 led_all : List ℕ → List (List ℕ) → List ℕ → Cut
 led_all u [] r = record { whole = []; rest = u ++ r }
 led_all u (l ∷ w) r = record { whole = (u ++ l) ∷ w; rest = r }
 
-led_more : (b : ℕ) (u : List ℕ) (w : List (List ℕ)) (r : List ℕ) → led_by b (led_all u w r).whole (led_all u w r).rest ≡ led_all (b ∷ u) w r
+led_more : (b : ℕ) (u : List ℕ) (w : List (List ℕ)) (r : List ℕ) → led_by_byte b (led_all u w r).whole (led_all u w r).rest ≡ led_all (b ∷ u) w r
 unfolding led_all
 led_more b u [] r = refl
 led_more b u (l ∷ w) r = refl
@@ -108,7 +108,7 @@ cut_led : (u rest : List ℕ) → has_feed u ≡ false → cut (u ++ rest) ≡ l
 cut_led [] rest h = sym (led_none (whole_lines rest) (unfinished rest))
 cut_led (b ∷ u) rest h =
     let p = or_false (b == 10) (has_feed u) h in
-    cut_other b (u ++ rest) p.0 ∙ (ap (λ (c : Cut). led_by b c.whole c.rest) (cut_led u rest p.1) ∙ led_more b u (whole_lines rest) (unfinished rest))
+    cut_other b (u ++ rest) p.0 ∙ (ap (λ (c : Cut). led_by_byte b c.whole c.rest) (cut_led u rest p.1) ∙ led_more b u (whole_lines rest) (unfinished rest))
 
 -- the first of these lines begins with that start
 record Begins (start : List ℕ) (lines : List (List ℕ)) : Type 0 where
@@ -139,14 +139,14 @@ overrun_stops columns at (b ∷ u) rest fault h e =
     over_grows at (length (b ∷ u)) _ fault (omega (arith, length-append (b ∷ u) start.more)) e in
     rw (start.is, past_limit columns at ((b ∷ u) ++ start.more) fault long) refl
 
-told_rows : (rows : List (List ℤ)) (s : Scan) → told (with_rows rows s) ≡ led_by_rows rows (told s)
+told_rows : (rows : List (List ℤ)) (s : Scan) → read_to_end (with_rows rows s) ≡ led_by_rows rows (read_to_end s)
 told_rows rows s = refl
 
 -- a scan that stopped, or goes on with what is unfinished
 by_scan : (columns : List Column) (s : Scan) (u rest : List ℕ) (o p stop : Option RowFault) (later : RowsRead) → has_feed u ≡ false →
-    s.fault ≡ o → overrun s.at u ≡ p → stop ≡ first_of s.fault (overrun s.at u)
-    → (stop ≡ None → later ≡ told (scan columns s.at (lines_of (u ++ rest))))
-    → told (then_by columns s.fault s (lines_of (u ++ rest))) ≡ led_by_rows s.rows (unless_stopped stop later)
+    s.fault ≡ o → overrun s.at u ≡ p → stop ≡ earlier_fault s.fault (overrun s.at u)
+    → (stop ≡ None → later ≡ read_to_end (scan columns s.at (lines_of (u ++ rest))))
+    → read_to_end (then_by columns s.fault s (lines_of (u ++ rest))) ≡ led_by_rows s.rows (unless_stopped stop later)
 unfolding then_by
 by_scan columns s u rest (Some fault) p stop later h e g k f = rw (k, e, append-nil) refl
 by_scan columns s u rest None (Some fault) stop later h e g k f = rw (k, e, g, overrun_stops columns s.at u rest fault h g, append-nil) refl
@@ -160,18 +160,18 @@ unfolding rows_after rows_in fault_in read_on
 after_piece before now piece rest running stop state =
     let x = before.line ++ piece in
     let s = scanned before piece in
-    let fault : now.stop ≡ first_of s.fault (overrun s.at (unfinished x)) = stop ∙ rw running refl in
+    let fault : now.stop ≡ earlier_fault s.fault (overrun s.at (unfinished x)) = stop ∙ rw running refl in
     let lines : scan before.columns before.at (lines_of (before.line ++ (piece ++ rest)))
     ≡ then_by before.columns s.fault s (lines_of (unfinished x ++ rest)) =
     ap (λ l. scan before.columns before.at (lines_of l)) (sym (append_assoc before.line piece rest))
     ∙ (ap (λ l. scan before.columns before.at l) (lines_append x rest)
     ∙ scan_append before.columns before.at (whole_lines x) (lines_of (unfinished x ++ rest))) in
-    rw running (ap told lines ∙ by_scan before.columns s (unfinished x) rest s.fault (overrun s.at (unfinished x)) now.stop _
+    rw running (ap read_to_end lines ∙ by_scan before.columns s (unfinished x) rest s.fault (overrun s.at (unfinished x)) now.stop _
     (unfinished_feedless x) refl refl fault
-    (λ e. ap (λ (r : Reading). told (scan r.columns r.at (lines_of (r.line ++ rest)))) (state e)))
+    (λ e. ap (λ (r : Reading). read_to_end (scan r.columns r.at (lines_of (r.line ++ rest)))) (state e)))
 
 -- the bytes that end
-pub rows_at_end : (s : Reading) → s.stop ≡ None → has_feed s.line ≡ false → rows_after s [] ≡ told (scan s.columns s.at (last_line s.line))
+pub rows_at_end : (s : Reading) → s.stop ≡ None → has_feed s.line ≡ false → rows_after s [] ≡ read_to_end (scan s.columns s.at (last_line s.line))
 unfolding rows_after
 rows_at_end s running h =
     let lines : lines_of (s.line ++ []) ≡ last_line s.line =
@@ -180,18 +180,18 @@ rows_at_end s running h =
 
 -- bytes that end after a line feed
 pub ended_clean : (s : Reading) → s.stop ≡ None → s.line ≡ [] → rows_after s [] ≡ record { rows = []; fault = fault_at_end s.at None }
-ended_clean s running empty = rows_at_end s running (rw empty refl) ∙ ap (λ l. told (scan s.columns s.at (last_line l))) empty
+ended_clean s running empty = rows_at_end s running (rw empty refl) ∙ ap (λ l. read_to_end (scan s.columns s.at (last_line l))) empty
 
 -- a last line that has bytes
-led_last : (at : RowPlace) (v : Verdict) → told (led_by_line at v (record { rows = []; at = after at v; fault = None }))
-    ≡ record { rows = rows_by v; fault = fault_at_end (after at v) (fault_of v) }
+led_last : (at : RowPlace) (v : Verdict) → read_to_end (led_by_line at v (record { rows = []; at = place_after at v; fault = None }))
+    ≡ record { rows = rows_by v; fault = fault_at_end (place_after at v) (fault_of v) }
 led_last at Passed = refl
 led_last at Header = refl
 led_last at (Numbers row) = refl
 led_last at (Bad fault) = refl
 
-last_scan : (columns : List Column) (at : RowPlace) (line : List ℕ) → line ≢ [] → told (scan columns at (last_line line))
-    ≡ record { rows = rows_by (verdict columns at line); fault = fault_at_end (after at (verdict columns at line)) (fault_of (verdict columns at line)) }
+last_scan : (columns : List Column) (at : RowPlace) (line : List ℕ) → line ≢ [] → read_to_end (scan columns at (last_line line))
+    ≡ record { rows = rows_by (verdict columns at line); fault = fault_at_end (place_after at (verdict columns at line)) (fault_of (verdict columns at line)) }
 last_scan columns at [] h = absurd (h refl)
 last_scan columns at (b ∷ line) h = led_last at (verdict columns at (b ∷ line))
 
@@ -199,13 +199,13 @@ ended_told : (s : Reading) → s.stop ≡ None → has_feed s.line ≡ false →
     ≡ record {
       rows = rows_by (verdict s.columns s.at (s.line ++ []));
       fault =
-          fault_at_end (after s.at (verdict s.columns s.at (s.line ++ []))) (fault_of (verdict s.columns s.at (s.line ++ [])));
+          fault_at_end (place_after s.at (verdict s.columns s.at (s.line ++ []))) (fault_of (verdict s.columns s.at (s.line ++ [])));
     }
 ended_told s running h some = rows_at_end s running h ∙ (last_scan s.columns s.at s.line some
     ∙ ap (λ l. let t : RowsRead = record {
       rows = rows_by (verdict s.columns s.at l);
       fault =
-          fault_at_end (after s.at (verdict s.columns s.at l)) (fault_of (verdict s.columns s.at l));
+          fault_at_end (place_after s.at (verdict s.columns s.at l)) (fault_of (verdict s.columns s.at l));
     } in t) (sym (append-nil s.line)))
 
 pub ended_rows : (s : Reading) (was now : List (List ℤ)) → s.stop ≡ None → has_feed s.line ≡ false → s.line ≢ [] →
@@ -214,7 +214,7 @@ ended_rows s was now running h some e = e ∙ ap (λ r. was ++ r) (sym (ap (λ (
 
 pub ended_fault : (s : Reading) (stop : Option RowFault) (at : RowPlace) → s.stop ≡ None → has_feed s.line ≡ false → s.line ≢ [] →
     stop ≡ fault_of (verdict s.columns s.at (s.line ++ []))
-    → at ≡ after s.at (verdict s.columns s.at (s.line ++ [])) → fault_at_end at stop ≡ (rows_after s []).fault
+    → at ≡ place_after s.at (verdict s.columns s.at (s.line ++ [])) → fault_at_end at stop ≡ (rows_after s []).fault
 ended_fault s stop at running h some e g = rw (e, g) (sym (ap (λ (t : RowsRead). t.fault) (ended_told s running h some)))
 
 -- rows that were all handed over, or none
@@ -257,7 +257,7 @@ stopped_cut s piece rest fault e = rw (stopped_told s (piece ++ rest) fault e, s
 
 -- what feed says of any cut
 pub answered_cut : {E : Type 0} (taken : Result Unit E) (before mid now : Reading) (piece rest : List ℕ) (r : Result Unit RowFault) → before.stop ≡ None
-    → OnOk taken ((r ≡ answer_of mid.stop) × (now ≡ mid)) → OnErr taken ((r ≡ Err NoMemory) × (now ≡ record mid { stop = Some NoMemory }))
+    → OnOk taken ((r ≡ call_answer mid.stop) × (now ≡ mid)) → OnErr taken ((r ≡ Err NoMemory) × (now ≡ record mid { stop = Some NoMemory }))
     → OnOk taken (mid.stop ≡ fault_in before piece) → OnOk taken (mid.stop ≡ None → mid ≡ read_on before piece)
     → Unrefused r (rows_after before (piece ++ rest) ≡ led_by_rows (rows_in before piece) (rows_after now rest))
 answered_cut (Ok x) before mid now piece rest r running ok err stop state = unrefused_by r (rw ok.1 (after_piece before mid piece rest running stop state))
@@ -268,7 +268,7 @@ record Joins (before now : Reading) (piece more : List ℕ) : Type 0 where
   pub rows : rows_in before (piece ++ more) ≡ rows_in before piece ++ rows_in now more
   pub fault : fault_in before (piece ++ more) ≡ fault_in now more
 
-no_fault : (first later : Option RowFault) → first_of first later ≡ None → (first ≡ None) × (later ≡ None)
+no_fault : (first later : Option RowFault) → earlier_fault first later ≡ None → (first ≡ None) × (later ≡ None)
 no_fault None later e = (refl, e)
 no_fault (Some fault) later e = cc
 
@@ -289,7 +289,7 @@ joined_rest before now piece more state =
     ∙ (ap (λ (c : Cut). c.rest) (cut_append (before.line ++ piece) more) ∙ rw state refl)
 
 fault_by_scan : (s : Reading) (piece : List ℕ) → s.stop ≡ None →
-    fault_in s piece ≡ first_of (scanned s piece).fault (overrun (scanned s piece).at (unfinished (s.line ++ piece)))
+    fault_in s piece ≡ earlier_fault (scanned s piece).fault (overrun (scanned s piece).at (unfinished (s.line ++ piece)))
 unfolding fault_in
 fault_by_scan s piece running = rw running refl
 
@@ -303,13 +303,13 @@ pieces_join before now piece more running still clean state =
           ∙ (ap (λ r. r ++ (scanned now more).rows) (sym (rows_of_scan before piece running))
           ∙ ap (λ r. rows_in before piece ++ r) (sym (rows_of_scan now more still))));
       fault = fault_by_scan before (piece ++ more) running
-          ∙ (ap (λ (c : Scan). first_of c.fault (overrun c.at (unfinished (before.line ++ (piece ++ more))))) scans
-          ∙ (ap (λ u. first_of (scanned now more).fault (overrun (scanned now more).at u)) (joined_rest before now piece more state)
+          ∙ (ap (λ (c : Scan). earlier_fault c.fault (overrun c.at (unfinished (before.line ++ (piece ++ more))))) scans
+          ∙ (ap (λ u. earlier_fault (scanned now more).fault (overrun (scanned now more).at u)) (joined_rest before now piece more state)
           ∙ sym (fault_by_scan now more still)));
     }
 
 pub answered_joins : {E : Type 0} (taken : Result Unit E) (before mid now : Reading) (piece : List ℕ) (r : Result Unit RowFault) → before.stop ≡ None
-    → OnOk taken ((r ≡ answer_of mid.stop) × (now ≡ mid)) → OnErr taken ((r ≡ Err NoMemory) × (now ≡ record mid { stop = Some NoMemory }))
+    → OnOk taken ((r ≡ call_answer mid.stop) × (now ≡ mid)) → OnErr taken ((r ≡ Err NoMemory) × (now ≡ record mid { stop = Some NoMemory }))
     → OnOk taken (mid.stop ≡ fault_in before piece) → OnOk taken (mid.stop ≡ None → mid ≡ read_on before piece)
     → OnOk r ((more : List ℕ) → (rows_in before (piece ++ more) ≡ rows_in before piece ++ rows_in now more)
     × (fault_in before (piece ++ more) ≡ fault_in now more))

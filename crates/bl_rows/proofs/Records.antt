@@ -35,7 +35,7 @@ use Rattle.std.specs.List.{slice_get}
 use Rattle.std.specs.Str.{bytes_eq}
 use Rattle.csv.specs.Records.{field_at}
 use Rattle.bl_tree.specs.declared.row.Column.{Column}
-use Rattle.bl_rows.specs.Fields.{both, value_of, values_of, is_header, are_names, row_of, is_number, number_of}
+use Rattle.bl_rows.specs.Fields.{both, value_of, values_of, is_header, are_names, row_of, is_this_number, number_of}
 use Rattle.bl_rows.specs.inner.Found.{is_word, starts_with_tick}
 use Rattle.bl_rows.proofs.Seq.{drop-at, drop-got}
 
@@ -129,7 +129,7 @@ values_length (c ∷ columns) (f ∷ fields) h = rw (values_length columns field
 -- a record with another number of fields is no row
 pub row_length : (columns : List Column) (n : ℕ) (fields : List (List ℕ)) → length fields ≢ length columns + 1 → None ≡ row_of columns n fields
 row_length columns n [] h = refl
-row_length columns n (tick ∷ fields) h = if_none (is_number n (number_of tick)) _ (values_length columns fields (λ e. h (omega arith)))
+row_length columns n (tick ∷ fields) h = if_none (is_this_number n (number_of tick)) _ (values_length columns fields (λ e. h (omega arith)))
   where
     if_none : (b : Bool) (o : Option (List ℤ)) → o ≡ None → None ≡ (if b then o else None)
     if_none true o e = sym e

@@ -33,7 +33,7 @@ use Rattle.bl_rows.specs.declared.verdict.Verdict.{Verdict}
 use Rattle.bl_rows.specs.declared.verdict.Verdict.TheVariants.{Passed, Header, Numbers, Bad}
 use Rattle.bl_rows.specs.declared.verdict.RowPlace.{RowPlace}
 use Rattle.bl_rows.specs.Lines.{Cut, cut, whole_lines, unfinished, has_feed}
-use Rattle.bl_rows.specs.Reading.{Reading, Scan, scan, scanned, verdict, overrun, after, led_by_line, first_of, fault_in, rows_in, read_on, Front}
+use Rattle.bl_rows.specs.Reading.{Reading, Scan, scan, scanned, verdict, overrun, place_after, led_by_line, earlier_fault, fault_in, rows_in, read_on, Front}
 use Rattle.bl_rows.specs.inner.Steps.{fault_of, rows_by, left_after_stop, with_rows}
 use Rattle.bl_rows.proofs.Cuts.{cut_line, cut_none, feedless_append}
 
@@ -52,8 +52,8 @@ pub record Midst (before : Reading) (piece : List ℕ) (was now : List (List ℤ
 
 -- what one line gives, and what is left then
 led : (columns columns2 : List Column) (at at2 : RowPlace) (v : Verdict) (stop2 : Option RowFault) (w w2 : List (List ℕ)) →
-    stop2 ≡ fault_of v → at2 ≡ after at v → columns2 ≡ columns → (stop2 ≡ None → w2 ≡ w)
-    → led_by_line at v (scan columns (after at v) w) ≡ with_rows (rows_by v) (left_after_stop stop2 at2 (scan columns2 at2 w2))
+    stop2 ≡ fault_of v → at2 ≡ place_after at v → columns2 ≡ columns → (stop2 ≡ None → w2 ≡ w)
+    → led_by_line at v (scan columns (place_after at v) w) ≡ with_rows (rows_by v) (left_after_stop stop2 at2 (scan columns2 at2 w2))
 led columns columns2 at at2 Passed stop2 w w2 e g h k = rw (e, g, h, k e) refl
 led columns columns2 at at2 Header stop2 w w2 e g h k = rw (e, g, h, k e) refl
 led columns columns2 at at2 (Numbers row) stop2 w w2 e g h k = rw (e, g, h, k e) refl
@@ -71,12 +71,12 @@ pub midst_line : (before : Reading) (piece : List ℕ) (was now now2 : List (Lis
     Midst before piece was now s rest → s.stop ≡ None
     → has_feed s.line ≡ false → has_feed front ≡ false → rest ≡ front ++ (10 ∷ rest2)
     → s2.stop ≡ fault_of (verdict s.columns s.at (s.line ++ front)) →
-    s2.at ≡ after s.at (verdict s.columns s.at (s.line ++ front)) → now2 ≡ now ++ rows_by (verdict s.columns s.at (s.line ++ front))
+    s2.at ≡ place_after s.at (verdict s.columns s.at (s.line ++ front)) → now2 ≡ now ++ rows_by (verdict s.columns s.at (s.line ++ front))
     → (s2.stop ≡ None → s2.line ≡ []) → s2.columns ≡ s.columns → s2.ended ≡ s.ended → Midst before piece was now2 s2 rest2
 midst_line before piece was now now2 s s2 rest front rest2 m running feedless front_feedless splits stop2 at2 rows2 line2 columns2 ended2 =
     let v = verdict s.columns s.at (s.line ++ front) in
     let cuts = line_cut s.line front rest2 rest feedless front_feedless splits in
-    let first : left s rest ≡ led_by_line s.at v (scan s.columns (after s.at v) (whole_lines rest2)) =
+    let first : left s rest ≡ led_by_line s.at v (scan s.columns (place_after s.at v) (whole_lines rest2)) =
     rw (running) (ap (λ (c : Cut). scan s.columns s.at c.whole) cuts) in
     let then : left s rest ≡ with_rows (rows_by v) (left s2 rest2) =
     first ∙ led s.columns s2.columns s.at s2.at v s2.stop (whole_lines rest2) (whole_lines (s2.line ++ rest2)) stop2 at2 columns2
@@ -113,7 +113,7 @@ stopped_rows None at c h = cc
 stopped_rows (Some fault) at c h = refl
 
 stopped_fault : (stop : Option RowFault) (at : RowPlace) (c : Scan) → is_none stop ≡ false → (rest : Option RowFault) →
-    first_of (left_after_stop stop at c).fault rest ≡ stop
+    earlier_fault (left_after_stop stop at c).fault rest ≡ stop
 stopped_fault None at c h rest = cc
 stopped_fault (Some fault) at c h rest = refl
 
@@ -127,7 +127,7 @@ pub midst_stopped_fault : (before : Reading) (piece : List ℕ) (was now : List 
     → s.stop ≡ fault_in before piece
 unfolding fault_in
 midst_stopped_fault before piece was now s rest running m h =
-    rw running (sym (ap (λ (c : Scan). first_of c.fault (overrun c.at (unfinished (before.line ++ piece)))) m.gives ∙ stopped_fault s.stop s.at _ h _))
+    rw running (sym (ap (λ (c : Scan). earlier_fault c.fault (overrun c.at (unfinished (before.line ++ piece)))) m.gives ∙ stopped_fault s.stop s.at _ h _))
 
 -- no line feed is left
 left_none : (s : Reading) (rest : List ℕ) → s.stop ≡ None → has_feed s.line ≡ false → has_feed rest ≡ false →
@@ -156,7 +156,8 @@ pub midst_kept_fault : (before : Reading) (piece : List ℕ) (was now : List (Li
     → has_feed s.line ≡ false → has_feed rest ≡ false → stop2 ≡ overrun s.at (s.line ++ rest) → stop2 ≡ fault_in before piece
 unfolding fault_in
 midst_kept_fault before piece was now s rest stop2 running m still h g e =
-    rw running (sym (ap (λ (c : Scan). first_of c.fault (overrun c.at (unfinished (before.line ++ piece)))) (kept_scan before piece was now s rest m still h g)
+    rw running (sym (ap (λ (c : Scan). earlier_fault c.fault (overrun c.at (unfinished (before.line ++ piece))))
+    (kept_scan before piece was now s rest m still h g)
     ∙ (ap (λ u. overrun s.at u) (kept_rest before piece was now s rest m still h g) ∙ sym e)))
 
 abbrev reading_of : List Column → RowPlace → List ℕ → Option RowFault → Bool → Reading

@@ -7,7 +7,7 @@ use Rattle.bl_rows.specs.declared.fault.RowFault.{RowFault}
 use Rattle.bl_rows.specs.declared.verdict.Verdict.TheVariants.{Bad}
 use Rattle.bl_rows.specs.declared.verdict.RowPlace.{RowPlace}
 use Rattle.bl_rows.specs.Fields.{records_in}
-use Rattle.bl_rows.specs.Reading.{verdict, over_limit, overrun, judged}
+use Rattle.bl_rows.specs.Reading.{verdict, over_limit, overrun, judged_line}
 
 pub past_limit : (columns : List Column) (at : RowPlace) (line : List ℕ) (fault : RowFault) →
     over_limit at (length line) ≡ Some fault → verdict columns at line ≡ Bad fault
@@ -15,7 +15,7 @@ unfolding verdict
 past_limit columns at line fault e = rw e refl
 
 pub in_limit : (columns : List Column) (at : RowPlace) (line : List ℕ) → over_limit at (length line) ≡ None →
-    verdict columns at line ≡ judged columns at (records_in line)
+    verdict columns at line ≡ judged_line columns at (records_in line)
 unfolding verdict
 in_limit columns at line e = rw e refl
 

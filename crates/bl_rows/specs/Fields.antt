@@ -74,14 +74,14 @@ values_of (c ∷ columns) [] = None
 values_of (c ∷ columns) (f ∷ fields) = both (value_of c.ty f) (values_of columns fields)
 
 -- whether a number was read and is n
-abbrev pub is_number : ℕ → Option ℤ → Bool
-is_number n None = false
-is_number n (Some z) = int_eq z (pos n)
+abbrev pub is_this_number : ℕ → Option ℤ → Bool
+is_this_number n None = false
+is_this_number n (Some z) = int_eq z (pos n)
 
 -- the row of tick n that a record gives: the tick's number, and then a field for each column
 abbrev pub row_of : List Column → ℕ → List (List ℕ) → Option (List ℤ)
 row_of columns n [] = None
-row_of columns n (tick ∷ fields) = if is_number n (number_of tick) then values_of columns fields else None
+row_of columns n (tick ∷ fields) = if is_this_number n (number_of tick) then values_of columns fields else None
 
 -- whether fields are the names of the columns in order
 abbrev pub are_names : List Column → List (List ℕ) → Bool

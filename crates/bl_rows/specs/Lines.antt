@@ -7,16 +7,16 @@ pub record Cut : Type 0 where
   pub rest : List ℕ
 
 -- a cut of the bytes after b, with b before them
-abbrev pub led_by : ℕ → List (List ℕ) → List ℕ → Cut
-led_by b [] rest = record { whole = []; rest = b ∷ rest }
-led_by b (line ∷ lines) rest = record { whole = (b ∷ line) ∷ lines; rest = rest }
+abbrev pub led_by_byte : ℕ → List (List ℕ) → List ℕ → Cut
+led_by_byte b [] rest = record { whole = []; rest = b ∷ rest }
+led_by_byte b (line ∷ lines) rest = record { whole = (b ∷ line) ∷ lines; rest = rest }
 
 -- the lines of bytes, cut after each line feed, 10
 abbrev pub cut : List ℕ → Cut
 cut [] = record { whole = []; rest = [] }
 cut (b ∷ bytes) =
     if b == 10 then record { whole = [] ∷ (cut bytes).whole; rest = (cut bytes).rest }
-    else led_by b (cut bytes).whole (cut bytes).rest
+    else led_by_byte b (cut bytes).whole (cut bytes).rest
 
 -- the lines that a line feed ends
 abbrev pub whole_lines : List ℕ → List (List ℕ)

@@ -62,10 +62,10 @@ judged_record columns None line fields = if is_header columns fields then Header
 judged_record columns (Some t) line fields = numbers_or_bad line (row_of columns (t + 1) fields)
 
 -- what a line with these records is: one without a record is passed over, one with two is bad
-abbrev pub judged : List Column → RowPlace → List (List (List ℕ)) → Verdict
-judged columns at [] = Passed
-judged columns at (fields ∷ []) = judged_record columns at.ticks (line_number at) fields
-judged columns at (fields ∷ more ∷ others) = Bad (bad_line at.ticks (line_number at))
+abbrev pub judged_line : List Column → RowPlace → List (List (List ℕ)) → Verdict
+judged_line columns at [] = Passed
+judged_line columns at (fields ∷ []) = judged_record columns at.ticks (line_number at) fields
+judged_line columns at (fields ∷ more ∷ others) = Bad (bad_line at.ticks (line_number at))
 
 -- the fault of a next line that is one too many, or has too many bytes
 abbrev pub over_limit : RowPlace → ℕ → Option RowFault
@@ -86,7 +86,7 @@ bad_or None found = found
 
 -- the verdict on the next line
 unfoldable pub verdict : List Column → RowPlace → List ℕ → Verdict
-verdict columns at line = bad_or (over_limit at (length line)) (judged columns at (records_in line))
+verdict columns at line = bad_or (over_limit at (length line)) (judged_line columns at (records_in line))
 
 -- one tick more
 abbrev pub next_tick : Option ℕ → Option ℕ
@@ -94,11 +94,11 @@ next_tick None = None
 next_tick (Some t) = Some (t + 1)
 
 -- the position after a line
-abbrev pub after : RowPlace → Verdict → RowPlace
-after at Passed = record at { lines = at.lines + 1 }
-after at Header = record { lines = at.lines + 1; ticks = Some 0 }
-after at (Numbers row) = record { lines = at.lines + 1; ticks = next_tick at.ticks }
-after at (Bad fault) = at
+abbrev pub place_after : RowPlace → Verdict → RowPlace
+place_after at Passed = record at { lines = at.lines + 1 }
+place_after at Header = record { lines = at.lines + 1; ticks = Some 0 }
+place_after at (Numbers row) = record { lines = at.lines + 1; ticks = next_tick at.ticks }
+place_after at (Bad fault) = at
 
 -- rows, where the reader stands after them, and the fault of the line that stopped it
 pub record Scan : Type 0 where
@@ -117,7 +117,7 @@ led_by_line at (Bad fault) scan = record { rows = []; at = at; fault = Some faul
 abbrev pub scan : List Column → RowPlace → List (List ℕ) → Scan
 scan columns at [] = record { rows = []; at = at; fault = None }
 scan columns at (line ∷ lines) =
-    led_by_line at (verdict columns at line) (scan columns (after at (verdict columns at line)) lines)
+    led_by_line at (verdict columns at line) (scan columns (place_after at (verdict columns at line)) lines)
 
 -- what row bytes give: the rows up to the first bad line, and that line's fault
 pub record RowsRead : Type 0 where
@@ -135,12 +135,12 @@ fault_at_end at (Some fault) = Some fault
 fault_at_end at None = missing_header at.ticks (line_number at)
 
 -- what lines give with nothing after them
-abbrev pub told : Scan → RowsRead
-told s = record { rows = s.rows; fault = fault_at_end s.at s.fault }
+abbrev pub read_to_end : Scan → RowsRead
+read_to_end s = record { rows = s.rows; fault = fault_at_end s.at s.fault }
 
 -- the rows of the bytes of a whole row file up to the first bad line, and that line's fault
 unfoldable pub rows_of : List ℕ → List Column → RowsRead
-rows_of bytes columns = told (scan columns at_start (lines_of bytes))
+rows_of bytes columns = read_to_end (scan columns at_start (lines_of bytes))
 
 -- a reader between two pieces: its columns, its position, the unfinished line, the fault that stopped it, and whether the bytes have ended
 pub record Reading : Type 0 where
@@ -161,28 +161,28 @@ unless_stopped (Some fault) told = record { rows = []; fault = Some fault }
 
 -- what a reader still has to tell, where these bytes come and then the end
 unfoldable pub rows_after : Reading → List ℕ → RowsRead
-rows_after s bytes = unless_stopped s.stop (told (scan s.columns s.at (lines_of (s.line ++ bytes))))
+rows_after s bytes = unless_stopped s.stop (read_to_end (scan s.columns s.at (lines_of (s.line ++ bytes))))
 
 -- the rows and the fault of the lines that a piece completes
 abbrev pub scanned : Reading → List ℕ → Scan
 scanned s piece = scan s.columns s.at (whole_lines (s.line ++ piece))
 
 -- the first of two faults
-abbrev pub first_of : Option RowFault → Option RowFault → Option RowFault
-first_of (Some fault) later = Some fault
-first_of None later = later
+abbrev pub earlier_fault : Option RowFault → Option RowFault → Option RowFault
+earlier_fault (Some fault) later = Some fault
+earlier_fault None later = later
 
 -- the fault of a piece: of the first bad line that it makes whole, or of the line that it leaves unfinished and overrun
 abbrev pub fault_of_scan : Scan → List ℕ → Option RowFault
-fault_of_scan s rest = first_of s.fault (overrun s.at rest)
+fault_of_scan s rest = earlier_fault s.fault (overrun s.at rest)
 
 -- the fault at which a reader stands after a piece, if any
 unfoldable pub fault_in : Reading → List ℕ → Option RowFault
-fault_in s piece = first_of s.stop (fault_of_scan (scanned s piece) (unfinished (s.line ++ piece)))
+fault_in s piece = earlier_fault s.stop (fault_of_scan (scanned s piece) (unfinished (s.line ++ piece)))
 
 -- the rows that a reader hands over at a piece
 unfoldable pub rows_in : Reading → List ℕ → List (List ℤ)
-rows_in s piece = (unless_stopped s.stop (told (scanned s piece))).rows
+rows_in s piece = (unless_stopped s.stop (read_to_end (scanned s piece))).rows
 
 -- a reader after a piece without a fault
 unfoldable pub read_on : Reading → List ℕ → Reading
@@ -193,9 +193,9 @@ abbrev pub led_by_rows : List (List ℤ) → RowsRead → RowsRead
 led_by_rows rows t = record { rows = rows ++ t.rows; fault = t.fault }
 
 -- the answer of a call that found this fault or none
-abbrev pub answer_of : Option RowFault → Result Unit RowFault
-answer_of None = Ok tt
-answer_of (Some fault) = Err fault
+abbrev pub call_answer : Option RowFault → Result Unit RowFault
+call_answer None = Ok tt
+call_answer (Some fault) = Err fault
 
 -- P, unless memory was refused
 abbrev pub Unrefused : Result Unit RowFault → Type 0 → Type 0

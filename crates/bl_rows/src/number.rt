@@ -1,7 +1,7 @@
 //! Numbers and values as fields write them.
 
 ghost use Rattle.std.specs.Prelude.{◌≡◌, ◌≤◌, ◌^◌, IfSome, None, Some, unsigned_abs, true, false};
-ghost use Rattle.bl_rows.specs.Fields.{number_of, number_of_digits, value_of, is_number, truth_of, within};
+ghost use Rattle.bl_rows.specs.Fields.{number_of, number_of_digits, value_of, is_this_number, truth_of, within};
 
 use bl_tree::Scalar;
 
@@ -68,7 +68,7 @@ fn truth(field: &[u8]) -> Option<i128>
 
 /// Whether a field is the number of this tick.
 pub fn is_tick(tick: u32, field: &[u8]) -> bool
-    ensures { result ≡ is_number tick (number_of field.now) }
+    ensures { result ≡ is_this_number tick (number_of field.now) }
 {
     match number(field) {
         Some(n) => n == tick as i128,

@@ -48,7 +48,7 @@ pub fn judge(
     requires lines { at.lines < 1000000 }
     requires ticks { (t : ℕ) → at.ticks ≡ Some t → t < 1000000 }
     requires columns { length columns.now < 2 ^ 32 }
-    ensures { IfOk result (λ verdict. verdict ≡ spec.judged columns.now at (records_in line.now)) }
+    ensures { IfOk result (λ verdict. verdict ≡ spec.judged_line columns.now at (records_in line.now)) }
 {
     let number = at.lines + 1;
     match read_records(alloc, line, fields)? {

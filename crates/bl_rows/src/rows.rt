@@ -5,8 +5,8 @@ ghost use Rattle.std.specs.Prelude.{ℕ, length, position, ◌==◌, ◌∷◌};
 ghost use Rattle.std.specs.Prelude.{MatchOption, Ok, Err, IfOk, IfErr, IfSome, OnOk, OnErr};
 ghost use Rattle.bl_rows.specs.Lines.{has_feed};
 ghost use Rattle.bl_rows.specs.Fields.{records_in};
-ghost use Rattle.bl_rows.specs.Reading.{empty_reading, read_on, rows_in, rows_after, rows_of, fault_in, answer_of, overrun, over_limit as past_limit_at};
-ghost use Rattle.bl_rows.specs.Reading.{Unrefused, Front, led_by_rows, judged, after, fault_at_end, next_tick as tick_after, verdict as verdict_on};
+ghost use Rattle.bl_rows.specs.Reading.{empty_reading, read_on, rows_in, rows_after, rows_of, fault_in, call_answer, overrun, over_limit as past_limit_at};
+ghost use Rattle.bl_rows.specs.Reading.{Unrefused, Front, led_by_rows, judged_line, place_after, fault_at_end, next_tick as tick_after, verdict as verdict_on};
 ghost use Rattle.bl_rows.specs.inner.Steps.{fault_of, rows_by};
 
 use crate::fault::RowFault;
@@ -71,7 +71,7 @@ impl Rows {
     /// feed, or already at the first byte past a limit. It comes again at every later call, want of memory too.
     pub fn feed(&mut self, piece: &[u8], into: &mut Vec<Row>) -> Result<(), RowFault>
         requires { self.old.ended ≡ false }
-        ensures answer { Unrefused result (result ≡ answer_of (fault_in self.old piece.now)) }
+        ensures answer { Unrefused result (result ≡ call_answer (fault_in self.old piece.now)) }
         ensures rows { Unrefused result (into.new.items ≡ into.old.items ++ rows_in self.old piece.now) }
         ensures front { Front into.old.items into.new.items (rows_in self.old piece.now) }
         ensures state { OnOk result (self.new ≡ read_on self.old piece.now) }
@@ -95,7 +95,7 @@ impl Rows {
     /// made again.
     pub fn finish(&mut self, into: &mut Vec<Row>) -> Result<(), RowFault>
         requires { self.old.ended ≡ false }
-        ensures answer { Unrefused result (result ≡ answer_of (rows_after self.old []).fault) }
+        ensures answer { Unrefused result (result ≡ call_answer (rows_after self.old []).fault) }
         ensures rows { Unrefused result (into.new.items ≡ into.old.items ++ (rows_after self.old []).rows) }
         ensures front { Front into.old.items into.new.items (rows_after self.old []).rows }
         ensures stop { IfErr result (λ fault. self.new.stop ≡ Some fault) }
@@ -114,7 +114,7 @@ impl Rows {
 
     // The answer of a call that took these lines, and the fault that later calls repeat.
     fn answer(&mut self, taken: Result<(), NoMemory>) -> Result<(), RowFault>
-        ensures taken { OnOk taken ((result ≡ answer_of self.old.stop) × (self.new ≡ self.old)) }
+        ensures taken { OnOk taken ((result ≡ call_answer self.old.stop) × (self.new ≡ self.old)) }
         ensures refused { OnErr taken ((result ≡ Err RowFault.NoMemory) × (self.new ≡ record self.old { stop = Some RowFault.NoMemory })) }
         ensures short { length self.new.line ≤ 65536 }
     {
@@ -198,7 +198,7 @@ impl Rows {
         requires stop { self.old.stop ≡ None }
         requires end { has_feed end.now ≡ false }
         ensures stop { OnOk result (self.new.stop ≡ fault_of (verdict_on self.old.columns self.old.at (self.old.line ++ end.now))) }
-        ensures at { OnOk result (self.new.at ≡ after self.old.at (verdict_on self.old.columns self.old.at (self.old.line ++ end.now))) }
+        ensures at { OnOk result (self.new.at ≡ place_after self.old.at (verdict_on self.old.columns self.old.at (self.old.line ++ end.now))) }
         ensures rows { OnOk result (into.new.items ≡ into.old.items ++ rows_by (verdict_on self.old.columns self.old.at (self.old.line ++ end.now))) }
         ensures line { OnOk result (self.new.stop ≡ None → self.new.line ≡ []) }
         ensures none { OnErr result (into.new.items ≡ into.old.items) }
@@ -219,7 +219,7 @@ impl Rows {
         requires lines { self.old.at.lines < 1000000 }
         requires end { has_feed end.now ≡ false }
         requires size { length self.old.line + length end.now ≤ 65536 }
-        ensures verdict { IfOk result (λ found. found ≡ judged self.old.columns self.old.at (records_in (self.old.line ++ end.now))) }
+        ensures verdict { IfOk result (λ found. found ≡ judged_line self.old.columns self.old.at (records_in (self.old.line ++ end.now))) }
         ensures line { OnOk result (self.new ≡ record self.old { line = [] }) }
         ensures same { self.new ≡ record self.old { line = self.new.line } }
     {
@@ -244,7 +244,7 @@ impl Rows {
         requires stop { self.old.stop ≡ None }
         requires line { self.old.line ≡ [] }
         ensures stop { OnOk result (self.new.stop ≡ fault_of verdict) }
-        ensures at { OnOk result (self.new.at ≡ after self.old.at verdict) }
+        ensures at { OnOk result (self.new.at ≡ place_after self.old.at verdict) }
         ensures rows { OnOk result (into.new.items ≡ into.old.items ++ rows_by verdict) }
         ensures line { self.new.line ≡ [] }
         ensures none { OnErr result (into.new.items ≡ into.old.items) }

@@ -34,21 +34,21 @@ use Rattle.bl_tree.specs.Ports.{RowsFit, row_fits}
 use Rattle.bl_tree.specs.declared.row.Column.{Column}
 use Rattle.bl_tree.specs.declared.scalar.Scalar.{Scalar}
 use Rattle.bl_tree.specs.declared.scalar.Scalar.TheVariants.{Bool as OfBool, Int, Nat, Bits}
-use Rattle.bl_rows.specs.Fields.{both, is_header, is_number, number_of, records_in, row_of, value_of, values_of, within}
+use Rattle.bl_rows.specs.Fields.{both, is_header, is_this_number, number_of, records_in, row_of, value_of, values_of, within}
 use Rattle.bl_rows.specs.Lines.{lines_of, whole_lines}
 use Rattle.bl_rows.specs.Reading.{
   Scan,
-  after,
   at_start,
   bad_or,
   empty_reading,
-  judged,
+  judged_line,
   judged_record,
   led_by_line,
   line_number,
   longest_line,
   numbers_or_bad,
   over_limit,
+  place_after,
   rows_in,
   rows_of,
   scan,
@@ -124,7 +124,8 @@ numbered-fits columns false values row fit e = absurd (cc)
 
 row-fits : (columns : List Column) (n : ℕ) (fields : List (List ℕ)) (row : List ℤ) → row_of columns n fields ≡ Some row → Fits columns row
 row-fits columns n [] row e = absurd (cc)
-row-fits columns n (tick ∷ fields) row e = numbered-fits columns (is_number n (number_of tick)) (values_of columns fields) row (values-fit columns fields) e
+row-fits columns n (tick ∷ fields) row e = numbered-fits columns (is_this_number n (number_of tick)) (values_of columns fields) row
+    (values-fit columns fields) e
 
 judged-row : (columns : List Column) (line : ℕ) (o : Option (List ℤ)) (row : List ℤ) →
     ((zs : List ℤ) → o ≡ Some zs → Fits columns zs) → numbers_or_bad line o ≡ Numbers row → Fits columns row
@@ -142,7 +143,7 @@ record-fits columns None line fields row e = header-fits columns line (is_header
 record-fits columns (Some t) line fields row e = judged-row columns line (row_of columns (t + 1) fields) row (row-fits columns (t + 1) fields) e
 
 judged-fits : (columns : List Column) (at : RowPlace) (records : List (List (List ℕ))) (row : List ℤ) →
-    judged columns at records ≡ Numbers row → Fits columns row
+    judged_line columns at records ≡ Numbers row → Fits columns row
 judged-fits columns at [] row e = absurd (cc)
 judged-fits columns at (fields ∷ []) row e = record-fits columns at.ticks (line_number at) fields row e
 judged-fits columns at (fields ∷ more ∷ others) row e = absurd (cc)
@@ -154,7 +155,7 @@ good-fits columns None found row fit e = fit e
 
 verdict-fits : (columns : List Column) (at : RowPlace) (line : List ℕ) (row : List ℤ) → verdict columns at line ≡ Numbers row → Fits columns row
 unfolding verdict
-verdict-fits columns at line row e = good-fits columns (over_limit at (length line)) (judged columns at (records_in line)) row
+verdict-fits columns at line row e = good-fits columns (over_limit at (length line)) (judged_line columns at (records_in line)) row
     (judged-fits columns at (records_in line) row) e
 
 -- ---- lines
@@ -169,8 +170,8 @@ led-fits columns at (Bad fault) s first later = refl
 pub scan-fits : (columns : List Column) (at : RowPlace) (lines : List (List ℕ)) → RowsFit columns (scan columns at lines).rows
 scan-fits columns at [] = refl
 scan-fits columns at (line ∷ lines) =
-    led-fits columns at (verdict columns at line) (scan columns (after at (verdict columns at line)) lines)
-    (verdict-fits columns at line) (scan-fits columns (after at (verdict columns at line)) lines)
+    led-fits columns at (verdict columns at line) (scan columns (place_after at (verdict columns at line)) lines)
+    (verdict-fits columns at line) (scan-fits columns (place_after at (verdict columns at line)) lines)
 
 pub told-fits : (bytes : List ℕ) (columns : List Column) → RowsFit columns (rows_of bytes columns).rows
 unfolding rows_of
@@ -192,11 +193,11 @@ full-bad at line found false e good = grind (arith, nat_tests)
 pub lines-left : (columns : List Column) (at : RowPlace) (line : List ℕ) →
     ((fault : RowFault) → verdict columns at line ≡ Bad fault → ⊥) → at.lines < 1000000
 unfolding verdict
-lines-left columns at line good = full-bad at line (judged columns at (records_in line)) (nat_le 1000000 at.lines) refl good
+lines-left columns at line good = full-bad at line (judged_line columns at (records_in line)) (nat_le 1000000 at.lines) refl good
 
 led-few : (at : RowPlace) (v : Verdict) (s : Scan) → at.lines ≤ 1000000 →
     (((fault : RowFault) → v ≡ Bad fault → ⊥) → at.lines < 1000000) →
-    ((after at v).lines ≤ 1000000 → length s.rows + (after at v).lines ≤ 1000000) →
+    ((place_after at v).lines ≤ 1000000 → length s.rows + (place_after at v).lines ≤ 1000000) →
     length (led_by_line at v s).rows + at.lines ≤ 1000000
 led-few at Passed s low left later = let l = left (λ fault e. cc) in let h = later (omega arith) in omega arith
 led-few at Header s low left later = let l = left (λ fault e. cc) in let h = later (omega arith) in omega arith
@@ -207,8 +208,8 @@ scan-few : (columns : List Column) (at : RowPlace) (lines : List (List ℕ)) →
     length (scan columns at lines).rows + at.lines ≤ 1000000
 scan-few columns at [] low = omega arith
 scan-few columns at (line ∷ lines) low =
-    led-few at (verdict columns at line) (scan columns (after at (verdict columns at line)) lines) low (lines-left columns at line)
-    (scan-few columns (after at (verdict columns at line)) lines)
+    led-few at (verdict columns at line) (scan columns (place_after at (verdict columns at line)) lines) low (lines-left columns at line)
+    (scan-few columns (place_after at (verdict columns at line)) lines)
 
 pub told-few : (bytes : List ℕ) (columns : List Column) → length (rows_of bytes columns).rows ≤ 1000000
 unfolding rows_of

@@ -29,23 +29,23 @@ use Rattle.std.specs.Prelude.{nat_le, nat_lt, if◌then◌else◌, ◌==◌}
 use Rattle.std.proofs.lemmas.Bool.Decides.{nat_tests}
 use Rattle.bl_tree.specs.declared.row.Column.{Column}
 use Rattle.bl_rows.specs.Fields.{records_in}
-use Rattle.bl_rows.specs.Lines.{Cut, cut, last_line, led_by, lines_of, unfinished, whole_lines}
+use Rattle.bl_rows.specs.Lines.{Cut, cut, last_line, led_by_byte, lines_of, unfinished, whole_lines}
 use Rattle.bl_rows.specs.Reading.{
   Reading,
   Scan,
-  after,
   at_start,
   bad_or,
+  earlier_fault,
   empty_reading,
   fault_in,
   fault_of_scan,
-  first_of,
-  judged,
+  judged_line,
   led_by_line,
   line_number,
   most_lines,
   over_limit,
   overrun,
+  place_after,
   read_on,
   scan,
   scanned,
@@ -69,12 +69,12 @@ bytes_in (line ∷ lines) = length line + 1 + bytes_in lines
 abbrev size_of : Cut → ℕ
 size_of c = bytes_in c.whole + length c.rest
 
-led-size : (b : ℕ) (whole : List (List ℕ)) (rest : List ℕ) → size_of (led_by b whole rest) ≡ bytes_in whole + length rest + 1
+led-size : (b : ℕ) (whole : List (List ℕ)) (rest : List ℕ) → size_of (led_by_byte b whole rest) ≡ bytes_in whole + length rest + 1
 led-size b [] rest = omega arith
 led-size b (line ∷ lines) rest = omega arith
 
 cut-choice : (c : Bool) (b : ℕ) (bytes : List ℕ) → size_of (cut bytes) ≡ length bytes →
-    size_of (if c then record { whole = [] ∷ (cut bytes).whole; rest = (cut bytes).rest } else led_by b (cut bytes).whole
+    size_of (if c then record { whole = [] ∷ (cut bytes).whole; rest = (cut bytes).rest } else led_by_byte b (cut bytes).whole
     (cut bytes).rest) ≡ length (b ∷ bytes)
 cut-choice true b bytes same = omega arith
 cut-choice false b bytes same = let e = led-size b (cut bytes).whole (cut bytes).rest in omega arith
@@ -98,7 +98,7 @@ short-bad at line found false false e k good = grind (arith, nat_tests)
 
 short-line : (columns : List Column) (at : RowPlace) (line : List ℕ) → ((f : RowFault) → verdict columns at line ≡ Bad f → ⊥) → length line ≤ 65536
 unfolding verdict
-short-line columns at line good = short-bad at line (judged columns at (records_in line)) (nat_le most_lines at.lines)
+short-line columns at line good = short-bad at line (judged_line columns at (records_in line)) (nat_le most_lines at.lines)
     (nat_lt 65536 (length line)) refl refl good
 
 -- so many lines more, and no byte too many
@@ -108,7 +108,7 @@ record Comes (at : RowPlace) (bytes : ℕ) (later : RowPlace) : Type 0 where
 
 led-comes : (at : RowPlace) (v : Verdict) (s : Scan) (size bytes : ℕ) → (led_by_line at v s).fault ≡ None →
     (((f : RowFault) → v ≡ Bad f → ⊥) → (size ≤ 65536) × (at.lines < 1000000)) →
-    ((after at v).lines ≤ 1000000 → s.fault ≡ None → Comes (after at v) bytes s.at) → Comes at (size + 1 + bytes) (led_by_line at v s).at
+    ((place_after at v).lines ≤ 1000000 → s.fault ≡ None → Comes (place_after at v) bytes s.at) → Comes at (size + 1 + bytes) (led_by_line at v s).at
 led-comes at Passed s size bytes none fits later =
     let f = fits (λ x e. cc) in
     let l = later (let h = f.1 in omega arith) none in
@@ -133,13 +133,13 @@ scan-comes : (columns : List Column) (at : RowPlace) (lines : List (List ℕ)) �
     (scan columns at lines).fault ≡ None → Comes at (bytes_in lines) (scan columns at lines).at
 scan-comes columns at [] low none = record { on = omega arith; low = low }
 scan-comes columns at (line ∷ lines) low none =
-    led-comes at (verdict columns at line) (scan columns (after at (verdict columns at line)) lines) (length line)
+    led-comes at (verdict columns at line) (scan columns (place_after at (verdict columns at line)) lines) (length line)
     (bytes_in lines) none (λ good. (short-line columns at line good, lines-left columns at line good))
-    (scan-comes columns (after at (verdict columns at line)) lines)
+    (scan-comes columns (place_after at (verdict columns at line)) lines)
 
 -- ---- pieces
 
-first-none : (a b : Option RowFault) → first_of a b ≡ None → (a ≡ None) × (b ≡ None)
+first-none : (a b : Option RowFault) → earlier_fault a b ≡ None → (a ≡ None) × (b ≡ None)
 first-none None b e = (refl, e)
 first-none (Some f) b e = absurd (cc)
 
@@ -172,7 +172,7 @@ reads-on s s2 piece low good is =
 
 -- each good line is counted
 led-count : (at : RowPlace) (v : Verdict) (s : Scan) (more : ℕ) → (led_by_line at v s).fault ≡ None →
-    (s.fault ≡ None → s.at.lines ≡ (after at v).lines + more) → (led_by_line at v s).at.lines ≡ at.lines + (more + 1)
+    (s.fault ≡ None → s.at.lines ≡ (place_after at v).lines + more) → (led_by_line at v s).at.lines ≡ at.lines + (more + 1)
 led-count at Passed s more none later = let l = later none in omega (arith, l)
 led-count at Header s more none later = let l = later none in omega (arith, l)
 led-count at (Numbers row) s more none later = let l = later none in omega (arith, l)
@@ -182,8 +182,8 @@ scan-count : (columns : List Column) (at : RowPlace) (lines : List (List ℕ)) �
     (scan columns at lines).at.lines ≡ at.lines + length lines
 scan-count columns at [] none = omega arith
 scan-count columns at (line ∷ lines) none =
-    let l = led-count at (verdict columns at line) (scan columns (after at (verdict columns at line)) lines) (length lines) none
-    (scan-count columns (after at (verdict columns at line)) lines) in omega (arith, l)
+    let l = led-count at (verdict columns at line) (scan columns (place_after at (verdict columns at line)) lines) (length lines) none
+    (scan-count columns (place_after at (verdict columns at line)) lines) in omega (arith, l)
 
 -- the fault of a next line of so many bytes, where the lines are used up or not
 abbrev over_by : RowPlace → ℕ → Bool → Option RowFault

@@ -52,7 +52,7 @@ use Rattle.bl_rows_stream.specs.inner.Going.{
   most_reach,
   reach,
   runner_at,
-  start_of,
+  runner_start,
   stopped,
   whole,
 }
@@ -224,16 +224,16 @@ going-reads-none report start file every before left left2 now s r going same =
 -- ---- the beginning
 
 -- a live runner stands where it stands
-pub runner-same : (r : Running) → r.live ≡ true → runner_at (start_of r) r.parts ≡ r
+pub runner-same : (r : Running) → r.live ≡ true → runner_at (runner_start r) r.parts ≡ r
 runner-same r live = λ i. record { parts = r.parts; cells = r.cells; ready = r.ready; live = sym live i }
 
 pub stands-first : (report : Report) (r : Running) (s : Session) (before now : Option (List ℕ)) → r.live ≡ true →
     s.reader ≡ empty_reading (inputs_of r.parts) → HasFed (inputs_of r.parts) [] s.reader → s.ticks.done ≡ 0 → s.ticks.report ≡ report →
     length s.ticks.outputs ≡ length (outputs_of r.parts) →
-    Appends before (report_header report (outputs_of r.parts)) now → RunStands report (start_of r) r.parts [] before s r now
+    Appends before (report_header report (outputs_of r.parts)) now → RunStands report (runner_start r) r.parts [] before s r now
 stands-first report r s before now live first fed done reports long grew =
     let none = none-in (inputs_of r.parts) in
-    let from : Running = runner_at (start_of r) r.parts in
+    let from : Running = runner_at (runner_start r) r.parts in
     record {
       fed = fed;
       runs = sym (runner-same r live) ∙ sym (ap (after_rows from) none);

@@ -7,7 +7,7 @@ ghost use Rattle.bl_io.specs.Count.{NeverFell, Rose};
 ghost use Rattle.bl_io.specs.Held.{Appends};
 ghost use Rattle.bl_io.specs.Left.{KeepsOthers};
 ghost use Rattle.bl_rows.specs.Reading.{empty_reading, most_lines};
-ghost use Rattle.bl_rows_stream.specs.inner.Going.{RunEnds, HasFed, RunStands, start_of};
+ghost use Rattle.bl_rows_stream.specs.inner.Going.{RunEnds, HasFed, RunStands, runner_start};
 ghost use Rattle.bl_rows_stream.specs.Streams.{ReadsLines, Reported, Streamed, course_from};
 
 use crate::finish::Finish;
@@ -136,7 +136,8 @@ fn begin<O: Sink>(
     out: &mut O,
 ) -> Result<Session, Finish>
     requires live { runner.now.live ≡ true }
-    ensures stands { IfOk result (λ session. RunStands report (start_of runner.now) runner.now.parts [] (O.held out.old) session runner.now (O.held out.new)) }
+    ensures stands { IfOk result (λ session. RunStands report (runner_start runner.now) runner.now.parts [] (O.held out.old) session runner.now
+        (O.held out.new)) }
     ensures ends { IfErr result (λ f. (bytes : List ℕ) → RunEnds report runner.now bytes (O.held out.old) (O.held out.new) runner.now f) }
     ensures why { IfErr result (λ f. (f ≡ Finish.WriteFault) ⊎ (f ≡ Finish.NoMemory)) }
     ensures failed { IsErrOf result Finish.WriteFault → Rose (O.faults out.old) (O.faults out.new) }

@@ -4,7 +4,7 @@ use Rattle.std.proofs.Common.{refl, sym, ap, subst, append-nil, append_assoc, co
 use Rattle.bl_bound_laws.specs.Counts.{counts_after, counts_from, counts_if}
 use Rattle.bl_ctext_semantics.specs.Cells.{inputs_of}
 use Rattle.bl_ctext_semantics.specs.Parts.{Parts}
-use Rattle.bl_ctext_semantics.specs.Trace.{Reply, row, ended, trapped, c_trace_from, cells_if, start_cells, starts, tick_c, trace_after, traced}
+use Rattle.bl_ctext_semantics.specs.Trace.{Reply, row, ended, trapped, c_trace_from, cells_if, start_cells, start_succeeds, tick_c, trace_after, traced}
 use Rattle.bl_ctext_semantics_laws_places.specs.Behaviour.{behaviour_of}
 use Rattle.bl_crun.specs.Running.{Running, answer_of, is_row, loaded}
 use Rattle.bl_io.specs.Held.{Appends}
@@ -50,7 +50,7 @@ lines file true cells live n (ins ∷ rows) =
     (lines file true t.cells (is_row (answer_of t.reply)) (n + 1) rows)
 
 text : (file : Parts) (rows : List (List ℤ)) → report_of Counts (loaded file) rows ≡ counts_text (behaviour_of file) rows
-text file rows = ap (λ l. codes "tick,statements\n" ++ l) (lines file (starts file) (start_cells file) true 1 rows)
+text file rows = ap (λ l. codes "tick,statements\n" ++ l) (lines file (start_succeeds file) (start_cells file) true 1 rows)
 
 pub counts-told : (file : Parts) → CountsAreTold file
 counts-told file left rest before after now how (ran bytes are is grew has) =

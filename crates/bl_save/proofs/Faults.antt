@@ -5,7 +5,7 @@ use Rattle.std.proofs.lemmas.List.{length-map, take-append-drop}
 use Rattle.bl_tree.specs.Ports.{in_ranges}
 use Rattle.bl_ctext_semantics.specs.Cells.{cells_of}
 use Rattle.bl_ctext_semantics.specs.Parts.{Parts}
-use Rattle.bl_ctext_semantics.specs.Trace.{starts}
+use Rattle.bl_ctext_semantics.specs.Trace.{start_succeeds}
 use Rattle.bl_crun_ports.specs.Layout.{kinds_of}
 use Rattle.bl_save.specs.Bytes.{cells_bytes, state_header}
 use Rattle.bl_save.specs.States.{BeginsState, SavedState, ShowsBadState}
@@ -14,7 +14,7 @@ use Rattle.bl_save.proofs.Shaped.{completes, leaves-there, misfit-within}
 use Rattle.bl_save.proofs.States.{are-state, numbers_in, state-fits}
 
 -- bytes of that shape are a saved state
-pub has-state : (file : Parts) (bytes : List ℕ) → starts file ≡ true → misfit (state_shape (kinds_of file)) bytes ≡ None →
+pub has-state : (file : Parts) (bytes : List ℕ) → start_succeeds file ≡ true → misfit (state_shape (kinds_of file)) bytes ≡ None →
     SavedState file (numbers_in (kinds_of file) (drop 10 bytes)) bytes
 has-state file bytes starts fits =
     let state = are-state (kinds_of file) bytes fits in
@@ -35,7 +35,7 @@ pub count-kinds : (file : Parts) → length (kinds_of file) ≡ length (cells_of
 count-kinds file = length-map (cells_of file) _
 
 -- where bytes leave it
-pub bad-state : (file : Parts) (bytes : List ℕ) (at : ℕ) → starts file ≡ true → misfit (state_shape (kinds_of file)) bytes ≡ Some at →
+pub bad-state : (file : Parts) (bytes : List ℕ) (at : ℕ) → start_succeeds file ≡ true → misfit (state_shape (kinds_of file)) bytes ≡ Some at →
     ShowsBadState file bytes at
 bad-state file bytes at starts leaves = record {
   none = λ numbers saved. apart (misfit (state_shape (kinds_of file)) bytes) at leaves (state-shape file numbers bytes saved);
@@ -62,7 +62,7 @@ bad-state file bytes at starts leaves = record {
         (subst (λ (k : ℕ). misfit (state_shape (kinds_of file)) (take k bytes ++ begun.rest) ≡ None) same fits)
 
 -- bytes of the shape whose cells are those of numbers are the saved state of these
-pub restored-state : (file : Parts) (bytes : List ℕ) (numbers : List ℤ) → starts file ≡ true →
+pub restored-state : (file : Parts) (bytes : List ℕ) (numbers : List ℤ) → start_succeeds file ≡ true →
     misfit (state_shape (kinds_of file)) bytes ≡ None →
     in_ranges (kinds_of file) numbers ≡ true → drop 10 bytes ≡ cells_bytes (kinds_of file) numbers → SavedState file numbers bytes
 restored-state file bytes numbers starts fits range cells =

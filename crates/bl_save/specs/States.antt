@@ -4,7 +4,7 @@ use Rattle.bl_tree.specs.Ports.{in_ranges}
 use Rattle.bl_ctext_semantics.specs.Cells.{cells_of, numbers_of}
 use Rattle.bl_ctext_semantics.specs.Memory.{Memory}
 use Rattle.bl_ctext_semantics.specs.Parts.{Parts}
-use Rattle.bl_ctext_semantics.specs.Trace.{starts}
+use Rattle.bl_ctext_semantics.specs.Trace.{start_succeeds}
 use Rattle.bl_crun_ports.specs.Layout.{kinds_of}
 use Rattle.bl_crun.specs.Running.{Running}
 use Rattle.bl_save.specs.Bytes.{state_bytes}
@@ -13,7 +13,7 @@ use Rattle.bl_save.specs.declared.fault.StateFault.TheVariants.{BadState}
 
 -- the bytes are the saved state of a file with these numbers in its cells, in the ranges of their types. The file's start doesn't trap
 pub record SavedState (file : Parts) (numbers : List ℤ) (bytes : List ℕ) : Type 0 where
-  pub starts : starts file ≡ true
+  pub starts : start_succeeds file ≡ true
   pub fit : in_ranges (kinds_of file) numbers ≡ true
   pub written : bytes ≡ state_bytes (kinds_of file) numbers
 
@@ -42,7 +42,7 @@ OneMemory file = (numbers others : List ℤ) (bytes : List ℕ) → SavedState f
 
 -- a runner is ready to be saved and restored: its start hasn't trapped, and each of its cells has a number
 pub record IsReady (r : Running) : Type 0 where
-  pub starts : starts r.parts ≡ true
+  pub starts : start_succeeds r.parts ≡ true
   pub whole : length r.cells ≡ length (cells_of r.parts)
 
 -- a runner whose cells have other numbers

@@ -12,14 +12,14 @@ use Rattle.bl_tree.specs.declared.scalar.Scalar.{Scalar}
 use Rattle.bl_ctext_semantics.specs.Cells.{cells_of}
 use Rattle.bl_ctext_semantics.specs.Parts.{Parts}
 use Rattle.bl_ctext_semantics.proofs.TraceLemmas.{goes-on}
-use Rattle.bl_ctext_semantics.specs.Trace.{c_trace, c_trace_from, cells_after, cells_if, start_cells, starts, tick_c, trace_after, trace_then}
+use Rattle.bl_ctext_semantics.specs.Trace.{c_trace, c_trace_from, cells_after, cells_if, start_cells, start_succeeds, tick_c, trace_after, trace_then}
 use Rattle.bl_crun_ports.specs.Layout.{kinds_of}
 use Rattle.bl_crun.specs.Running.{tick_if}
 use Rattle.bl_save.specs.States.{OneMemory, SavedState, ShowsBadState}
 use Rattle.bl_save_laws.specs.Laws.{OnePlace, OneState, StateGoesOn, StatesJoin, StaysReady, TraceGoesOn}
 
 -- a trace of a file whose start doesn't trap goes on from what the start leaves
-started-trace : (file : Parts) (rows : List (List ℤ)) → starts file ≡ true → c_trace file rows ≡ c_trace_from file rows (start_cells file)
+started-trace : (file : Parts) (rows : List (List ℤ)) → start_succeeds file ≡ true → c_trace file rows ≡ c_trace_from file rows (start_cells file)
 started-trace file rows starts = ap (λ (b : Bool). trace_after file (cells_if b (start_cells file)) rows) starts
 
 pub trace-goes_on : (file : Parts) → TraceGoesOn file

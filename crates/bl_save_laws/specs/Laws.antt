@@ -4,7 +4,7 @@ use Rattle.bl_tree.specs.declared.row.Last.TheVariants.{Open}
 use Rattle.bl_ctext_semantics.specs.Faults.{WellFormed}
 use Rattle.bl_ctext_semantics.specs.Parts.{Parts}
 use Rattle.bl_ctext_semantics.specs.Sizes.{cells_needed}
-use Rattle.bl_ctext_semantics.specs.Trace.{c_trace, c_trace_from, cells_after, start_cells, starts, trace_then}
+use Rattle.bl_ctext_semantics.specs.Trace.{c_trace, c_trace_from, cells_after, start_cells, start_succeeds, trace_then}
 use Rattle.bl_crun.specs.Running.{Running, after_tick, loaded}
 use Rattle.bl_save.specs.States.{IsReady, SavedState, ShowsBadState, with_numbers}
 
@@ -23,7 +23,7 @@ ShortStates file = WellFormed file → (numbers : List ℤ) (bytes : List ℕ) �
 -- a run of a file whose start doesn't trap can be stopped while open and continued: the trace over all rows is the first, followed by that from the cells that
 -- they leave
 abbrev pub TraceGoesOn : Parts → Type 0
-TraceGoesOn file = (first rest : List (List ℤ)) → starts file ≡ true → (c_trace file first).last ≡ Open →
+TraceGoesOn file = (first rest : List (List ℤ)) → start_succeeds file ≡ true → (c_trace file first).last ≡ Open →
     c_trace file (first ++ rest) ≡ trace_then (c_trace file first) (c_trace_from file rest (cells_after file first (start_cells file)))
 
 -- a run that was stopped while open has the same trace when it goes on from the saved state of its cells
@@ -40,6 +40,6 @@ StatesJoin file = (first rest : List (List ℤ)) (bytes further : List ℕ) (num
 
 -- a loaded runner is ready where the start doesn't trap. It stays ready after ticks and after its cells are set to a saved state
 pub record StaysReady (file : Parts) : Type 0 where
-  pub loaded : starts file ≡ true → IsReady (loaded file)
+  pub loaded : start_succeeds file ≡ true → IsReady (loaded file)
   pub ticked : (r : Running) (ins : List ℤ) → IsReady r → IsReady (after_tick r ins)
   pub restored : (r : Running) (numbers : List ℤ) (bytes : List ℕ) → SavedState r.parts numbers bytes → IsReady (with_numbers r numbers)

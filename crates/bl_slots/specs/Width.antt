@@ -8,6 +8,6 @@ abbrev pub saturated : ℕ → ℕ
 saturated n = min n (2 ^ 32 - 1)
 
 -- the most places of a unit that can rest at once; 0 of one that isn't there
-abbrev pub width_of : Option UnitDef → ℕ
-width_of None = 0
-width_of (Some unit) = width unit.body
+abbrev pub unit_width : Option UnitDef → ℕ
+unit_width None = 0
+unit_width (Some unit) = width unit.body

@@ -3,7 +3,7 @@
 ghost use Rattle.std.specs.Prelude.{◌≡◌, map, slice_get};
 ghost use Rattle.bl_tree.specs.Reduce.{greatest, total};
 ghost use Rattle.bl_effects.specs.Surface as surface;
-ghost use Rattle.bl_slots.specs.Width.{saturated, width_of};
+ghost use Rattle.bl_slots.specs.Width.{saturated, unit_width};
 ghost use Rattle.bl_slots.specs.inner.Parts.{width_in_arm, width_in_branch};
 
 use bl_tree::Program;
@@ -69,7 +69,7 @@ fn in_branches(branches: &[Branch]) -> u32
 /// How many counters the frame of the unit at the position takes; 0 of one that isn't there. A number that 32 bits can't hold
 /// counts as the greatest that they can.
 pub fn width(program: &Program, unit: u32) -> u32
-    ensures { result ≡ saturated (width_of (slice_get program.now.units unit)) }
+    ensures { result ≡ saturated (unit_width (slice_get program.now.units unit)) }
 {
     match element(&program.units, unit as usize) {
         Some(unit) => in_block(&unit.body),

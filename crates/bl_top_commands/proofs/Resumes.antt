@@ -7,7 +7,7 @@ use Rattle.bl_ctext_semantics.specs.Cells.{inputs_of}
 use Rattle.bl_ctext_semantics.specs.Faults.{first_fault, first_place}
 use Rattle.bl_ctext_semantics.specs.Parts.{Parts}
 use Rattle.bl_ctext_semantics.specs.Sizes.{cells_needed}
-use Rattle.bl_ctext_semantics.specs.Trace.{c_trace, c_trace_from, cells_after, cells_if, start_cells, starts, trace_after}
+use Rattle.bl_ctext_semantics.specs.Trace.{c_trace, c_trace_from, cells_after, cells_if, start_cells, start_succeeds, trace_after}
 use Rattle.bl_ctext_semantics_laws_places.specs.Behaviour.{Behaviour}
 use Rattle.bl_top_commands.proofs.Courses.{BytesFit, LinesFit}
 use Rattle.bl_top_commands.proofs.GoesOn.{RunsGoOn, joined, rows_join, states_source}
@@ -173,11 +173,11 @@ saved_ok file numbers left rest rows out _ _ (bad_rows n bytes are is why kept) 
 saved_ok file numbers left rest rows out _ _ (unread why risen kept) e = absurd (cc)
 saved_ok file numbers left rest rows out _ _ (no_memory kept) e = absurd (cc)
 
-started_trace : (file : Parts) (rows : List (List ℤ)) → starts file ≡ true → c_trace file rows ≡ c_trace_from file rows (start_cells file)
+started_trace : (file : Parts) (rows : List (List ℤ)) → start_succeeds file ≡ true → c_trace file rows ≡ c_trace_from file rows (start_cells file)
 started_trace file rows begins = ap (λ b. trace_after file (cells_if b (start_cells file)) rows) begins
 
 -- from what the start leaves
-save_begun : BytesFit → (text : List ℕ) (file : Parts) → HasFile text file → starts file ≡ true → (left : Option (List ℕ)) (out : Output) →
+save_begun : BytesFit → (text : List ℕ) (file : Parts) → HasFile text file → start_succeeds file ≡ true → (left : Option (List ℕ)) (out : Output) →
     SavedOver file (start_cells file) left out → HasSaved text [] left out
 save_begun fit text file has begins left out over =
     let rows = (rows_of over.bytes (inputs_of file)).rows in

@@ -4,7 +4,7 @@ use Rattle.std.specs.Prelude.{◌↔◌, is_some}
 use Rattle.bl_crun_ports.specs.Layout.{kinds_of}
 use Rattle.bl_ctext_semantics.specs.Faults.{WellFormed}
 use Rattle.bl_ctext_semantics.specs.Parts.{Parts, parts_of}
-use Rattle.bl_ctext_semantics.specs.Trace.{TickOfFile, c_trace_from, cells_after, cells_if, start_cells, starts, tick_c, traced}
+use Rattle.bl_ctext_semantics.specs.Trace.{TickOfFile, c_trace_from, cells_after, cells_if, start_cells, start_succeeds, tick_c, traced}
 use Rattle.bl_ctext_semantics_laws_places.specs.Behaviour.{Behaviour, behaviour_of}
 use Rattle.bl_ctext_semantics_laws_places.specs.Bytes.{Behaves}
 use Rattle.bl_top_commands.specs.Exec.{HasFile}
@@ -51,9 +51,9 @@ module _ (file other : Parts) (same : behaviour_of file ≡ behaviour_of other) 
   cells_alike rows cells =
       after_ticks file rows cells ∙ ap (λ (b : Behaviour). cells_by b.tick rows cells) same ∙ sym (after_ticks other rows cells)
 
-  pub starts_alike : starts file ≡ starts other
+  pub starts_alike : start_succeeds file ≡ start_succeeds other
   starts_alike =
-      sym (some_if (starts file) (start_cells file)) ∙ ap (λ (b : Behaviour). is_some b.start) same ∙ some_if (starts other) (start_cells other)
+      sym (some_if (start_succeeds file) (start_cells file)) ∙ ap (λ (b : Behaviour). is_some b.start) same ∙ some_if (start_succeeds other) (start_cells other)
 
   kinds_alike : kinds_of file ≡ kinds_of other
   kinds_alike = ap (λ (b : Behaviour). map (λ cell. cell.kind) b.cells) same

@@ -3,7 +3,7 @@ use Rattle.std.proofs.Common.{◌≡◌, ◌≢◌, ◌∙◌, ℕ, ◌≤◌, �
 use Rattle.std.specs.Prelude.{Option, Some, None}
 use Rattle.bl_ctext_semantics.specs.Parts.{Parts}
 use Rattle.bl_ctext_semantics.specs.Cells.{inputs_of}
-use Rattle.bl_ctext_semantics.specs.Trace.{cells_after, start_cells, starts}
+use Rattle.bl_ctext_semantics.specs.Trace.{cells_after, start_cells, start_succeeds}
 use Rattle.bl_ctext_semantics_laws_places.specs.Behaviour.{behaviour_of}
 use Rattle.bl_top_commands.specs.Calls.{Call, Count, HasRisen, Output}
 use Rattle.bl_top_commands.specs.Exec.{TextStops}
@@ -77,12 +77,12 @@ never : {A : Type 0} (b : Bool) → b ≡ false → b ≡ true → A
 never true e f = absurd (cc)
 never false e f = absurd (cc)
 
-pub shows_at_once : (file : Parts) (bytes : List ℕ) → starts file ≡ false → ShowsBadState file bytes 0
+pub shows_at_once : (file : Parts) (bytes : List ℕ) → start_succeeds file ≡ false → ShowsBadState file bytes 0
 shows_at_once file bytes traps = record {
-  none = λ numbers is. never (starts file) traps is.starts;
+  none = λ numbers is. never (start_succeeds file) traps is.starts;
   within = omega arith;
   before = λ n below. absurd (omega (arith, below));
-  here = λ below begins. never (starts file) traps begins.saved.starts;
+  here = λ below begins. never (start_succeeds file) traps begins.saved.starts;
 }
 
 pub state_bad : (file : Parts) (left : Option (List ℕ)) (count : Count) (got : List ℕ) (after : Option (List ℕ)) (at : ℕ) (outcome : Outcome) →
@@ -133,7 +133,7 @@ pub loaded_from : (now : Running) → now ≡ loaded now.parts → now.ready ≡
 loaded_from now fresh ready =
     ap (λ b. made now.parts now.cells b now.live) ready ∙ ap (made now.parts now.cells true) (ap (λ (r : Running). r.live) fresh)
 
-pub loaded_starts : (now : Running) (b : Bool) → now ≡ loaded now.parts → now.ready ≡ b → starts now.parts ≡ b
+pub loaded_starts : (now : Running) (b : Bool) → now ≡ loaded now.parts → now.ready ≡ b → start_succeeds now.parts ≡ b
 loaded_starts now b fresh ready = sym (ap (λ (r : Running). r.ready) fresh) ∙ ready
 
 pub loaded_ready : (now : Running) → StaysReady now.parts → now ≡ loaded now.parts → now.ready ≡ true → IsReady now
@@ -225,20 +225,20 @@ state_from file left first second last _ _ below state_want = state_want
 -- ---- the commands
 
 module _ (c : Call) (text rows : Word) (parts : Parts) (has : HasLoaded (c.left text) parts) where
-  pub save_ran : starts parts ≡ true → (cells : List ℤ) → cells ≡ start_cells parts → (between : Word → Option (List ℕ)) →
+  pub save_ran : start_succeeds parts ≡ true → (cells : List ℤ) → cells ≡ start_cells parts → (between : Word → Option (List ℕ)) →
       LeftBehind text_limit text c.left between → (second : ℕ) → (c.file rows).before ≤ second → (ended : Status) (line : List ℕ) →
       SavesOver parts cells (between rows) (c.rest rows) (record { before = second; after = (c.file rows).after }) c.out ended line →
       SaveEnds c text rows ended line
   save_ran begins cells start between behind second below ended line saves =
-      ran has.text (behaviour_of parts) has.of_source has.loads (subst (λ p. starts p ≡ true) (sym has.is) begins) between behind
+      ran has.text (behaviour_of parts) has.of_source has.loads (subst (λ p. start_succeeds p ≡ true) (sym has.is) begins) between behind
       (subst (λ p. SavesOver p (start_cells p) (between rows) (c.rest rows) (c.file rows) c.out ended line) (sym has.is)
       (subst (λ ns. SavesOver parts ns (between rows) (c.rest rows) (c.file rows) c.out ended line) start
       (saves_from parts cells (between rows) (c.rest rows) (c.file rows).before second (c.file rows).after c.out ended line below saves)))
 
-  pub save_trapped : starts parts ≡ false → (ended : Status) (own : List ℕ) → ended ≡ status.Trapped → IsKept c.out.before c.out.after →
+  pub save_trapped : start_succeeds parts ≡ false → (ended : Status) (own : List ℕ) → ended ≡ status.Trapped → IsKept c.out.before c.out.after →
       SaveEnds c text rows ended (chosen_line ended own)
   save_trapped traps ended own e kept =
-      rw e (trapped_at_start has.text (behaviour_of parts) has.of_source has.loads (subst (λ p. starts p ≡ false) (sym has.is) traps) kept)
+      rw e (trapped_at_start has.text (behaviour_of parts) has.of_source has.loads (subst (λ p. start_succeeds p ≡ false) (sym has.is) traps) kept)
 
 pub save_stopped : (c : Call) (text rows : Word) (ended : Status) (line : List ℕ) → TextStops (c.left text) (c.file text) ended line →
     IsKept c.out.before c.out.after → SaveEnds c text rows ended line

@@ -2,7 +2,7 @@
 use Rattle.std.specs.Prelude.{◌≡◌, ℕ, ℤ, true, false, List, take, Option, None, IfSome}
 use Rattle.bl_ctext_semantics.specs.Cells.{inputs_of}
 use Rattle.bl_ctext_semantics.specs.Parts.{Parts}
-use Rattle.bl_ctext_semantics.specs.Trace.{cells_after, start_cells, starts}
+use Rattle.bl_ctext_semantics.specs.Trace.{cells_after, start_cells, start_succeeds}
 use Rattle.bl_ctext_semantics_laws_places.specs.Behaviour.{Behaviour}
 use Rattle.bl_top_commands.specs.Calls.{Call, Count, HasRisen, Output}
 use Rattle.bl_top_commands.specs.Exec.{Loads, TextStops}
@@ -91,10 +91,10 @@ pub data SavesOver (file : Parts) (numbers : List ℤ) (left rest : Option (List
 pub data SaveEnds (c : Call) (text rows : Word) : Status → List ℕ → Type 0 where
   -- the run begins from what the start leaves, over the rows that are left once the text was read
   ran : {ended : Status} {line : List ℕ} (bytes : List ℕ) (behaviour : Behaviour) → IsSource (c.left text) bytes → (loads : Loads bytes behaviour) →
-      starts loads.file ≡ true → (between : Word → Option (List ℕ)) → LeftBehind text_limit text c.left between →
+      start_succeeds loads.file ≡ true → (between : Word → Option (List ℕ)) → LeftBehind text_limit text c.left between →
       SavesOver loads.file (start_cells loads.file) (between rows) (c.rest rows) (c.file rows) c.out ended line → SaveEnds c text rows ended line
   trapped_at_start : (bytes : List ℕ) (behaviour : Behaviour) → IsSource (c.left text) bytes → (loads : Loads bytes behaviour) →
-      starts loads.file ≡ false → IsKept c.out.before c.out.after → SaveEnds c text rows status.Trapped (line_of status.Trapped)
+      start_succeeds loads.file ≡ false → IsKept c.out.before c.out.after → SaveEnds c text rows status.Trapped (line_of status.Trapped)
   stopped : {ended : Status} {line : List ℕ} → TextStops (c.left text) (c.file text) ended line → IsKept c.out.before c.out.after →
       SaveEnds c text rows ended line
 

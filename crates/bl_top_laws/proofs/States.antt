@@ -4,7 +4,7 @@ use Rattle.std.specs.Prelude.{Option, Some, take}
 use Rattle.bl_ctext.specs.declared.file.CFile.{CFile}
 use Rattle.bl_ctext_semantics.specs.Cells.{inputs_of}
 use Rattle.bl_ctext_semantics.specs.Parts.{Parts, parts_of}
-use Rattle.bl_ctext_semantics.specs.Trace.{c_trace, c_trace_from, cells_if, start_cells, starts, trace_after}
+use Rattle.bl_ctext_semantics.specs.Trace.{c_trace, c_trace_from, cells_if, start_cells, start_succeeds, trace_after}
 use Rattle.bl_ctext_semantics_laws_places.specs.Behaviour.{Behaviour, behaviour_of}
 use Rattle.bl_ctext_semantics_laws_places.specs.Bytes.{Behaves}
 use Rattle.bl_rows.specs.Reading.{rows_of}
@@ -110,7 +110,7 @@ saved_due file numbers left rest rows out bytes last why holds none_read none_wr
 
 -- ---- files of one text
 
-trace_if : (file : Parts) (rows : List (List ℤ)) → starts file ≡ true → c_trace file rows ≡ c_trace_from file rows (start_cells file)
+trace_if : (file : Parts) (rows : List (List ℤ)) → start_succeeds file ≡ true → c_trace file rows ≡ c_trace_from file rows (start_cells file)
 trace_if file rows begins = ap (λ b. trace_after file (cells_if b (start_cells file)) rows) begins
 
 not_both : (b : Bool) → b ≡ true → b ≡ false → ⊥
@@ -126,11 +126,11 @@ as_loaded each text file is behaviour read loads same =
 
 -- its start traps where that of the other does
 starts_as : EachBehaves → (text : List ℕ) (file : CFile) → IsLoadable text file → (behaviour : Behaviour) (read : List ℕ)
-    (loads : Loads read behaviour) → text ≡ read → (b : Bool) → starts (parts_of file) ≡ b → starts loads.file ≡ b
+    (loads : Loads read behaviour) → text ≡ read → (b : Bool) → start_succeeds (parts_of file) ≡ b → start_succeeds loads.file ≡ b
 starts_as each text file is behaviour read loads same b begins =
     sym (starts_alike (parts_of file) loads.file (as_loaded each text file is behaviour read loads same)) ∙ begins
 
-saves_to : EachBehaves → (text bytes : List ℕ) (trace : Trace) (to : ExecutesTo text bytes trace) → starts (parts_of to.file) ≡ true →
+saves_to : EachBehaves → (text bytes : List ℕ) (trace : Trace) (to : ExecutesTo text bytes trace) → start_succeeds (parts_of to.file) ≡ true →
     (behaviour : Behaviour) (read : List ℕ) (loads : Loads read behaviour) → text ≡ read →
     GoesTo (silent_by loads.file (start_cells loads.file)) bytes trace.last to.fault
 saves_to each text bytes trace to begins behaviour read loads same =
@@ -143,7 +143,7 @@ saves_to each text bytes trace to begins behaviour read loads same =
     }
 
 pub save_due : EachBehaves → (c : Call) (name rows : Word) (text bytes : List ℕ) (trace : Trace) (to : ExecutesTo text bytes trace) →
-    starts (parts_of to.file) ≡ true → c.left name ≡ Some text → HoldsBehind c text_limit name rows bytes → ¬ HasRisen (c.file name) →
+    start_succeeds (parts_of to.file) ≡ true → c.left name ≡ Some text → HoldsBehind c text_limit name rows bytes → ¬ HasRisen (c.file name) →
     ¬ HasRisen (c.file rows) → ¬ HasRisen c.out.faults → (ended : Status) (line : List ℕ) → SaveEnds c name rows ended line →
     IsDone ended (save_status trace.last to.fault)
 save_due each c name rows text bytes trace to begins holds behind none_text none_rows none_out ended line
@@ -154,16 +154,16 @@ save_due each c name rows text bytes trace to begins holds behind none_text none
 save_due each c name rows text bytes trace to begins holds behind none_text none_rows none_out _ _
     (trapped_at_start read behaviour source loads traps kept) =
     let same = told_source (c.left name) text read holds source in
-    absurd (not_both (starts loads.file) (starts_as each text to.file to.loadable behaviour read loads same true begins) traps)
+    absurd (not_both (start_succeeds loads.file) (starts_as each text to.file to.loadable behaviour read loads same true begins) traps)
 save_due each c name rows text bytes trace to begins holds behind none_text none_rows none_out ended line (stopped why kept) =
     inl (text_stops each text to.file to.loadable (c.left name) (c.file name) ended line holds none_text why)
 
-pub save_traps : EachBehaves → (c : Call) (name rows : Word) (text : List ℕ) (file : CFile) → IsLoadable text file → starts (parts_of file) ≡ false →
+pub save_traps : EachBehaves → (c : Call) (name rows : Word) (text : List ℕ) (file : CFile) → IsLoadable text file → start_succeeds (parts_of file) ≡ false →
     c.left name ≡ Some text → ¬ HasRisen (c.file name) → (ended : Status) (line : List ℕ) → SaveEnds c name rows ended line →
     IsDone ended status.Trapped
 save_traps each c name rows text file is traps holds none_text ended line (ran read behaviour source loads going between left saves) =
     let same = told_source (c.left name) text read holds source in
-    absurd (not_both (starts loads.file) going (starts_as each text file is behaviour read loads same false traps))
+    absurd (not_both (start_succeeds loads.file) going (starts_as each text file is behaviour read loads same false traps))
 save_traps each c name rows text file is traps holds none_text _ _ (trapped_at_start read behaviour source loads none kept) = inr refl
 save_traps each c name rows text file is traps holds none_text ended line (stopped why kept) =
     inl (text_stops each text file is (c.left name) (c.file name) ended line holds none_text why)

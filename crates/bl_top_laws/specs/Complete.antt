@@ -6,7 +6,7 @@ use Rattle.bl_ctext_semantics.specs.Cells.{inputs_of}
 use Rattle.bl_ctext_semantics.specs.Faults.{WellFormed}
 use Rattle.bl_ctext_semantics.specs.Parts.{parts_of}
 use Rattle.bl_ctext_semantics.specs.Sizes.{cells_needed}
-use Rattle.bl_ctext_semantics.specs.Trace.{c_trace, c_trace_from, starts}
+use Rattle.bl_ctext_semantics.specs.Trace.{c_trace, c_trace_from, start_succeeds}
 use Rattle.bl_ctree.specs.Means.{Means, shown_trace}
 use Rattle.bl_gen.specs.Outputs.{input_rows}
 use Rattle.bl_gen.specs.Text.{most_stages, program_text}
@@ -183,10 +183,10 @@ pub data IsDue (c : Call) : JobSpec → Status → Type 0 where
       (to : ExecutesTo text bytes trace) → IsDue c (count name rows) (run_status trace.last to.fault)
   bound_done : {name : Word} (text : List ℕ) (file : CFile) → c.left name ≡ Some text → IsLoadable text file → IsDue c (bound name) status.Ok
   save_done : {name rows : Word} (text bytes : List ℕ) (trace : Trace) → c.left name ≡ Some text → HoldsBehind c text_limit name rows bytes →
-      (to : ExecutesTo text bytes trace) → starts (parts_of to.file) ≡ true → IsDue c (save name rows) (save_status trace.last to.fault)
+      (to : ExecutesTo text bytes trace) → start_succeeds (parts_of to.file) ≡ true → IsDue c (save name rows) (save_status trace.last to.fault)
   -- the start of the C file traps
   save_trapped : {name rows : Word} (text : List ℕ) (file : CFile) → c.left name ≡ Some text → IsLoadable text file →
-      starts (parts_of file) ≡ false → IsDue c (save name rows) status.Trapped
+      start_succeeds (parts_of file) ≡ false → IsDue c (save name rows) status.Trapped
   save_from_done : {name state rows : Word} (text saved bytes : List ℕ) (trace : Trace) → c.left name ≡ Some text →
       HoldsBehind c text_limit name state saved → HoldsBehindBoth c name state rows bytes → (to : ResumesTo text saved bytes trace) →
       IsDue c (save_from name state rows) (save_status trace.last to.fault)

@@ -19,7 +19,7 @@ use Rattle.bl_ctree.specs.Ticks.{End, Rests, Steps, Trapped, resting_outcome}
 use Rattle.bl_ctree_run.specs.Running.{Acted, RunState, action_of, stepped, stepped_by}
 use Rattle.bl_ctree_run.specs.declared.action.Action.{Action as Told}
 use Rattle.bl_walk.specs.declared.choice.Choice.{Choice}
-use Rattle.bl_walk.specs.Choices.{moved, picked}
+use Rattle.bl_walk.specs.Choices.{picked, word_moved}
 use Rattle.bl_walk.specs.inner.Ticks.{
   Begun,
   Reacted,
@@ -115,23 +115,23 @@ module _ (w : Setting) (s : RunState) where
 
   -- one step more
   stands_on : (choice now : Choice) (t u : RunState) (old new : List Place) → StepsTo w choice s now t old → (point : Point Control) →
-      IsPicked w (moved now) t.control point → Leaves w t point u → new ≡ old ++ point.action.place ∷ [] →
-      StepsTo w choice s (moved now) u new
+      IsPicked w (word_moved now) t.control point → Leaves w t point u → new ≡ old ++ point.action.place ∷ [] →
+      StepsTo w choice s (word_moved now) u new
   stands_on choice now t u old new stands point is leaves e = record {
     actions = stands.actions ++ point.action ∷ [];
-    picks = picks_append stands.picks (subst (λ (u : RunState). Picks w now t.control t.store (point.action ∷ []) (moved now) (Rests u.control u.store))
+    picks = picks_append stands.picks (subst (λ (u : RunState). Picks w now t.control t.store (point.action ∷ []) (word_moved now) (Rests u.control u.store))
         leaves.is (one_step point leaves.done is leaves.performs no_step));
     told = told_more stands.actions point.action old new stands.told e;
   }
 
-  pub stands_took : (choice now : Choice) (t u : RunState) (old new : List Place) → StepsTo w choice s now t old → Took w (moved now) t u old new Done →
-      StepsTo w choice s (moved now) u new
+  pub stands_took : (choice now : Choice) (t u : RunState) (old new : List Place) → StepsTo w choice s now t old → Took w (word_moved now) t u old new Done →
+      StepsTo w choice s (word_moved now) u new
   stands_took choice now t u old new stands (goes point is steps e) =
       stands_on choice now t u old new stands point is (leaves_from w t point u (perform w point.action t.store) refl steps) e
 
   -- a trap is the last step
-  pub reacted_trap : (choice now : Choice) (t u : RunState) (old new : List Place) → StepsTo w choice s now t old → Took w (moved now) t u old new Trap →
-      Reacted w choice s (moved now) u new Trap
+  pub reacted_trap : (choice now : Choice) (t u : RunState) (old new : List Place) → StepsTo w choice s now t old → Took w (word_moved now) t u old new Trap →
+      Reacted w choice s (word_moved now) u new Trap
   reacted_trap choice now t u old new stands (fails point is steps e) =
       breaks_off (stands.actions ++ point.action ∷ [])
       (picks_append stands.picks (trap_step point is (traps_from w t point (perform w point.action t.store) refl steps)))
@@ -178,21 +178,21 @@ one_place_more w choice s t old new (goes point is steps e) = ap length e ∙ le
 
 -- ---- steps as they are told
 
-module _ (w w' : Setting) (same : w' ≡ w) (choice : Choice) (s : RunState) (now next : Choice) (turned : next ≡ moved now) (t u : RunState)
+module _ (w w' : Setting) (same : w' ≡ w) (choice : Choice) (s : RunState) (now next : Choice) (turned : next ≡ word_moved now) (t u : RunState)
     (old new : List Place) (stands : StepsTo w choice s now t old) where
-  by_moved : (did : Did) → Took w' next t u old new did → Took w (moved now) t u old new did
+  by_moved : (did : Did) → Took w' next t u old new did → Took w (word_moved now) t u old new did
   by_moved did took =
       subst (λ n. Took w n t u old new did) turned (subst (λ (v : Setting). Took v next t u old new did) same took)
 
   pub stands_by : (did : Did) → did ≡ Done → Took w' next t u old new did → StepsTo w choice s next u new
   stands_by did is took =
       subst (λ n. StepsTo w choice s n u new) (sym turned)
-      (stands_took w s choice now t u old new stands (subst (λ d. Took w (moved now) t u old new d) is (by_moved did took)))
+      (stands_took w s choice now t u old new stands (subst (λ d. Took w (word_moved now) t u old new d) is (by_moved did took)))
 
   pub reacted_by : (did : Did) → did ≡ Trap → Took w' next t u old new did → Reacted w choice s next u new did
   reacted_by did is took =
       subst (λ d. Reacted w choice s next u new d) (sym is) (subst (λ n. Reacted w choice s n u new Trap) (sym turned)
-      (reacted_trap w s choice now t u old new stands (subst (λ d. Took w (moved now) t u old new d) is (by_moved did took))))
+      (reacted_trap w s choice now t u old new stands (subst (λ d. Took w (word_moved now) t u old new d) is (by_moved did took))))
 
   pub longer_by : (did : Did) → did ≡ Done → Took w' next t u old new did → length new ≡ length old + 1
   longer_by did is took = one_place_more w' next t u old new (subst (λ d. Took w' next t u old new d) is took)

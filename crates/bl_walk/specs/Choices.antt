@@ -12,10 +12,10 @@ abbrev pub choice_of : ℕ → Choice
 choice_of seed = if seed == 0 then First else (if seed == 1 then Last else ByWord seed)
 
 -- the choice before an action is picked: its word has moved
-abbrev pub moved : Choice → Choice
-moved First = First
-moved Last = Last
-moved (ByWord word) = ByWord (next_word word)
+abbrev pub word_moved : Choice → Choice
+word_moved First = First
+word_moved Last = Last
+word_moved (ByWord word) = ByWord (next_word word)
 
 -- the index of the picked element among so many
 abbrev pub picked : Choice → ℕ → ℕ

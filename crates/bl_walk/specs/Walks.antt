@@ -13,7 +13,7 @@ use Rattle.bl_ctree.specs.Points.{Point, points}
 use Rattle.bl_ctree.specs.Store.{Store, first_store, outputs_row, woken_store}
 use Rattle.bl_ctree.specs.Ticks.{End, Ended, Maximal, Paused, Rests, Trapped, outcome_at}
 use Rattle.bl_walk.specs.declared.choice.Choice.{Choice}
-use Rattle.bl_walk.specs.Choices.{choice_of, moved, picked}
+use Rattle.bl_walk.specs.Choices.{choice_of, picked, word_moved}
 
 -- the point is the one that the choice picks among the enabled points of the tree
 abbrev pub IsPicked : Setting → Choice → Control → Point Control → Type 0
@@ -23,10 +23,10 @@ IsPicked w choice c point = slice_get (points w 0 c) (picked choice (length (poi
 pub data Picks (w : Setting) : Choice → Control → Store → List Action → Choice → End → Type 0 where
   no_step : {choice : Choice} {c : Control} {store : Store} → Picks w choice c store [] choice (Rests c store)
   trap_step : {choice : Choice} {c : Control} {store : Store} (point : Point Control) →
-      IsPicked w (moved choice) c point → perform w point.action store ≡ None → Picks w choice c store (point.action ∷ []) (moved choice) Trapped
+      IsPicked w (word_moved choice) c point → perform w point.action store ≡ None → Picks w choice c store (point.action ∷ []) (word_moved choice) Trapped
   one_step : {choice last : Choice} {c : Control} {store : Store} {rest : List Action} {end : End} (point : Point Control) (done : Performed) →
-      IsPicked w (moved choice) c point → perform w point.action store ≡ Some done →
-      Picks w (moved choice) (point.after done.answer) done.store rest last end → Picks w choice c store (point.action ∷ rest) last end
+      IsPicked w (word_moved choice) c point → perform w point.action store ≡ Some done →
+      Picks w (word_moved choice) (point.after done.answer) done.store rest last end → Picks w choice c store (point.action ∷ rest) last end
 
 -- a tick over a row of inputs by picked steps: a maximal list of them from the woken tree and store
 pub record PickedTick (w : Setting) (choice : Choice) (row : List ℤ) (c : Control) (store : Store) (actions : List Action) (last : Choice)

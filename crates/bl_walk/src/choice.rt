@@ -1,7 +1,7 @@
 //! Choices of actions by a seed.
 
 ghost use Rattle.std.specs.Prelude.{◌≡◌, ◌<◌};
-ghost use Rattle.bl_walk.specs.Choices.{choice_of, moved, next_word, picked};
+ghost use Rattle.bl_walk.specs.Choices.{choice_of, next_word, picked, word_moved};
 
 const FACTOR: u64 = 6364136223846793005;
 
@@ -30,7 +30,7 @@ impl Choice {
 
     /// The choice with which the next action is picked.
     pub fn next(self) -> Choice
-        ensures { result ≡ moved self }
+        ensures { result ≡ word_moved self }
     {
         match self {
             Choice::First => Choice::First,

@@ -6,7 +6,7 @@ ghost use Rattle.bl_ctree.specs.Points.{points};
 ghost use Rattle.bl_ctree.specs.Store.{outputs_row};
 ghost use Rattle.bl_ctree_run.specs.Outputs.{count_of_outputs};
 ghost use Rattle.bl_ctree_run.specs.Running.{setting, state};
-ghost use Rattle.bl_walk.specs.Choices.{moved};
+ghost use Rattle.bl_walk.specs.Choices.{word_moved};
 ghost use Rattle.bl_walk.specs.inner.Ticks.{Begun, Reacted, Steady, Ticked, Took, WalkBetweenTicks};
 
 use crate::choice::Choice;
@@ -83,7 +83,7 @@ fn step(
     requires some { 0 < count }
     requires count { count ≡ length (points (setting tree.old) 0 (state tree.old).control) }
     ensures setting { setting tree.new ≡ setting tree.old }
-    ensures choice { OnOk result (choice.new ≡ moved choice.old) }
+    ensures choice { OnOk result (choice.new ≡ word_moved choice.old) }
     ensures took { IfOk result (Took (setting tree.old) choice.new (state tree.old) (state tree.new) places.old places.new) }
 {
     *choice = choice.next();

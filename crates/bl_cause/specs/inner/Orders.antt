@@ -73,14 +73,14 @@ entered_unless false node s =
     record { seen = slice_set s.seen node true; stack = s.stack ++ record { node = node; next = 0 } ∷ []; order = s.order }
 
 -- the search state after a node is entered, unless it was seen before
-abbrev pub entered : ℕ → SearchState → SearchState
-entered node s = entered_unless (slice_index_or s.seen node false) node s
+abbrev pub after_entering : ℕ → SearchState → SearchState
+after_entering node s = entered_unless (slice_index_or s.seen node false) node s
 
 -- the frame is put back with its next edge looked at, or, without one, its node is done
 abbrev pub at_edge : Frame → Option Edge → SearchState → SearchState
 at_edge frame None s = record { seen = s.seen; stack = s.stack; order = s.order ++ frame.node ∷ [] }
 at_edge frame (Some edge) s =
-    entered edge.to (record { seen = s.seen; stack = s.stack ++ record { node = frame.node; next = frame.next + 1 } ∷ []; order = s.order })
+    after_entering edge.to (record { seen = s.seen; stack = s.stack ++ record { node = frame.node; next = frame.next + 1 } ∷ []; order = s.order })
 
 -- the search state after the frame's next edge of the row
 abbrev pub advanced : Frame → List Edge → SearchState → SearchState

@@ -31,8 +31,8 @@ Follows result symbols more old new = (rest : List Wanted) → Expects (symbols 
     MatchResult result (λ _. Expects (more ++ rest) new) WantsMemory
 
 -- a step that expects the first symbols of the old pieces leaves the second symbols expected of the new ones
-abbrev pub Turns : List Wanted → List Wanted → List Token → List Token → Type 0
-Turns symbols more old new = (rest : List Wanted) → Expects (symbols ++ rest) old → Expects (more ++ rest) new
+abbrev pub Expands : List Wanted → List Wanted → List Token → List Token → Type 0
+Expands symbols more old new = (rest : List Wanted) → Expects (symbols ++ rest) old → Expects (more ++ rest) new
 
 -- the symbol of any name
 abbrev pub name_of : Wanted

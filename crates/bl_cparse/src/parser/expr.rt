@@ -11,7 +11,7 @@ ghost use Rattle.bl_cparse.specs.inner.Partial.{called_front, use_tokens, place_
 ghost use Rattle.bl_cparse.specs.inner.Partial.{spells_use, spells_root, spells_held, spells_partial, work_left};
 ghost use Rattle.bl_ctext.specs.Token.{Token};
 ghost use Rattle.bl_cparse_syntax.specs.declared.grammar.Part.{Part};
-ghost use Rattle.bl_cparse_syntax.specs.Pieces.{first_of};
+ghost use Rattle.bl_cparse_syntax.specs.Pieces.{first_piece};
 ghost use Rattle.bl_cparse_syntax.specs.Classes.{Class, matches};
 ghost use Rattle.bl_cparse_syntax.specs.Grammar.{Wanted};
 ghost use Rattle.bl_cparse_syntax.specs.Tables.{has};
@@ -375,7 +375,7 @@ fn named(r: &mut Reader<'_>, outer: Vec<Held>, room: u32) -> Result<Partial, CRe
     requires outer { IsTrue (all_of (map spells_held outer.items)) }
     ensures read { IfOk result (λ p. (on_stack outer.items ++ r.old ≡ partial_tokens p ++ r.new) × IsTrue (spells_partial p)) }
     ensures less { IfOk result (λ p. 2 * length r.new + work_left p.next < 2 * length r.old) }
-    ensures follows { has literal_starts (first_of r.old) ≡ false → GoesOn result (part Part.Simple room ∷ behind outer.items) r.old r.new }
+    ensures follows { has literal_starts (first_piece r.old) ≡ false → GoesOn result (part Part.Simple room ∷ behind outer.items) r.old r.new }
 {
     if words::is_name(r.piece()) {
         let p = name_used(r, outer, room)?;
@@ -548,7 +548,7 @@ fn indexed(
     ensures read { IfOk result (λ p. (on_stack outer.items ++ ((use_tokens of ++ place_front place) ++ codes "." ∷ member ∷ r.old)
         ≡ partial_tokens p ++ r.new) × IsTrue (spells_partial p)) }
     ensures less { IfOk result (λ p. 2 * length r.new + work_left p.next < 2 * length r.old) }
-    ensures follows { IsTrue (matches (Class.exactly (codes "[")) (first_of r.old))
+    ensures follows { IsTrue (matches (Class.exactly (codes "[")) (first_piece r.old))
         → GoesOn result (part Part.Index place.room ∷ part Part.Steps place.room ∷ (use_wanted of ++ behind outer.items)) r.old r.new }
 {
     if place.room < 2 {

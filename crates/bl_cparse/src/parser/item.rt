@@ -8,11 +8,11 @@ ghost use Rattle.bl_ctext.specs.Spelling.{returned_tokens, static_if, func_front
 ghost use Rattle.bl_ctext.specs.Spellable.{has_any, spells_type, spells_length, spells_member, spells_struct, spells_param, spells_local};
 ghost use Rattle.bl_ctext.specs.Spellable.{spells_returned, spells_func, spells_stmt};
 ghost use Rattle.bl_cparse_syntax.specs.declared.grammar.Part.{Part};
-ghost use Rattle.bl_cparse_syntax.specs.Pieces.{first_of};
+ghost use Rattle.bl_cparse_syntax.specs.Pieces.{first_piece};
 ghost use Rattle.bl_cparse_syntax.specs.Grammar.{Wanted, most_open};
 ghost use Rattle.bl_cparse_syntax.specs.Tables.{has};
 ghost use Rattle.bl_cparse_syntax.specs.Expects.{Expects};
-ghost use Rattle.bl_cparse.specs.inner.Reading.{sign, name_of, part, local_starts, Follows, Turns};
+ghost use Rattle.bl_cparse.specs.inner.Reading.{sign, name_of, part, local_starts, Follows, Expands};
 ghost use Rattle.bl_cparse.specs.Places.{WantsMemory};
 
 use crate::make::NOWHERE;
@@ -182,7 +182,7 @@ fn func_head(r: &mut Reader<'_>) -> Result<FuncHead, CRefusal>
 /// Whether `static` stands here.
 fn fixed(r: &mut Reader<'_>) -> bool
     ensures read { r.old ≡ static_if result ++ r.new }
-    ensures follows { (room : ℕ) → Turns (part Part.Func room ∷ []) (part Part.PlainFunc room ∷ []) r.old r.new }
+    ensures follows { (room : ℕ) → Expands (part Part.Func room ∷ []) (part Part.PlainFunc room ∷ []) r.old r.new }
 {
     r.eat("static")
 }
@@ -227,7 +227,7 @@ fn param(r: &mut Reader<'_>) -> Result<CParam, CRefusal>
 /// Whether a `*` stands here.
 fn star(r: &mut Reader<'_>) -> bool
     ensures read { r.old ≡ star_if result ++ r.new }
-    ensures follows { (room : ℕ) → Turns (part Part.Star room ∷ []) [] r.old r.new }
+    ensures follows { (room : ℕ) → Expands (part Part.Star room ∷ []) [] r.old r.new }
 {
     r.eat("*")
 }
@@ -244,7 +244,7 @@ fn locals(r: &mut Reader<'_>) -> Result<List<CLocal>, CRefusal>
 }
 
 fn begins_local(r: &Reader<'_>) -> bool
-    ensures { result ≡ has local_starts (first_of r.now) }
+    ensures { result ≡ has local_starts (first_piece r.now) }
 {
     match literal::scalar_of(r.piece()) {
         Some(_) => true,

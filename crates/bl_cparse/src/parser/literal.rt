@@ -8,11 +8,11 @@ ghost use Rattle.std.specs.Fmt.{decimal};
 ghost use Rattle.bl_tree.specs.declared.scalar.Scalar.{Scalar};
 ghost use Rattle.bl_ctext.specs.Spelling.{scalar_word, operator_sign, constant_word, width_digits, negatives, kind_tokens};
 ghost use Rattle.bl_ctext.specs.Spellable.{is_c_scalar, is_c_operator, has_any, spells_kind};
-ghost use Rattle.bl_cparse_syntax.specs.Pieces.{first_of};
+ghost use Rattle.bl_cparse_syntax.specs.Pieces.{first_piece};
 ghost use Rattle.bl_cparse_syntax.specs.declared.grammar.Digits.{Digits};
 ghost use Rattle.bl_cparse_syntax.specs.declared.grammar.Group.{Group};
 ghost use Rattle.bl_cparse_syntax.specs.declared.grammar.Part.{Part};
-ghost use Rattle.bl_cparse_syntax.specs.Classes.{Class, least, bound, matches};
+ghost use Rattle.bl_cparse_syntax.specs.Classes.{Class, least, digits_bound, matches};
 ghost use Rattle.bl_cparse_syntax.specs.Grammar.{Wanted};
 ghost use Rattle.bl_cparse_syntax.specs.Tables.{has};
 ghost use Rattle.bl_cparse_syntax.specs.Expects.{Expects};
@@ -211,7 +211,7 @@ fn numeral(text: &str) -> Option<u64>
 /// A number from `low` to `high`.
 pub fn number(r: &mut Reader<'_>, low: u64, high: u64) -> Result<u64, CRefusal>
     ensures read { IfOk result (λ n. (r.old ≡ decimal n ∷ r.new) × ((low ≤ n) × (n ≤ high))) }
-    ensures follows { (of : Digits) → least of ≡ low → bound of ≡ high + 1
+    ensures follows { (of : Digits) → least of ≡ low → digits_bound of ≡ high + 1
         → Follows result (Symbol.Terminal (Class.number of) ∷ []) [] r.old r.new }
 {
     let Some(n) = number_of(r.piece()) else {
@@ -230,7 +230,7 @@ pub fn number(r: &mut Reader<'_>, low: u64, high: u64) -> Result<u64, CRefusal>
 /// The digits of a constant in their parentheses.
 fn constant(r: &mut Reader<'_>, low: u64, high: u64) -> Result<u64, CRefusal>
     ensures read { IfOk result (λ n. (r.old ≡ codes "(" ∷ decimal n ∷ codes ")" ∷ r.new) × ((low ≤ n) × (n ≤ high))) }
-    ensures follows { (of : Digits) → least of ≡ low → bound of ≡ high + 1
+    ensures follows { (of : Digits) → least of ≡ low → digits_bound of ≡ high + 1
         → Follows result (sign (codes "(") ∷ Symbol.Terminal (Class.number of) ∷ sign (codes ")") ∷ []) [] r.old r.new }
 {
     r.take("(")?;
@@ -244,7 +244,7 @@ pub fn literal(r: &mut Reader<'_>) -> Result<Option<CExprKind>, CRefusal>
     ensures read { IfOk result (λ found. MaybeKind r.old r.new found) }
     ensures shorter { IfOk result (λ found. IfSome found (λ what. length r.new < length r.old)) }
     ensures follows { (room : ℕ) (rest : List Wanted) → Expects (part Part.Simple room ∷ rest) r.old
-        → MatchResult result (λ found. MatchOption found (has literal_starts (first_of r.old) ≡ false) (λ _. Expects rest r.new)) WantsMemory }
+        → MatchResult result (λ found. MatchOption found (has literal_starts (first_piece r.old) ≡ false) (λ _. Expects rest r.new)) WantsMemory }
 {
     if r.eat("true") {
         return Ok(Some(make::literal(Scalar::Bool, 1)));
@@ -265,7 +265,7 @@ fn bracketed_constant(r: &mut Reader<'_>) -> Result<Option<CExprKind>, CRefusal>
     ensures read { IfOk result (λ found. MaybeKind r.old r.new found) }
     ensures shorter { IfOk result (λ found. IfSome found (λ what. length r.new < length r.old)) }
     ensures follows { (room : ℕ) (rest : List Wanted) → Expects (part Part.Simple room ∷ rest) r.old
-        → MatchResult result (λ found. MatchOption found (has constant_starts (first_of r.old) ≡ false) (λ _. Expects rest r.new)) WantsMemory }
+        → MatchResult result (λ found. MatchOption found (has constant_starts (first_piece r.old) ≡ false) (λ _. Expects rest r.new)) WantsMemory }
 {
     if let Some(width) = signed_of(r.piece()) {
         r.skip();

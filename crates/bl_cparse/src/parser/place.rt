@@ -8,7 +8,7 @@ ghost use Rattle.bl_ctext.specs.Names.{is_name, is_callee};
 ghost use Rattle.bl_ctext.specs.Spelling.{with_commas, if_any, root_tokens, index_front, place_tokens, step_tokens, index_tokens, ccall_tokens, arg_tokens};
 ghost use Rattle.bl_ctext.specs.Spellable.{is_length, none_or, spells_place, spells_step, spells_index, spells_call, spells_arg};
 ghost use Rattle.bl_cparse_syntax.specs.declared.grammar.Part.{Part};
-ghost use Rattle.bl_cparse_syntax.specs.Pieces.{first_of};
+ghost use Rattle.bl_cparse_syntax.specs.Pieces.{first_piece};
 ghost use Rattle.bl_cparse_syntax.specs.Classes.{Class, matches};
 ghost use Rattle.bl_cparse.specs.inner.Reading.{sign, name_of, index_function, elements, part, index_word, GoesOnAPlace, Follows};
 
@@ -82,7 +82,7 @@ pub fn place(r: &mut Reader<'_>, through: bool, name: Text, room: u32) -> Result
     requires { IsTrue (is_name name) }
     ensures read { IfOk result (λ at. (root_tokens through name ++ r.old ≡ place_tokens at ++ r.new) × IsTrue (spells_place at)) }
     ensures follows { (tail : Part) → GoesOnAPlace tail → Follows result (part tail room ∷ []) (part tail room ∷ []) r.old r.new }
-    ensures ends { OnOk result (matches (Class.exactly (codes ".")) (first_of r.new) ≡ false) }
+    ensures ends { OnOk result (matches (Class.exactly (codes ".")) (first_piece r.new) ≡ false) }
 {
     let mut steps = List::new(r.alloc());
     while r.sees(".") {
@@ -116,7 +116,7 @@ fn maybe_index(r: &mut Reader<'_>, room: u32) -> Result<Option<Box<CIndex>>, CRe
 }
 
 fn index(r: &mut Reader<'_>, room: u32) -> Result<CIndex, CRefusal>
-    requires { IsTrue (matches (Class.exactly (codes "[")) (first_of r.old)) }
+    requires { IsTrue (matches (Class.exactly (codes "[")) (first_piece r.old)) }
     ensures read { IfOk result (λ i. (r.old ≡ index_tokens i ++ r.new) × IsTrue (spells_index i)) }
     ensures follows { Follows result (part Part.Index room ∷ []) [] r.old r.new }
 {

@@ -11,7 +11,7 @@ ghost use Rattle.bl_ctext.specs.Spelling.{turn_declared, turn_counted};
 ghost use Rattle.bl_ctext.specs.Spellable.{spells_expr, spells_place, spells_stmt, spells_stmt_kind, has_any};
 ghost use Rattle.bl_cparse.specs.inner.Nest.{opened_tokens, frame_tokens, spells_frame, nest_tokens, spells_nest};
 ghost use Rattle.bl_cparse_syntax.specs.declared.grammar.Part.{Part};
-ghost use Rattle.bl_cparse_syntax.specs.Pieces.{first_of};
+ghost use Rattle.bl_cparse_syntax.specs.Pieces.{first_piece};
 ghost use Rattle.bl_cparse_syntax.specs.Classes.{Class, matches};
 ghost use Rattle.bl_cparse_syntax.specs.Grammar.{Wanted};
 ghost use Rattle.bl_cparse_syntax.specs.Tables.{has};
@@ -79,8 +79,8 @@ pub fn stmts(r: &mut Reader<'_>, room: u32) -> Result<List<CStmt>, CRefusal>
 /// Whether no brace is open and a `}` stands next.
 fn is_closed(r: &Reader<'_>, nest: &Nest) -> bool
     ensures outer { IsTrue result → nest.now.outer.items ≡ [] }
-    ensures closed { IsTrue result → matches (Class.exactly (codes "}")) (first_of r.now) ≡ true }
-    ensures open { IsFalse result → IsTrue (matches (Class.exactly (codes "}")) (first_of r.now)) → IsTrue (has_any nest.now.outer.items) }
+    ensures closed { IsTrue result → matches (Class.exactly (codes "}")) (first_piece r.now) ≡ true }
+    ensures open { IsFalse result → IsTrue (matches (Class.exactly (codes "}")) (first_piece r.now)) → IsTrue (has_any nest.now.outer.items) }
 {
     if r.sees("}") {
         nest.outer.is_empty()
@@ -92,7 +92,7 @@ fn is_closed(r: &Reader<'_>, nest: &Nest) -> bool
 /// One statement more, or the front or the end of one that holds others.
 fn further(r: &mut Reader<'_>, nest: Nest) -> Result<Nest, CRefusal>
     requires spells { IsTrue (spells_nest nest) }
-    requires open { IsTrue (matches (Class.exactly (codes "}")) (first_of r.old)) → IsTrue (has_any nest.outer.items) }
+    requires open { IsTrue (matches (Class.exactly (codes "}")) (first_piece r.old)) → IsTrue (has_any nest.outer.items) }
     ensures read { IfOk result (λ next. (nest_tokens nest ++ r.old ≡ nest_tokens next ++ r.new) × IsTrue (spells_nest next)) }
     ensures shorter { OnOk result (length r.new < length r.old) }
     ensures follows { Nests result (nest_wanted nest) r.old r.new }
@@ -117,8 +117,8 @@ fn one(r: &mut Reader<'_>, nest: Nest) -> Result<Nest, CRefusal>
     requires { IsTrue (spells_nest nest) }
     ensures read { IfOk result (λ next. (nest_tokens nest ++ r.old ≡ nest_tokens next ++ r.new) × IsTrue (spells_nest next)) }
     ensures shorter { OnOk result (length r.new < length r.old) }
-    ensures follows { matches (Class.exactly (codes "if")) (first_of r.old) ≡ false
-        → matches (Class.exactly (codes "{")) (first_of r.old) ≡ false → Nests result (part Part.Stmt nest.room ∷ nest_wanted nest) r.old r.new }
+    ensures follows { matches (Class.exactly (codes "if")) (first_piece r.old) ≡ false
+        → matches (Class.exactly (codes "{")) (first_piece r.old) ≡ false → Nests result (part Part.Stmt nest.room ∷ nest_wanted nest) r.old r.new }
 {
     let Nest { outer, body, room } = nest;
     let what = simple(r, room)?;
@@ -447,8 +447,8 @@ fn ended(outer: Vec<Frame>, place: Outside, what: CStmtKind) -> Result<Nest, CRe
 
 fn simple(r: &mut Reader<'_>, room: u32) -> Result<CStmtKind, CRefusal>
     ensures read { IfOk result (λ k. (r.old ≡ stmt_kind_tokens k ++ r.new) × IsTrue (spells_stmt_kind k)) }
-    ensures follows { matches (Class.exactly (codes "if")) (first_of r.old) ≡ false
-        → matches (Class.exactly (codes "{")) (first_of r.old) ≡ false → Follows result (part Part.Stmt room ∷ []) [] r.old r.new }
+    ensures follows { matches (Class.exactly (codes "if")) (first_piece r.old) ≡ false
+        → matches (Class.exactly (codes "{")) (first_piece r.old) ≡ false → Follows result (part Part.Stmt room ∷ []) [] r.old r.new }
 {
     if r.eat("break") {
         r.take(";")?;
@@ -463,7 +463,7 @@ fn simple(r: &mut Reader<'_>, room: u32) -> Result<CStmtKind, CRefusal>
 /// A statement that begins with a place or a call.
 fn acted(r: &mut Reader<'_>, room: u32) -> Result<CStmtKind, CRefusal>
     ensures read { IfOk result (λ k. (r.old ≡ stmt_kind_tokens k ++ r.new) × IsTrue (spells_stmt_kind k)) }
-    ensures follows { has other_starts (first_of r.old) ≡ false → Follows result (part Part.Stmt room ∷ []) [] r.old r.new }
+    ensures follows { has other_starts (first_piece r.old) ≡ false → Follows result (part Part.Stmt room ∷ []) [] r.old r.new }
 {
     if r.sees("(") {
         let name = place::star(r, room)?;
@@ -526,7 +526,7 @@ fn set(r: &mut Reader<'_>, through: bool, name: Text, room: u32) -> Result<CStmt
 fn assigned(r: &mut Reader<'_>, at: CPlace, room: u32) -> Result<CStmtKind, CRefusal>
     requires { IsTrue (spells_place at) }
     ensures read { IfOk result (λ k. (place_tokens at ++ r.old ≡ stmt_kind_tokens k ++ r.new) × IsTrue (spells_stmt_kind k)) }
-    ensures follows { matches (Class.exactly (codes ".")) (first_of r.old) ≡ false → Follows result (part Part.AssignTail room ∷ []) [] r.old r.new }
+    ensures follows { matches (Class.exactly (codes ".")) (first_piece r.old) ≡ false → Follows result (part Part.AssignTail room ∷ []) [] r.old r.new }
 {
     r.take("=")?;
     if r.sees("(") {

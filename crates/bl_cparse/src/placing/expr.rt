@@ -5,7 +5,8 @@ ghost use Rattle.std.specs.Fmt.{decimal};
 ghost use Rattle.bl_ctext.specs.Spelling.{arg_tokens, comma_before, ccall_tokens, expr_tokens, index_front, index_tokens, kind_tokens};
 ghost use Rattle.bl_ctext.specs.Spelling.{literal_tokens, place_tokens, root_tokens, step_tokens};
 ghost use Rattle.bl_ctext.specs.Spellable.{spells_arg, spells_call, spells_expr, spells_index, spells_kind, spells_place, spells_step};
-ghost use Rattle.bl_cparse.specs.HasPlaces.{arg_walk, call_walk, expr_walk, if_there, in_list, in_turn, index_walk, kind_walk, past, place_walk, step_walk};
+ghost use Rattle.bl_cparse.specs.HasPlaces.{arg_walk, behind_tokens, call_walk, expr_walk, if_there, in_list, in_turn, index_walk, kind_walk, place_walk};
+ghost use Rattle.bl_cparse.specs.HasPlaces.{step_walk};
 
 use crate::parser::literal::negatives_of;
 use crate::placing::spot::Spot;
@@ -90,7 +91,7 @@ pub fn place(spot: &mut Spot<'_>, at: &mut CPlace)
 
 /// Behind what a place begins with.
 fn root(spot: &mut Spot<'_>, through: bool)
-    ensures { (name : List ℕ) → spot.new ≡ past (root_tokens through name) spot.old }
+    ensures { (name : List ℕ) → spot.new ≡ behind_tokens (root_tokens through name) spot.old }
 {
     if through {
         spot.skip(4);
@@ -145,14 +146,14 @@ fn index(spot: &mut Spot<'_>, index: &mut CIndex)
 
 /// Behind the front of an index, which has as many tokens for each function that takes one.
 fn index_front(spot: &mut Spot<'_>, signed: bool)
-    ensures { spot.new ≡ past (index_front signed) spot.old }
+    ensures { spot.new ≡ behind_tokens (index_front signed) spot.old }
 {
     spot.skip(3);
 }
 
 /// Behind what follows the expression of an index.
 fn index_rest(spot: &mut Spot<'_>, length: u32)
-    ensures { spot.new ≡ past (codes "," ∷ decimal length ∷ codes ")" ∷ codes "]" ∷ []) spot.old }
+    ensures { spot.new ≡ behind_tokens (codes "," ∷ decimal length ∷ codes ")" ∷ codes "]" ∷ []) spot.old }
 {
     spot.skip(4);
 }
@@ -171,7 +172,7 @@ pub fn call(spot: &mut Spot<'_>, call: &mut CCall)
 
 /// Behind the comma before a part that isn't the first.
 pub fn comma(spot: &mut Spot<'_>, first: bool)
-    ensures { spot.new ≡ past (comma_before first) spot.old }
+    ensures { spot.new ≡ behind_tokens (comma_before first) spot.old }
 {
     if !first {
         spot.pass();

@@ -5,7 +5,7 @@ ghost use Rattle.bl_tree.specs.Reduce.{joined};
 ghost use Rattle.bl_ctext.specs.Spelling.{func_front, func_tokens, length_tokens, local_tokens, member_tokens, param_tokens, star_if, static_if};
 ghost use Rattle.bl_ctext.specs.Spelling.{struct_tokens, type_tokens, with_commas, zero_tokens};
 ghost use Rattle.bl_ctext.specs.Spellable.{spells_func, spells_struct};
-ghost use Rattle.bl_cparse.specs.HasPlaces.{func_walk, head_tokens, in_turn, past, struct_walk};
+ghost use Rattle.bl_cparse.specs.HasPlaces.{behind_tokens, func_walk, head_tokens, in_turn, struct_walk};
 
 use crate::placing::expr::comma;
 use crate::placing::spot::Spot;
@@ -35,7 +35,7 @@ fn structure(spot: &mut Spot<'_>, structure: &mut CStruct)
 
 /// Behind a struct.
 fn whole_struct(spot: &mut Spot<'_>, structure: &CStruct)
-    ensures { spot.new ≡ past (struct_tokens structure.now) spot.old }
+    ensures { spot.new ≡ behind_tokens (struct_tokens structure.now) spot.old }
 {
     spot.pass();
     spot.pass();
@@ -46,7 +46,7 @@ fn whole_struct(spot: &mut Spot<'_>, structure: &CStruct)
 }
 
 fn members(spot: &mut Spot<'_>, members: &[CMember])
-    ensures { spot.new ≡ past (joined (map member_tokens members.now)) spot.old }
+    ensures { spot.new ≡ behind_tokens (joined (map member_tokens members.now)) spot.old }
 {
     for one in members {
         member(spot, one);
@@ -54,7 +54,7 @@ fn members(spot: &mut Spot<'_>, members: &[CMember])
 }
 
 fn member(spot: &mut Spot<'_>, member: &CMember)
-    ensures { spot.new ≡ past (member_tokens member.now) spot.old }
+    ensures { spot.new ≡ behind_tokens (member_tokens member.now) spot.old }
 {
     type_name(spot, &member.ty);
     spot.pass();
@@ -63,7 +63,7 @@ fn member(spot: &mut Spot<'_>, member: &CMember)
 }
 
 fn type_name(spot: &mut Spot<'_>, ty: &CType)
-    ensures { spot.new ≡ past (type_tokens ty.now) spot.old }
+    ensures { spot.new ≡ behind_tokens (type_tokens ty.now) spot.old }
 {
     match ty {
         CType::Scalar(_) => spot.pass(),
@@ -75,7 +75,7 @@ fn type_name(spot: &mut Spot<'_>, ty: &CType)
 }
 
 fn length(spot: &mut Spot<'_>, length: Option<u32>)
-    ensures { spot.new ≡ past (length_tokens length) spot.old }
+    ensures { spot.new ≡ behind_tokens (length_tokens length) spot.old }
 {
     match length {
         Some(_) => {
@@ -111,7 +111,7 @@ fn func(spot: &mut Spot<'_>, func: &mut CFunc)
 
 /// Behind a function up to its statements.
 fn head(spot: &mut Spot<'_>, func: &CFunc)
-    ensures { spot.new ≡ past (head_tokens func.now) spot.old }
+    ensures { spot.new ≡ behind_tokens (head_tokens func.now) spot.old }
 {
     front(spot, func);
     params(spot, &func.params);
@@ -122,7 +122,7 @@ fn head(spot: &mut Spot<'_>, func: &CFunc)
 
 /// Behind a function up to its parameters.
 fn front(spot: &mut Spot<'_>, func: &CFunc)
-    ensures { spot.new ≡ past (func_front func.now) spot.old }
+    ensures { spot.new ≡ behind_tokens (func_front func.now) spot.old }
 {
     if_stands(spot, func.fixed);
     spot.pass();
@@ -132,8 +132,8 @@ fn front(spot: &mut Spot<'_>, func: &CFunc)
 
 /// Behind a `static` or a `*` where it stands.
 fn if_stands(spot: &mut Spot<'_>, stands: bool)
-    ensures fixed { spot.new ≡ past (static_if stands) spot.old }
-    ensures star { spot.new ≡ past (star_if stands) spot.old }
+    ensures fixed { spot.new ≡ behind_tokens (static_if stands) spot.old }
+    ensures star { spot.new ≡ behind_tokens (star_if stands) spot.old }
 {
     if stands {
         spot.pass();
@@ -141,7 +141,7 @@ fn if_stands(spot: &mut Spot<'_>, stands: bool)
 }
 
 fn params(spot: &mut Spot<'_>, params: &[CParam])
-    ensures { spot.new ≡ past (with_commas (map param_tokens params.now)) spot.old }
+    ensures { spot.new ≡ behind_tokens (with_commas (map param_tokens params.now)) spot.old }
 {
     let mut first = true;
     for one in params {
@@ -152,7 +152,7 @@ fn params(spot: &mut Spot<'_>, params: &[CParam])
 }
 
 fn param(spot: &mut Spot<'_>, param: &CParam)
-    ensures { spot.new ≡ past (param_tokens param.now) spot.old }
+    ensures { spot.new ≡ behind_tokens (param_tokens param.now) spot.old }
 {
     type_name(spot, &param.ty);
     if_stands(spot, param.pointer);
@@ -160,7 +160,7 @@ fn param(spot: &mut Spot<'_>, param: &CParam)
 }
 
 fn locals(spot: &mut Spot<'_>, locals: &[CLocal])
-    ensures { spot.new ≡ past (joined (map local_tokens locals.now)) spot.old }
+    ensures { spot.new ≡ behind_tokens (joined (map local_tokens locals.now)) spot.old }
 {
     for one in locals {
         local(spot, one);
@@ -168,7 +168,7 @@ fn locals(spot: &mut Spot<'_>, locals: &[CLocal])
 }
 
 fn local(spot: &mut Spot<'_>, local: &CLocal)
-    ensures { spot.new ≡ past (local_tokens local.now) spot.old }
+    ensures { spot.new ≡ behind_tokens (local_tokens local.now) spot.old }
 {
     type_name(spot, &local.ty);
     spot.pass();
@@ -179,7 +179,7 @@ fn local(spot: &mut Spot<'_>, local: &CLocal)
 
 /// Behind what a local of this type begins with.
 fn zero(spot: &mut Spot<'_>, ty: &CType)
-    ensures { spot.new ≡ past (zero_tokens ty.now) spot.old }
+    ensures { spot.new ≡ behind_tokens (zero_tokens ty.now) spot.old }
 {
     match ty {
         CType::Scalar(_) => spot.pass(),

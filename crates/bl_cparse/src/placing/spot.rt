@@ -2,7 +2,7 @@
 
 ghost use Rattle.std.specs.Prelude.{◌≡◌, ◌≤◌, List, length};
 ghost use Rattle.bl_ctext.specs.Token.{Token};
-ghost use Rattle.bl_cparse.specs.HasPlaces.{start_of, span, next, past};
+ghost use Rattle.bl_cparse.specs.HasPlaces.{start_of, span, next_spot, behind_tokens};
 
 use bl_cparse_syntax::piece::next_piece;
 use bl_tree::Place;
@@ -55,14 +55,14 @@ impl<'a> Spot<'a> {
 
     /// Goes on behind the next piece.
     pub fn pass(&mut self)
-        ensures { self.new ≡ next self.old }
+        ensures { self.new ≡ next_spot self.old }
     {
         self.at = next_piece(self.text, self.at).end;
     }
 
     /// Goes on behind so many pieces.
     pub fn skip(&mut self, count: usize)
-        ensures { (tokens : List Token) → length tokens ≡ count → self.new ≡ past tokens self.old }
+        ensures { (tokens : List Token) → length tokens ≡ count → self.new ≡ behind_tokens tokens self.old }
     {
         for _ in 0..count {
             self.pass();

@@ -3,7 +3,7 @@
 ghost use Rattle.std.specs.Prelude.{◌≡◌, ℕ, List, [], ◌∷◌, ◌++◌, codes, map, option_map};
 ghost use Rattle.bl_ctext.specs.Spelling.{expr_tokens, result_tokens, stmt_kind_tokens, stmt_tokens, turn_counted, turn_declared, zeros_tokens};
 ghost use Rattle.bl_ctext.specs.Spellable.{spells_expr, spells_result, spells_stmt, spells_stmt_kind};
-ghost use Rattle.bl_cparse.specs.HasPlaces.{expr_walk, if_there, in_turn, made, past, stmt_kind_walk, stmt_walk};
+ghost use Rattle.bl_cparse.specs.HasPlaces.{behind_tokens, expr_walk, if_there, in_turn, made, stmt_kind_walk, stmt_walk};
 
 use crate::placing::expr;
 use crate::placing::spot::Spot;
@@ -92,7 +92,7 @@ fn inside(spot: &mut Spot<'_>, body: &mut List<CStmt>)
 
 /// The condition of an `if`, with the tokens around it up to the brace.
 fn condition(spot: &mut Spot<'_>, test: &mut CExpr)
-    ensures places { made (λ t. t) (codes ")" ∷ codes "{" ∷ []) (expr_walk test.new (past (codes "if" ∷ codes "(" ∷ []) spot.old))
+    ensures places { made (λ t. t) (codes ")" ∷ codes "{" ∷ []) (expr_walk test.new (behind_tokens (codes "if" ∷ codes "(" ∷ []) spot.old))
         ≡ (test.new, spot.new) }
     ensures tokens { expr_tokens test.new ≡ expr_tokens test.old }
     ensures spells { spells_expr test.new ≡ spells_expr test.old }
@@ -107,7 +107,7 @@ fn condition(spot: &mut Spot<'_>, test: &mut CExpr)
 /// The condition of a loop, whatever the name of its turns, with the tokens around it up to the first statement.
 fn counted(spot: &mut Spot<'_>, test: &mut CExpr)
     ensures places { (turn : List ℕ) → made (λ t. t) (codes ")" ∷ turn_counted turn)
-        (expr_walk test.new (past (turn_declared turn ++ codes "(" ∷ []) spot.old)) ≡ (test.new, spot.new) }
+        (expr_walk test.new (behind_tokens (turn_declared turn ++ codes "(" ∷ []) spot.old)) ≡ (test.new, spot.new) }
     ensures tokens { expr_tokens test.new ≡ expr_tokens test.old }
     ensures spells { spells_expr test.new ≡ spells_expr test.old }
 {
@@ -118,21 +118,21 @@ fn counted(spot: &mut Spot<'_>, test: &mut CExpr)
 
 /// Behind the front of a loop and the parenthesis of its condition.
 fn turn_front(spot: &mut Spot<'_>)
-    ensures { (turn : List ℕ) → spot.new ≡ past (turn_declared turn ++ codes "(" ∷ []) spot.old }
+    ensures { (turn : List ℕ) → spot.new ≡ behind_tokens (turn_declared turn ++ codes "(" ∷ []) spot.old }
 {
     spot.skip(8);
 }
 
 /// Behind the parenthesis of a loop's condition and the front of its body.
 fn turn_rest(spot: &mut Spot<'_>)
-    ensures { (turn : List ℕ) → spot.new ≡ past (codes ")" ∷ turn_counted turn) spot.old }
+    ensures { (turn : List ℕ) → spot.new ≡ behind_tokens (codes ")" ∷ turn_counted turn) spot.old }
 {
     spot.skip(9);
 }
 
 /// Behind a struct of zeros that is set to a place, whatever the struct's name.
 fn zeros(spot: &mut Spot<'_>)
-    ensures { spot.new ≡ past (zeros_tokens []) spot.old }
+    ensures { spot.new ≡ behind_tokens (zeros_tokens []) spot.old }
 {
     spot.skip(9);
 }

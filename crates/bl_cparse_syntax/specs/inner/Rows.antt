@@ -6,8 +6,8 @@ use Rattle.bl_grammar.specs.declared.symbol.Symbol.TheVariants.{Terminal, Nonter
 use Rattle.bl_cparse_syntax.specs.declared.choice.Choice.{Choice as Row}
 use Rattle.bl_cparse_syntax.specs.declared.grammar.Class.{Class}
 use Rattle.bl_cparse_syntax.specs.declared.grammar.Within.{Within}
-use Rattle.bl_cparse_syntax.specs.Grammar.{Shape, Wanted, Production, placed}
-use Rattle.bl_cparse_syntax.specs.Tables.{Choice, turn_of}
+use Rattle.bl_cparse_syntax.specs.Grammar.{Shape, Wanted, Production, wanted_for}
+use Rattle.bl_cparse_syntax.specs.Tables.{Choice, turn_name_for}
 use Rattle.bl_cparse_syntax.specs.inner.Stacks.{class_shown}
 
 -- a class or part of a production
@@ -25,4 +25,4 @@ production_shown row = (choice_shown row).production
 
 -- the classes and parts of a production in this room before this piece
 abbrev pub wanted_from : ℕ → Token → List (Symbol Class Within) → List Wanted
-wanted_from room piece shapes = map (placed room (turn_of piece)) (map shape_shown shapes)
+wanted_from room piece shapes = map (wanted_for room (turn_name_for piece)) (map shape_shown shapes)

@@ -11,7 +11,7 @@ use Rattle.bl_ctext_semantics_laws.specs.Flat.{FlatAnswer, flat_answer}
 use Rattle.bl_crun_bytecode_vm.specs.Shown.{VmView}
 use Rattle.bl_ctext_semantics.specs.Cells.{outputs_of}
 use Rattle.bl_ctext_semantics.specs.Parts.{Parts}
-use Rattle.bl_ctext_semantics.specs.Trace.{reply_of, start_cells, starts, tick_c}
+use Rattle.bl_ctext_semantics.specs.Trace.{reply_of, start_cells, start_succeeds, tick_c}
 use Rattle.bl_crun_ports.specs.Ports.{outputs_start}
 use Rattle.bl_crun.specs.declared.call.Called.{Called}
 use Rattle.bl_crun.specs.Done.{CellsKeep, first_cells}
@@ -38,9 +38,9 @@ pub record CallDone (l : FlatAnswer ℤ) (before : VmView) (called : Called) (af
 
 -- the routine simulates the start of a file
 pub record IsStart (file : Parts) (flat_answer : FlatAnswer ℤ) : Type 0 where
-  pub ready : is_some flat_answer.answer ≡ starts file
+  pub ready : is_some flat_answer.answer ≡ start_succeeds file
   pub cells : first_cells file flat_answer.cells ≡ start_cells file
-  pub keeps : CellsKeep file flat_answer.cells
+  pub cells_kept : CellsKeep file flat_answer.cells
 
 -- the routine simulates a tick of a file
 pub record IsTick (file : Parts) (cells ins : List ℤ) (flat_answer : FlatAnswer ℤ) : Type 0 where
@@ -49,4 +49,4 @@ pub record IsTick (file : Parts) (cells ins : List ℤ) (flat_answer : FlatAnswe
   pub ranges : row_fits (outputs_of file) (tick_c file cells ins).outputs ≡ true
   pub after : first_cells file flat_answer.cells ≡ (tick_c file cells ins).cells
   pub count : flat_answer.count ≡ (tick_c file cells ins).count
-  pub keeps : CellsKeep file flat_answer.cells
+  pub cells_kept : CellsKeep file flat_answer.cells

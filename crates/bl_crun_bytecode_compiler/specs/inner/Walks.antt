@@ -7,7 +7,7 @@ use Rattle.bl_tree.specs.declared.c.CStep.{CStep, out-CStep}
 use Rattle.bl_ctext_semantics.specs.Sizes.{size_of_type}
 use Rattle.bl_ctext_semantics_laws.specs.Layout.{MemberOffset, capped}
 use Rattle.bl_ctext_semantics_laws.specs.Reaching.{Ground, Reach, Term, laid_in, near, through}
-use Rattle.bl_crun_bytecode.specs.Code.{Code, Entry, code_of, reach_of, start_code}
+use Rattle.bl_crun_bytecode.specs.Code.{Code, Entry, code_of, reach_of_place, start_code}
 use Rattle.bl_crun_bytecode_compiler.specs.declared.here.Laid.{Laid as CodeLaid}
 use Rattle.bl_crun_bytecode_compiler.specs.declared.place.Root.{Root}
 use Rattle.bl_crun_bytecode_compiler.specs.declared.place.Walk.{Walk}
@@ -62,7 +62,7 @@ root_of r = record { start = if r.pointer then through r.at else near r.at; pass
 
 -- how a place is reached
 pub record IsWalk (here : Ground Entry) (at : CPlace) (walk : Walk) : Type 0 where
-  pub start : walk.start ≡ start_code (reach_of at here).start (reach_of at here).passed
-  pub found : (reach_of at here).terms ≡ terms_along here (out-CPlace at).steps (founds_of walk.found.items)
+  pub start : walk.start ≡ start_code (reach_of_place at here).start (reach_of_place at here).passed
+  pub found : (reach_of_place at here).terms ≡ terms_along here (out-CPlace at).steps (founds_of walk.found.items)
   pub long : length walk.found.items ≡ length (out-CPlace at).steps
-  pub ty : option_map (λ t. t.now) walk.ty ≡ (reach_of at here).ty
+  pub ty : option_map (λ t. t.now) walk.ty ≡ (reach_of_place at here).ty

@@ -2,7 +2,7 @@
 use Rattle.std.specs.Prelude.{List, None, Option, Some, drop, length, ℕ, ℤ, ◌+◌, ◌<◌, ◌^◌, ◌∷◌, ◌≡◌, ◌≤◌, []}
 use Rattle.bl_crun_bytecode_vm.specs.declared.flow.Flow.{Flow}
 use Rattle.bl_crun_bytecode.specs.declared.instruction.Instruction.{Instruction}
-use Rattle.bl_crun_bytecode.specs.Vm.{StepResult, VmState, done, goes, height, step_with, trapped}
+use Rattle.bl_crun_bytecode.specs.Vm.{StepResult, VmState, done, goes, stacked_numbers, step_with, trapped}
 use Rattle.bl_crun_bytecode_vm.specs.Shown.{VmView}
 use Rattle.bl_crun_bytecode_vm.specs.Steps.{Over, in_state, shown_count}
 use Rattle.bl_crun_bytecode_vm.specs.declared.flow.Flow.TheVariants as flow
@@ -29,7 +29,7 @@ going_on_at m at = in_state m (record m.state { at = at })
 
 -- the machine has room for one more number
 abbrev pub IsRoomy : VmView → Type 0
-IsRoomy m = height m.state + 1 ≤ m.numbers
+IsRoomy m = stacked_numbers m.state + 1 ≤ m.numbers
 
 -- a position behind which code can go on
 abbrev pub IsNear : VmView → Type 0
@@ -62,7 +62,7 @@ After from end answer m = Came from.numbers from.calls end answer m
 
 -- the room suffices for the state that a step comes to
 abbrev pub Suffices : ℕ → ℕ → StepResult → Type 0
-Suffices numbers calls (goes to) = (height to ≤ numbers) × (length to.waiting ≤ calls)
+Suffices numbers calls (goes to) = (stacked_numbers to ≤ numbers) × (length to.waiting ≤ calls)
 Suffices numbers calls _ = Unit {0}
 
 -- a machine has room for what a step comes to

@@ -40,9 +40,9 @@ kinds_of_members structs ms = kinds_in (flat_map (inner_of_member (scalars_of st
 -- ---- places
 
 -- the position of the first struct of a name
-abbrev pub placed : Text → List CStruct → Option ℕ
-placed name [] = None
-placed name (s ∷ rest) = if bytes_eq s.name name then Some 0 else option_map suc (placed name rest)
+abbrev pub struct_position : Text → List CStruct → Option ℕ
+struct_position name [] = None
+struct_position name (s ∷ rest) = if bytes_eq s.name name then Some 0 else option_map suc (struct_position name rest)
 
 -- a number, if it is below the end
 abbrev pub if_below : ℕ → Option ℕ → Option ℕ
@@ -51,7 +51,7 @@ if_below end (Some at) = if nat_lt at end then Some at else None
 
 -- the position of the first struct of a name, if it is among the first `end` structs
 abbrev pub placed_before : ℕ → Text → List CStruct → Option ℕ
-placed_before end name structs = if_below end (placed name structs)
+placed_before end name structs = if_below end (struct_position name structs)
 
 -- ---- lists
 

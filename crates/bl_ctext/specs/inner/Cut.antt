@@ -10,9 +10,9 @@ abbrev pub joins : ℕ → ℕ → Bool
 joins a b = is_word_byte a && is_word_byte b || is_double_sign a b
 
 -- whether a byte and the first of some bytes may stand in one token
-abbrev pub goes_on : ℕ → List ℕ → Bool
-goes_on a [] = false
-goes_on a (b ∷ bs) = joins a b
+abbrev pub may_continue : ℕ → List ℕ → Bool
+may_continue a [] = false
+may_continue a (b ∷ bs) = joins a b
 
 -- the tokens with one more byte before them: a blank is no part of them, and another byte goes on into the first or not
 abbrev pub cut_before : (blank on : Bool) → ℕ → List Token → List Token
@@ -23,21 +23,21 @@ cut_before false false b tokens = (b ∷ []) ∷ tokens
 -- the bytes without white space, cut between two neighbours that stand in no one token
 abbrev pub tokens_in : List ℕ → List Token
 tokens_in [] = []
-tokens_in (b ∷ bs) = cut_before (is_blank b) (goes_on b bs) b (tokens_in bs)
+tokens_in (b ∷ bs) = cut_before (is_blank b) (may_continue b bs) b (tokens_in bs)
 
 -- whether each of the pieces is a token
 abbrev pub are_tokens : List Token → Bool
 are_tokens tokens = all_of (map is_token tokens)
 
 -- whether the last of the bytes and the first of the next ones may stand in one token
-abbrev pub meets : List ℕ → List ℕ → Bool
-meets [] next = false
-meets (b ∷ []) next = goes_on b next
-meets (b ∷ c ∷ bs) next = meets (c ∷ bs) next
+abbrev pub may_merge : List ℕ → List ℕ → Bool
+may_merge [] next = false
+may_merge (b ∷ []) next = may_continue b next
+may_merge (b ∷ c ∷ bs) next = may_merge (c ∷ bs) next
 
 -- the bytes, and a space where the next bytes would continue their last token
 unfoldable pub parted : List ℕ → List ℕ → List ℕ
-parted bytes next = cond (meets bytes next) (bytes ++ 32 ∷ []) bytes
+parted bytes next = cond (may_merge bytes next) (bytes ++ 32 ∷ []) bytes
 
 -- the bytes behind the prelude
 unfoldable pub behind_prelude : List ℕ → List ℕ

@@ -61,8 +61,8 @@ abbrev pub members_in_map : {S : Type 0} → HashMap (Bor (List ℕ)) (Bor CMemb
 members_in_map members name = option_map (λ m. m.now) (text_at members name)
 
 -- the structs
-abbrev pub structs_of : {S T : Type 0} → HashMap (Bor (List ℕ)) (HashMap (Bor (List ℕ)) (Bor CMember) S) T → Table (Table CMember)
-structs_of structs struct = option_map members_in_map (text_at structs struct)
+abbrev pub checked_structs : {S T : Type 0} → HashMap (Bor (List ℕ)) (HashMap (Bor (List ℕ)) (Bor CMember) S) T → Table (Table CMember)
+checked_structs structs struct = option_map members_in_map (text_at structs struct)
 
 -- the functions
 abbrev pub functions_of : {S : Type 0} → HashMap (Bor (List ℕ)) (Bor CFunc) S → Table Signature
@@ -75,11 +75,11 @@ variables_in_map variables name = option_map variable_of (text_at variables name
 -- what is declared
 abbrev pub context_of : CodeContext → Context
 context_of c = record {
-  structs = structs_of c.structs.now;
+  structs = checked_structs c.structs.now;
   functions = functions_of c.functions.now;
   variables = variables_in_map c.variables.now;
   result = c.result;
-  keeps = c.keeps;
+  is_read_only = c.is_read_only;
 }
 
 -- the arguments of a call

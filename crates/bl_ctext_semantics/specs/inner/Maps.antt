@@ -10,8 +10,8 @@ abbrev pub text_at : {V S : Type 0} → HashMap (Bor (List ℕ)) V S → Table V
 text_at map asked = get_by (λ key. bytes_eq asked key.now) map
 
 -- entries of a map, each name as its bytes
-abbrev pub named : {V : Type 0} → List (Bor (List ℕ) × V) → List (Text × V)
-named entries = map (λ entry. (entry.0.now, entry.1)) entries
+abbrev pub named_entries : {V : Type 0} → List (Bor (List ℕ) × V) → List (Text × V)
+named_entries entries = map (λ entry. (entry.0.now, entry.1)) entries
 
 -- the bytes of names
 abbrev pub bytes_of : List (Bor (List ℕ)) → List Text

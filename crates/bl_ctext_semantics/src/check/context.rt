@@ -37,7 +37,7 @@ pub struct Context<'c, 'a> {
     /// The running function's result.
     pub result: Option<Scalar>,
     /// Whether the running function may change nothing through a pointer.
-    pub keeps: bool,
+    pub is_read_only: bool,
 }
 
 /// A function that is called.

@@ -1,7 +1,7 @@
 //! The structs of a file by name, and where one of them fails first.
 
 ghost use Rattle.std.specs.Prelude.{◌≡◌, IfOk, List, map, OnOk, option_map, ℕ};
-ghost use Rattle.bl_ctext_semantics.specs.inner.Checked.{members_in_map, structs_of};
+ghost use Rattle.bl_ctext_semantics.specs.inner.Checked.{checked_structs, members_in_map};
 ghost use Rattle.bl_ctext_semantics.specs.Faults.{first_place, member_table, struct_faults_after, struct_table};
 ghost use Rattle.bl_ctext_semantics.specs.Tables.{no_entries, table_of, with_entry};
 
@@ -33,8 +33,8 @@ fn member_map<'a>(alloc: Global, members: &'a [CMember]) -> Result<Members<'a>, 
 }
 
 fn add_struct<'a>(alloc: Global, structs: &mut Structs<'a>, of: &'a CStruct) -> Result<(), NoMemory>
-    ensures { OnOk result ((asked : List ℕ) → structs_of structs.new asked
-        ≡ with_entry (structs_of structs.old) of.now.name (member_table of.now) asked) }
+    ensures { OnOk result ((asked : List ℕ) → checked_structs structs.new asked
+        ≡ with_entry (checked_structs structs.old) of.now.name (member_table of.now) asked) }
 {
     if has(structs, &of.name) {
         return Ok(());
@@ -48,7 +48,7 @@ fn add_struct<'a>(alloc: Global, structs: &mut Structs<'a>, of: &'a CStruct) -> 
 
 /// The structs of a file, and where one of them fails first.
 pub fn declare_structs<'a>(alloc: Global, list: &'a [CStruct]) -> Result<Declared<'a>, NoMemory>
-    ensures table { IfOk result (λ declared. (asked : List ℕ) → structs_of declared.structs asked ≡ struct_table list.now asked) }
+    ensures table { IfOk result (λ declared. (asked : List ℕ) → checked_structs declared.structs asked ≡ struct_table list.now asked) }
     ensures first { IfOk result (λ declared. declared.first ≡ first_place (struct_faults_after no_entries no_entries list.now)) }
 {
     let mut structs = HashMap::new(alloc);

@@ -335,7 +335,10 @@ pub fn judge_call<'a>(context: &Context<'_, 'a>, call: &'a CCall, at: Place) -> 
     let callee = context.callee(&call.name);
     let args = judge_args(context, &callee, &call.args, at);
     let result = result_known(&callee);
-    let handed = both(context.keeps, both(is_without_result(result), args.handed));
+    let handed = both(
+        context.is_read_only,
+        both(is_without_result(result), args.handed),
+    );
     let misfit = earlier(unless(args.fit, at), unless(!handed, at));
     JudgedCall {
         result,

@@ -1,7 +1,7 @@
 //! Functions: where one of them fails first.
 
 ghost use Rattle.std.specs.Prelude.{◌≡◌, ◌++◌, false, if◌then◌else◌, IfOk, is_none, map, not};
-ghost use Rattle.bl_ctext_semantics.specs.inner.Checked.{functions_of, structs_of};
+ghost use Rattle.bl_ctext_semantics.specs.inner.Checked.{checked_structs, functions_of};
 ghost use Rattle.bl_ctext_semantics.specs.Faults.{all_distinct, block_faults, context_in, depth_of_function, faults_in_function, faults_in_head};
 ghost use Rattle.bl_ctext_semantics.specs.Faults.{faults_in_stmt, first_place, function_faults_after, keeps_all as keeps_everything, names_table, repeated};
 ghost use Rattle.bl_ctext_semantics.specs.Faults.{variable_names};
@@ -67,7 +67,7 @@ fn gives_nothing(of: &CFunc) -> bool
 fn judge_head(known: &Known<'_, '_>, of: &CFunc, apart: bool, last: bool) -> Option<Place>
     requires { apart ≡ all_distinct no_entries (variable_names of.now) }
     ensures { result ≡ first_place
-        (faults_in_head (structs_of known.now.structs.now) (functions_of known.now.functions.now) (text_at known.now.depths.now) last of.now) }
+        (faults_in_head (checked_structs known.now.structs.now) (functions_of known.now.functions.now) (text_at known.now.depths.now) last of.now) }
 {
     let at = of.place;
     let new = !has(known.functions, &of.name);
@@ -97,7 +97,8 @@ fn judge_body<'a>(
 ) -> Result<Option<Place>, NoMemory>
     requires { bytes_of names.now ≡ variable_names of.now }
     ensures { IfOk result (λ first. first ≡ first_place (repeated (names_table (variable_names of.now)) (turns_in_block of.now.body)
-        ++ block_faults (map faults_in_stmt of.now.body) (context_in (structs_of known.now.structs.now) (functions_of known.now.functions.now) of.now) false)) }
+        ++ block_faults (map faults_in_stmt of.now.body) (context_in (checked_structs known.now.structs.now)
+        (functions_of known.now.functions.now) of.now) false)) }
 {
     let mut turns = Vec::new(alloc);
     add_turns(&mut turns, &of.body)?;
@@ -110,7 +111,7 @@ fn judge_body<'a>(
         functions: known.functions,
         variables: &variables,
         result: of.result,
-        keeps: keeps_all(of),
+        is_read_only: keeps_all(of),
     };
     Ok(earlier(repeated, judge_block(&context, &of.body, false)))
 }
@@ -123,7 +124,7 @@ fn judge_function<'a>(
     last: bool,
 ) -> Result<Option<Place>, NoMemory>
     ensures { IfOk result (λ first. first ≡ first_place
-        (faults_in_function (structs_of known.now.structs.now) (functions_of known.now.functions.now) (text_at known.now.depths.now) last of.now)) }
+        (faults_in_function (checked_structs known.now.structs.now) (functions_of known.now.functions.now) (text_at known.now.depths.now) last of.now)) }
 {
     let names = names_of(alloc, of)?;
     let apart = differ(alloc, &names)?;
@@ -138,7 +139,7 @@ pub fn judge_functions<'a>(
     structs: &Structs<'a>,
     list: &'a [CFunc],
 ) -> Result<Option<Place>, NoMemory>
-    ensures { IfOk result (λ first. first ≡ first_place (function_faults_after (structs_of structs.now) no_entries no_entries list.now)) }
+    ensures { IfOk result (λ first. first ≡ first_place (function_faults_after (checked_structs structs.now) no_entries no_entries list.now)) }
 {
     let mut functions: HashMap<&'a str, &'a CFunc> = HashMap::new(alloc);
     let mut depths: Numbers<'a> = HashMap::new(alloc);

@@ -2,7 +2,7 @@
 
 ghost use Rattle.std.specs.Prelude.{◌≡◌, ◌∷◌, [], ◌++◌, OnOk};
 ghost use Rattle.bl_ctext_semantics.specs.Loops.{turns_in, turns_in_block};
-ghost use Rattle.bl_ctext_semantics.specs.inner.Maps.{named};
+ghost use Rattle.bl_ctext_semantics.specs.inner.Maps.{named_entries};
 
 use bl_tree::c::{CStmt, CStmtKind};
 use bl_tree::{NoMemory, Place};
@@ -11,7 +11,7 @@ use bl_tree::{NoMemory, Place};
 pub type Turns<'a> = Vec<(&'a str, Place)>;
 
 fn add_turn<'a>(turns: &mut Turns<'a>, name: &'a str, at: Place) -> Result<(), NoMemory>
-    ensures { OnOk result (named turns.new.items ≡ named turns.old.items ++ (name.now, at) ∷ []) }
+    ensures { OnOk result (named_entries turns.new.items ≡ named_entries turns.old.items ++ (name.now, at) ∷ []) }
 {
     match turns.push((name, at)) {
         Ok(()) => Ok(()),
@@ -21,7 +21,7 @@ fn add_turn<'a>(turns: &mut Turns<'a>, name: &'a str, at: Place) -> Result<(), N
 
 #[cycle(looping)]
 fn add_stmt<'a>(turns: &mut Turns<'a>, stmt: &'a CStmt) -> Result<(), NoMemory>
-    ensures { OnOk result (named turns.new.items ≡ named turns.old.items ++ turns_in stmt.now) }
+    ensures { OnOk result (named_entries turns.new.items ≡ named_entries turns.old.items ++ turns_in stmt.now) }
 {
     match &stmt.what {
         CStmtKind::If(_, block, Some(other)) => {
@@ -40,7 +40,7 @@ fn add_stmt<'a>(turns: &mut Turns<'a>, stmt: &'a CStmt) -> Result<(), NoMemory>
 /// Adds those of a block.
 #[cycle(looping)]
 pub fn add_turns<'a>(turns: &mut Turns<'a>, block: &'a [CStmt]) -> Result<(), NoMemory>
-    ensures { OnOk result (named turns.new.items ≡ named turns.old.items ++ turns_in_block block.now) }
+    ensures { OnOk result (named_entries turns.new.items ≡ named_entries turns.old.items ++ turns_in_block block.now) }
 {
     for stmt in block {
         add_stmt(turns, stmt)?;

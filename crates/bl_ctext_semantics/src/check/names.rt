@@ -1,7 +1,7 @@
 //! Lists of names, and which of them stand twice.
 
 ghost use Rattle.std.specs.Prelude.{◌≡◌, [], ◌∷◌, ◌++◌, IfOk, OnOk};
-ghost use Rattle.bl_ctext_semantics.specs.inner.Maps.{bytes_of, named, text_at};
+ghost use Rattle.bl_ctext_semantics.specs.inner.Maps.{bytes_of, named_entries, text_at};
 ghost use Rattle.bl_ctext_semantics.specs.Faults.{all_distinct, first_place, repeated};
 ghost use Rattle.bl_ctext_semantics.specs.Tables.{no_entries};
 
@@ -39,7 +39,7 @@ pub fn first_repeated<'a>(
     seen: &mut HashMap<&'a str, ()>,
     entries: &[(&'a str, Place)],
 ) -> Result<Option<Place>, NoMemory>
-    ensures { IfOk result (λ first. first ≡ first_place (repeated (text_at seen.old) (named entries.now))) }
+    ensures { IfOk result (λ first. first ≡ first_place (repeated (text_at seen.old) (named_entries entries.now))) }
 {
     let mut first = None;
     for (name, at) in entries {

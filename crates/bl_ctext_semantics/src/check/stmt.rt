@@ -64,11 +64,11 @@ fn judge_set<'a>(
     ensures { let p = judged_place place.now (context_of context.now) at in
         let e = judged_expr value.now (context_of context.now) in
         result ≡ first_place (p.faults ++ (e.faults ++ (fails_unless (agree_c p.ty e.ty) assigned_type at
-        ++ fails_unless (not (context.now.keeps && p.through)) changes_nothing at))) }
+        ++ fails_unless (not (context.now.is_read_only && p.through)) changes_nothing at))) }
 {
     let place = judge_place(context, place, at);
     let value = judge_expr(context, value);
-    let handed = both(context.keeps, place.through);
+    let handed = both(context.is_read_only, place.through);
     let misfit = earlier(unless(agree(place.ty, value.ty), at), unless(!handed, at));
     earlier(place.first, earlier(value.first, misfit))
 }
@@ -82,10 +82,10 @@ fn judge_clear<'a>(
     ensures { let p = judged_place place.now (context_of context.now) at in
         result ≡ first_place (p.faults ++ (fails_unless (is_some ((context_of context.now).structs name.now)) declared_before at
         ++ (fails_unless (agree_c p.ty (Some (OfStruct name.now))) assigned_type at
-        ++ fails_unless (not (context.now.keeps && p.through)) changes_nothing at))) }
+        ++ fails_unless (not (context.now.is_read_only && p.through)) changes_nothing at))) }
 {
     let place = judge_place(context, place, at);
-    let handed = both(context.keeps, place.through);
+    let handed = both(context.is_read_only, place.through);
     let misfit = earlier(
         unless(agree(place.ty, Some(Ty::Struct(name.as_str()))), at),
         unless(!handed, at),

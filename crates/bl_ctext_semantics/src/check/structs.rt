@@ -4,7 +4,7 @@
 ghost use Rattle.std.specs.Prelude.{◌≡◌, ◌+◌, IfOk, is_some, map};
 ghost use Rattle.std.specs.List.{list_all};
 ghost use Rattle.bl_tree.specs.Reduce.{greatest};
-ghost use Rattle.bl_ctext_semantics.specs.inner.Checked.{structs_of};
+ghost use Rattle.bl_ctext_semantics.specs.inner.Checked.{checked_structs};
 ghost use Rattle.bl_ctext_semantics.specs.Faults.{are_ports as are_c_ports, depth_of_struct, depth_of_type, faults_in_struct, first_place};
 ghost use Rattle.bl_ctext_semantics.specs.Faults.{interface_fits as c_interface_fits, is_declared as is_c_declared, is_pad as is_c_pad};
 ghost use Rattle.bl_ctext_semantics.specs.Faults.{is_port as is_c_port, limited as limited_length};
@@ -22,14 +22,14 @@ use std::alloc::Global;
 /// Whether there is a struct of this name.
 #[tactic(auto, using(crate::proofs::MapLemmas::some_mapped))]
 pub fn has_struct(structs: &Structs<'_>, name: &str) -> bool
-    ensures { result ≡ is_some (structs_of structs.now name.now) }
+    ensures { result ≡ is_some (checked_structs structs.now name.now) }
 {
     has(structs, name)
 }
 
 /// Whether the struct of a type, if it is one, is among these.
 pub fn is_declared(structs: &Structs<'_>, ty: &CType) -> bool
-    ensures { result ≡ is_c_declared (structs_of structs.now) ty.now }
+    ensures { result ≡ is_c_declared (checked_structs structs.now) ty.now }
 {
     match ty {
         CType::Scalar(_) => true,
@@ -38,7 +38,7 @@ pub fn is_declared(structs: &Structs<'_>, ty: &CType) -> bool
 }
 
 fn members_are_declared(structs: &Structs<'_>, members: &[CMember]) -> bool
-    ensures { result ≡ list_all (λ m. is_c_declared (structs_of structs.now) m.ty) members.now }
+    ensures { result ≡ list_all (λ m. is_c_declared (checked_structs structs.now) m.ty) members.now }
 {
     let mut declared = true;
     for member in members {
@@ -149,7 +149,7 @@ pub fn judge_struct<'a>(
     depths: &Numbers<'a>,
     of: &'a CStruct,
 ) -> Result<Option<Place>, NoMemory>
-    ensures { IfOk result (λ first. first ≡ first_place (faults_in_struct (structs_of structs.now) (text_at depths.now) of.now)) }
+    ensures { IfOk result (λ first. first ≡ first_place (faults_in_struct (checked_structs structs.now) (text_at depths.now) of.now)) }
 {
     let at = of.place;
     let names = member_names(alloc, &of.members)?;

@@ -2,7 +2,7 @@
 
 ghost use Rattle.std.specs.Prelude.{◌≡◌, option_map};
 ghost use Rattle.bl_ctext_semantics.specs.inner.Checked.{type_of};
-ghost use Rattle.bl_ctext_semantics.specs.Faults.{same_type as same_c_type, agree as agree_c, is_scalar as is_c_scalar, is_number as is_c_number};
+ghost use Rattle.bl_ctext_semantics.specs.Faults.{same_type as same_c_type, agree as agree_c, is_scalar as is_c_scalar, is_number_type as is_c_number};
 ghost use Rattle.bl_ctext_semantics.specs.Faults.{indexes as c_indexes, takes as c_takes, fits_param as fits_c_param, bool_type};
 
 use bl_tree::c::CType;

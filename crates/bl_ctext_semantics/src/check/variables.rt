@@ -4,9 +4,9 @@
 ghost use Rattle.std.specs.Prelude.{◌≡◌, ◌&&◌, ◌||◌, ◌++◌, IfOk, List, map, OnOk, ℕ};
 ghost use Rattle.std.specs.List.{list_all};
 ghost use Rattle.std.specs.Option.{option_or};
-ghost use Rattle.bl_ctext_semantics.specs.inner.Checked.{structs_of, variables_in_map};
+ghost use Rattle.bl_ctext_semantics.specs.inner.Checked.{checked_structs, variables_in_map};
 ghost use Rattle.bl_ctext_semantics.specs.Faults.{is_declared as is_c_declared, is_scalar as is_c_scalar, local_variable, names_table, param_variable};
-ghost use Rattle.bl_ctext_semantics.specs.Faults.{variable_names, variables_of};
+ghost use Rattle.bl_ctext_semantics.specs.Faults.{parameters_and_locals, variable_names};
 ghost use Rattle.bl_ctext_semantics.specs.inner.Maps.{bytes_of, text_at};
 ghost use Rattle.bl_ctext_semantics.specs.Tables.{found, table_of};
 
@@ -82,7 +82,7 @@ fn add_locals<'a>(variables: &mut Variables<'a>, locals: &'a [CLocal]) -> Result
 
 /// A function's parameters and locals by name.
 pub fn variables_in<'a>(alloc: Global, of: &'a CFunc) -> Result<Variables<'a>, NoMemory>
-    ensures { IfOk result (λ variables. (asked : List ℕ) → variables_in_map variables asked ≡ table_of (variables_of of.now) asked) }
+    ensures { IfOk result (λ variables. (asked : List ℕ) → variables_in_map variables asked ≡ table_of (parameters_and_locals of.now) asked) }
 {
     let mut variables = HashMap::new(alloc);
     add_params(&mut variables, &of.params)?;
@@ -103,7 +103,7 @@ pub fn as_keys<'a>(alloc: Global, names: &[&'a str]) -> Result<HashMap<&'a str, 
 
 /// Whether every struct of a parameter's type is declared.
 pub fn params_are_declared(structs: &Structs<'_>, params: &[CParam]) -> bool
-    ensures { result ≡ list_all (λ p. is_c_declared (structs_of structs.now) p.ty) params.now }
+    ensures { result ≡ list_all (λ p. is_c_declared (checked_structs structs.now) p.ty) params.now }
 {
     let mut declared = true;
     for param in params {
@@ -113,7 +113,7 @@ pub fn params_are_declared(structs: &Structs<'_>, params: &[CParam]) -> bool
 }
 
 pub fn locals_are_declared(structs: &Structs<'_>, locals: &[CLocal]) -> bool
-    ensures { result ≡ list_all (λ l. is_c_declared (structs_of structs.now) l.ty) locals.now }
+    ensures { result ≡ list_all (λ l. is_c_declared (checked_structs structs.now) l.ty) locals.now }
 {
     let mut declared = true;
     for local in locals {

@@ -61,7 +61,7 @@ use Rattle.bl_graph_nodes.specs.Plain.{
   label_at,
   never,
   passed_one,
-  plain,
+  plain_stmt,
   plain_block,
 }
 use Rattle.bl_graph_nodes.proofs.Equations.{plain_statements}
@@ -140,14 +140,14 @@ bodies_apart (branch ∷ rest) j l apart = (
 -- ---- statements
 
 abbrev S : Stmt → Type 0
-S s = (at : Position) → is_apart s ≡ true → EachFork KeepApart (plain s at)
+S s = (at : Position) → is_apart s ≡ true → EachFork KeepApart (plain_stmt s at)
 
 -- whether these keep apart
 abbrev pub each_apart : List Naming → Bool
 each_apart namings = all_of (map (λ n. n.apart) namings)
 
 block_so : (body : List Stmt) (n : ℕ) (at : Position) → Each S body → each_apart (map naming_of body) ≡ true →
-    EachForkIn KeepApart (block_from (map plain body) n at)
+    EachForkIn KeepApart (block_from (map plain_stmt body) n at)
 block_so [] n at each apart = tt
 block_so (s ∷ rest) n at each apart = (
   All-head S s rest each (at ++ n ∷ []) (and_first (is_apart s) (each_apart (map naming_of rest)) apart),
@@ -184,9 +184,9 @@ branches_so (branch ∷ rest) n l each apart = (
       (and_second (folded_branch branch).apart (each_apart (map folded_branch rest)) apart),
 )
 
-by_parts : (place : Place) (layer : StmtKind-F StmtKind Arm Branch Stmt) (at : Position) (p : Plain) → plain (stmt place layer) at ≡ p →
+by_parts : (place : Place) (layer : StmtKind-F StmtKind Arm Branch Stmt) (at : Position) (p : Plain) → plain_stmt (stmt place layer) at ≡ p →
     ((stmt_kind_naming (naming_parts layer)).apart ≡ true → EachFork KeepApart p) → is_apart (stmt place layer) ≡ true →
-    EachFork KeepApart (plain (stmt place layer) at)
+    EachFork KeepApart (plain_stmt (stmt place layer) at)
 by_parts place layer at p is so apart = subst (EachFork KeepApart) (sym is) (so (sym (ap (λ n. n.apart) (naming_at place layer)) ∙ apart))
 
 branching_so : (place : Place) (arms : List Arm) (other : List Stmt) → EachArm S arms → Each S other → S (stmt place (StmtKind-F.If arms other))

@@ -46,7 +46,7 @@ use Rattle.bl_tree.specs.Apart.{
 use Rattle.bl_tree.specs.Reduce.{joined}
 use Rattle.bl_tree.proofs.StmtInduction.{Cases, Each, EachArm, EachBranch, induct, stmt}
 use Rattle.bl_graph_nodes.specs.Laws.{plain_arm, plain_branch}
-use Rattle.bl_graph_nodes.specs.Plain.{Label, Plain, Position, Act, If, block_from, bodies_from, else_at, inside, label_at, never, passed_one, plain, plain_block}
+use Rattle.bl_graph_nodes.specs.Plain.{Label, Plain, Position, Act, If, block_from, bodies_from, else_at, inside, label_at, never, passed_one, plain_stmt, plain_block}
 use Rattle.bl_graph_nodes.proofs.Equations.{plain_statements}
 use Rattle.bl_ctree.specs.Actions.{Effect, Silent, Acts, Asks, Copies, Gives}
 use Rattle.bl_ctree.specs.Instances.{Setting}
@@ -103,7 +103,7 @@ module _ (w : Setting) (i : ℕ) (effect : Effect) (k : ℕ) (one : OneOf k (eff
   D = HasEffect w i effect
 
   abbrev S : Stmt → Type 0
-  S s = (at : Position) → SomeOf D (plain s at) → OneOf k (naming_of s).named
+  S s = (at : Position) → SomeOf D (plain_stmt s at) → OneOf k (naming_of s).named
 
   does_so : (other : Effect) → effect ≡ other → OneOf k (effect_roots other)
   does_so other is = subst (λ effect. OneOf k (effect_roots effect)) is one
@@ -111,7 +111,7 @@ module _ (w : Setting) (i : ℕ) (effect : Effect) (k : ℕ) (one : OneOf k (eff
   silent : {A : Type 0} → effect ≡ Silent → A
   silent is = not_one k (does_so Silent is)
 
-  block_so : (body : List Stmt) (n : ℕ) (at : Position) → Each S body → SomeIn D (block_from (map plain body) n at) →
+  block_so : (body : List Stmt) (n : ℕ) (at : Position) → Each S body → SomeIn D (block_from (map plain_stmt body) n at) →
       OneOf k (all_named (map naming_of body))
   block_so [] n at each some = absurd some
   block_so (s ∷ rest) n at each (inl some) =
@@ -157,12 +157,12 @@ module _ (w : Setting) (i : ℕ) (effect : Effect) (k : ℕ) (one : OneOf k (eff
       one_right k (folded_branch branch).named (all_named (map folded_branch rest))
       (branches_so rest (suc n) l (All-tail (λ branch. Each S (out-Branch branch).body) branch rest each) some)
 
-  by_parts : (place : Place) (layer : StmtKind-F StmtKind Arm Branch Stmt) (at : Position) (p : Plain) → plain (stmt place layer) at ≡ p →
-      (SomeOf D p → OneOf k (stmt_kind_naming (naming_parts layer)).named) → SomeOf D (plain (stmt place layer) at) →
+  by_parts : (place : Place) (layer : StmtKind-F StmtKind Arm Branch Stmt) (at : Position) (p : Plain) → plain_stmt (stmt place layer) at ≡ p →
+      (SomeOf D p → OneOf k (stmt_kind_naming (naming_parts layer)).named) → SomeOf D (plain_stmt (stmt place layer) at) →
       OneOf k (naming_of (stmt place layer)).named
   by_parts place layer at p is so some = subst (λ n. OneOf k n.named) (sym (naming_at place layer)) (so (subst (SomeOf D) is some))
 
-  act_so : (s : Stmt) (l : Label) (at : Position) → plain s at ≡ Act l s → SomeOf D (plain s at) → OneOf k (naming_of s).named
+  act_so : (s : Stmt) (l : Label) (at : Position) → plain_stmt s at ≡ Act l s → SomeOf D (plain_stmt s at) → OneOf k (naming_of s).named
   act_so s l at is some = does_so (Acts s) (subst (SomeOf D) is some)
 
   run_so : (target : Roots) (inputs : Roots) (outputs : Roots) → OneOf k inputs ⊎ OneOf k target → OneOf k (target ++ (inputs ++ outputs))

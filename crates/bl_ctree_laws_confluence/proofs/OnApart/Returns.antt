@@ -71,7 +71,7 @@ use Rattle.bl_graph_nodes.specs.Plain.{
   label_at,
   never,
   passed_one,
-  plain,
+  plain_stmt,
   plain_block,
 }
 use Rattle.bl_graph_nodes.proofs.Equations.{made_of_parts, plain_statements}
@@ -127,9 +127,9 @@ return_at place layer =
     ap is_return_kind (ap (λ s. out-StmtKind s.what) (out-roll-Stmt (record { place = place; what = roll-StmtKind layer })) ∙ out-roll-StmtKind layer)
 
 abbrev S : Stmt → Type 0
-S s = (at : Position) → SomeOf Returns (plain s at) → has_return s ≡ true
+S s = (at : Position) → SomeOf Returns (plain_stmt s at) → has_return s ≡ true
 
-block_so : (body : List Stmt) (n : ℕ) (at : Position) → Each S body → SomeIn Returns (block_from (map plain body) n at) →
+block_so : (body : List Stmt) (n : ℕ) (at : Position) → Each S body → SomeIn Returns (block_from (map plain_stmt body) n at) →
     any_of (map has_return body) ≡ true
 block_so [] n at each some = absurd some
 block_so (s ∷ rest) n at each (inl some) = or_left (has_return s) (any_of (map has_return rest)) (All-head S s rest each (at ++ n ∷ []) some)
@@ -171,15 +171,15 @@ branches_so (branch ∷ rest) n l each (inr some) =
     or_right (folded_branch branch) (any_of (map folded_branch rest))
     (branches_so rest (suc n) l (All-tail (λ branch. Each S (out-Branch branch).body) branch rest each) some)
 
-by_parts : (place : Place) (layer : StmtKind-F StmtKind Arm Branch Stmt) (at : Position) (p : Plain) → plain (stmt place layer) at ≡ p →
-    (SomeOf Returns p → kind_has_return (parts layer) ≡ true) → SomeOf Returns (plain (stmt place layer) at) → has_return (stmt place layer) ≡ true
+by_parts : (place : Place) (layer : StmtKind-F StmtKind Arm Branch Stmt) (at : Position) (p : Plain) → plain_stmt (stmt place layer) at ≡ p →
+    (SomeOf Returns p → kind_has_return (parts layer) ≡ true) → SomeOf Returns (plain_stmt (stmt place layer) at) → has_return (stmt place layer) ≡ true
 by_parts place layer at p is so some = returning_at place layer ∙ so (subst (SomeOf Returns) is some)
 
 -- what acts returns where it is a `return`
 act_so : (place : Place) (layer : StmtKind-F StmtKind Arm Branch Stmt) (at : Position) →
-    plain (stmt place layer) at ≡ Act (label_at at) (stmt place layer) →
+    plain_stmt (stmt place layer) at ≡ Act (label_at at) (stmt place layer) →
     (is_return_kind layer ≡ true → kind_has_return (parts layer) ≡ true) →
-    SomeOf Returns (plain (stmt place layer) at) → has_return (stmt place layer) ≡ true
+    SomeOf Returns (plain_stmt (stmt place layer) at) → has_return (stmt place layer) ≡ true
 act_so place layer at is so = by_parts place layer at (Act (label_at at) (stmt place layer)) is (λ some. so (sym (return_at place layer) ∙ some))
 
 in_body : (body : List Stmt) (at : Position) → Each S body → ⊥ ⊎ SomeIn Returns (plain_block body at) → any_of (map has_return body) ≡ true
@@ -232,15 +232,15 @@ stmt_cases = record {
 
 -- ---- bodies
 
-without : (s : Stmt) (at : Position) → not (has_return s) ≡ true → EachFork NoneReturns (plain s at)
-without s at none = outside (plain s at) (λ some. both (has_return s) none (induct S stmt_cases s at some))
+without : (s : Stmt) (at : Position) → not (has_return s) ≡ true → EachFork NoneReturns (plain_stmt s at)
+without s at none = outside (plain_stmt s at) (λ some. both (has_return s) none (induct S stmt_cases s at some))
   where
     both : (b : Bool) → not b ≡ true → b ≡ true → ⊥
     both true e f = absurd cc
     both false e f = absurd cc
 
 is_last : (place : Place) (layer : StmtKind-F StmtKind Arm Branch Stmt) (at : Position) → is_return_kind layer ≡ true →
-    EachFork NoneReturns (plain (stmt place layer) at)
+    EachFork NoneReturns (plain_stmt (stmt place layer) at)
 is_last place (StmtKind-F.Return e) at is = subst (EachFork NoneReturns) (sym (plain_statements.returns place at e)) tt
 is_last place (StmtKind-F.Declare n initial) at is = absurd cc
 is_last place (StmtKind-F.Assign path e) at is = absurd cc
@@ -254,15 +254,15 @@ is_last place (StmtKind-F.Repeat body) at is = absurd cc
 is_last place (StmtKind-F.Until body e) at is = absurd cc
 is_last place (StmtKind-F.While e body) at is = absurd cc
 
-last_so : (s : Stmt) (at : Position) → (not (has_return s) || is_return s) ≡ true → EachFork NoneReturns (plain s at)
+last_so : (s : Stmt) (at : Position) → (not (has_return s) || is_return s) ≡ true → EachFork NoneReturns (plain_stmt s at)
 last_so s at e = by_test (not (has_return s)) refl e
   where
-    by_test : (b : Bool) → not (has_return s) ≡ b → (b || is_return s) ≡ true → EachFork NoneReturns (plain s at)
+    by_test : (b : Bool) → not (has_return s) ≡ b → (b || is_return s) ≡ true → EachFork NoneReturns (plain_stmt s at)
     by_test true none e = without s at none
     by_test false some e =
-        subst (λ s. EachFork NoneReturns (plain s at)) (made_of_parts s) (is_last (out-Stmt s).place (out-StmtKind (out-Stmt s).what) at e)
+        subst (λ s. EachFork NoneReturns (plain_stmt s at)) (made_of_parts s) (is_last (out-Stmt s).place (out-StmtKind (out-Stmt s).what) at e)
 
-body_so : (body : List Stmt) (n : ℕ) (at : Position) → returns_last_alone body ≡ true → EachForkIn NoneReturns (block_from (map plain body) n at)
+body_so : (body : List Stmt) (n : ℕ) (at : Position) → returns_last_alone body ≡ true → EachForkIn NoneReturns (block_from (map plain_stmt body) n at)
 body_so [] n at last = tt
 body_so (s ∷ []) n at last = (last_so s (at ++ n ∷ []) last, tt)
 body_so (s ∷ t ∷ rest) n at last = (

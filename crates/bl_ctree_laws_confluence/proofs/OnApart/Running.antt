@@ -50,7 +50,7 @@ use Rattle.bl_tree.specs.Within.{
 }
 use Rattle.bl_tree.proofs.StmtInduction.{Cases, Each, EachArm, EachBranch, induct, stmt}
 use Rattle.bl_graph_nodes.specs.Laws.{plain_arm, plain_branch}
-use Rattle.bl_graph_nodes.specs.Plain.{Label, Plain, Position, Act, If, block_from, bodies_from, else_at, inside, label_at, never, passed_one, plain, plain_block}
+use Rattle.bl_graph_nodes.specs.Plain.{Label, Plain, Position, Act, If, block_from, bodies_from, else_at, inside, label_at, never, passed_one, plain_stmt, plain_block}
 use Rattle.bl_graph_nodes.proofs.Equations.{plain_statements}
 use Rattle.bl_ctree_laws_confluence.proofs.OnDeeds.Accepted.{accepted_is_orderly}
 use Rattle.bl_ctree_laws_confluence.specs.Apart.Forks.{EachFork, EachForkIn, EachForkInEach}
@@ -122,12 +122,12 @@ run_moved so one = record { statement = one.statement; stands = so one.statement
 
 module _ (R : Place → List Path → Type 0) where
   abbrev S : Stmt → Type 0
-  S s = (at : Position) → SomeOf (IsRunWith R) (plain s at) → RunWithin R s
+  S s = (at : Position) → SomeOf (IsRunWith R) (plain_stmt s at) → RunWithin R s
 
   first_run : (s : Stmt) (rest : List Stmt) → RunWithin R s → RunFound R (s ∷ rest)
   first_run s rest one = record { statement = one.statement; stands = stands_first s rest one.within; runs = one.runs; holds = one.holds }
 
-  block_so : (body : List Stmt) (n : ℕ) (at : Position) → Each S body → SomeIn (IsRunWith R) (block_from (map plain body) n at) → RunFound R body
+  block_so : (body : List Stmt) (n : ℕ) (at : Position) → Each S body → SomeIn (IsRunWith R) (block_from (map plain_stmt body) n at) → RunFound R body
   block_so [] n at each some = absurd some
   block_so (s ∷ rest) n at each (inl some) = first_run s rest (All-head S s rest each (at ++ n ∷ []) some)
   block_so (s ∷ rest) n at each (inr some) =
@@ -156,15 +156,15 @@ module _ (R : Place → List Path → Type 0) where
       run_moved (λ inner one. stands_right (out-Branch branch).body (joined (map (λ branch. (out-Branch branch).body) rest)) one)
       (branches_so rest (suc n) l (All-tail (λ branch. Each S (out-Branch branch).body) branch rest each) some)
 
-  by_parts : (place : Place) (layer : StmtKind-F StmtKind Arm Branch Stmt) (at : Position) (q : Plain) → plain (stmt place layer) at ≡ q →
-      (SomeOf (IsRunWith R) q → RunFound R (kind_children layer)) → SomeOf (IsRunWith R) (plain (stmt place layer) at) → RunWithin R (stmt place layer)
+  by_parts : (place : Place) (layer : StmtKind-F StmtKind Arm Branch Stmt) (at : Position) (q : Plain) → plain_stmt (stmt place layer) at ≡ q →
+      (SomeOf (IsRunWith R) q → RunFound R (kind_children layer)) → SomeOf (IsRunWith R) (plain_stmt (stmt place layer) at) → RunWithin R (stmt place layer)
   by_parts place layer at q is so some =
       let one = so (subst (SomeOf (IsRunWith R)) is some) in
       record { statement = one.statement; within = stands_below place layer one.stands; runs = one.runs; holds = one.holds }
 
   act_so : (place : Place) (layer : StmtKind-F StmtKind Arm Branch Stmt) (at : Position) →
-      plain (stmt place layer) at ≡ Act (label_at at) (stmt place layer) →
-      SomeOf (IsRunWith R) (plain (stmt place layer) at) → RunWithin R (stmt place layer)
+      plain_stmt (stmt place layer) at ≡ Act (label_at at) (stmt place layer) →
+      SomeOf (IsRunWith R) (plain_stmt (stmt place layer) at) → RunWithin R (stmt place layer)
   act_so place layer at is = by_parts place layer at (Act (label_at at) (stmt place layer)) is (λ none. absurd none)
 
   run_so : (place : Place) (layer : StmtKind-F StmtKind Arm Branch Stmt) → is_run_kind layer ≡ true → R place (kind_outputs layer) →
@@ -281,10 +281,10 @@ apart_moved : {P Q : Stmt → Type 0} → ((s : Stmt) → Q s → P s) → Apart
 apart_moved so apart outer s t j k among = apart outer s t j k (so outer among)
 
 abbrev Z : Stmt → Type 0
-Z s = (at : Position) → ApartAmong (λ inner. Within inner s) → EachFork RunApart (plain s at)
+Z s = (at : Position) → ApartAmong (λ inner. Within inner s) → EachFork RunApart (plain_stmt s at)
 
 forks_in : (body : List Stmt) (n : ℕ) (at : Position) → Each Z body → ApartAmong (StandsIn body) →
-    EachForkIn RunApart (block_from (map plain body) n at)
+    EachForkIn RunApart (block_from (map plain_stmt body) n at)
 forks_in [] n at each apart = tt
 forks_in (s ∷ rest) n at each apart = (
   All-head Z s rest each (at ++ n ∷ []) (apart_moved {P = StandsIn (s ∷ rest)} (λ inner within. stands_first s rest within) apart),
@@ -319,9 +319,9 @@ forks_in_branches (branch ∷ rest) n l each apart =
           (apart_moved {P = StandsIn ((out-Branch branch).body ++ more)} (λ inner one. stands_right (out-Branch branch).body more one) apart),
     )
 
-forks_by_parts : (place : Place) (layer : StmtKind-F StmtKind Arm Branch Stmt) (at : Position) (q : Plain) → plain (stmt place layer) at ≡ q →
+forks_by_parts : (place : Place) (layer : StmtKind-F StmtKind Arm Branch Stmt) (at : Position) (q : Plain) → plain_stmt (stmt place layer) at ≡ q →
     (ApartAmong (StandsIn (kind_children layer)) → EachFork RunApart q) → ApartAmong (λ inner. Within inner (stmt place layer)) →
-    EachFork RunApart (plain (stmt place layer) at)
+    EachFork RunApart (plain_stmt (stmt place layer) at)
 forks_by_parts place layer at q is so apart =
     subst (EachFork RunApart) (sym is)
     (so (apart_moved {P = λ inner. Within inner (stmt place layer)} (λ inner one. stands_below place layer one) apart))

@@ -112,7 +112,7 @@ use Rattle.bl_effects.specs.Rules.{
 }
 use Rattle.bl_effects.proofs.SetLemmas.{set_members}
 use Rattle.bl_graph_nodes.specs.Laws.{plain_arm, plain_branch}
-use Rattle.bl_graph_nodes.specs.Plain.{Label, Plain, Position, Act, block_from, bodies_from, else_at, inside, label_at, passed_one, plain, plain_block}
+use Rattle.bl_graph_nodes.specs.Plain.{Label, Plain, Position, Act, block_from, bodies_from, else_at, inside, label_at, passed_one, plain_stmt, plain_block}
 use Rattle.bl_graph_nodes.proofs.Equations.{plain_statements}
 use Rattle.bl_ctree_laws.proofs.Tests.{and_first, and_second, or_left}
 use Rattle.bl_ctree_laws_confluence.specs.Apart.Named.{OneOf}
@@ -405,12 +405,12 @@ module _ (site : TypingContext) (p : Static) where
   V = Told site.vars p
 
   abbrev S : Stmt → Type 0
-  S s = (at : Position) → fits site s ≡ true → SomeOf P (plain s at) → V (parallel_of s) (naming_of s)
+  S s = (at : Position) → fits site s ≡ true → SomeOf P (plain_stmt s at) → V (parallel_of s) (naming_of s)
 
   abbrev OfBlock : List Stmt → Type 0
   OfBlock body = V (together (map parallel_of body)) (names_together (map naming_of body))
 
-  block_so : (body : List Stmt) (n : ℕ) (at : Position) → Each S body → Fit site body → SomeIn P (block_from (map plain body) n at) → OfBlock body
+  block_so : (body : List Stmt) (n : ℕ) (at : Position) → Each S body → Fit site body → SomeIn P (block_from (map plain_stmt body) n at) → OfBlock body
   block_so [] n at each fit some = absurd some
   block_so (s ∷ rest) n at each fit (inl some) =
       first_told (parallel_of s) (map parallel_of rest) (naming_of s) (map naming_of rest)
@@ -466,18 +466,18 @@ module _ (site : TypingContext) (p : Static) where
       (branches_so rest (suc n) l (All-tail (λ branch. Each S (out-Branch branch).body) branch rest each)
       (and_second (branch_fitted site branch) (all_of (map (branch_fitted site) rest)) fit) some)
 
-  by_parts : (place : Place) (layer : StmtKind-F StmtKind Arm Branch Stmt) (at : Position) (q : Plain) → plain (stmt place layer) at ≡ q →
+  by_parts : (place : Place) (layer : StmtKind-F StmtKind Arm Branch Stmt) (at : Position) (q : Plain) → plain_stmt (stmt place layer) at ≡ q →
       (kind_fits site (fit_parts site layer) ≡ true → SomeOf P q →
       V (kind_parallel (parallel_parts layer) place) (stmt_kind_naming (naming_parts layer))) →
-      fits site (stmt place layer) ≡ true → SomeOf P (plain (stmt place layer) at) → V (parallel_of (stmt place layer)) (naming_of (stmt place layer))
+      fits site (stmt place layer) ≡ true → SomeOf P (plain_stmt (stmt place layer) at) → V (parallel_of (stmt place layer)) (naming_of (stmt place layer))
   by_parts place layer at q is so fit some =
       told_is (parallel_at place layer) (naming_at place layer) (so (sym (fit_at site place layer) ∙ fit) (subst (SomeOf P) is some))
 
   act_so : (place : Place) (layer : StmtKind-F StmtKind Arm Branch Stmt) (at : Position) →
-      plain (stmt place layer) at ≡ Act (label_at at) (stmt place layer) →
+      plain_stmt (stmt place layer) at ≡ Act (label_at at) (stmt place layer) →
       (kind_fits site (fit_parts site layer) ≡ true → In p (kind_writes (written_parts layer)) →
       V (kind_parallel (parallel_parts layer) place) (stmt_kind_naming (naming_parts layer))) →
-      fits site (stmt place layer) ≡ true → SomeOf P (plain (stmt place layer) at) → V (parallel_of (stmt place layer)) (naming_of (stmt place layer))
+      fits site (stmt place layer) ≡ true → SomeOf P (plain_stmt (stmt place layer) at) → V (parallel_of (stmt place layer)) (naming_of (stmt place layer))
   act_so place layer at is so =
       by_parts place layer at (Act (label_at at) (stmt place layer)) is (λ fit there. so fit (written_in place layer p there))
 

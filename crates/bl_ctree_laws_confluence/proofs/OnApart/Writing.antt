@@ -43,7 +43,7 @@ use Rattle.bl_tree.proofs.StmtInduction.{Cases, Each, EachArm, EachBranch, induc
 use Rattle.bl_effects.specs.declared.marked.Marked.{Marked}
 use Rattle.bl_effects.specs.Rules.{Parallel, Split, kind_parallel, parallel_of, splits_after, splits_of}
 use Rattle.bl_graph_nodes.specs.Laws.{plain_arm, plain_branch}
-use Rattle.bl_graph_nodes.specs.Plain.{Label, Plain, Position, block_from, bodies_from, else_at, inside, label_at, never, passed_one, plain, plain_block}
+use Rattle.bl_graph_nodes.specs.Plain.{Label, Plain, Position, block_from, bodies_from, else_at, inside, label_at, never, passed_one, plain_block, plain_stmt}
 use Rattle.bl_graph_nodes.proofs.Equations.{plain_statements}
 use Rattle.bl_ctree_laws.proofs.Tests.{and_first, and_second}
 use Rattle.bl_ctree_laws_confluence.specs.Deeds.Orderly.{OrderlyUnit}
@@ -170,7 +170,7 @@ module _ (site : TypingContext) where
   splits_in parts = joined (map (λ q. q.splits) parts)
 
   abbrev F : Stmt → Type 0
-  F s = (at : Position) → fits site s ≡ true → is_apart s ≡ true → AllClear site.vars (parallel_of s).splits → EachFork WriteApart (plain s at)
+  F s = (at : Position) → fits site s ≡ true → is_apart s ≡ true → AllClear site.vars (parallel_of s).splits → EachFork WriteApart (plain_stmt s at)
 
   clear_left : (xs ys : List Split) → AllClear site.vars (xs ++ ys) → AllClear site.vars xs
   clear_left xs ys clear split there = clear split (in_left split xs ys there)
@@ -179,7 +179,7 @@ module _ (site : TypingContext) where
   clear_right xs ys clear split there = clear split (in_right split xs ys there)
 
   forks_in : (body : List Stmt) (k : ℕ) (at : Position) → Each F body → Fit site body → each_apart (map naming_of body) ≡ true →
-      AllClear site.vars (splits_in (map parallel_of body)) → EachForkIn WriteApart (block_from (map plain body) k at)
+      AllClear site.vars (splits_in (map parallel_of body)) → EachForkIn WriteApart (block_from (map plain_stmt body) k at)
   forks_in [] k at each fit apart clear = tt
   forks_in (s ∷ rest) k at each fit apart clear = (
     All-head F s rest each (at ++ k ∷ []) (fit_first site s rest fit) (and_first (is_apart s) (each_apart (map naming_of rest)) apart)
@@ -231,11 +231,11 @@ module _ (site : TypingContext) where
             (record { earlier = earlier; writes = one.writes } ∷ splits_after (earlier ++ one.writes) (map folded_branch_parallel rest)) (inr there))),
       )
 
-  fork_parts : (place : Place) (layer : StmtKind-F StmtKind Arm Branch Stmt) (at : Position) (q : Plain) → plain (stmt place layer) at ≡ q →
+  fork_parts : (place : Place) (layer : StmtKind-F StmtKind Arm Branch Stmt) (at : Position) (q : Plain) → plain_stmt (stmt place layer) at ≡ q →
       (kind_fits site (fit_parts site layer) ≡ true → (stmt_kind_naming (naming_parts layer)).apart ≡ true →
       AllClear site.vars (kind_parallel (parallel_parts layer) place).splits → EachFork WriteApart q) →
       fits site (stmt place layer) ≡ true → is_apart (stmt place layer) ≡ true → AllClear site.vars (parallel_of (stmt place layer)).splits →
-      EachFork WriteApart (plain (stmt place layer) at)
+      EachFork WriteApart (plain_stmt (stmt place layer) at)
   fork_parts place layer at q is so fit apart clear =
       subst (EachFork WriteApart) (sym is)
       (so (sym (fit_at site place layer) ∙ fit) (sym (ap (λ n. n.apart) (naming_at place layer)) ∙ apart)

@@ -25,14 +25,14 @@ use Rattle.bl_ctree_laws_examples.specs.Trees.TwoWay.{
   branches,
   declares,
   i,
-  inside,
-  left,
+  label_inside,
   left_loop,
+  left_position,
   left_turn,
   o,
   plain_statements,
-  right,
   right_loop,
+  right_position,
   right_turn,
   sets_o,
   sets_x,
@@ -53,31 +53,31 @@ abbrev forks : Node
 forks = ForkAt (label_at (2 ∷ [])) (at 9)
 
 abbrev left_head : Node
-left_head = HeadAt (label_at left) (at 6)
+left_head = HeadAt (label_at left_position) (at 6)
 
 abbrev x_acts : Node
-x_acts = ActAt (inside left 0) sets_x
+x_acts = ActAt (label_inside left_position 0) sets_x
 
 abbrev o_acts : Node
-o_acts = ActAt (inside left 1) sets_o
+o_acts = ActAt (label_inside left_position 1) sets_o
 
 abbrev left_pauses : Node
-left_pauses = PauseAt (inside left 2) (at 3)
+left_pauses = PauseAt (label_inside left_position 2) (at 3)
 
 abbrev left_tests : Node
-left_tests = TestAt (inside left 2) (at 3) always
+left_tests = TestAt (label_inside left_position 2) (at 3) always
 
 abbrev right_head : Node
-right_head = HeadAt (label_at right) (at 7)
+right_head = HeadAt (label_at right_position) (at 7)
 
 abbrev y_acts : Node
-y_acts = ActAt (inside right 0) sets_y
+y_acts = ActAt (label_inside right_position 0) sets_y
 
 abbrev right_pauses : Node
-right_pauses = PauseAt (inside right 1) (at 5)
+right_pauses = PauseAt (label_inside right_position 1) (at 5)
 
 abbrev right_tests : Node
-right_tests = TestAt (inside right 1) (at 5) always
+right_tests = TestAt (label_inside right_position 1) (at 5) always
 
 -- ---- their numbers: the declarations, then the tests and the heads of the loops, then `x = i + 1`, `y = x * 2` and `o = y`, then the pauses
 

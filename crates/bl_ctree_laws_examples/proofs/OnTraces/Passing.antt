@@ -47,7 +47,7 @@ use Rattle.bl_effects.specs.Rules.{
   together,
 }
 use Rattle.bl_ctree_laws_examples.proofs.OnTraces.Placed.{both, never, one, one_alone}
-use Rattle.bl_ctree_laws_examples.specs.Trees.Made.{at, number, pause, set, stmt, strong, two, value, variable}
+use Rattle.bl_ctree_laws_examples.specs.Trees.Made.{at, await_true, number, set, stmt, strong, two, value, variable}
 use Rattle.bl_ctree_laws_examples.specs.Trees.TwoWay.{activity, body, both_loops, declares, i as input, left_repeat, o, right_repeat, sets_o, sets_x, sets_y, x}
 use Rattle.bl_ctree_laws_examples.specs.Trees.TwoWay.{y}
 
@@ -83,7 +83,7 @@ branch_writes = fold-Branch (Place → Parallel) Parallel Parallel Parallel kind
 set_writes : (place k : ℕ) (e : Expr) → parallel_of (set place k e) ≡ acting (at place) (whole k ∷ [])
 set_writes place k e = (rw (fold-roll-Stmt, fold-roll-StmtKind) refl) ∙ ap (λ path. acting (at place) (path ∷ [])) (static_is k)
 
-pause_writes : (place : ℕ) → parallel_of (pause place) ≡ still
+pause_writes : (place : ℕ) → parallel_of (await_true place) ≡ still
 pause_writes place = rw (fold-roll-Stmt, fold-roll-StmtKind) refl
 
 declare_writes : (place k : ℕ) → parallel_of (declares place k) ≡ still
@@ -109,8 +109,8 @@ both_write : parallel_of both_loops ≡ of_branches (together (left_writes ∷ [
 both_write =
     fork_writes 9 (strong (left_repeat ∷ []) ∷ strong (right_repeat ∷ []) ∷ [])
     ∙ (λ j. of_branches (strong_writes (left_repeat ∷ []) j ∷ strong_writes (right_repeat ∷ []) j ∷ []))
-    ∙ (λ j. of_branches (together (loop_writes 6 (sets_x ∷ sets_o ∷ pause 3 ∷ []) j ∷ [])
-    ∷ together (loop_writes 7 (sets_y ∷ pause 5 ∷ []) j ∷ []) ∷ []))
+    ∙ (λ j. of_branches (together (loop_writes 6 (sets_x ∷ sets_o ∷ await_true 3 ∷ []) j ∷ [])
+    ∷ together (loop_writes 7 (sets_y ∷ await_true 5 ∷ []) j ∷ []) ∷ []))
     ∙ (λ j. of_branches (together
     (together (set_writes 1 x (two Add (value input) (number 1)) j ∷ set_writes 2 o (value y) j ∷ pause_writes 3 j ∷ []) ∷ [])
     ∷ together (together (set_writes 4 y (two Mul (value x) (number 2)) j ∷ pause_writes 5 j ∷ []) ∷ []) ∷ []))
@@ -130,7 +130,7 @@ no_loop instant = record { instant = instant; places = [] }
 set_loops : (place k : ℕ) (e : Expr) → loops_in (set place k e) ≡ no_loop true
 set_loops place k e = rw (fold-roll-Stmt, fold-roll-StmtKind) refl
 
-pause_loops : (place : ℕ) → loops_in (pause place) ≡ no_loop false
+pause_loops : (place : ℕ) → loops_in (await_true place) ≡ no_loop false
 pause_loops place = rw (fold-roll-Stmt, fold-roll-StmtKind) refl
 
 declare_loops : (place k : ℕ) → loops_in (declares place k) ≡ no_loop true
@@ -149,12 +149,12 @@ strong_loops block = rw fold-roll-Branch refl
 
 left_loops : block_loops (map loops_in (left_repeat ∷ [])) ≡ []
 left_loops =
-    (λ j. block_loops (loop_loops 6 (sets_x ∷ sets_o ∷ pause 3 ∷ []) j ∷ []))
+    (λ j. block_loops (loop_loops 6 (sets_x ∷ sets_o ∷ await_true 3 ∷ []) j ∷ []))
     ∙ (λ j. loop_places (at 6) (set_loops 1 x (two Add (value input) (number 1)) j ∷ set_loops 2 o (value y) j ∷ pause_loops 3 j ∷ []) ++ [])
 
 right_loops : block_loops (map loops_in (right_repeat ∷ [])) ≡ []
 right_loops =
-    (λ j. block_loops (loop_loops 7 (sets_y ∷ pause 5 ∷ []) j ∷ []))
+    (λ j. block_loops (loop_loops 7 (sets_y ∷ await_true 5 ∷ []) j ∷ []))
     ∙ (λ j. loop_places (at 7) (set_loops 4 y (two Mul (value x) (number 2)) j ∷ pause_loops 5 j ∷ []) ++ [])
 
 both_loops_places : (loops_in both_loops).places ≡ []

@@ -30,7 +30,7 @@ use Rattle.bl_tree.specs.Within.{
   kind_children,
   place_of,
 }
-use Rattle.bl_ctree_laws_examples.specs.Trees.Made.{at, pause, stmt, strong}
+use Rattle.bl_ctree_laws_examples.specs.Trees.Made.{at, await_true, stmt, strong}
 use Rattle.bl_ctree_laws_examples.specs.Trees.TwoWay.{activity, body, both_loops, declares, left_repeat, right_repeat, sets_o, sets_x, sets_y, x, y}
 
 -- ---- lists of a few
@@ -77,8 +77,8 @@ body_is block = ap (λ (b : Branch-F StmtKind Arm Branch Stmt). b.body) (out-rol
 -- the statement at the place
 abbrev by_place : ℕ → Stmt
 by_place k =
-    if nat_eq k 1 then sets_x else (if nat_eq k 2 then sets_o else (if nat_eq k 3 then pause 3 else (if nat_eq k 4 then sets_y else
-    (if nat_eq k 5 then pause 5 else (if nat_eq k 6 then left_repeat else (if nat_eq k 7 then right_repeat else
+    if nat_eq k 1 then sets_x else (if nat_eq k 2 then sets_o else (if nat_eq k 3 then await_true 3 else (if nat_eq k 4 then sets_y else
+    (if nat_eq k 5 then await_true 5 else (if nat_eq k 6 then left_repeat else (if nat_eq k 7 then right_repeat else
     (if nat_eq k 8 then declares 8 x else (if nat_eq k 9 then both_loops else declares 10 y))))))))
 
 abbrev NoRun : Stmt → Type 0
@@ -120,21 +120,21 @@ looping P k turn here each =
 record Each (P : Stmt → Type 0) : Type 0 where
   pub set_x : P sets_x
   pub set_o : P sets_o
-  pub left_pause : P (pause 3)
+  pub left_pause : P (await_true 3)
   pub set_y : P sets_y
-  pub right_pause : P (pause 5)
+  pub right_pause : P (await_true 5)
   pub left : P left_repeat
   pub right : P right_repeat
 
 left_whole : (P : Stmt → Type 0) → Each P → Throughout P left_repeat
 left_whole P each =
-    looping P 6 (sets_x ∷ sets_o ∷ pause 3 ∷ []) each.left
-    (three (Throughout P) sets_x sets_o (pause 3) (leaf P 1 _ refl each.set_x) (leaf P 2 _ refl each.set_o) (leaf P 3 _ refl each.left_pause))
+    looping P 6 (sets_x ∷ sets_o ∷ await_true 3 ∷ []) each.left
+    (three (Throughout P) sets_x sets_o (await_true 3) (leaf P 1 _ refl each.set_x) (leaf P 2 _ refl each.set_o) (leaf P 3 _ refl each.left_pause))
 
 right_whole : (P : Stmt → Type 0) → Each P → Throughout P right_repeat
 right_whole P each =
-    looping P 7 (sets_y ∷ pause 5 ∷ []) each.right
-    (both (Throughout P) sets_y (pause 5) (leaf P 4 _ refl each.set_y) (leaf P 5 _ refl each.right_pause))
+    looping P 7 (sets_y ∷ await_true 5 ∷ []) each.right
+    (both (Throughout P) sets_y (await_true 5) (leaf P 4 _ refl each.set_y) (leaf P 5 _ refl each.right_pause))
 
 both_children : children both_loops ≡ left_repeat ∷ right_repeat ∷ []
 both_children =

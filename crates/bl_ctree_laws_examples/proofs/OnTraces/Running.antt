@@ -12,7 +12,7 @@ use Rattle.bl_tree.specs.Rules.{same_place}
 use Rattle.bl_ctree.specs.declared.instance.Run.{Run}
 use Rattle.bl_ctree.specs.Instances.{runs_in, runs_in_branch}
 use Rattle.bl_ctree_laws_traces.specs.Bounded.Bounds.{RunsStandApart}
-use Rattle.bl_ctree_laws_examples.specs.Trees.Made.{number, pause, set, stmt, strong, two, value}
+use Rattle.bl_ctree_laws_examples.specs.Trees.Made.{await_true, number, set, stmt, strong, two, value}
 use Rattle.bl_ctree_laws_examples.specs.Trees.TwoWay.{activity, body, both_loops, declares, i as input, left_repeat, o, right_repeat, sets_o, sets_x, sets_y, x}
 use Rattle.bl_ctree_laws_examples.specs.Trees.TwoWay.{y}
 use Rattle.bl_ctree_laws_examples.proofs.OnTraces.Placed.{is_there, one_alone}
@@ -20,7 +20,7 @@ use Rattle.bl_ctree_laws_examples.proofs.OnTraces.Placed.{is_there, one_alone}
 set_runs : (place k : ℕ) (e : Expr) → runs_in (set place k e) ≡ []
 set_runs place k e = rw (fold-roll-Stmt, fold-roll-StmtKind) refl
 
-pause_runs : (place : ℕ) → runs_in (pause place) ≡ []
+pause_runs : (place : ℕ) → runs_in (await_true place) ≡ []
 pause_runs place = rw (fold-roll-Stmt, fold-roll-StmtKind) refl
 
 declare_runs : (place k : ℕ) → runs_in (declares place k) ≡ []
@@ -37,12 +37,12 @@ strong_runs block = rw fold-roll-Branch refl
 
 left_runs : runs_in left_repeat ≡ []
 left_runs =
-    loop_runs 6 (sets_x ∷ sets_o ∷ pause 3 ∷ [])
+    loop_runs 6 (sets_x ∷ sets_o ∷ await_true 3 ∷ [])
     ∙ (λ j. joined (set_runs 1 x (two Add (value input) (number 1)) j ∷ set_runs 2 o (value y) j ∷ pause_runs 3 j ∷ []))
 
 right_runs : runs_in right_repeat ≡ []
 right_runs =
-    loop_runs 7 (sets_y ∷ pause 5 ∷ []) ∙ (λ j. joined (set_runs 4 y (two Mul (value x) (number 2)) j ∷ pause_runs 5 j ∷ []))
+    loop_runs 7 (sets_y ∷ await_true 5 ∷ []) ∙ (λ j. joined (set_runs 4 y (two Mul (value x) (number 2)) j ∷ pause_runs 5 j ∷ []))
 
 both_runs : runs_in both_loops ≡ []
 both_runs =

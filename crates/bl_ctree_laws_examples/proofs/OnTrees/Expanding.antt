@@ -22,16 +22,16 @@ use Rattle.bl_ctree.specs.Measure.{
   step_statements_of,
   steps,
 }
-use Rattle.bl_ctree_laws_examples.specs.Trees.Made.{at, number, pause, set, stmt, strong, two, value, variable}
+use Rattle.bl_ctree_laws_examples.specs.Trees.Made.{at, await_true, number, set, stmt, strong, two, value, variable}
 use Rattle.bl_ctree_laws_examples.proofs.OnTrees.Sets.{path_is}
-use Rattle.bl_ctree_laws_examples.specs.Trees.Calls.{caller, first_called, instances, runs, second_called, turn, units}
+use Rattle.bl_ctree_laws_examples.specs.Trees.Calls.{caller, first_called, instances, runs, second_called, turn_stmt, units}
 
 -- ---- `run` statements
 
 set_runs : (place k : ℕ) (e : Expr) → runs_in (set place k e) ≡ []
 set_runs place k e = rw (fold-roll-Stmt, fold-roll-StmtKind) refl
 
-pause_runs : (place : ℕ) → runs_in (pause place) ≡ []
+pause_runs : (place : ℕ) → runs_in (await_true place) ≡ []
 pause_runs place = rw (fold-roll-Stmt, fold-roll-StmtKind) refl
 
 declare_runs : (place k : ℕ) → runs_in (stmt place (StmtKind-F.Declare k None)) ≡ []
@@ -57,7 +57,7 @@ run_runs : (place a input output : ℕ) → runs_in (runs place a input output) 
 run_runs place a input output =
     (rw (fold-roll-Stmt, fold-roll-StmtKind) refl) ∙ (λ j. record { place = at place; unit = a; outputs = static_is output j ∷ [] } ∷ [])
 
-turn_runs : runs_in turn ≡ one_run 8 0 2 ∷ one_run 9 1 1 ∷ []
+turn_runs : runs_in turn_stmt ≡ one_run 8 0 2 ∷ one_run 9 1 1 ∷ []
 turn_runs =
     fork_runs 7 (strong (runs 8 0 0 2 ∷ []) ∷ strong (runs 9 1 2 1 ∷ []) ∷ [])
     ∙ (λ j. joined (strong_runs (runs 8 0 0 2 ∷ []) j ∷ strong_runs (runs 9 1 2 1 ∷ []) j ∷ []))
@@ -73,7 +73,7 @@ second_runs j =
 
 caller_all : joined (map runs_in caller.body) ≡ one_run 8 0 2 ∷ one_run 9 1 1 ∷ []
 caller_all =
-    (λ j. joined (declare_runs 10 2 j ∷ loop_runs 11 (turn ∷ []) j ∷ []))
+    (λ j. joined (declare_runs 10 2 j ∷ loop_runs 11 (turn_stmt ∷ []) j ∷ []))
     ∙ (λ j. joined ([] ∷ joined (turn_runs j ∷ []) ∷ []))
 
 caller_runs : runs_of caller ≡ one_run 8 0 2 ∷ one_run 9 1 1 ∷ []
@@ -97,7 +97,7 @@ instances_is =
 set_counts : (place k : ℕ) (e : Expr) → step_statements_in (set place k e) ≡ 1
 set_counts place k e = rw (fold-roll-Stmt, fold-roll-StmtKind) refl
 
-pause_counts : (place : ℕ) → step_statements_in (pause place) ≡ 1
+pause_counts : (place : ℕ) → step_statements_in (await_true place) ≡ 1
 pause_counts place = rw (fold-roll-Stmt, fold-roll-StmtKind) refl
 
 declare_counts : (place k : ℕ) → step_statements_in (stmt place (StmtKind-F.Declare k None)) ≡ 1
@@ -119,7 +119,7 @@ fork_counts place branches = rw (fold-roll-Stmt, fold-roll-StmtKind) refl
 strong_counts : (body : List Stmt) → branch_counted (strong body) ≡ total (map step_statements_in body)
 strong_counts body = rw fold-roll-Branch refl
 
-turn_counts : step_statements_in turn ≡ 3
+turn_counts : step_statements_in turn_stmt ≡ 3
 turn_counts =
     fork_counts 7 (strong (runs 8 0 0 2 ∷ []) ∷ strong (runs 9 1 2 1 ∷ []) ∷ [])
     ∙ (λ j. 1 + total (strong_counts (runs 8 0 0 2 ∷ []) j ∷ strong_counts (runs 9 1 2 1 ∷ []) j ∷ []))
@@ -135,7 +135,7 @@ second_counts j =
 
 caller_counts : step_statements_of caller ≡ 5
 caller_counts =
-    (λ j. total (declare_counts 10 2 j ∷ loop_counts 11 (turn ∷ []) j ∷ []))
+    (λ j. total (declare_counts 10 2 j ∷ loop_counts 11 (turn_stmt ∷ []) j ∷ []))
     ∙ (λ j. total (1 ∷ (1 + total (turn_counts j ∷ [])) ∷ []))
 
 -- ---- steps

@@ -6,7 +6,7 @@ use Rattle.bl_ctree.specs.Store.{homes, whole_of}
 use Rattle.bl_ctree_laws.specs.Pending.{Deed, any_meets, any_writes, leads_over, may_write, meets, soon_in}
 use Rattle.bl_ctree_laws.specs.Steps.{Moves, OneMoves, Unmet, acts, first, in_par, in_seq, joins, later, pauses}
 use Rattle.bl_ctree_laws.specs.Trees.{Tree, Trees, beside, no_tree}
-use Rattle.bl_ctree_laws_examples.specs.Trees.TwoWay.{inside, left, right, sets_o, sets_x, sets_y, x}
+use Rattle.bl_ctree_laws_examples.specs.Trees.TwoWay.{label_inside, left_position, right_position, sets_o, sets_x, sets_y, x}
 use Rattle.bl_ctree_laws_examples.specs.Trees.TwoWayTrees.{
   acting,
   before_o,
@@ -55,20 +55,21 @@ y_alone_free = ap (λ read. list_any (any_writes program 0 no_tree) (homes progr
 
 -- ---- the steps in their order
 
-pub x_first : Moves Unmet program 0 (both before_x before_y) true x_is_set (acting (inside left 0) sets_x) (both before_o before_y)
+pub x_first : Moves Unmet program 0 (both before_x before_y) true x_is_set (acting (label_inside left_position 0) sets_x) (both before_o before_y)
 x_first = in_par (first (in_seq acts) x_free)
 
-pub y_second : Moves Unmet program 0 (both before_o before_y) true y_is_set (acting (inside right 0) sets_y) (both before_o right_done)
+pub y_second : Moves Unmet program 0 (both before_o before_y) true y_is_set (acting (label_inside right_position 0) sets_y) (both before_o right_done)
 y_second = in_par (later (first (in_seq acts) y_alone_free) y_goes_on)
 
-pub o_third : Moves Unmet program 0 (both before_o right_done) true o_is_set (acting (inside left 1) sets_o) (both left_done right_done)
+pub o_third : Moves Unmet program 0 (both before_o right_done) true o_is_set (acting (label_inside left_position 1) sets_o) (both left_done right_done)
 o_third = in_par (first (in_seq acts) o_free)
 
-pub left_pauses : Moves Unmet program 0 (both left_done right_done) true (reaches_pause 3) (pausing (inside left 2) 3) (both left_paused right_done)
+pub left_pauses : Moves Unmet program 0 (both left_done right_done) true (reaches_pause 3) (pausing (label_inside left_position 2) 3)
+    (both left_paused right_done)
 left_pauses = in_par (first (in_seq pauses) refl)
 
 pub right_pauses :
-    Moves Unmet program 0 (both left_paused right_done) true (reaches_pause 5) (pausing (inside right 1) 5) (both left_paused right_paused)
+    Moves Unmet program 0 (both left_paused right_done) true (reaches_pause 5) (pausing (label_inside right_position 1) 5) (both left_paused right_paused)
 right_pauses = in_par (later (first (in_seq pauses) refl) refl)
 
 -- ---- and no other one is first

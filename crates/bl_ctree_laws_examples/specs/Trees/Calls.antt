@@ -11,34 +11,34 @@ use Rattle.bl_tree.specs.declared.tree.UnitKind.TheVariants.{Activity}
 use Rattle.bl_tree.specs.declared.tree.Var.{Var}
 use Rattle.bl_tree.specs.Static.{whole}
 use Rattle.bl_ctree.specs.declared.instance.Instance.{Instance}
-use Rattle.bl_ctree_laws_examples.specs.Trees.Made.{at, number, pause, set, stmt, strong, two, value, var, variable}
+use Rattle.bl_ctree_laws_examples.specs.Trees.Made.{at, await_true, number, set, stmt, strong, two, value, var, variable}
 
 -- an activity with one input and one output, these variables and this body
-abbrev pub activity_of : List Var → List Stmt → UnitDef
-activity_of vars body = record { name = []; place = at 0; kind = Activity; vars = vars; inputs = 1; outputs = 1; result = None; body = body }
+abbrev pub example_activity : List Var → List Stmt → UnitDef
+example_activity vars body = record { name = []; place = at 0; kind = Activity; vars = vars; inputs = 1; outputs = 1; result = None; body = body }
 
 -- the activity A of the example
 abbrev pub first_called : UnitDef
-first_called = activity_of (var Input ∷ var Output ∷ []) (set 1 1 (value 0) ∷ pause 2 ∷ set 3 1 (two Add (value 1) (number 10)) ∷ [])
+first_called = example_activity (var Input ∷ var Output ∷ []) (set 1 1 (value 0) ∷ await_true 2 ∷ set 3 1 (two Add (value 1) (number 10)) ∷ [])
 
 -- the activity B of the example
 abbrev pub second_called : UnitDef
 second_called =
-    activity_of (var Input ∷ var Output ∷ []) (set 4 1 (two Add (value 1) (value 0)) ∷ pause 5 ∷ set 6 1 (two Add (value 1) (number 100)) ∷ [])
+    example_activity (var Input ∷ var Output ∷ []) (set 4 1 (two Add (value 1) (value 0)) ∷ await_true 5 ∷ set 6 1 (two Add (value 1) (number 100)) ∷ [])
 
 -- a `run` of an activity with one input and one output
 abbrev pub runs : ℕ → ℕ → ℕ → ℕ → Stmt
 runs place a input output = stmt place (StmtKind-F.Run None a (value input ∷ []) (variable output ∷ []))
 
 -- the statement that M executes in each turn
-abbrev pub turn : Stmt
-turn = stmt 7 (StmtKind-F.Cobegin (strong (runs 8 0 0 2 ∷ []) ∷ strong (runs 9 1 2 1 ∷ []) ∷ []))
+abbrev pub turn_stmt : Stmt
+turn_stmt = stmt 7 (StmtKind-F.Cobegin (strong (runs 8 0 0 2 ∷ []) ∷ strong (runs 9 1 2 1 ∷ []) ∷ []))
 
 -- the activity M of the example
 abbrev pub caller : UnitDef
 caller =
-    activity_of (var Input ∷ var Output ∷ var Variable ∷ [])
-    (stmt 10 (StmtKind-F.Declare 2 None) ∷ stmt 11 (StmtKind-F.Repeat (turn ∷ [])) ∷ [])
+    example_activity (var Input ∷ var Output ∷ var Variable ∷ [])
+    (stmt 10 (StmtKind-F.Declare 2 None) ∷ stmt 11 (StmtKind-F.Repeat (turn_stmt ∷ [])) ∷ [])
 
 -- the program
 abbrev pub units : List UnitDef

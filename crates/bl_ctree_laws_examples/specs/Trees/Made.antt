@@ -68,17 +68,17 @@ abbrev pub set : ℕ → ℕ → Expr → Stmt
 set place k e = stmt place (StmtKind-F.Assign (variable k) e)
 
 -- an `await` of what is true
-abbrev pub pause : ℕ → Stmt
-pause place = stmt place (StmtKind-F.Await always)
+abbrev pub await_true : ℕ → Stmt
+await_true place = stmt place (StmtKind-F.Await always)
 
 -- a strong branch
 abbrev pub strong : List Stmt → Branch
 strong body = roll-Branch (record { weak = false; body = body })
 
 -- a variable of type `int32` with a name
-abbrev pub named : List ℕ → Role → Var
-named name role = record { name = name; place = at 0; ty = int32; role = role }
+abbrev pub named_variable : List ℕ → Role → Var
+named_variable name role = record { name = name; place = at 0; ty = int32; role = role }
 
 -- a variable of type `int32` without a name
 abbrev pub var : Role → Var
-var role = named [] role
+var role = named_variable [] role

@@ -8,7 +8,7 @@ use Rattle.bl_tree.specs.declared.tree.StmtKind.TheOpen.{StmtKind-F}
 use Rattle.bl_tree.specs.declared.tree.Unit.{Unit as UnitDef}
 use Rattle.bl_tree.specs.declared.tree.UnitKind.TheVariants.{Activity}
 use Rattle.bl_graph_nodes.specs.Plain.{Act, Await, Block, Bodies, Body, Cobegin, Done, Label, Last, Plain, Position, Repeat, Then, label_at}
-use Rattle.bl_ctree_laws_examples.specs.Trees.Made.{always, at, named, number, pause, set, stmt, strong, two, value}
+use Rattle.bl_ctree_laws_examples.specs.Trees.Made.{always, at, await_true, named_variable, number, set, stmt, strong, two, value}
 
 -- the input
 abbrev pub i : ℕ
@@ -40,11 +40,11 @@ sets_y = set 4 y (two Mul (value x) (number 2))
 
 -- the first loop
 abbrev pub left_repeat : Stmt
-left_repeat = stmt 6 (StmtKind-F.Repeat (sets_x ∷ sets_o ∷ pause 3 ∷ []))
+left_repeat = stmt 6 (StmtKind-F.Repeat (sets_x ∷ sets_o ∷ await_true 3 ∷ []))
 
 -- the second loop
 abbrev pub right_repeat : Stmt
-right_repeat = stmt 7 (StmtKind-F.Repeat (sets_y ∷ pause 5 ∷ []))
+right_repeat = stmt 7 (StmtKind-F.Repeat (sets_y ∷ await_true 5 ∷ []))
 
 -- the two loops as strong branches of a `cobegin`
 abbrev pub both_loops : Stmt
@@ -64,7 +64,7 @@ activity = record {
   name = codes "M";
   place = at 0;
   kind = Activity;
-  vars = named (codes "i") Input ∷ named (codes "o") Output ∷ named (codes "x") Variable ∷ named (codes "y") Variable ∷ [];
+  vars = named_variable (codes "i") Input ∷ named_variable (codes "o") Output ∷ named_variable (codes "x") Variable ∷ named_variable (codes "y") Variable ∷ [];
   inputs = 1;
   outputs = 1;
   result = None;
@@ -74,32 +74,33 @@ activity = record {
 -- ---- the same as plain statements
 
 -- the position of the first loop
-abbrev pub left : Position
-left = 2 ∷ 0 ∷ 0 ∷ []
+abbrev pub left_position : Position
+left_position = 2 ∷ 0 ∷ 0 ∷ []
 
 -- the position of the second loop
-abbrev pub right : Position
-right = 2 ∷ 1 ∷ 0 ∷ []
+abbrev pub right_position : Position
+right_position = 2 ∷ 1 ∷ 0 ∷ []
 
 -- the statement with the number in the body of a loop
-abbrev pub inside : Position → ℕ → Label
-inside loop k = label_at (loop ++ 0 ∷ k ∷ [])
+abbrev pub label_inside : Position → ℕ → Label
+label_inside loop k = label_at (loop ++ 0 ∷ k ∷ [])
 
 -- the body of the first loop
 abbrev pub left_turn : Block
-left_turn = Then (Act (inside left 0) sets_x) (Then (Act (inside left 1) sets_o) (Then (Await (inside left 2) (at 3) always) Done))
+left_turn = Then (Act (label_inside left_position 0) sets_x)
+    (Then (Act (label_inside left_position 1) sets_o) (Then (Await (label_inside left_position 2) (at 3) always) Done))
 
 -- the first loop
 abbrev pub left_loop : Plain
-left_loop = Repeat (label_at left) (at 6) left_turn
+left_loop = Repeat (label_at left_position) (at 6) left_turn
 
 -- the body of the second
 abbrev pub right_turn : Block
-right_turn = Then (Act (inside right 0) sets_y) (Then (Await (inside right 1) (at 5) always) Done)
+right_turn = Then (Act (label_inside right_position 0) sets_y) (Then (Await (label_inside right_position 1) (at 5) always) Done)
 
 -- the second loop
 abbrev pub right_loop : Plain
-right_loop = Repeat (label_at right) (at 7) right_turn
+right_loop = Repeat (label_at right_position) (at 7) right_turn
 
 -- the branches
 abbrev pub branches : Bodies

@@ -10,7 +10,8 @@ use Rattle.bl_ctree_laws.specs.Pending.{Deed, deed}
 use Rattle.bl_ctree_laws.specs.Steps.{fork, pause}
 use Rattle.bl_ctree_laws.specs.Trees.{Do, Par, Seq, Tree, Wait, beside, no_tree}
 use Rattle.bl_ctree_laws_examples.specs.Trees.Made.{always, at}
-use Rattle.bl_ctree_laws_examples.specs.Trees.TwoWay.{activity, branches, inside, left, left_loop, right, right_loop, sets_o, sets_x, sets_y}
+use Rattle.bl_ctree_laws_examples.specs.Trees.TwoWay.{activity, branches, label_inside, left_loop, left_position, right_loop, right_position, sets_o, sets_x}
+use Rattle.bl_ctree_laws_examples.specs.Trees.TwoWay.{sets_y}
 
 -- the program, whose entry is its one instance
 abbrev pub program : Setting
@@ -18,39 +19,39 @@ program = record { structs = []; units = activity ∷ []; instances = record { u
 
 -- what is left of the first branch where its pause is next, and then its loop
 abbrev pub left_pause : Block
-left_pause = Then (Await (inside left 2) (at 3) always) (Then left_loop Done)
+left_pause = Then (Await (label_inside left_position 2) (at 3) always) (Then left_loop Done)
 
 -- the first branch where `x = i + 1` is next
 abbrev pub before_x : Tree
-before_x = Seq (Do (Act (inside left 0) sets_x)) (Then (Act (inside left 1) sets_o) left_pause)
+before_x = Seq (Do (Act (label_inside left_position 0) sets_x)) (Then (Act (label_inside left_position 1) sets_o) left_pause)
 
 -- the tree of the first loop where `o = y` is next
 abbrev pub before_o : Tree
-before_o = Seq (Do (Act (inside left 1) sets_o)) left_pause
+before_o = Seq (Do (Act (label_inside left_position 1) sets_o)) left_pause
 
 -- the tree of the first loop where its pause is next
 abbrev pub left_done : Tree
-left_done = Seq (Do (Await (inside left 2) (at 3) always)) (Then left_loop Done)
+left_done = Seq (Do (Await (label_inside left_position 2) (at 3) always)) (Then left_loop Done)
 
 -- the tree of the first loop where it pauses
 abbrev pub left_paused : Tree
-left_paused = Seq (Wait (pause (inside left 2) (at 3) always)) (Then left_loop Done)
+left_paused = Seq (Wait (pause (label_inside left_position 2) (at 3) always)) (Then left_loop Done)
 
 -- what is left of the second branch where its pause is next
 abbrev pub right_pause : Block
-right_pause = Then (Await (inside right 1) (at 5) always) (Then right_loop Done)
+right_pause = Then (Await (label_inside right_position 1) (at 5) always) (Then right_loop Done)
 
 -- the second branch where `y = x * 2` is next
 abbrev pub before_y : Tree
-before_y = Seq (Do (Act (inside right 0) sets_y)) right_pause
+before_y = Seq (Do (Act (label_inside right_position 0) sets_y)) right_pause
 
 -- the tree of the second loop where its pause is next
 abbrev pub right_done : Tree
-right_done = Seq (Do (Await (inside right 1) (at 5) always)) (Then right_loop Done)
+right_done = Seq (Do (Await (label_inside right_position 1) (at 5) always)) (Then right_loop Done)
 
 -- the tree of the second loop where it pauses
 abbrev pub right_paused : Tree
-right_paused = Seq (Wait (pause (inside right 1) (at 5) always)) (Then right_loop Done)
+right_paused = Seq (Wait (pause (label_inside right_position 1) (at 5) always)) (Then right_loop Done)
 
 -- the two branches
 abbrev pub both : Tree → Tree → Tree

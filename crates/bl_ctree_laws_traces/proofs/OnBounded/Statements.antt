@@ -65,9 +65,9 @@ use Rattle.bl_graph_nodes.specs.Plain.{
   inside,
   label_at,
   passed_one,
-  plain,
   plain_block,
   plain_body,
+  plain_stmt,
 }
 use Rattle.bl_graph_nodes.proofs.Equations.{plain_statements}
 use Rattle.bl_ctree.specs.declared.instance.Run.{Run}
@@ -103,10 +103,10 @@ so_long false n = omega arith
 
 module _ (site : TypingContext) where
   abbrev S : Stmt → Type 0
-  S s = fits site s ≡ true → (at : Position) → FewOf (plain s at) (runs_in s) (step_statements_in s)
+  S s = fits site s ≡ true → (at : Position) → FewOf (plain_stmt s at) (runs_in s) (step_statements_in s)
 
   block_few : (body : List Stmt) (k : ℕ) (block : Position) → Each S body → all_of (map (fits site) body) ≡ true →
-      FewIn (block_from (map plain body) k block) (joined (map runs_in body)) (total (map step_statements_in body))
+      FewIn (block_from (map plain_stmt body) k block) (joined (map runs_in body)) (total (map step_statements_in body))
   block_few [] k block each fitted = record { are = refl; few = omega arith }
   block_few (s ∷ rest) k block each fitted =
       both_few (step_statements_in s) (total (map step_statements_in rest))
@@ -126,21 +126,21 @@ module _ (site : TypingContext) where
   branch_fitted = fold-Branch Bool Bool Bool Bool (kind_fits site) (arm_fits site) branch_fits stmt_fits
 
   arm_few : (arm : Arm) (k : ℕ) (block : Position) → Each S (out-Arm arm).body → arm_fitted arm ≡ true →
-      FewIn (block_from (map plain (out-Arm arm).body) k block) (runs_in_arm arm) (statements_in_arm arm)
+      FewIn (block_from (map plain_stmt (out-Arm arm).body) k block) (runs_in_arm arm) (statements_in_arm arm)
   arm_few arm k block each fitted =
-      subst (λ runs. FewIn (block_from (map plain (out-Arm arm).body) k block) runs (statements_in_arm arm))
+      subst (λ runs. FewIn (block_from (map plain_stmt (out-Arm arm).body) k block) runs (statements_in_arm arm))
       (sym (fold_out-Arm (Place → List Run) (List Run) (List Run) (List Run) kind_runs arm_runs branch_runs stmt_layer_runs arm))
-      (subst (λ n. FewIn (block_from (map plain (out-Arm arm).body) k block) (joined (map runs_in (out-Arm arm).body)) n)
+      (subst (λ n. FewIn (block_from (map plain_stmt (out-Arm arm).body) k block) (joined (map runs_in (out-Arm arm).body)) n)
       (sym (fold_out-Arm ℕ ℕ ℕ ℕ kind_step_statements arm_step_statements branch_step_statements layer_step_statements arm))
       (block_few (out-Arm arm).body k block each (and_right (is_truth (type_of site (out-Arm arm).test)) (all_of (map (fits site) (out-Arm arm).body))
       (sym (fold_out-Arm Bool Bool Bool Bool (kind_fits site) (arm_fits site) branch_fits stmt_fits arm) ∙ fitted))))
 
   branch_few : (branch : Branch) (k : ℕ) (block : Position) → Each S (out-Branch branch).body → branch_fitted branch ≡ true →
-      FewIn (block_from (map plain (out-Branch branch).body) k block) (runs_in_branch branch) (statements_in_branch branch)
+      FewIn (block_from (map plain_stmt (out-Branch branch).body) k block) (runs_in_branch branch) (statements_in_branch branch)
   branch_few branch k block each fitted =
-      subst (λ runs. FewIn (block_from (map plain (out-Branch branch).body) k block) runs (statements_in_branch branch))
+      subst (λ runs. FewIn (block_from (map plain_stmt (out-Branch branch).body) k block) runs (statements_in_branch branch))
       (sym (fold_out-Branch (Place → List Run) (List Run) (List Run) (List Run) kind_runs arm_runs branch_runs stmt_layer_runs branch))
-      (subst (λ n. FewIn (block_from (map plain (out-Branch branch).body) k block) (joined (map runs_in (out-Branch branch).body)) n)
+      (subst (λ n. FewIn (block_from (map plain_stmt (out-Branch branch).body) k block) (joined (map runs_in (out-Branch branch).body)) n)
       (sym (fold_out-Branch ℕ ℕ ℕ ℕ kind_step_statements arm_step_statements branch_step_statements layer_step_statements branch))
       (block_few (out-Branch branch).body k block each
       (sym (fold_out-Branch Bool Bool Bool Bool (kind_fits site) (arm_fits site) branch_fits stmt_fits branch) ∙ fitted)))
@@ -209,7 +209,7 @@ module _ (site : TypingContext) where
   count_at place layer = rw (fold-roll-Stmt, fold-roll-StmtKind) refl
 
   by_parts : (place : Place) (layer : StmtKind-F StmtKind Arm Branch Stmt) (made : Position → Plain) →
-      ((at : Position) → plain (stmt place layer) at ≡ made at) →
+      ((at : Position) → plain_stmt (stmt place layer) at ≡ made at) →
       (kind_fits site (fit_parts layer) ≡ true → (at : Position) →
       FewOf (made at) (kind_runs (run_parts layer) place) (kind_step_statements (count_parts layer))) →
       S (stmt place layer)

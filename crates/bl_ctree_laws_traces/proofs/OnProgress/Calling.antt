@@ -19,9 +19,9 @@ use Rattle.bl_graph_nodes.specs.Plain.{
   inside,
   label_at,
   passed_one,
-  plain,
   plain_block,
   plain_body,
+  plain_stmt,
 }
 use Rattle.bl_graph_nodes.proofs.Equations.{plain_statements}
 use Rattle.bl_ctree.specs.declared.instance.Run.{Run}
@@ -51,10 +51,10 @@ module _ (w : Setting) (i : ℕ) where
   C run = Calls w i run.place
 
   abbrev S : Stmt → Type 0
-  S s = AllOf C (runs_in s) → (at : Position) → Callable w i (plain s at)
+  S s = AllOf C (runs_in s) → (at : Position) → Callable w i (plain_stmt s at)
 
   block_calls : (body : List Stmt) (k : ℕ) (block : Position) → Each S body → AllOf C (joined (map runs_in body)) →
-      CallableAll w i (block_from (map plain body) k block)
+      CallableAll w i (block_from (map plain_stmt body) k block)
   block_calls [] k block each all = tt
   block_calls (s ∷ rest) k block each all = (
     All-head S s rest each (of_first C (runs_in s) (joined (map runs_in rest)) all) (block ++ k ∷ []),
@@ -100,7 +100,7 @@ module _ (w : Setting) (i : ℕ) where
   runs_at place layer = rw (fold-roll-Stmt, fold-roll-StmtKind) refl
 
   by_parts : (place : Place) (layer : StmtKind-F StmtKind Arm Branch Stmt) →
-      (AllOf C (kind_runs (run_parts layer) place) → (at : Position) → Callable w i (plain (stmt place layer) at)) → S (stmt place layer)
+      (AllOf C (kind_runs (run_parts layer) place) → (at : Position) → Callable w i (plain_stmt (stmt place layer) at)) → S (stmt place layer)
   by_parts place layer calls all = calls (subst (AllOf C) (runs_at place layer) all)
 
   branching_calls : (place : Place) (arms : List Arm) (other : List Stmt) → EachArm S arms → Each S other → S (stmt place (StmtKind-F.If arms other))

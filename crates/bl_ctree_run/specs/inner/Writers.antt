@@ -56,12 +56,12 @@ abbrev pub key_cmp : ℕ × ℕ → ℕ × ℕ → Ordering
 key_cmp x y = ordering_then (nat_cmp x.0 y.0) (nat_cmp x.1 y.1)
 
 -- the writes kept for the variable in which the home lies
-abbrev pub kept : List ((ℕ × ℕ) × List WriteNode) → Location → List Write
-kept entries at = map write_of (unwrap_or (lookup (is_at (key_cmp (key_at at))) entries) [])
+abbrev pub writes_kept : List ((ℕ × ℕ) × List WriteNode) → Location → List Write
+writes_kept entries at = map write_of (unwrap_or (lookup (is_at (key_cmp (key_at at))) entries) [])
 
 -- whether another branch than the one with number k may still write something that overlaps the home
 abbrev pub is_met : List ((ℕ × ℕ) × List WriteNode) → ℕ → Location → Bool
-is_met entries k at = list_any (is_beside k at) (kept entries at)
+is_met entries k at = list_any (is_beside k at) (writes_kept entries at)
 
 -- whether the point reads nothing that the other branches than the one with number k may still write
 abbrev pub is_free : List ((ℕ × ℕ) × List WriteNode) → ℕ → Spot → Bool

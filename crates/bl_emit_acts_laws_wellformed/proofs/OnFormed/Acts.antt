@@ -70,14 +70,14 @@ block_append context first second one other looped = appended first (one looped)
 
 -- what begins with a pointer isn't written where nothing may be changed
 abbrev pub Allowed : Context → Bool → Type 0
-Allowed context through = (context.keeps && through) ≡ false
+Allowed context through = (context.is_read_only && through) ≡ false
 
 module _ (context : Context) where
   -- ---- an assignment
 
   abbrev set_faults : JudgedPlace → Judged → List Fault
   set_faults p e =
-      p.faults ++ (e.faults ++ (unless (agree p.ty e.ty) assigned_type nowhere ++ unless (not (context.keeps && p.through)) changes_nothing nowhere))
+      p.faults ++ (e.faults ++ (unless (agree p.ty e.ty) assigned_type nowhere ++ unless (not (context.is_read_only && p.through)) changes_nothing nowhere))
 
   set-open : (place : CPlace) (value : CExpr) (looped : Bool) →
       faults_in_stmt (what (CStmtKind-F.Set place value)) context looped ≡ set_faults (judged_place place context nowhere) (judged_expr value context)
@@ -90,8 +90,8 @@ module _ (context : Context) where
       ≡ set_faults (judged_place place context nowhere) (judged_expr value context))
       (statement.rolls-Set place value) (set-open place value looped)
 
-  allowed_kept : (through : Bool) → Allowed context through → unless (not (context.keeps && through)) changes_nothing nowhere ≡ []
-  allowed_kept through allowed = kept (not (context.keeps && through)) changes_nothing nowhere (ap not allowed)
+  allowed_kept : (through : Bool) → Allowed context through → unless (not (context.is_read_only && through)) changes_nothing nowhere ≡ []
+  allowed_kept through allowed = kept (not (context.is_read_only && through)) changes_nothing nowhere (ap not allowed)
 
   pub set-is : (through : Bool) (ty : CType) (place : CPlace) (value : CExpr) → PlaceIs context through ty place → ExprIs context ty value →
       Allowed context through → StmtIs context (c_set place value)
@@ -105,7 +105,7 @@ module _ (context : Context) where
   clear_faults name p =
       p.faults ++ (unless (is_some (context.structs name)) declared_before nowhere
       ++ (unless (agree p.ty (Some (OfStruct name))) assigned_type nowhere
-      ++ unless (not (context.keeps && p.through)) changes_nothing nowhere))
+      ++ unless (not (context.is_read_only && p.through)) changes_nothing nowhere))
 
   clear-open : (place : CPlace) (name : Text) (looped : Bool) →
       faults_in_stmt (what (CStmtKind-F.Clear place name)) context looped ≡ clear_faults name (judged_place place context nowhere)
@@ -139,10 +139,10 @@ module _ (context : Context) where
 
   -- no argument hands on a pointer where nothing may be changed
   abbrev pub NoneHanded : List JudgedArg → Type 0
-  NoneHanded args = (context.keeps && any_of (map (λ (a : JudgedArg). a.address && a.through) args)) ≡ false
+  NoneHanded args = (context.is_read_only && any_of (map (λ (a : JudgedArg). a.address && a.through) args)) ≡ false
 
-  handed : (void keeps any : Bool) → (keeps && any) ≡ false → not (keeps && (void && any)) ≡ true
-  handed true keeps any h = ap not h
+  handed : (void is_read_only any : Bool) → (is_read_only && any) ≡ false → not (is_read_only && (void && any)) ≡ true
+  handed true is_read_only any h = ap not h
   handed false true any h = refl
   handed false false any h = refl
 
@@ -150,8 +150,8 @@ module _ (context : Context) where
       (call_of context (Some s) args nowhere).faults ≡ []
   call_faults s args fit none plain =
       (λ i. none i ++ (kept (fit_each s.widens s.params args) arguments nowhere fit i
-      ++ kept (not (context.keeps && (is_none s.result && any_of (map (λ (a : JudgedArg). a.address && a.through) args)))) changes_nothing nowhere
-      (handed (is_none s.result) context.keeps (any_of (map (λ (a : JudgedArg). a.address && a.through) args)) plain) i))
+      ++ kept (not (context.is_read_only && (is_none s.result && any_of (map (λ (a : JudgedArg). a.address && a.through) args)))) changes_nothing nowhere
+      (handed (is_none s.result) context.is_read_only (any_of (map (λ (a : JudgedArg). a.address && a.through) args)) plain) i))
 
   pub calling-is : (name : Text) (args : List CArg) (s : Signature) → signature_of context name ≡ Some s →
       fit_each s.widens s.params (judged_args context args nowhere) ≡ true → faults_of_args (judged_args context args nowhere) ≡ [] →

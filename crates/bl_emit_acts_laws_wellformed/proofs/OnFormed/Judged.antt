@@ -184,7 +184,7 @@ module _ (context : Context) where
     faults = unless (is_some signature) declared_before at
         ++ (faults_of_args args
         ++ (unless (fit_args signature args) arguments at
-        ++ unless (not (context.keeps && hands_on signature args)) changes_nothing at));
+        ++ unless (not (context.is_read_only && hands_on signature args)) changes_nothing at));
   }
 
   pub call-judged : (name : Text) (args : List CArg) (at : Place) → judged_call (c_call name args) context at
@@ -207,22 +207,22 @@ module _ (context : Context) where
       subst (λ (k : CExprKind). judged_expr (roll-CExpr (record { place = nowhere; what = k })) context ≡ of_call (judged_call call context nowhere))
       (expression.rolls-Call call) (called-open call)
 
-  never : (keeps : Bool) → not (keeps && false) ≡ true
+  never : (is_read_only : Bool) → not (is_read_only && false) ≡ true
   never true = refl
   never false = refl
 
   -- what fails where a function with a result is called
-  value_faults : (params fits : List Fault) (keeps : Bool) (at : Place) → params ≡ [] → fits ≡ [] →
-      ([] ++ (params ++ (fits ++ unless (not (keeps && false)) changes_nothing at))) ++ [] ≡ []
-  value_faults params fits keeps at none suit =
-      (λ i. ([] ++ (none i ++ (suit i ++ unless (never keeps i) changes_nothing at))) ++ [])
+  value_faults : (params fits : List Fault) (is_read_only : Bool) (at : Place) → params ≡ [] → fits ≡ [] →
+      ([] ++ (params ++ (fits ++ unless (not (is_read_only && false)) changes_nothing at))) ++ [] ≡ []
+  value_faults params fits is_read_only at none suit =
+      (λ i. ([] ++ (none i ++ (suit i ++ unless (never is_read_only i) changes_nothing at))) ++ [])
 
   call_sound : (widens : Bool) (s : Signature) (t : Scalar) (args : List JudgedArg) → s.result ≡ Some t → fit_each s.widens s.params args ≡ true →
       faults_of_args args ≡ [] → of_call (call_of (Some s) args nowhere) ≡ sound (OfScalar t)
   call_sound widens s t args gives fit none =
       ap (λ (r : Option Scalar). of_call (call_of (Some (record { widens = s.widens; params = s.params; result = r })) args nowhere)) gives
       ∙ ap (λ (faults : List Fault). record { ty = Some (OfScalar t); faults = faults })
-      (value_faults (faults_of_args args) (unless (fit_each s.widens s.params args) arguments nowhere) context.keeps nowhere none
+      (value_faults (faults_of_args args) (unless (fit_each s.widens s.params args) arguments nowhere) context.is_read_only nowhere none
       (kept (fit_each s.widens s.params args) arguments nowhere fit))
 
   -- a call of a function with a result, whose arguments suit its parameters

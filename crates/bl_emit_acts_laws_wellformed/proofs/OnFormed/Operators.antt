@@ -29,7 +29,7 @@ use Rattle.bl_ctext_semantics.specs.Faults.{
   by_value,
   fit_each,
   fits_param,
-  is_number,
+  is_number_type,
   signature_as,
   signature_of,
   takes,
@@ -132,7 +132,7 @@ module _ (context : Context) where
       (side_is (is_constant a) s a one) (side_is (is_constant b || (is_read a && is_read b)) s b other)
 
   -- a comparison by size takes numbers
-  number_taken : (s : ScalarType) → is_whole s ≡ true → is_number (OfScalar (c_scalar s)) ≡ true
+  number_taken : (s : ScalarType) → is_whole s ≡ true → is_number_type (OfScalar (c_scalar s)) ≡ true
   number_taken (Int w) h = refl
   number_taken (Nat w) h = refl
   number_taken (Bits w) h = refl

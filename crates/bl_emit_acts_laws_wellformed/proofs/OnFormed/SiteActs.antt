@@ -32,7 +32,7 @@ use Rattle.bl_emit_acts.specs.declared.made.Made.TheVariants.{Number, Whole}
 use Rattle.bl_emit_acts.specs.Acts.{c_calling, c_copied, c_set, c_zeroed, call_args, call_made, copy_code, initial_code, name_of_callee}
 use Rattle.bl_emit_acts.specs.Acts.{output_arg, zeroed}
 use Rattle.bl_emit_acts.specs.Expressions.{arg_of, code_of, made_of, stands, type_at}
-use Rattle.bl_emit_acts.specs.Places.{home_of, place_at, place_in}
+use Rattle.bl_emit_acts.specs.Places.{home_of, place_by_steps, place_in}
 use Rattle.bl_emit_acts.specs.Trees.{c_call, c_literal, c_place, c_read, nowhere}
 use Rattle.bl_emit_acts.specs.Types.{c_scalar, c_type, copy_name, type_name, unit_name}
 use Rattle.bl_emit_acts_laws_simulation.specs.Encodes.{copied_in, copied_in_path}
@@ -55,11 +55,11 @@ pub record EarlierStand (site : TypingContext) : Type 0 where
   pub outputs : (f : ℕ) (callee : UnitDef) → slice_get site.earlier f ≡ Some callee → list_all
       (λ (var : Var). is_output var.role) (outputs_of callee) ≡ true
 
-pub no_more : (keeps : Bool) → (keeps && false) ≡ false
+pub no_more : (is_read_only : Bool) → (is_read_only && false) ≡ false
 no_more true = refl
 no_more false = refl
 
-each_plain : (keeps a b : Bool) → (keeps && a) ≡ false → (keeps && b) ≡ false → (keeps && (a || b)) ≡ false
+each_plain : (is_read_only a b : Bool) → (is_read_only && a) ≡ false → (is_read_only && b) ≡ false → (is_read_only && (a || b)) ≡ false
 each_plain false a b h k = refl
 each_plain true false b h k = k
 each_plain true true b h k = absurd (cc)
@@ -72,9 +72,9 @@ module _ (site : TypingContext) (copied : ℕ → Bool) (context : Context) (dec
   structs = site.structs
 
   allowed_at : (k : ℕ) (var : Var) → var_at site k ≡ Some var → Allowed context (leads_through site k)
-  allowed_at k var there = by context.keeps refl
+  allowed_at k var there = by context.is_read_only refl
     where
-      by : (b : Bool) → context.keeps ≡ b → (b && leads_through site k) ≡ false
+      by : (b : Bool) → context.is_read_only ≡ b → (b && leads_through site k) ≡ false
       by false is = refl
       by true is = plain is k var there
 
@@ -115,7 +115,7 @@ module _ (site : TypingContext) (copied : ℕ → Bool) (context : Context) (dec
   pub own_place : (k : ℕ) (var : Var) → var_at site k ≡ Some var → PlaceIs context (leads_through site k) (c_type structs var.ty) (place_in site k [])
   own_place k var there =
       subst (λ o. PlaceIs context (home_leads (is_activity site.kind) (home_of site o)) (c_type structs var.ty)
-      (place_at (is_activity site.kind) (home_of site o) k []))
+      (place_by_steps (is_activity site.kind) (home_of site o) k []))
       (sym there)
       (home_place context (is_activity site.kind) (home_of site (Some var)) k (c_type structs var.ty) (c_type structs var.ty) []
       (declared.variables k var there)
@@ -142,7 +142,7 @@ module _ (site : TypingContext) (copied : ℕ → Bool) (context : Context) (dec
   copy_is k var there copied_k =
       set-is context false (c_type structs var.ty) (c_place false (copy_name k) []) (c_read (place_in site k []))
       (variable_place context (copy_name k) (c_type structs var.ty) (declared.copies k var copied_k there))
-      (read-is context (leads_through site k) (c_type structs var.ty) (place_in site k []) (own_place k var there)) (no_more context.keeps)
+      (read-is context (leads_through site k) (c_type structs var.ty) (place_in site k []) (own_place k var there)) (no_more context.is_read_only)
 
   copies_are : (k : ℕ) (var : Var) → var_at site k ≡ Some var → (b : Bool) → copied k ≡ b → BlockIs context (copy_code site b k)
   copies_are k var there true is = block_one context (c_copied site k) (copy_is k var there is)
@@ -187,10 +187,10 @@ module _ (site : TypingContext) (copied : ℕ → Bool) (context : Context) (dec
 
   -- an argument hands on no pointer where nothing may be changed
   abbrev Plain : JudgedArg → Type 0
-  Plain j = (context.keeps && (j.address && j.through)) ≡ false
+  Plain j = (context.is_read_only && (j.address && j.through)) ≡ false
 
   arg_plain : (ty : Ty) (made : Made) (at : Place) → MadeIs context site ty made → Plain (judged_arg (arg_of made) context at)
-  arg_plain ty (Number s code) at is = subst Plain (sym (value_arg-is context (OfScalar (c_scalar s)) code at is.1)) (no_more context.keeps)
+  arg_plain ty (Number s code) at is = subst Plain (sym (value_arg-is context (OfScalar (c_scalar s)) code at is.1)) (no_more context.is_read_only)
   arg_plain ty (Whole place) at is =
       subst Plain (sym (address_arg-is context (leads_through site is.1.root) (c_type structs ty) place at is.1.is)) (allowed_at is.1.root is.1.var is.1.there)
 
@@ -207,13 +207,13 @@ module _ (site : TypingContext) (copied : ℕ → Bool) (context : Context) (dec
   first_plain e inputs named more None is (var ∷ vars) typed = absurd (cc)
   first_plain e inputs named more (Some t) is (var ∷ vars) typed =
       let j : JudgedArg = judged_arg (arg_of (made_of site e)) context nowhere in
-      each_plain context.keeps (j.address && j.through)
+      each_plain context.is_read_only (j.address && j.through)
       (any_of (map (λ (a : JudgedArg). a.address && a.through) (inputs_judged site copied context declared stand earlier.inputs inputs nowhere)))
       (arg_plain t (made_of site e) nowhere (made_is e t named is)) (more vars
       (and_right (same_type t var.ty) (types_match (map (type_of site) inputs) vars) typed))
 
   inputs_plain : (inputs : List Expr) → InActivity site (all_of (map (copied_in copied) inputs)) → InputsPlain inputs
-  inputs_plain [] named vars typed = no_more context.keeps
+  inputs_plain [] named vars typed = no_more context.is_read_only
   inputs_plain (e ∷ inputs) named vars typed =
       first_plain e inputs (λ act. and_left (copied_in copied e) (all_of (map (copied_in copied) inputs)) (named act))
       (inputs_plain inputs (λ act. and_right (copied_in copied e) (all_of (map (copied_in copied) inputs)) (named act))) (type_of site e) refl vars typed
@@ -258,17 +258,17 @@ module _ (site : TypingContext) (copied : ℕ → Bool) (context : Context) (dec
       (type_same (c_type structs var.ty)) in
       let rest = more vars (and_right (same_type t var.ty) (types_match (map (type_of_path site) outputs) vars) typed)
       (and_right (is_output var.role) (list_all (λ (var : Var). is_output var.role) vars) roles) in
-      let handed : (context.keeps && (j.address && j.through)) ≡ false = subst Plain (sym judged) (allowed_at (out-Path path).root at.var at.there) in (
+      let handed : (context.is_read_only && (j.address && j.through)) ≡ false = subst Plain (sym judged) (allowed_at (out-Path path).root at.var at.there) in (
         (
           both (fits_arg false (parameter_for structs var) j) (fit_each false (map (parameter_for structs) vars) (outputs_judged outputs))
               (subst (λ j. fits_arg false (parameter_for structs var) j ≡ true) (sym judged) suits.0) rest.0.0,
           (λ i. (judged i).faults ++ rest.0.1 i),
         ),
-        each_plain context.keeps (j.address && j.through) (any_of (map (λ (a : JudgedArg). a.address && a.through) (outputs_judged outputs))) handed rest.1,
+        each_plain context.is_read_only (j.address && j.through) (any_of (map (λ (a : JudgedArg). a.address && a.through) (outputs_judged outputs))) handed rest.1,
       )
 
   outputs_suit : (outputs : List Path) → InActivity site (all_of (map (copied_in_path copied) outputs)) → OutputsSuit outputs
-  outputs_suit [] named [] typed roles = ((refl, refl), no_more context.keeps)
+  outputs_suit [] named [] typed roles = ((refl, refl), no_more context.is_read_only)
   outputs_suit [] named (var ∷ vars) typed roles = absurd (cc)
   outputs_suit (path ∷ outputs) named vars typed roles =
       first_output path outputs (λ act. and_left (copied_in_path copied path) (all_of (map (copied_in_path copied) outputs)) (named act))
@@ -300,16 +300,16 @@ module _ (site : TypingContext) (copied : ℕ → Bool) (context : Context) (dec
   plain_append : (xs ys : List JudgedArg) → NoneHanded context xs → NoneHanded context ys → NoneHanded context (xs ++ ys)
   plain_append [] ys one other = other
   plain_append (x ∷ xs) ys one other =
-      each_plain context.keeps (x.address && x.through) (any_of (map (λ (a : JudgedArg). a.address && a.through) (xs ++ ys)))
-      (first context.keeps (x.address && x.through) (any_of (map (λ (a : JudgedArg). a.address && a.through) xs)) one)
-      (plain_append xs ys (later context.keeps (x.address && x.through) (any_of (map (λ (a : JudgedArg). a.address && a.through) xs)) one) other)
+      each_plain context.is_read_only (x.address && x.through) (any_of (map (λ (a : JudgedArg). a.address && a.through) (xs ++ ys)))
+      (first context.is_read_only (x.address && x.through) (any_of (map (λ (a : JudgedArg). a.address && a.through) xs)) one)
+      (plain_append xs ys (later context.is_read_only (x.address && x.through) (any_of (map (λ (a : JudgedArg). a.address && a.through) xs)) one) other)
     where
-      first : (keeps a b : Bool) → (keeps && (a || b)) ≡ false → (keeps && a) ≡ false
+      first : (is_read_only a b : Bool) → (is_read_only && (a || b)) ≡ false → (is_read_only && a) ≡ false
       first false a b h = refl
       first true false b h = refl
       first true true b h = h
 
-      later : (keeps a b : Bool) → (keeps && (a || b)) ≡ false → (keeps && b) ≡ false
+      later : (is_read_only a b : Bool) → (is_read_only && (a || b)) ≡ false → (is_read_only && b) ≡ false
       later false a b h = refl
       later true false b h = h
       later true true b h = absurd (cc)

@@ -50,8 +50,8 @@ use Rattle.bl_emit_acts.specs.declared.made.Made.{Made}
 use Rattle.bl_emit_acts.specs.declared.made.Made.TheVariants.{Number, Whole}
 use Rattle.bl_emit_acts.specs.Expressions.{arg_of, c_both, c_cast, c_one, code_of, field_at, length_in, made_at, made_call, made_of, name_of_field}
 use Rattle.bl_emit_acts.specs.Expressions.{Stood}
-use Rattle.bl_emit_acts.specs.Expressions.{scalar_at, stands, step_of, steps_of, type_at, type_made}
-use Rattle.bl_emit_acts.specs.Places.{home_of, place_at}
+use Rattle.bl_emit_acts.specs.Expressions.{scalar_at, stands, step_typing, steps_of, type_at, type_made}
+use Rattle.bl_emit_acts.specs.Places.{home_of, place_by_steps}
 use Rattle.bl_emit_acts.specs.Trees.{c_called, c_element, c_index, c_literal, c_place, c_read, c_step, nowhere}
 use Rattle.bl_emit_acts.specs.Types.{c_scalar, c_type, copy_name, elements_name, field_name, unit_name, variable_name}
 use Rattle.bl_emit_acts_laws_simulation.specs.Encodes.{copied_in, copied_in_path}
@@ -96,7 +96,7 @@ module _ (context : Context) where
   -- steps from a variable
   pub home_place : (activity : Bool) (home : Home) (k : ℕ) (ty last : CType) (steps : List CStep) → IsDeclaredAt context activity home k ty →
       ((at : Place) → steps_judged context steps at (Some ty) ≡ sound last) →
-      PlaceIs context (home_leads activity home) last (place_at activity home k steps)
+      PlaceIs context (home_leads activity home) last (place_by_steps activity home k steps)
   home_place activity Held k ty last steps held ends =
       place-is context activity (codes "m") (c_step (variable_name k) ∷ steps) (OfStruct held.name) last
       (λ at. root_memory activity (OfStruct held.name) at held.memory)
@@ -414,8 +414,8 @@ module _ (site : TypingContext) (copied : ℕ → Bool) (context : Context) (dec
     -- the step of a part, into the type before it, and the type behind it
     abbrev PartIs : Part → Ty → Ty → Type 0
     PartIs part a c =
-        ((step_of site part (Some a)).ty ≡ Some c)
-        × ((at : Place) → judged_step (step_of site part (Some a)).step context at (Some (c_type structs a)) ≡ sound (c_type structs c))
+        ((step_typing site part (Some a)).ty ≡ Some c)
+        × ((at : Place) → judged_step (step_typing site part (Some a)).step context at (Some (c_type structs a)) ≡ sound (c_type structs c))
         × Arrays c
 
     part_by : (layer : Part-F ExprKind Part Expr Path) (a c : Ty) → OfIndex P layer → InActivity site (copied_in_part copied (roll-Part layer)) →
@@ -465,17 +465,17 @@ module _ (site : TypingContext) (copied : ℕ → Bool) (context : Context) (dec
 
     steps_are : (parts : List Part) → EachIndex P parts → InActivity site (all_of (map (copied_in_part copied) parts)) → (a b : Ty) →
         after_parts (map (type_of_part site) parts) a ≡ Some b → Arrays a → (at : Place) →
-        steps_judged context (steps_of (map (step_of site) parts) (Some a)) at (Some (c_type structs a)) ≡ sound (c_type structs b)
+        steps_judged context (steps_of (map (step_typing site) parts) (Some a)) at (Some (c_type structs a)) ≡ sound (c_type structs b)
     steps_are [] each all a b typed known at = ap (λ ty. sound (c_type structs ty)) (same_Some a b typed)
     steps_are (part ∷ rest) each all a b typed known at =
         let found = some_found (after_parts (map (type_of_part site) rest)) (type_of_part site part a) b typed in
         let c : Ty = found.0 in
         let one = part_is part a c (All-head (λ part. OfIndex P (out-Part part)) part rest each)
         (λ act. and_left (copied_in_part copied part) (all_of (map (copied_in_part copied) rest)) (all act)) found.1 known in
-        let more : steps_judged context (steps_of (map (step_of site) rest) (Some c)) at (Some (c_type structs c)) ≡ sound (c_type structs b) =
+        let more : steps_judged context (steps_of (map (step_typing site) rest) (Some c)) at (Some (c_type structs c)) ≡ sound (c_type structs b) =
         steps_are rest (All-tail (λ part. OfIndex P (out-Part part)) part rest each)
         (λ act. and_right (copied_in_part copied part) (all_of (map (copied_in_part copied) rest)) (all act)) c b found.2 one.2 at in
-        (λ i. behind (one.1 at i) (steps_of (map (step_of site) rest) (one.0 i)) at) ∙ more
+        (λ i. behind (one.1 at i) (steps_of (map (step_typing site) rest) (one.0 i)) at) ∙ more
 
     rooted_at : (path : Path) (root : ℕ) (ty : Ty) (stood : Stood) → (out-Path path).root ≡ root → PathIs context site ty root stood →
         PathIs context site ty (out-Path path).root stood
@@ -490,16 +490,16 @@ module _ (site : TypingContext) (copied : ℕ → Bool) (context : Context) (dec
         let var : Var = found.0 in
         let is = where_holds (same_type written whole.0) (Some whole.0) ty whole.2 in
         let same : whole.0 ≡ ty = same_Some whole.0 ty is.1 in
-        let ends : (at : Place) → steps_judged context (steps_of (map (step_of site) parts) (Some var.ty)) at
+        let ends : (at : Place) → steps_judged context (steps_of (map (step_typing site) parts) (Some var.ty)) at
         (Some (c_type structs var.ty)) ≡ sound (c_type structs ty) =
         λ at. steps_are parts each (λ act. let named_now = named act in rw fold-roll-Path at named_now) var.ty ty
         (found.2 ∙ ap Some same) (declared.types.variables root var found.1) at in
         let home : (o : Option Var) → o ≡ Some var → PlaceIs context (home_leads (is_activity site.kind) (home_of site o)) (c_type structs ty)
-        (place_at (is_activity site.kind) (home_of site o) root (steps_of (map (step_of site) parts) (type_at o))) =
+        (place_by_steps (is_activity site.kind) (home_of site o) root (steps_of (map (step_typing site) parts) (type_at o))) =
         λ o there. subst (λ o. PlaceIs context (home_leads (is_activity site.kind) (home_of site o)) (c_type structs ty)
-        (place_at (is_activity site.kind) (home_of site o) root (steps_of (map (step_of site) parts) (type_at o)))) (sym there)
+        (place_by_steps (is_activity site.kind) (home_of site o) root (steps_of (map (step_typing site) parts) (type_at o)))) (sym there)
         (home_place context (is_activity site.kind) (home_of site (Some var)) root (c_type structs var.ty) (c_type structs ty)
-        (steps_of (map (step_of site) parts) (Some var.ty)) (declared.variables root var found.1) ends) in
+        (steps_of (map (step_typing site) parts) (Some var.ty)) (declared.variables root var found.1) ends) in
         rw fold-roll-Path (rooted_at (roll-Path (record { place = place; root = root; parts = parts; ty = written })) root ty _
         (ap (λ p. p.root) (out-roll-Path (record { place = place; root = root; parts = parts; ty = written }))) (record {
           var = var;

@@ -50,8 +50,8 @@ use Rattle.bl_emit_acts.specs.declared.home.Home.TheVariants.{Held, Given, Lent}
 use Rattle.bl_emit_acts.specs.declared.made.Made.{Made}
 use Rattle.bl_emit_acts.specs.declared.made.Made.TheVariants.{Number, Whole}
 use Rattle.bl_emit_acts.specs.Expressions.{arg_of, c_both, c_cast, c_one, code_of, field_at, field_of_struct, length_in, made_at, made_call, made_of}
-use Rattle.bl_emit_acts.specs.Expressions.{name_of_field, scalar_at, stands, step_of, steps_of, type_at, type_made}
-use Rattle.bl_emit_acts.specs.Places.{home_of, place_at}
+use Rattle.bl_emit_acts.specs.Expressions.{name_of_field, scalar_at, stands, step_typing, steps_of, type_at, type_made}
+use Rattle.bl_emit_acts.specs.Places.{home_of, place_by_steps}
 use Rattle.bl_emit_acts.specs.Trees.{c_called, c_element, c_index, c_literal, c_place, c_read, c_step, nowhere}
 use Rattle.bl_emit_acts.specs.Types.{c_scalar, copy_name, elements_name, unit_name, variable_name}
 use Rattle.bl_emit_acts.specs.Types as types
@@ -292,7 +292,7 @@ module _ (site : TypingContext) (stand : structs_stand_from 0 site.structs ≡ t
 
   -- the step of a part fits, and the type behind it is known and stands
   abbrev PartFits : ℕ → Part → Ty → Ty → Type 0
-  PartFits d part a c = (step_fits d (step_of site part (Some a)).step ≡ true) × ((step_of site part (Some a)).ty ≡ Some c) × Stands c
+  PartFits d part a c = (step_fits d (step_typing site part (Some a)).step ≡ true) × ((step_typing site part (Some a)).ty ≡ Some c) × Stands c
 
   module _ (a c : Ty) (k d : ℕ) where
     abbrev FieldFits : Type 0
@@ -401,7 +401,7 @@ module _ (site : TypingContext) (stand : structs_stand_from 0 site.structs ≡ t
 
   steps_fit : (parts : List Part) → EachIndex P parts → (a b : Ty) (d : ℕ) → room (greatest (map depth_of_part parts)) ≤ d →
       after_parts (map (type_of_part site) parts) a ≡ Some b → Stands a →
-      list_all (step_fits d) (steps_of (map (step_of site) parts) (Some a)) ≡ true
+      list_all (step_fits d) (steps_of (map (step_typing site) parts) (Some a)) ≡ true
   steps_fit [] each a b d le typed known = refl
   steps_fit (part ∷ rest) each a b d le typed known =
       let found = some_found (after_parts (map (type_of_part site) rest)) (type_of_part site part a) b typed in
@@ -409,12 +409,13 @@ module _ (site : TypingContext) (stand : structs_stand_from 0 site.structs ≡ t
       let here : room (depth_of_part part) ≤ d = omega (arith, le) in
       let later : room (greatest (map depth_of_part rest)) ≤ d = omega (arith, le) in
       let one = part_is part a c d here (All-head (λ part. OfIndex P (out-Part part)) part rest each) found.1 known in
-      both (step_fits d (step_of site part (Some a)).step) (list_all (step_fits d) (steps_of (map (step_of site) rest) (step_of site part (Some a)).ty)) one.0
-      (subst (λ ty. list_all (step_fits d) (steps_of (map (step_of site) rest) ty) ≡ true) (sym one.1)
+      both (step_fits d (step_typing site part (Some a)).step)
+      (list_all (step_fits d) (steps_of (map (step_typing site) rest) (step_typing site part (Some a)).ty)) one.0
+      (subst (λ ty. list_all (step_fits d) (steps_of (map (step_typing site) rest) ty) ≡ true) (sym one.1)
       (steps_fit rest (All-tail (λ part. OfIndex P (out-Part part)) part rest each) c b d later found.2 one.2))
 
   home_fits : (d : ℕ) (activity : Bool) (home : Home) (k : ℕ) (steps : List CStep) → 1 ≤ d → k < 2 ^ 64 → list_all (step_fits d) steps ≡ true →
-      place_fits d (place_at activity home k steps) ≡ true
+      place_fits d (place_by_steps activity home k steps) ≡ true
   home_fits d activity Held k steps low small all =
       place-fits d activity (codes "m") (c_step (variable_name k) ∷ steps) low memory-name
       (both (step_fits d (c_step (variable_name k))) (list_all (step_fits d) steps) (step-fits d (variable_name k) (variable-name k small)) all)
@@ -431,12 +432,12 @@ module _ (site : TypingContext) (stand : structs_stand_from 0 site.structs ≡ t
       let is = where_holds (same_type written whole.0) (Some whole.0) ty whole.2 in
       let same : whole.0 ≡ ty = same_Some whole.0 ty is.1 in
       let d : ℕ = room (greatest (map depth_of_part parts)) in
-      let all : list_all (step_fits d) (steps_of (map (step_of site) parts) (Some var.ty)) ≡ true =
+      let all : list_all (step_fits d) (steps_of (map (step_typing site) parts) (Some var.ty)) ≡ true =
       steps_fit parts each var.ty ty d (omega arith) (found.2 ∙ ap Some same) (record { most = length structs; stands = typed_vars root var found.1 }) in
       rw (fold-roll-Path, fold-roll-Path) (
-        home_fits d (is_activity site.kind) (home_of site (var_at site root)) root (steps_of (map (step_of site) parts) (type_at (var_at site root)))
+        home_fits d (is_activity site.kind) (home_of site (var_at site root)) root (steps_of (map (step_typing site) parts) (type_at (var_at site root)))
             (omega arith) (below root var found.1)
-            (subst (λ o. list_all (step_fits d) (steps_of (map (step_of site) parts) (type_at o)) ≡ true) (sym found.1) all),
+            (subst (λ o. list_all (step_fits d) (steps_of (map (step_typing site) parts) (type_at o)) ≡ true) (sym found.1) all),
         same_type_is written whole.0 is.0 ∙ same,
       )
 

@@ -69,7 +69,7 @@ leads_through site k = home_leads (is_activity site.kind) (home_of site (var_at 
 
 -- no variable of the unit begins with a pointer in a context in which nothing may be changed through pointers
 abbrev pub ChangesNone : TypingContext → Context → Type 0
-ChangesNone site context = context.keeps ≡ true → (k : ℕ) (var : Var) → var_at site k ≡ Some var → leads_through site k ≡ false
+ChangesNone site context = context.is_read_only ≡ true → (k : ℕ) (var : Var) → var_at site k ≡ Some var → leads_through site k ≡ false
 
 -- ---- functions
 

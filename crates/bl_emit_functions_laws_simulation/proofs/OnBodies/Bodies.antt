@@ -30,7 +30,7 @@ use Rattle.bl_eval.specs.Meaning.{Scope as Sees, meaning_of}
 use Rattle.bl_eval.proofs.MeaningLemmas.{choice_out}
 use Rattle.bl_eval.proofs.PassLemmas.{and_left, and_right}
 use Rattle.bl_ctext_semantics.specs.Course.{End, Outcome, following_end}
-use Rattle.bl_ctext_semantics.specs.Memory.{CValue, Memory, number_in, set_at}
+use Rattle.bl_ctext_semantics.specs.Memory.{CValue, Memory, scalar_number, set_at}
 use Rattle.bl_ctext_semantics.specs.Meaning.{Scope, block_c, runs_c}
 use Rattle.bl_emit_acts.specs.Acts.{call_made, c_calling, c_set, code_made, declared_code}
 use Rattle.bl_emit_acts.specs.Expressions.{stands}
@@ -303,7 +303,7 @@ module _ (number : Datum → ℤ) (Stand : List Value → Memory → Type 0) (Ke
       only_good does code h free = (omega arith, λ few. h free.flags)
 
       true_asks : Asks (condition sees None true) (c_truth true)
-      true_asks now here stand = ap (λ c. option_map (λ v. is_one (number_in v)) c.answer) (truth-value scope here true)
+      true_asks now here stand = ap (λ c. option_map (λ v. is_one (scalar_number v)) c.answer) (truth-value scope here true)
 
       return_good : (e : Option Expr) (result : Option ScalarType) → return_fits site e result ≡ true →
           Good (returned sees e) (λ free. record { code = c_return (option_map (code_made site) e) ∷ []; free = free })

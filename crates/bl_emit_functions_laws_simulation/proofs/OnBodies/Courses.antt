@@ -11,9 +11,10 @@ use Rattle.bl_tree.specs.declared.value.Value.{Value}
 use Rattle.bl_tree.specs.Numbers.{is_one}
 use Rattle.bl_eval.specs.declared.datum.Datum.{Datum}
 use Rattle.bl_eval.specs.Functions.{Flow, StmtMeaning, flow_then, looped, most_turns}
-use Rattle.bl_ctext_semantics.specs.Course.{End, Outcome, after, breaks, ended_by, ending, following_end, goes_on, returns, traps, turn_end, turn_limit}
-use Rattle.bl_ctext_semantics.specs.Course.{turn_or_none, turns}
-use Rattle.bl_ctext_semantics.specs.Memory.{CValue, Memory, number_in}
+use Rattle.bl_ctext_semantics.specs.Course.{End, Outcome, after_statements, breaks, ended_by, ending, following_end, goes_on, returns, traps, turn_end}
+use Rattle.bl_ctext_semantics.specs.Course.{turn_limit}
+use Rattle.bl_ctext_semantics.specs.Course.{loop_with_turns, turn_or_none}
+use Rattle.bl_ctext_semantics.specs.Memory.{CValue, Memory, scalar_number}
 use Rattle.bl_ctext_semantics.specs.Meaning.{Scope, block_c, block_of, executed, once_more, runs_c, value_c}
 use Rattle.bl_emit_acts.specs.Trees.{nowhere}
 use Rattle.bl_emit_functions.specs.Trees.{c_break, c_if, c_loop, c_return}
@@ -85,7 +86,7 @@ module _ (scope : Scope) (here : Memory) where
   abbrev chooses : CExpr → List CStmt → Option (List CStmt) → Outcome Memory
   chooses test block other =
       executed here (value_c test scope here)
-      (λ v. (if is_one (number_in v) then block_of (map runs_c block) else block_of (unwrap_or (option_map (map runs_c) other) [])) scope here)
+      (λ v. (if is_one (scalar_number v) then block_of (map runs_c block) else block_of (unwrap_or (option_map (map runs_c) other) [])) scope here)
 
   if-open : (test : CExpr) (block : List CStmt) (other : Option (List CStmt)) → runs_c (what (CStmtKind-F.If test block other)) scope here
       ≡ chooses test block other
@@ -99,7 +100,7 @@ module _ (scope : Scope) (here : Memory) where
 
   -- what a loop does
   abbrev repeats : CExpr → List CStmt → Outcome Memory
-  repeats test body = after 1 (turns turn_limit (once_more (value_c test) scope) (block_c body scope) here)
+  repeats test body = after_statements 1 (loop_with_turns turn_limit (once_more (value_c test) scope) (block_c body scope) here)
 
   loop-open : (turn : Text) (test : CExpr) (body : List CStmt) → runs_c (what (CStmtKind-F.Loop turn test body)) scope here ≡ repeats test body
   loop-open turn test body = rw (fold-roll-CStmt, fold-roll-CStmtKind) refl
@@ -121,7 +122,7 @@ module _ (scope : Scope) (here : Memory) where
   -- what a `return` does
   abbrev gives_back : Option CExpr → Outcome Memory
   gives_back None = record { memory = here; end = returns (pos 0); count = 1 }
-  gives_back (Some e) = executed here (value_c e scope here) (λ v. ending (returns (number_in v)) here)
+  gives_back (Some e) = executed here (value_c e scope here) (λ v. ending (returns (scalar_number v)) here)
 
   return-open : (e : Option CExpr) → runs_c (what (CStmtKind-F.Return e)) scope here ≡ gives_back e
   return-open None = rw (fold-roll-CStmt, fold-roll-CStmtKind) refl
@@ -134,7 +135,7 @@ module _ (scope : Scope) (here : Memory) where
 
 -- whether a condition is true in C; none where it traps
 abbrev pub truth_c : Scope → CExpr → Memory → Option Bool
-truth_c scope test m = option_map (λ v. is_one (number_in v)) (value_c test scope m).answer
+truth_c scope test m = option_map (λ v. is_one (scalar_number v)) (value_c test scope m).answer
 
 -- an `if` comes to what its chosen block comes to
 abbrev pub Chosen : Scope → Memory → (End → Memory → Type 0) → List CStmt → Option (List CStmt) → Option Bool → Type 0
@@ -153,11 +154,11 @@ module _ (scope : Scope) (here : Memory) (Q : End → Memory → Type 0) where
   by_choice block (Some stmts) false h = h
 
   by_answer : (block : List CStmt) (other : Option (List CStmt)) (n : ℕ) (a : Option CValue) →
-      Chosen scope here Q block other (option_map (λ v. is_one (number_in v)) a) →
-      Of (ended_by here n a (λ v. (if is_one (number_in v) then block_of (map runs_c block) else block_of
+      Chosen scope here Q block other (option_map (λ v. is_one (scalar_number v)) a) →
+      Of (ended_by here n a (λ v. (if is_one (scalar_number v) then block_of (map runs_c block) else block_of
       (unwrap_or (option_map (map runs_c) other) [])) scope here))
   by_answer block other n None h = h
-  by_answer block other n (Some v) h = by_choice block other (is_one (number_in v)) h
+  by_answer block other n (Some v) h = by_choice block other (is_one (scalar_number v)) h
 
   pub if_comes : (test : CExpr) (block : List CStmt) (other : Option (List CStmt)) → Chosen scope here Q block other (truth_c scope test here) →
       Of (runs_c (c_if test block other) scope here)
@@ -294,10 +295,10 @@ module _ (given : Datum → ℤ) (Stand : List Value → Memory → Type 0) (Kep
       -- what begins once the condition is evaluated
       once_by : (here : Memory) (now : List Value) (flow : Option Flow) (runs : Memory → Outcome Memory) → Stand now here →
           AtOf k here flow (runs here) → (n : ℕ) (a : Option CValue) →
-          AtOf k here (option_and_then (λ more. if more then flow else Some (Flow.On now)) (option_map (λ v. is_one (number_in v)) a))
-          (ended_by here n a (λ v. turn_or_none (is_one (number_in v)) here runs))
+          AtOf k here (option_and_then (λ more. if more then flow else Some (Flow.On now)) (option_map (λ v. is_one (scalar_number v)) a))
+          (ended_by here n a (λ v. turn_or_none (is_one (scalar_number v)) here runs))
       once_by here now flow runs stand h n None = refl
-      once_by here now flow runs stand h n (Some v) = by (is_one (number_in v))
+      once_by here now flow runs stand h n (Some v) = by (is_one (scalar_number v))
         where
           by : (b : Bool) → AtOf k here (if b then flow else Some (Flow.On now)) (turn_or_none b here runs)
           by true = h
@@ -311,13 +312,14 @@ module _ (given : Datum → ℤ) (Stand : List Value → Memory → Type 0) (Kep
           subst (λ holds. AtOf k here (option_and_then (λ more. if more then flow else Some (Flow.On now)) holds) (once_more (value_c test) scope runs here))
           (tests now here stand) (once_by here now flow runs stand h c.count c.answer)
 
-      pub turns_leave : (n : ℕ) → Leaves k (looped goes body ends n) (turns n (once_more (value_c test) scope) run)
-      unfolding turns
+      pub turns_leave : (n : ℕ) → Leaves k (looped goes body ends n) (loop_with_turns n (once_more (value_c test) scope) run)
+      unfolding loop_with_turns
       turns_leave zero now here stand = once_at here now None (ending traps) stand refl
       turns_leave (suc n) now here stand =
           once_at here now (flow_then (body now) (again_or (looped goes body ends n)))
-          (λ m. turn_end (run m).count (run m).memory (run m).end (turns n (once_more (value_c test) scope) run)) stand
-          (turned_by (looped goes body ends n) (turns n (once_more (value_c test) scope) run) (turns_leave n) here (body now) (run here).count (run here).end
+          (λ m. turn_end (run m).count (run m).memory (run m).end (loop_with_turns n (once_more (value_c test) scope) run)) stand
+          (turned_by (looped goes body ends n) (loop_with_turns n (once_more (value_c test) scope) run) (turns_leave n) here (body now) (run here).count
+          (run here).end
           (run here).memory (turn now here stand))
 
     limits_same : turn_limit ≡ most_turns
@@ -329,23 +331,24 @@ module _ (given : Datum → ℤ) (Stand : List Value → Memory → Type 0) (Kep
         Leaves k (looped goes body ends most_turns) (runs_c (c_loop name test code) scope)
     loop_leaves k goes body ends name test code tests turn now here stand =
         subst (λ (o : Outcome Memory). AtOf k here (looped goes body ends most_turns now) o) (sym (loop-runs scope here name test code))
-        (subst (λ n. AtOf k here (looped goes body ends n now) (turns turn_limit (once_more (value_c test) scope) (block_c code scope) here)) limits_same
+        (subst (λ n. AtOf k here (looped goes body ends n now)
+        (loop_with_turns turn_limit (once_more (value_c test) scope) (block_c code scope) here)) limits_same
         (turns_leave k goes body ends test (block_c code scope) tests turn turn_limit now here stand))
 
     -- ---- returns
 
     -- the number that C gives, beside what the function gives
     abbrev pub Numbers : (List Value → Option Datum) → CExpr → Type 0
-    Numbers gives e = (now : List Value) (here : Memory) → Stand now here → option_map number_in
+    Numbers gives e = (now : List Value) (here : Memory) → Stand now here → option_map scalar_number
         (value_c e scope here).answer ≡ option_map given (gives now)
 
     return_by : (k : ℕ) (now : List Value) (here : Memory) → Stand now here → (n : ℕ) (a : Option CValue) (datum : Option Datum) →
-        option_map number_in a ≡ option_map given datum →
-        AtOf k here (option_map (λ datum. Flow.Back now (Some datum)) datum) (ended_by here n a (λ v. ending (returns (number_in v)) here))
+        option_map scalar_number a ≡ option_map given datum →
+        AtOf k here (option_map (λ datum. Flow.Back now (Some datum)) datum) (ended_by here n a (λ v. ending (returns (scalar_number v)) here))
     return_by k now here stand n None None is = refl
     return_by k now here stand n None (Some datum) is = absurd (cc)
     return_by k now here stand n (Some v) None is = absurd (cc)
-    return_by k now here stand n (Some v) (Some datum) is = (ap returns (some_is (number_in v) (given datum) is), stand, same k here)
+    return_by k now here stand n (Some v) (Some datum) is = (ap returns (some_is (scalar_number v) (given datum) is), stand, same k here)
       where
         some_is : (x y : ℤ) → Some x ≡ Some y → x ≡ y
         some_is x y h = cc

@@ -23,7 +23,7 @@ use Rattle.bl_tree.specs.Numbers.{is_one}
 use Rattle.bl_eval.specs.declared.datum.Datum.{Datum}
 use Rattle.bl_eval.specs.Functions.{Flow, GuardedBlock, StmtMeaning, first_true_choice}
 use Rattle.bl_ctext_semantics.specs.Course.{End, Outcome, following_end, goes_on, going}
-use Rattle.bl_ctext_semantics.specs.Memory.{CValue, Location, Memory, Root, number_in, same_root, scalar, set_at, value_at, variable, with_part}
+use Rattle.bl_ctext_semantics.specs.Memory.{CValue, Location, Memory, Root, same_root, scalar, scalar_number, set_at, value_at, variable, with_part}
 use Rattle.bl_ctext_semantics.specs.Meaning.{Counted, Scope, block_c, executed, given, location_c, next, runs_c, two_values, value_c}
 use Rattle.bl_emit_acts.specs.Acts.{c_set}
 use Rattle.bl_emit_acts.specs.Trees.{c_literal, c_read, c_two, nowhere}
@@ -93,21 +93,21 @@ module _ (scope : Scope) (m : Memory) where
   flag-value k = read-value (flag_place k) ∙ ap (λ (at : Counted Location). next at (λ p. given (Some (value_at m p)))) (flag-location k)
 
   pub flag-truth : (k : ℕ) → truth_c scope (c_read (flag_place k)) m ≡ Some (is_one (flag_in scope k m))
-  flag-truth k = ap (λ (c : Counted CValue). option_map (λ v. is_one (number_in v)) c.answer) (flag-value k)
+  flag-truth k = ap (λ (c : Counted CValue). option_map (λ v. is_one (scalar_number v)) c.answer) (flag-value k)
 
   abbrev both : Counted CValue → CExpr → Option Bool
   both left test =
-      option_map (λ v. is_one (number_in v))
-      (next left (λ a. (if is_one (number_in a) then value_c test else (λ scope memory. given (Some (scalar (pos 0))))) scope m)).answer
+      option_map (λ v. is_one (scalar_number v))
+      (next left (λ a. (if is_one (scalar_number a) then value_c test else (λ scope memory. given (Some (scalar (pos 0))))) scope m)).answer
 
   both_open : (k : ℕ) (test : CExpr) → truth_c scope (c_two And (c_read (flag_place k)) test) m ≡ both (given (Some (value_at m (flag_at scope k)))) test
   both_open k test =
-      ap (λ (c : Counted CValue). option_map (λ v. is_one (number_in v)) c.answer) (two-value (c_read (flag_place k)) test)
+      ap (λ (c : Counted CValue). option_map (λ v. is_one (scalar_number v)) c.answer) (two-value (c_read (flag_place k)) test)
       ∙ ap (λ (left : Counted CValue). both left test) (flag-value k)
 
   abbrev taken_by : CExpr → Bool → Option Bool
   taken_by test b =
-      option_map (λ v. is_one (number_in v)) ((if b then value_c test else (λ scope memory. given (Some (scalar (pos 0))))) scope m).answer
+      option_map (λ v. is_one (scalar_number v)) ((if b then value_c test else (λ scope memory. given (Some (scalar (pos 0))))) scope m).answer
 
   -- where the flag is 1, the flag and a condition are true where the condition is
   pub both_set : (k : ℕ) (test : CExpr) → flag_in scope k m ≡ pos 1 → truth_c scope (c_two And (c_read (flag_place k)) test) m ≡ truth_c scope test m

@@ -10,7 +10,7 @@ use Rattle.bl_tree.specs.declared.tree.Ty.{Ty}
 use Rattle.bl_tree.specs.declared.tree.Var.{Var}
 use Rattle.bl_tree.specs.declared.value.Value.{Value}
 use Rattle.bl_tree.specs.Typing.{TypingContext, is_activity, var_at}
-use Rattle.bl_ctext_semantics.specs.Meaning.{Scope, start_of}
+use Rattle.bl_ctext_semantics.specs.Meaning.{Scope, named_location}
 use Rattle.bl_ctext_semantics.specs.Memory.{
   CValue,
   Location,
@@ -132,7 +132,7 @@ module _ (site : TypingContext) (function : is_activity site.kind ≡ false) (sc
   home_differs j k var there Held is false none = own_differ scope.depth (flag_name j) (codes "m") refl
   home_differs j k var there Given is false none = own_differ scope.depth (flag_name j) (variable_name k) refl
   home_differs j k var there Lent is false none =
-      older_differs scope.depth (flag_name j) (start_of scope true (variable_name k)).root (pointers.lent_older k var there is)
+      older_differs scope.depth (flag_name j) (named_location scope true (variable_name k)).root (pointers.lent_older k var there is)
   home_differs j k var there home is true none = absurd (no_such none)
 
   flag_differs : (j k : ℕ) (var : Var) → var_at site k ≡ Some var →

@@ -37,7 +37,7 @@ use Rattle.bl_eval.proofs.OperatorFits.{DatumFits, scalar_alone}
 use Rattle.bl_eval.proofs.PassLemmas.{and_left, and_right}
 use Rattle.bl_eval.proofs.UnitFits.{sound_at}
 use Rattle.bl_ctext_semantics.specs.Course.{Outcome}
-use Rattle.bl_ctext_semantics.specs.Memory.{CValue, Memory, number_in}
+use Rattle.bl_ctext_semantics.specs.Memory.{CValue, Memory, scalar_number}
 use Rattle.bl_ctext_semantics.specs.Meaning.{Scope, block_c, value_c}
 use Rattle.bl_emit_acts.specs.declared.made.Made.{Made}
 use Rattle.bl_emit_acts.specs.declared.made.Made.TheVariants.{Number, Whole}
@@ -68,8 +68,8 @@ truth_typed (Some ty) h = (ty, refl, by (scalar_in ty) refl h)
 
 -- numbers in C and in the program are true together
 truth_by : (structs : List StructDef) (ty : Ty) (s : ScalarType) (o : Option CValue) (datum : Option Datum) → scalar_in ty ≡ Some s →
-    IfSome datum (DatumFits structs ty) → option_map number_in o ≡ option_map number_given datum →
-    option_map (λ v. is_one (number_in v)) o ≡ option_map (λ a. is_one a.n) (option_and_then operand_in datum)
+    IfSome datum (DatumFits structs ty) → option_map scalar_number o ≡ option_map number_given datum →
+    option_map (λ v. is_one (scalar_number v)) o ≡ option_map (λ a. is_one a.n) (option_and_then operand_in datum)
 truth_by structs ty s None None is fit same = refl
 truth_by structs ty s None (Some datum) is fit same = absurd (cc)
 truth_by structs ty s (Some v) None is fit same = absurd (cc)
@@ -79,7 +79,7 @@ truth_by structs ty s (Some v) (Some (OfWhole value)) is fit same = absurd (let 
 -- what is made of an expression of a scalar type gives its number
 number_made : (structs : List StructDef) (ty : Ty) (s : ScalarType) (scope : Scope) (here : Memory) (made : Made) (datum : Option Datum) →
     scalar_in ty ≡ Some s → ExpressionSimulates structs ty scope here made datum →
-    option_map number_in (value_c (code_of made) scope here).answer ≡ option_map number_given datum
+    option_map scalar_number (value_c (code_of made) scope here).answer ≡ option_map number_given datum
 number_made structs ty s scope here (Number r code) datum is shown = shown.1
 number_made structs ty s scope here (Whole place) datum is shown = absurd (let none = shown.0 in cc)
 
@@ -129,7 +129,7 @@ module _ (structs : List StructDef) (units : List UnitDef) (entry : ℕ) (k : �
 
   gives : (e : Expr) (ty : Ty) (s : ScalarType) → type_of site e ≡ Some ty → scalar_in ty ≡ Some s
       → (now : List Value) (here : Memory) → Stand now here →
-      option_map number_in (value_c (code_made site e) scope here).answer ≡ option_map number_given (meaning_of sees e (own now))
+      option_map scalar_number (value_c (code_made site e) scope here).answer ≡ option_map number_given (meaning_of sees e (own now))
   gives e ty s typed is now here stand =
       number_made structs ty s scope here (made_of site e) (meaning_of sees e (own now)) is
       (expressions k unit e ty (own now) copied scope here keeps (beside now here stand) typed
@@ -144,7 +144,7 @@ module _ (structs : List StructDef) (units : List UnitDef) (entry : ℕ) (k : �
       (gives e found.0 found.2.0 found.1 found.2.1 now here stand)
 
   numbers : (e : Expr) (s : ScalarType) → are_same (Some (scalar s)) (type_of site e) ≡ true → (now : List Value) (here : Memory) → Stand now here →
-      option_map number_in (value_c (code_made site e) scope here).answer ≡ option_map number_given (meaning_of sees e (own now))
+      option_map scalar_number (value_c (code_made site e) scope here).answer ≡ option_map number_given (meaning_of sees e (own now))
   numbers e s fitted now here stand =
       let found = same_found (Some (scalar s)) (type_of site e) fitted in
       gives e found.0 s found.2 (ap scalar_in (sym (same_Some (scalar s) found.0 found.1)) ∙ scalar_alone s) now here stand

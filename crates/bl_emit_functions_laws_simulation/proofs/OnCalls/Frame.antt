@@ -30,7 +30,7 @@ use Rattle.bl_emit_acts.specs.declared.home.Home.TheVariants.{Held, Given, Lent}
 use Rattle.bl_emit_acts.specs.Places.{copies_inputs, home_of, home_of_role}
 use Rattle.bl_emit_acts.specs.Types.{variable_name}
 use Rattle.bl_emit_acts_laws_simulation.specs.Frames.{PointersAreValid, is_older, lent_at}
-use Rattle.bl_emit_acts_laws_simulation.specs.Encodes.{Encodes, are_apart, home_at, lead_in, location_in, number_at, start_in, way_to}
+use Rattle.bl_emit_acts_laws_simulation.specs.Encodes.{Encodes, are_apart, home_at, lead_in, location_in, number_within, start_in, way_to}
 use Rattle.bl_emit_functions.specs.Functions.{function_code, is_held}
 use Rattle.bl_emit_functions_laws_simulation.specs.Calls.{ArgFor, FrameBegun, FramesBegin, Handed, HandedOver, is_copied_input, memory_begun, scope_begun}
 use Rattle.bl_emit_functions_laws_simulation.proofs.OnCalls.Kept.{keep}
@@ -54,7 +54,7 @@ holds_same structs ty value held other same holds = record {
 }
 
 -- a value that is a number is held where that number is
-number_alone : (structs : List StructDef) (ty : Ty) (value : Value) (held : CValue) → number_in value ≡ Some (memory.number_in held) →
+number_alone : (structs : List StructDef) (ty : Ty) (value : Value) (held : CValue) → number_in value ≡ Some (memory.scalar_number held) →
     Encodes structs ty value held
 number_alone structs ty value held is = record { each = each }
   where
@@ -63,15 +63,15 @@ number_alone structs ty value held is = record { each = each }
     no_part (Value-F.Number x) k ks n m is h = cc
     no_part (Value-F.Parts all) k ks n m is h = cc
 
-    each : (ks : List ℕ) (n : ℤ) → number_at ks value ≡ Some n → held (way_to structs ks (Some ty)) ≡ n
+    each : (ks : List ℕ) (n : ℤ) → number_within ks value ≡ Some n → held (way_to structs ks (Some ty)) ≡ n
     each [] n h = same_Some (held []) n (sym is ∙ h)
-    each (k ∷ ks) n h = absurd (no_part (out-Value value) k ks (memory.number_in held) n is h)
+    each (k ∷ ks) n h = absurd (no_part (out-Value value) k ks (memory.scalar_number held) n is h)
 
 -- ---- homes
 
 pub data Where (site : TypingContext) (depth : ℕ) (here : Memory) (values : List Value) (passed : List ArgumentValue) (n j : ℕ) (var : Var) : Type 0 where
   number : (held : CValue) (value : Value) → slice_get passed j ≡ Some (by_value held) → slice_get values j ≡ Some value →
-      number_in value ≡ Some (memory.number_in held) → j < n → home_at site j ≡ Given → is_output var.role ≡ false →
+      number_in value ≡ Some (memory.scalar_number held) → j < n → home_at site j ≡ Given → is_output var.role ≡ false →
       Where site depth here values passed n j var
   place : (at : Location) (value : Value) → slice_get passed j ≡ Some (by_address at) → slice_get values j ≡ Some value →
       is_older depth at.root ≡ true → Encodes site.structs var.ty value (value_at here at) → j < n →

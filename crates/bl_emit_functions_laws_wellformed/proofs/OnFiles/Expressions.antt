@@ -36,9 +36,9 @@ use Rattle.bl_emit_acts.specs.declared.made.Made.{Made}
 use Rattle.bl_emit_acts.specs.declared.made.Made.TheVariants.{Number, Whole}
 use Rattle.bl_emit_acts.specs.Acts.{name_of_callee}
 use Rattle.bl_emit_acts.specs.Expressions.{arg_of, c_both, c_cast, c_compare, c_function, c_one, cast_word, code_of, function_name, hidden, is_constant}
-use Rattle.bl_emit_acts.specs.Expressions.{is_read, length_at, made_at, made_call, made_of, operator_word, side, stands, step_of, steps_of}
+use Rattle.bl_emit_acts.specs.Expressions.{is_read, length_at, made_at, made_call, made_of, operator_word, side, stands, step_typing, steps_of}
 use Rattle.bl_emit_acts.specs.Expressions.{type_at, type_made}
-use Rattle.bl_emit_acts.specs.Places.{home_of, place_at, place_in}
+use Rattle.bl_emit_acts.specs.Places.{home_of, place_by_steps, place_in}
 use Rattle.bl_emit_acts.specs.Trees.{c_call, c_called, c_literal, c_not, c_place, c_read, c_step, c_two}
 use Rattle.bl_emit_acts.specs.Types.{c_scalar, copy_name, elements_name, variable_name}
 use Rattle.bl_emit_functions_laws_wellformed.proofs.OnFiles.Shapes.{address-calls, call-calls, called-calls, element-calls, literal-calls, not-calls, place-calls}
@@ -252,7 +252,7 @@ module _ (weight : Text → ℕ) (prelude : (word : Text) (s : ScalarType) → w
 
     -- what the step of a part calls
     abbrev PartLight : Part → Type 0
-    PartLight part = (n : ℕ) (ty : Option Ty) → Under by n (calls_in_part part) → Light n (calls_in_step (step_of site part ty).step)
+    PartLight part = (n : ℕ) (ty : Option Ty) → Under by n (calls_in_part part) → Light n (calls_in_step (step_typing site part ty).step)
 
     part_by : (layer : Part-F ExprKind Part Expr Path) → OfIndex P layer → PartLight (roll-Part layer)
     part_by (Part-F.Field k) is n ty few = rw fold-roll-Part (none-light n _ (step-calls _))
@@ -267,18 +267,18 @@ module _ (weight : Text → ℕ) (prelude : (word : Text) (s : ScalarType) → w
         (λ is. part_by (out-Part part) (subst (OfIndex P) (out-roll-Part (out-Part part)) is))
 
     steps_light : (parts : List Part) → EachIndex P parts → (n : ℕ) (ty : Option Ty) → Under by n (joined (map calls_in_part parts)) →
-        Light n (joined (map calls_in_step (steps_of (map (step_of site) parts) ty)))
+        Light n (joined (map calls_in_step (steps_of (map (step_typing site) parts) ty)))
     steps_light [] each n ty few = none-under weight n
     steps_light (part ∷ rest) each n ty few =
-        append-under weight n (calls_in_step (step_of site part ty).step)
-        (joined (map calls_in_step (steps_of (map (step_of site) rest) (step_of site part ty).ty)))
+        append-under weight n (calls_in_step (step_typing site part ty).step)
+        (joined (map calls_in_step (steps_of (map (step_typing site) rest) (step_typing site part ty).ty)))
         (part_light part (All-head (λ part. OfIndex P (out-Part part)) part rest each) n ty
         (front-under by n (calls_in_part part) (joined (map calls_in_part rest)) few))
-        (steps_light rest (All-tail (λ part. OfIndex P (out-Part part)) part rest each) n (step_of site part ty).ty
+        (steps_light rest (All-tail (λ part. OfIndex P (out-Part part)) part rest each) n (step_typing site part ty).ty
         (back-under by n (calls_in_part part) (joined (map calls_in_part rest)) few))
 
     home_light : (n : ℕ) (activity : Bool) (home : Home) (k : ℕ) (steps : List CStep) → Light n (joined (map calls_in_step steps)) →
-        Light n (calls_in_place (place_at activity home k steps))
+        Light n (calls_in_place (place_by_steps activity home k steps))
     home_light n activity Held k steps all =
         same-light n (calls_in_place (c_place activity (codes "m") (c_step (variable_name k) ∷ steps)))
         (calls_in_step (c_step (variable_name k)) ++ joined (map calls_in_step steps))
@@ -298,7 +298,7 @@ module _ (weight : Text → ℕ) (prelude : (word : Text) (s : ScalarType) → w
         Q (roll-Path (record { place = place; root = root; parts = parts; ty = ty }))
     path_case place root parts ty each n few =
         rw fold-roll-Path
-        (home_light n (is_activity site.kind) (home_of site (var_at site root)) root (steps_of (map (step_of site) parts) (type_at (var_at site root)))
+        (home_light n (is_activity site.kind) (home_of site (var_at site root)) root (steps_of (map (step_typing site) parts) (type_at (var_at site root)))
         (steps_light parts each n (type_at (var_at site root)) (rw fold-roll-Path at few)))
 
     cases : Cases P Q

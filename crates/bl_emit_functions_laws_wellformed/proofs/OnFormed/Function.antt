@@ -89,7 +89,7 @@ module _ (structs : List StructDef) (units : List UnitDef) (entry k : ℕ) (unit
       block_one context (c_input_copied site j)
       (set-is context (leads_through site j) (c_type structs var.ty) (place_in site j []) (c_read (c_place true (variable_name j) [])) own
       (read-is context true (c_type structs var.ty) (c_place true (variable_name j) []) (pointer_place context (variable_name j) (c_type structs var.ty) param))
-      (ap (λ b. context.keeps && b) leads ∙ no_more context.keeps))
+      (ap (λ b. context.is_read_only && b) leads ∙ no_more context.is_read_only))
 
   copies_are : (base : ℕ) (vars : List Var) → ((j : ℕ) (var : Var) → slice_get vars j ≡ Some var
       → (slice_get (parameters_of unit) (base + j) ≡ Some var)
@@ -172,7 +172,7 @@ module _ (structs : List StructDef) (units : List UnitDef) (entry k : ℕ) (unit
       block_one context (c_set_again site j)
       (set-is context (leads_through site j) (c_type structs var.ty) (place_in site j []) (c_read (place_in site j [])) own
       (read-is context (leads_through site j) (c_type structs var.ty) (place_in site j []) own)
-      (ap (λ b. context.keeps && b) leads ∙ no_more context.keeps))
+      (ap (λ b. context.is_read_only && b) leads ∙ no_more context.is_read_only))
 
   read_is : (held : Option ℕ) (reads : Bool) → first_held site 0 unit.vars ≡ held → BlockIs context (read_code site held reads)
   read_is None reads is = block_nil context

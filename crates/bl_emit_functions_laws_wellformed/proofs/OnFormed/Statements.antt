@@ -112,7 +112,7 @@ module _ (context : Context) (most : ℕ) (flags : (k : ℕ) → k < most → co
   truth-is false = literal-is context OfBool (pos 0)
 
   flag_set : (k : ℕ) (b : Bool) → k < most → StmtIs context (c_set (flag_place k) (c_truth b))
-  flag_set k b less = set-is context false bool_type (flag_place k) (c_truth b) (flag-is k less) (truth-is b) (no_more context.keeps)
+  flag_set k b less = set-is context false bool_type (flag_place k) (c_truth b) (flag-is k less) (truth-is b) (no_more context.is_read_only)
 
   flag_read : (k : ℕ) → k < most → ExprIs context bool_type (c_read (flag_place k))
   flag_read k less = read-is context false bool_type (flag_place k) (flag-is k less)

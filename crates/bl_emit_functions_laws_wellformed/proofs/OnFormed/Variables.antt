@@ -268,7 +268,7 @@ module _ (structs : List StructDef) (units : List UnitDef) (entry k : ℕ) (unit
       absurd (let no : true ≡ false = sym own ∙ ap is_input is in cc)
 
   -- a function with a result writes through no pointer
-  pub plain_here : my_context.keeps ≡ true → (j : ℕ) (var : Var) → var_at my_site j ≡ Some var → leads_through my_site j ≡ false
+  pub plain_here : my_context.is_read_only ≡ true → (j : ℕ) (var : Var) → var_at my_site j ≡ Some var → leads_through my_site j ≡ false
   plain_here keeps_now j var in_vars =
       let some : is_some unit.result ≡ true = keeps_result unit.result _ keeps_now in
       let copies : copies_inputs my_site ≡ true = both (is_function unit.kind) (is_some unit.result) (ap not function) some in

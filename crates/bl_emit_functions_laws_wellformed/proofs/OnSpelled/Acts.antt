@@ -34,7 +34,7 @@ use Rattle.bl_emit_acts.specs.declared.made.Made.TheVariants.{Number, Whole}
 use Rattle.bl_emit_acts.specs.Acts.{c_calling, c_copied, c_set, c_zeroed, call_args, call_made, code_made, copy_code, declared_code, initial_code}
 use Rattle.bl_emit_acts.specs.Acts.{is_copied, name_of_callee, output_arg, zeroed}
 use Rattle.bl_emit_acts.specs.Expressions.{arg_of, code_of, made_of, stands, type_at}
-use Rattle.bl_emit_acts.specs.Places.{home_of, place_at, place_in}
+use Rattle.bl_emit_acts.specs.Places.{home_of, place_by_steps, place_in}
 use Rattle.bl_emit_acts.specs.Trees.{c_call, c_literal, c_place, c_read, c_step, nowhere}
 use Rattle.bl_emit_acts.specs.Types.{c_scalar, copy_name, type_name, unit_name, variable_name}
 use Rattle.bl_emit_acts_laws_wellformed.proofs.OnSpelled.Names.{callee-name, copy-name, memory-name, variable-name}
@@ -69,7 +69,7 @@ argument_by d (Number s code) h = value-fits d code h
 argument_by d (Whole place) h = address-fits d place (read-place d place h)
 
 -- the variable with a place of its own
-home_fits : (d : ℕ) (activity : Bool) (home : Home) (k : ℕ) → 1 ≤ d → k < 2 ^ 64 → place_fits d (place_at activity home k []) ≡ true
+home_fits : (d : ℕ) (activity : Bool) (home : Home) (k : ℕ) → 1 ≤ d → k < 2 ^ 64 → place_fits d (place_by_steps activity home k []) ≡ true
 home_fits d activity Held k low small =
     place-fits d activity (codes "m") (c_step (variable_name k) ∷ []) low memory-name
     (both (step_fits d (c_step (variable_name k))) true (step-fits d (variable_name k) (variable-name k small)) refl)

@@ -6,7 +6,7 @@ use Rattle.bl_tree.specs.Reduce.{greatest}
 use Rattle.bl_machine.specs.declared.slots.Slot.{Slot}
 use Rattle.bl_machine.specs.Blocks.{up_to}
 use Rattle.bl_machine.specs.Layout.{counters_in, counters_in_each, counters_of, width_in, width_in_each, width_of}
-use Rattle.bl_machine.specs.Slots.{counters_at, numbered, numbered_after, times}
+use Rattle.bl_machine.specs.Slots.{counters_at, numbered_after, numbered_slots, times}
 use Rattle.bl_graph_nodes.specs.Plain.{Act, Again, Await, Block, Bodies, Body as BodyOf, Cobegin, Done, If, Last, Plain}
 use Rattle.bl_graph_nodes.specs.Plain.{Repeat, Run as RunOf, Then, Until, When, While}
 use Rattle.bl_machine_pass.specs.Numbered.{sizes_for, sizes_of}
@@ -109,7 +109,7 @@ sizes_below n (c ∷ counters) below =
     let some : 0 < n = omega (arith, first) in
     let low : greatest (c ∷ counters) < n = greatest_below n (c ∷ counters) some below in omega (arith, many, low)
 
-pub sizes_few : (body : Block) (slots : List Slot) → slots ≡ numbered (counters_in body 0) → length (sizes_of slots) ≤ width_in body
+pub sizes_few : (body : Block) (slots : List Slot) → slots ≡ numbered_slots (counters_in body 0) → length (sizes_of slots) ≤ width_in body
 sizes_few body slots is =
     let counters : counters_at slots ≡ counters_in body 0 = ap counters_at is ∙ of_numbered [] (counters_in body 0) in
     let few : length (sizes_for (counters_in body 0)) ≤ width_in body =

@@ -50,7 +50,7 @@ use Rattle.bl_emit_spec.specs.Activities.{Activity, activity_function, frame_str
 use Rattle.bl_emit_spec.specs.Names.{frame_name}
 use Rattle.bl_emit_spec.specs.Programs.{activity_of, needed_units, needs_of}
 use Rattle.bl_emit_spec_laws_wellformed.specs.Chains.{ActivitiesCallFew}
-use Rattle.bl_emit_spec_laws_wellformed_bodies.specs.Cells.{ActivityCells, Sized, ports_of, reach_of}
+use Rattle.bl_emit_spec_laws_wellformed_bodies.specs.Cells.{ActivityCells, Sized, cells_reached, ports_of}
 use Rattle.bl_emit_spec_laws_wellformed_bodies.proofs.OnStructs.Lists.{below_or_last, get_taken}
 use Rattle.bl_emit_laws.proofs.OnCells.Numbers.{among_greatest, index_front, index_last, index_more, index_under}
 use Rattle.bl_emit_laws.proofs.OnCells.Tables.{entry_less}
@@ -214,7 +214,7 @@ module _ (structs : List StructDef) (units : List UnitDef) (entry : ℕ) (keeps 
         }
 
         abbrev pub reached : ℕ
-        reached = reach_of K (slice_index list) a
+        reached = cells_reached K (slice_index list) a
 
         abbrev pub activity_chain : ℕ
         activity_chain = chain_cells K chains (activity_function a)

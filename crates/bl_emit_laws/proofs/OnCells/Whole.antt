@@ -74,7 +74,7 @@ use Rattle.bl_emit_spec_laws_wellformed.specs.Chains.{ActivitiesCallFew}
 use Rattle.bl_emit_spec_laws_wellformed.specs.Closed.{NeededClosed}
 use Rattle.bl_emit_spec_laws_wellformed.specs.Machines.{IsModest, MachinesSpell}
 use Rattle.bl_emit_spec_laws_wellformed.specs.Needed.{NeededSmall}
-use Rattle.bl_emit_spec_laws_wellformed_bodies.specs.Structs.Laws.{PartsAreSound, PartsStand, parts_of}
+use Rattle.bl_emit_spec_laws_wellformed_bodies.specs.Structs.Laws.{PartsAreSound, PartsStand, program_parts}
 use Rattle.bl_emit_spec_laws_wellformed_bodies.specs.Structs.Parts.{IsPart}
 use Rattle.bl_emit_spec_laws_wellformed_bodies.proofs.OnStructs.Lists.{below_length, first_or, from_map, none_has}
 use Rattle.bl_emit_spec_laws_wellformed_bodies.proofs.OnStructs.Runs.{runs_fit}
@@ -165,7 +165,7 @@ module _ (program : Program)
   entry = program.entry
 
   abbrev parts : ProgramParts
-  parts = parts_of structs units entry machine
+  parts = program_parts structs units entry machine
 
   abbrev remembers : Bool
   remembers = unwrap_or (slice_get parts.remember entry) false
@@ -395,7 +395,7 @@ pub counted : (program : Program) → ((slots : Slots) (body : Block) → map (�
     NeededClosed program.structs program.units program.entry → MachinesSpell program.structs program.units program.entry →
     PartsAreSound program.structs program.units program.entry → ActivityCells program.structs program.units program.entry → FilesCount program
 counted program nodes earlier add stand follow grow few bodies small closed spell sound cells machine unit keeps limits agrees there =
-    let parts : ProgramParts = parts_of program.structs program.units program.entry machine in
+    let parts : ProgramParts = program_parts program.structs program.units program.entry machine in
     subst
     (λ o. cells_needed (file_from (file_at program parts o).structs (file_at program parts o).funcs)
     ≤ cells_at program.structs program.units program.entry) (sym there)

@@ -41,6 +41,7 @@ use Rattle.bl_machine_pass.specs.Transitions.{Transition}
 use Rattle.bl_emit_spec.specs.Activities.{
   Activity,
   activity_function,
+  activity_view,
   blocks_code,
   blocks_in_order,
   body_of,
@@ -52,7 +53,6 @@ use Rattle.bl_emit_spec.specs.Activities.{
   rested_code,
   rules_at,
   turns_in_source,
-  view_of,
 }
 use Rattle.bl_emit_spec.specs.Blocks.{
   ActivityView,
@@ -73,7 +73,7 @@ use Rattle.bl_emit_spec.specs.Blocks.{
   target_code,
   choice_code,
   spelled_truth,
-  tested,
+  test_code,
   turn_code,
   turns_of,
 }
@@ -150,18 +150,18 @@ module _ (P : CPath → Type 0) (plain : (place : CPath) → names_counter place
   acted_fine : (s : Stmt) → CodeFine P plain (acted view s)
   acted_fine s = acted_by s (out-StmtKind (out-Stmt s).what) refl
 
-  tested_fine : (e : Expr) (rule : Transition) → CodeFine P plain (tested view (code_made view.site e) rule)
+  tested_fine : (e : Expr) (rule : Transition) → CodeFine P plain (test_code view (code_made view.site e) rule)
   tested_fine e rule = by (spelled_truth (code_made view.site e))
     where
       by : (truth : Option Bool) →
-          CodeFine P plain (choice_code (code_made view.site e) truth (changes_code view rule.so) (changes_code view rule.otherwise))
+          CodeFine P plain (choice_code (code_made view.site e) truth (changes_code view rule.on_true) (changes_code view rule.on_false))
       by None =
-          one_stmt P plain (c_if (code_made view.site e) (changes_code view rule.so) (else_code (changes_code view rule.otherwise)))
-          (if-fine P plain (code_made view.site e) (changes_code view rule.so) (else_code (changes_code view rule.otherwise)) (code_fine e)
-          (changes_fine P plain own view rule.so)
-          (else-fine P plain (changes_code view rule.otherwise) (changes_fine P plain own view rule.otherwise)))
-      by (Some true) = changes_fine P plain own view rule.so
-      by (Some false) = changes_fine P plain own view rule.otherwise
+          one_stmt P plain (c_if (code_made view.site e) (changes_code view rule.on_true) (else_code (changes_code view rule.on_false)))
+          (if-fine P plain (code_made view.site e) (changes_code view rule.on_true) (else_code (changes_code view rule.on_false)) (code_fine e)
+          (changes_fine P plain own view rule.on_true)
+          (else-fine P plain (changes_code view rule.on_false) (changes_fine P plain own view rule.on_false)))
+      by (Some true) = changes_fine P plain own view rule.on_true
+      by (Some false) = changes_fine P plain own view rule.on_false
 
   -- ---- runs
 
@@ -204,35 +204,35 @@ module _ (P : CPath → Type 0) (plain : (place : CPath) → names_counter place
   begun_fine : (k a : ℕ) (arguments : Arguments) (rule : Transition) → CodeFine P plain (begun_code view k a arguments rule)
   begun_fine k a arguments rule =
       let name = frame_name (name_in (slice_get view.site.earlier a)) in
-      first_stmt P plain (c_clear (callee_frame k) name) (run_code view k a arguments ++ changes_code view rule.so)
+      first_stmt P plain (c_clear (callee_frame k) name) (run_code view k a arguments ++ changes_code view rule.on_true)
       (clear-fine P plain (callee_frame k) name (frame_fine k))
-      (then_code P plain (run_code view k a arguments) (changes_code view rule.so) (run_fine k a arguments) (changes_fine P plain own view rule.so))
+      (then_code P plain (run_code view k a arguments) (changes_code view rule.on_true) (run_fine k a arguments) (changes_fine P plain own view rule.on_true))
 
   resumed_fine : (k a : ℕ) (arguments : Arguments) (rule : Transition) → CodeFine P plain (resumed_code view k a arguments rule)
   resumed_fine k a arguments rule =
-      let block : List CStmt = target_code view k arguments.target ++ changes_code view rule.so in
+      let block : List CStmt = target_code view k arguments.target ++ changes_code view rule.on_true in
       then_code P plain (run_code view k a arguments) (c_if (c_read (ended_place k)) block None ∷ []) (run_fine k a arguments)
       (one_stmt P plain (c_if (c_read (ended_place k)) block None)
       (if-fine P plain (c_read (ended_place k)) block None (local_read P plain own (ended_name k))
-      (then_code P plain (target_code view k arguments.target) (changes_code view rule.so) (target_fine k arguments.target)
-      (changes_fine P plain own view rule.so)) tt))
+      (then_code P plain (target_code view k arguments.target) (changes_code view rule.on_true) (target_fine k arguments.target)
+      (changes_fine P plain own view rule.on_true)) tt))
 
   -- ---- blocks
 
   node_fine : (a : ℕ) (rule : Transition) (m : Node) → CodeFine P plain (node_code view a rule m)
-  node_fine a rule (ActAt l s) = then_code P plain (acted view s) (changes_code view rule.so) (acted_fine s) (changes_fine P plain own view rule.so)
+  node_fine a rule (ActAt l s) = then_code P plain (acted view s) (changes_code view rule.on_true) (acted_fine s) (changes_fine P plain own view rule.on_true)
   node_fine a rule (TestAt l at e) = tested_fine e rule
   node_fine a rule (CheckAt l at e) = tested_fine e rule
   node_fine a rule (EnterAt l at arguments) = begun_fine (view.run at) a arguments rule
   node_fine a rule (ResumeAt l at arguments) = resumed_fine (view.run at) a arguments rule
-  node_fine a rule (PauseAt l at) = changes_fine P plain own view rule.so
-  node_fine a rule (HeadAt l at) = changes_fine P plain own view rule.so
-  node_fine a rule (StartAt l at) = changes_fine P plain own view rule.so
-  node_fine a rule (SurfaceEndAt l at) = changes_fine P plain own view rule.so
-  node_fine a rule (DepthEndAt l at) = changes_fine P plain own view rule.so
-  node_fine a rule (ForkAt l at) = changes_fine P plain own view rule.so
-  node_fine a rule (SurfaceJoinAt l at) = changes_fine P plain own view rule.so
-  node_fine a rule (DepthJoinAt l at) = changes_fine P plain own view rule.so
+  node_fine a rule (PauseAt l at) = changes_fine P plain own view rule.on_true
+  node_fine a rule (HeadAt l at) = changes_fine P plain own view rule.on_true
+  node_fine a rule (StartAt l at) = changes_fine P plain own view rule.on_true
+  node_fine a rule (SurfaceEndAt l at) = changes_fine P plain own view rule.on_true
+  node_fine a rule (DepthEndAt l at) = changes_fine P plain own view rule.on_true
+  node_fine a rule (ForkAt l at) = changes_fine P plain own view rule.on_true
+  node_fine a rule (SurfaceJoinAt l at) = changes_fine P plain own view rule.on_true
+  node_fine a rule (DepthJoinAt l at) = changes_fine P plain own view rule.on_true
 
   -- what a turn asks and does
   abbrev TurnFine : NodeCode → Type 0
@@ -247,7 +247,7 @@ module _ (P : CPath → Type 0) (plain : (place : CPath) → names_counter place
   each_fine [] listed = tt
   each_fine (a ∷ callees) [] = tt
   each_fine (a ∷ callees) (rule ∷ listed) =
-      ((guard_fine P plain own view rule.node rule.asked, node_fine a rule rule.node), each_fine callees listed)
+      ((guard_fine P plain own view rule.node rule.condition, node_fine a rule rule.node), each_fine callees listed)
 
   append_fine : (turns more : List NodeCode) → EachFine turns → EachFine more → EachFine (turns ++ more)
   append_fine [] more all rest = rest
@@ -310,7 +310,7 @@ module _ (P : CPath → Type 0) (plain : (place : CPath) → names_counter place
 pub activity-fine : (P : CPath → Type 0) (plain : (place : CPath) → names_counter place ≡ false → P place) →
     ((k : ℕ) → P (own_counter (counter_name k))) → (a : Activity) → Fine P (places_named (activity_function a))
 activity-fine P plain own a =
-    let view : ActivityView = view_of a in
+    let view : ActivityView = activity_view a in
     let blocks : List CStmt = blocks_in_order a in
     let copies : List CStmt = map (c_copied view.site) (copied_in a) in
     then_code P plain (map rested_code (counters_read a)) (entry_code view (body_of a) ++ (copies ++ blocks))

@@ -28,7 +28,7 @@ use Rattle.bl_machine_pass_laws.specs.Turns.Laws.{StaysPlaced}
 use Rattle.bl_machine_transitions.specs.Callees.{callees_in}
 use Rattle.bl_machine_transitions_laws.specs.Laws.{RulesAreListed}
 use Rattle.bl_emit_acts.specs.Types.{unit_name}
-use Rattle.bl_emit_spec.specs.Activities.{Activity, activity_function, blocks_code, blocks_in_order, turns_in_source, view_of}
+use Rattle.bl_emit_spec.specs.Activities.{Activity, activity_function, activity_view, blocks_code, blocks_in_order, turns_in_source}
 use Rattle.bl_emit_spec.specs.Blocks.{ActivityView, NodeCode, turns_of}
 use Rattle.bl_emit_spec_laws.specs.Calls.Built.{Activities, AreBuilt, MadeOf}
 use Rattle.bl_emit_spec_laws_wellformed.specs.Closed.{InstancesNeeded}
@@ -67,11 +67,11 @@ module _ (placed : StaysPlaced) (listed : RulesAreListed) (a : Activity) (unit :
     many_callees : length (callees_in body) ≡ length rs
     many_callees = listed.each unit.body one.slots ∙ ap (λ slots. length (rules slots body)) (sym slots_are)
 
-    turns_are : turns_in_source a ≡ turns_of (view_of a) (callees_in body) rs
-    turns_are = ap (λ (u : UnitDef). turns_of (view_of a) (callees_in (plain_body u.body)) (rules a.slots (plain_body u.body))) unit_is
+    turns_are : turns_in_source a ≡ turns_of (activity_view a) (callees_in body) rs
+    turns_are = ap (λ (u : UnitDef). turns_of (activity_view a) (callees_in (plain_body u.body)) (rules a.slots (plain_body u.body))) unit_is
 
     many_turns : length (turns_in_source a) ≡ length (nodes_in body)
-    many_turns = ap (λ (xs : List NodeCode). length xs) turns_are ∙ turns_many (view_of a) (callees_in body) rs many_callees ∙ many_rules
+    many_turns = ap (λ (xs : List NodeCode). length xs) turns_are ∙ turns_many (activity_view a) (callees_in body) rs many_callees ∙ many_rules
 
     many_ifs : a.blocks ≡ one.blocks → Ordered (plain_body unit.body) one.blocks → length (blocks_in_order a) ≡ length one.blocks
     many_ifs blocks_are ordered =

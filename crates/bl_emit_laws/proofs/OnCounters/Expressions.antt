@@ -34,9 +34,9 @@ use Rattle.bl_emit_acts.specs.declared.home.Home.TheVariants.{Held, Given, Lent}
 use Rattle.bl_emit_acts.specs.declared.made.Made.{Made}
 use Rattle.bl_emit_acts.specs.declared.made.Made.TheVariants.{Number, Whole}
 use Rattle.bl_emit_acts.specs.Expressions.{arg_of, c_both, c_cast, c_compare, c_function, c_one, cast_word, code_of, function_name, hidden, is_constant}
-use Rattle.bl_emit_acts.specs.Expressions.{field_at, is_read, length_at, made_at, made_call, made_of, name_of_field, operator_word, side, stands, step_of}
+use Rattle.bl_emit_acts.specs.Expressions.{field_at, is_read, length_at, made_at, made_call, made_of, name_of_field, operator_word, side, stands, step_typing}
 use Rattle.bl_emit_acts.specs.Expressions.{steps_of, type_at, type_made}
-use Rattle.bl_emit_acts.specs.Places.{home_of, place_at, place_in}
+use Rattle.bl_emit_acts.specs.Places.{home_of, place_by_steps, place_in}
 use Rattle.bl_emit_acts.specs.Trees.{c_call, c_called, c_literal, c_not, c_place, c_read, c_step, c_two}
 use Rattle.bl_emit_acts.specs.Types.{c_scalar, copy_name, elements_name, field_name, unit_name, variable_name}
 use Rattle.bl_emit_laws.specs.Counters.Own.{is_counter_name, names_counter}
@@ -262,7 +262,7 @@ module _ (P : CPath → Type 0) (plain : (place : CPath) → names_counter place
 
     -- the step of a part goes through no counter
     abbrev PartFine : Part → Type 0
-    PartFine part = (ty : Option Ty) → Passes (parts_of_step (step_of site part ty).step)
+    PartFine part = (ty : Option Ty) → Passes (parts_of_step (step_typing site part ty).step)
 
     part_by : (layer : Part-F ExprKind Part Expr Path) → OfIndex OfExpr layer → PartFine (roll-Part layer)
     part_by (Part-F.Field k) is ty = rw fold-roll-Part (member-fine (field_name (name_of_field (field_at site.structs k ty))) refl)
@@ -274,14 +274,14 @@ module _ (P : CPath → Type 0) (plain : (place : CPath) → names_counter place
     part_fine part = subst (λ part. OfIndex OfExpr (out-Part part) → PartFine part) (roll-out-Part part)
         (λ is. part_by (out-Part part) (subst (OfIndex OfExpr) (out-roll-Part (out-Part part)) is))
 
-    steps_fine : (parts : List Part) → EachIndex OfExpr parts → (ty : Option Ty) → StepsFine (steps_of (map (step_of site) parts) ty)
+    steps_fine : (parts : List Part) → EachIndex OfExpr parts → (ty : Option Ty) → StepsFine (steps_of (map (step_typing site) parts) ty)
     steps_fine [] each ty = tt
     steps_fine (part ∷ rest) each ty = (
       part_fine part (All-head (λ part. OfIndex OfExpr (out-Part part)) part rest each) ty,
-      steps_fine rest (All-tail (λ part. OfIndex OfExpr (out-Part part)) part rest each) (step_of site part ty).ty,
+      steps_fine rest (All-tail (λ part. OfIndex OfExpr (out-Part part)) part rest each) (step_typing site part ty).ty,
     )
 
-    home_fine : (activity : Bool) (home : Home) (k : ℕ) (steps : List CStep) → StepsFine steps → PlaceFine (place_at activity home k steps)
+    home_fine : (activity : Bool) (home : Home) (k : ℕ) (steps : List CStep) → StepsFine steps → PlaceFine (place_by_steps activity home k steps)
     home_fine activity Held k steps all =
         place-fine activity (codes "m") (c_step (variable_name k) ∷ steps) (member-fine (variable_name k) refl, all)
     home_fine activity Given k steps all = place-fine false (variable_name k) steps all
@@ -295,7 +295,7 @@ module _ (P : CPath → Type 0) (plain : (place : CPath) → names_counter place
         OfPath (roll-Path (record { place = place; root = root; parts = parts; ty = ty }))
     path_case place root parts ty each =
         rw fold-roll-Path
-        (home_fine (is_activity site.kind) (home_of site (var_at site root)) root (steps_of (map (step_of site) parts) (type_at (var_at site root)))
+        (home_fine (is_activity site.kind) (home_of site (var_at site root)) root (steps_of (map (step_typing site) parts) (type_at (var_at site root)))
         (steps_fine parts each (type_at (var_at site root))))
 
     cases : Cases OfExpr OfPath

@@ -12,7 +12,7 @@ use Rattle.bl_emit_acts.specs.Acts.{c_set}
 use Rattle.bl_emit_acts.specs.Expressions.{c_compare}
 use Rattle.bl_emit_acts.specs.Trees.{c_not, c_place, c_read, c_step}
 use Rattle.bl_emit_functions.specs.Trees.{c_if, c_truth}
-use Rattle.bl_machine_pass.specs.Transitions.{Age, Asked, Change, Needed}
+use Rattle.bl_machine_pass.specs.Transitions.{Age, Change, Condition, Needed}
 use Rattle.bl_machine_pass.specs.Transitions.{ClearsBoth, ClearsCounter, Ended, EndsWhen, Finishes, Flagged, IsAny, IsNew, IsOld, Rested, RestedIn, SetsCounter, SetsFlag, SetsMark}
 use Rattle.bl_emit_spec.specs.Blocks.{
   ActivityView,
@@ -165,7 +165,7 @@ module _ (P : CPath → Type 0) (plain : (place : CPath) → names_counter place
       (not-fine P plain (c_read (mark_place (view.number m))) (mark_read view m)) all
   aged_fine view IsAny ends all = all
 
-  pub guard_fine : (view : ActivityView) (m : Node) (asked : Asked) → ExprFine P plain (guard_of view m asked)
+  pub guard_fine : (view : ActivityView) (m : Node) (condition : Condition) → ExprFine P plain (guard_of view m condition)
   guard_fine view m Flagged = local_read (flag_name (view.number m))
   guard_fine view m (Rested slot) = rested_fine view slot
   guard_fine view m (RestedIn slots) = in_fine view slots

@@ -21,7 +21,7 @@ use Rattle.bl_emit_acts.specs.Trees.{c_place, c_read, c_two}
 use Rattle.bl_emit_acts.specs.Types.{copy_name}
 use Rattle.bl_emit_functions.specs.Trees.{c_if}
 use Rattle.bl_emit_spec.specs.Activities.{Activity, activity_code, blocks_code, blocks_in_order, body_of, copied_in, counters_read, entry_code, picked}
-use Rattle.bl_emit_spec.specs.Activities.{rested_code, turns_in_source, view_of}
+use Rattle.bl_emit_spec.specs.Activities.{activity_view, rested_code, turns_in_source}
 use Rattle.bl_emit_spec.specs.Blocks.{ActivityView, NodeCode, counter_value, merged_code, turn_code}
 use Rattle.bl_emit_spec.specs.Names.{counter_place, flag_place, rested_place}
 use Rattle.bl_emit_spec_laws.proofs.OnPlaced.Lists.{there_at}
@@ -96,14 +96,14 @@ copies site (k ∷ rest) =
 
 -- what stands before the blocks
 abbrev before : Activity → List CStmt
-before a = map rested_code (counters_read a) ++ (entry_code (view_of a) (body_of a) ++ map (c_copied (view_of a).site) (copied_in a))
+before a = map rested_code (counters_read a) ++ (entry_code (activity_view a) (body_of a) ++ map (c_copied (activity_view a).site) (copied_in a))
 
 before_sets : (a : Activity) → AreSettings (before a)
 before_sets a =
-    both_settings (map rested_code (counters_read a)) (entry_code (view_of a) (body_of a) ++ map (c_copied (view_of a).site) (copied_in a))
+    both_settings (map rested_code (counters_read a)) (entry_code (activity_view a) (body_of a) ++ map (c_copied (activity_view a).site) (copied_in a))
     (resteds (counters_read a))
-    (both_settings (entry_code (view_of a) (body_of a)) (map (c_copied (view_of a).site) (copied_in a)) (entries (view_of a) (body_of a))
-    (copies (view_of a).site (copied_in a)))
+    (both_settings (entry_code (activity_view a) (body_of a)) (map (c_copied (activity_view a).site) (copied_in a)) (entries (activity_view a) (body_of a))
+    (copies (activity_view a).site (copied_in a)))
 
 -- ---- blocks
 
@@ -139,8 +139,8 @@ blocks_many turns ((k ∷ more) ∷ rest) filled within =
 body_stands : (a : Activity) → activity_code a ≡ before a ++ blocks_in_order a
 body_stands a =
     let rested : List CStmt = map rested_code (counters_read a) in
-    let begun : List CStmt = entry_code (view_of a) (body_of a) in
-    let copied : List CStmt = map (c_copied (view_of a).site) (copied_in a) in
+    let begun : List CStmt = entry_code (activity_view a) (body_of a) in
+    let copied : List CStmt = map (c_copied (activity_view a).site) (copied_in a) in
     ap (λ (rest : List CStmt). rested ++ rest) (sym (append_assoc begun copied (blocks_in_order a)))
     ∙ sym (append_assoc rested (begun ++ copied) (blocks_in_order a))
 

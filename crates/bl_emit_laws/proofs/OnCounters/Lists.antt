@@ -23,13 +23,13 @@ use Rattle.std.proofs.Common.{
 use Rattle.std.proofs.lemmas.Option.{same_Some}
 use Rattle.std.specs.Prelude.{slice_get}
 use Rattle.bl_tree.specs.declared.tree.Unit.{Unit as UnitDef}
-use Rattle.bl_emit_spec_laws.specs.Tables.Tables.{each_from, kept}
+use Rattle.bl_emit_spec_laws.specs.Tables.Tables.{each_from, kept_where}
 use Rattle.bl_emit_laws.proofs.OnKept.Lists.{first_or, further, here, none_has}
 
 -- ---- what is kept
 
 pub kept_at : {X : Type 0} (tests : List Bool) (xs : List X) (k : ℕ) (x : X) → slice_get tests k ≡ Some true → slice_get xs k ≡ Some x →
-    Contains (kept tests xs) x
+    Contains (kept_where tests xs) x
 kept_at tests [] k x test there = absurd (none k there)
   where
     none : (k : ℕ) → slice_get [] k ≡ Some x → ⊥
@@ -40,17 +40,17 @@ kept_at [] (y ∷ xs) k x test there = absurd (none k test)
     none : (k : ℕ) → slice_get [] k ≡ Some true → ⊥
     none zero there = cc
     none (suc k) there = cc
-kept_at (true ∷ tests) (y ∷ xs) zero x test there = subst (Contains (y ∷ kept tests xs)) (same_Some y x there) (here y (kept tests xs))
+kept_at (true ∷ tests) (y ∷ xs) zero x test there = subst (Contains (y ∷ kept_where tests xs)) (same_Some y x there) (here y (kept_where tests xs))
 kept_at (false ∷ tests) (y ∷ xs) zero x test there = absurd (let both : false ≡ true = same_Some false true test in cc)
-kept_at (true ∷ tests) (y ∷ xs) (suc k) x test there = further y (kept tests xs) x (kept_at tests xs k x test there)
+kept_at (true ∷ tests) (y ∷ xs) (suc k) x test there = further y (kept_where tests xs) x (kept_at tests xs k x test there)
 kept_at (false ∷ tests) (y ∷ xs) (suc k) x test there = kept_at tests xs k x test there
 
-pub kept_has : {X : Type 0} (tests : List Bool) (xs : List X) (x : X) → Contains (kept tests xs) x → Contains xs x
+pub kept_has : {X : Type 0} (tests : List Bool) (xs : List X) (x : X) → Contains (kept_where tests xs) x → Contains xs x
 kept_has [] xs x at = absurd (none_has x at)
 kept_has (test ∷ tests) [] x at = absurd (none_has x at)
 kept_has (true ∷ tests) (y ∷ xs) x at =
     ⊎_elim (λ is. subst (λ x. Contains (y ∷ xs) x) is (here y xs)) (λ later. further y xs x (kept_has tests xs x later))
-    (first_or y (kept tests xs) x at)
+    (first_or y (kept_where tests xs) x at)
 kept_has (false ∷ tests) (y ∷ xs) x at = further y xs x (kept_has tests xs x at)
 
 -- ---- something of each unit

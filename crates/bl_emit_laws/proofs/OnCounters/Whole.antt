@@ -17,7 +17,7 @@ use Rattle.bl_tree.specs.Typing.{is_activity}
 use Rattle.bl_ctree.specs.declared.instance.Instance.{Instance}
 use Rattle.bl_ctree.specs.Instances.{Setting, setting_of, unit_at, unit_of}
 use Rattle.bl_ctree_laws_confluence.specs.Deeds.Orderly.{AcceptedIsOrderly, Orderly}
-use Rattle.bl_ctext_semantics.specs.Faults.{Variable, WellFormed, struct_table, variables_of}
+use Rattle.bl_ctext_semantics.specs.Faults.{Variable, WellFormed, parameters_and_locals, struct_table}
 use Rattle.bl_ctext_semantics.specs.Parts.{Parts}
 use Rattle.bl_ctext_semantics.specs.Tables.{Table, table_of}
 use Rattle.bl_machine.specs.declared.machine.Activity.{Activity as InMachine}
@@ -147,7 +147,7 @@ same_name a b is = ap (λ name. unit_name (drop 2 name)) is
 
 stands_alone : (units : List UnitDef) (file : Parts) → CountersAreOwn units file → CountersStandInOne file
 stands_alone units file own function place name counter has at is through =
-    let ty : Option CType = option_map (λ (variable : Variable). variable.ty) (table_of (variables_of function) place.name) in
+    let ty : Option CType = option_map (λ (variable : Variable). variable.ty) (table_of (parameters_and_locals function) place.name) in
     let named : Contains place.members counter = through_some (struct_table file.structs) ty place.members (member_of (frame_name name) counter) through in
     let found = own function place has at (any_here place.members counter named is) in
     let through_own : Contains (members_at file function (own_counter found.counter)) (member_of (frame_name name) counter) =

@@ -50,7 +50,7 @@ use Rattle.bl_emit_spec_laws_wellformed_bodies.specs.Lists.{FunctionsEnd, PartsW
 use Rattle.bl_emit_spec_laws.proofs.OnOwn.Members.{further, here}
 use Rattle.bl_emit_laws.proofs.OnFormed.Interface.{Entry, init-fine, tick-fine}
 use Rattle.bl_emit_laws.proofs.OnFormed.Ports.{inputs_all, inputs_differ, outputs_differ}
-use Rattle.bl_emit_laws.specs.Formed.{FilesWellFormed, StructsSound, parts_of, table_of}
+use Rattle.bl_emit_laws.specs.Formed.{FilesWellFormed, StructsSound, parts_for_entry, table_of}
 
 -- ---- the last two functions
 
@@ -96,10 +96,10 @@ no_result (Some x) is = absurd (cc)
 module _ (program : Program) (machine : List InMachine) (unit : UnitDef) (keeps : IsWellTyped program.structs program.units program.entry)
     (passes : Passes program.structs program.units program.entry) (there : slice_get program.units program.entry ≡ Some unit)
     (closed : NeededClosed program.structs program.units program.entry) (sound : StructsSound program machine unit)
-    (end : FunctionsEnd program.structs program.units program.entry (table_of program machine) (parts_of program machine)
-    (init_function ∷ tick_function unit (unwrap_or (slice_get (parts_of program machine).remember program.entry) false) ∷ [])) where
+    (end : FunctionsEnd program.structs program.units program.entry (table_of program machine) (parts_for_entry program machine)
+    (init_function ∷ tick_function unit (unwrap_or (slice_get (parts_for_entry program machine).remember program.entry) false) ∷ [])) where
   abbrev parts : ProgramParts
-  parts = parts_of program machine
+  parts = parts_for_entry program machine
 
   abbrev table : Table (Table CMember)
   table = table_of program machine
@@ -223,5 +223,5 @@ pub files : (program : Program) → NeededClosed program.structs program.units p
 files program closed parts_well_formed machine unit keeps passes there forms sound =
     formed program machine unit keeps passes there closed sound
     (parts_well_formed machine (table_of program machine)
-    (init_function ∷ tick_function unit (unwrap_or (slice_get (parts_of program machine).remember program.entry) false) ∷ [])
+    (init_function ∷ tick_function unit (unwrap_or (slice_get (parts_for_entry program machine).remember program.entry) false) ∷ [])
     keeps passes forms sound.types sound.parts (omega arith))

@@ -116,8 +116,8 @@ module _ (structs : List StructDef) (units : List UnitDef) (entry : ℕ) (laws :
       owns : OwnsRules a
       owns = record {
         asks = λ rule has. asks_on a one.slots laws.spots refl refl own.counters few_places rule has;
-        so = λ rule has. (changes_on a one.slots laws.spots refl refl own.counters rule has).0;
-        otherwise = λ rule has. (changes_on a one.slots laws.spots refl refl own.counters rule has).1;
+        on_true = λ rule has. (changes_on a one.slots laws.spots refl refl own.counters rule has).0;
+        on_false = λ rule has. (changes_on a one.slots laws.spots refl refl own.counters rule has).1;
         some = laws.counted structs units entry unit one keeps passes (contains_at units k unit there) active own;
         read = λ c on. copied_below a one.slots laws.spots refl refl own.counters c on;
       }

@@ -31,7 +31,7 @@ use Rattle.bl_emit_spec.specs.Programs.{
 use Rattle.bl_emit_structs.specs.Structs.{structs_of}
 use Rattle.bl_emit_spec_laws.specs.Calls.Built.{Activities}
 use Rattle.bl_emit_spec_laws.specs.Tables.Laws.{WrittenAs, WrittenIsKept}
-use Rattle.bl_emit_spec_laws.specs.Tables.Tables.{activities_of, each_from, functions_of_all, kept, unit_function}
+use Rattle.bl_emit_spec_laws.specs.Tables.Tables.{activities_of, each_from, functions_of_all, kept_where, unit_function}
 use Rattle.bl_emit_laws.specs.Kept.{FilesEnd, structs_before}
 use Rattle.bl_emit_laws.proofs.OnKept.Declared.{entry_active, structs_are}
 use Rattle.bl_emit_laws.proofs.OnKept.Lists.{first_or, further, here, none_has}
@@ -82,12 +82,12 @@ unit_other s rest (name, inr is) = ap (λ name. bytes_eq name (codes "bl_" ++ re
 
 -- ---- names of functions
 
-kept_has : {X : Type 0} (tests : List Bool) (xs : List X) (x : X) → Contains (kept tests xs) x → Contains xs x
+kept_has : {X : Type 0} (tests : List Bool) (xs : List X) (x : X) → Contains (kept_where tests xs) x → Contains xs x
 kept_has [] xs x at = absurd (none_has x at)
 kept_has (test ∷ tests) [] x at = absurd (none_has x at)
 kept_has (true ∷ tests) (y ∷ xs) x at =
     ⊎_elim (λ is. subst (λ x. Contains (y ∷ xs) x) is (here y xs)) (λ later. further y xs x (kept_has tests xs x later))
-    (first_or y (kept tests xs) x at)
+    (first_or y (kept_where tests xs) x at)
 kept_has (false ∷ tests) (y ∷ xs) x at = further y xs x (kept_has tests xs x at)
 
 each_has : {X : Type 0} (of : ℕ → UnitDef → X) (k : ℕ) (units : List UnitDef) (x : X) → Contains (each_from of k units) x →

@@ -46,10 +46,10 @@ compiled_simulate structs units entry known tables machine activities u depth co
     same_comes (setting_of structs units entry) activities u depth (table_of_all structs units activities)
     (table_of_needed structs units entry activities) same
     (law (suc u) u (table_of_all structs units activities) depth compiled none
-    (tables structs units entry machine activities (suc u) compiled.keeps compiled.built).1 (omega arith))
+    (tables structs units entry machine activities (suc u) compiled.well_typed compiled.built).1 (omega arith))
   where
     same : (i : ℕ) (unit : UnitDef) → unit_number (setting_of structs units entry) i ≡ u → unit_at (setting_of structs units entry) i ≡ Some unit →
         table_of_needed structs units entry activities (unit_name unit.name) ≡ table_of_all structs units activities (unit_name unit.name)
     same i unit number at =
-        known machine activities u unit compiled.keeps compiled.built
+        known machine activities u unit compiled.well_typed compiled.built
         (sym (ap (slice_get units) number) ∙ unit_there structs units entry i unit at) is

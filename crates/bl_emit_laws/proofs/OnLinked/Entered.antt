@@ -24,7 +24,7 @@ use Rattle.bl_ctext_semantics.specs.Meaning.{ArgumentValue, Meaning, applied, fu
 use Rattle.bl_ctext_semantics.specs.Memory.{Memory}
 use Rattle.bl_ctext_semantics.specs.Parts.{Parts}
 use Rattle.bl_ctext_semantics.specs.Tables.{Table, found, no_entries, with_entry}
-use Rattle.bl_ctext_semantics.specs.Trace.{entered}
+use Rattle.bl_ctext_semantics.specs.Trace.{call_from_outside}
 use Rattle.bl_ctext_semantics_laws_calls.specs.Known.{AreAlike, CallsDecide}
 use Rattle.bl_emit_acts.specs.Acts.{c_calling}
 use Rattle.bl_emit_acts.specs.Trees.{c_call, c_literal, c_place, c_read, c_step}
@@ -40,7 +40,7 @@ use Rattle.bl_emit_spec_laws.specs.Calls.Built.{Activities}
 use Rattle.bl_emit_laws.specs.Linked.{FilesEnter, table_of_needed}
 use Rattle.bl_emit_laws.proofs.OnLinked.Spared.{other_entry}
 use Rattle.bl_emit_spec_laws.specs.Tables.Laws.{WrittenAs, WrittenIsKept}
-use Rattle.bl_emit_spec_laws.specs.Tables.Tables.{activities_of, each_from, functions_of_all, kept, unit_function}
+use Rattle.bl_emit_spec_laws.specs.Tables.Tables.{activities_of, each_from, functions_of_all, kept_where, unit_function}
 
 -- ---- what a tick calls
 
@@ -125,11 +125,11 @@ module _ (structs : List StructDef) (units : List UnitDef) (activities : Activit
   code k unit = unit_function structs units activities k unit
 
   others_kept : (name : Text) → ((k : ℕ) (unit : UnitDef) → not (bytes_eq (code k unit).name name) ≡ true) → (tests : List Bool) (k : ℕ)
-      (xs : List UnitDef) → others name (kept tests (each_from code k xs)) ≡ true
+      (xs : List UnitDef) → others name (kept_where tests (each_from code k xs)) ≡ true
   others_kept name differs [] k xs = refl
   others_kept name differs (test ∷ tests) k [] = refl
   others_kept name differs (true ∷ tests) k (unit ∷ xs) =
-      both (not (bytes_eq (code k unit).name name)) (others name (kept tests (each_from code (suc k) xs))) (differs k unit)
+      both (not (bytes_eq (code k unit).name name)) (others name (kept_where tests (each_from code (suc k) xs))) (differs k unit)
       (others_kept name differs tests (suc k) xs)
   others_kept name differs (false ∷ tests) k (unit ∷ xs) = others_kept name differs tests (suc k) xs
 
@@ -186,15 +186,15 @@ module _ (decide : CallsDecide) (known : Table Meaning) (functions : List CFunc)
       table
 
   pub init_done : (file : Parts) → file.funcs ≡ all → others (codes "bl_init") functions ≡ true → (passed : List ArgumentValue) (memory : Memory) →
-      entered file (codes "bl_init") passed memory ≡ function_c known init_function 0 passed memory
-  unfolding entered
+      call_from_outside file (codes "bl_init") passed memory ≡ function_c known init_function 0 passed memory
+  unfolding call_from_outside
   init_done file is other passed memory =
       ap (λ functions. applied (found (codes "bl_init") (meanings_after no_entries functions)) 0 passed memory) is
       ∙ ap (λ o. applied o 0 passed memory) (init_found other)
 
   pub tick_done : (file : Parts) → file.funcs ≡ all → others (codes "bl_tick") functions ≡ true → (passed : List ArgumentValue) (memory : Memory) →
-      entered file (codes "bl_tick") passed memory ≡ function_c known (tick_function unit remembers) 0 passed memory
-  unfolding entered
+      call_from_outside file (codes "bl_tick") passed memory ≡ function_c known (tick_function unit remembers) 0 passed memory
+  unfolding call_from_outside
   tick_done file is other passed memory =
       ap (λ functions. applied (found (codes "bl_tick") (meanings_after no_entries functions)) 0 passed memory) is
       ∙ (ap (λ o. applied o 0 passed memory) (tick_found other)
@@ -222,7 +222,7 @@ all_enter decide written program machine unit file is = record {
     needed = needed_units program.units program.entry
 
     functions : List CFunc
-    functions = kept (needed_units program.units program.entry)
+    functions = kept_where (needed_units program.units program.entry)
         (functions_of_all program.structs program.units (activities_of program.structs program.units machine))
 
     known : Table Meaning
@@ -234,7 +234,7 @@ all_enter decide written program machine unit file is = record {
     written_so : WrittenAs program machine unit
     written_so =
         written program machine unit is.agrees is.there
-        (active_entry (slice_get program.units program.entry) unit is.there is.keeps.entry_stands)
+        (active_entry (slice_get program.units program.entry) unit is.there is.well_typed.entry_stands)
 
     funcs : file.funcs ≡ functions ++ (init_function ∷ tick_function unit remembers ∷ [])
     funcs = is.funcs ∙ written_so.funcs

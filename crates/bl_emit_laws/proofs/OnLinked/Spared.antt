@@ -11,7 +11,7 @@ use Rattle.bl_ctext_semantics.specs.Meaning.{Meaning, applied, function_c}
 use Rattle.bl_ctext_semantics.specs.Tables.{Table, with_entry}
 use Rattle.bl_ctext_semantics_laws_calls.specs.Known.{AreAlike, CallsDecide}
 use Rattle.bl_emit_functions_laws_simulation.specs.Units.{known_after}
-use Rattle.bl_emit_spec_laws.specs.Tables.Tables.{kept}
+use Rattle.bl_emit_spec_laws.specs.Tables.Tables.{kept_where}
 
 -- an entry under another name
 pub other_entry : (o : Option Meaning) (b : Bool) (meaning : Meaning) → b ≡ false → option_or o (if b then Some meaning else None) ≡ o
@@ -57,7 +57,7 @@ module _ (out : Text → Bool) where
             (All-weaker (λ name. out name ≡ false) (AreAlike one other) (alike one other same) (calls_in_block f.body) calls) depth passed memory i
 
     pub spared : (tests : List Bool) (functions : List CFunc) (one other : Table Meaning) → Sparing tests functions → Same one other →
-        Same (known_after one functions) (known_after other (kept tests functions))
+        Same (known_after one functions) (known_after other (kept_where tests functions))
     spared [] [] one other sparing same = same
     spared (test ∷ tests) [] one other sparing same = same
     spared [] (f ∷ functions) one other sparing same =

@@ -21,15 +21,15 @@ use Rattle.bl_machine.specs.Blocks.{up_to}
 use Rattle.bl_machine_pass.specs.Numbered.{slots_of}
 use Rattle.bl_machine_pass.specs.Transitions as nodes
 use Rattle.bl_machine_pass.specs.Transitions.{ClearsBoth, ClearsCounter, Ended, EndsWhen, Finishes, Flagged, Rested, RestedIn, SetsCounter, SetsFlag, SetsMark}
-use Rattle.bl_machine_transitions.specs.Callees.{callees_in, number_in}
+use Rattle.bl_machine_transitions.specs.Callees.{callees_in, node_number}
 use Rattle.bl_machine_transitions.specs.Runs.{begins_run, run_number}
-use Rattle.bl_machine_transitions.specs.Told.{NumberedTransition, all_told, task_at, told_asked, told_change}
+use Rattle.bl_machine_transitions.specs.Told.{NumberedTransition, all_told, task_at, told_change, told_condition}
 use Rattle.bl_machine_transitions_laws.specs.Laws.{RulesAreListed, entries, first_number}
 use Rattle.bl_emit_functions.specs.Functions.{params_from, struct_of}
 use Rattle.bl_emit_spec.specs.Activities.{Activity, RunAt, activity_function, blocks_code, entry_code, flag_local, is_flagged, is_read_by}
 use Rattle.bl_emit_spec.specs.Activities.{mark_local, mark_locals, memory_params, reads_counter, remembered, rested_code}
 use Rattle.bl_emit_spec.specs.Activities.{enters_at, one_a_place, rested_local, run_at, run_number_in}
-use Rattle.bl_emit_spec.specs.Activities.{over_param, pointer_param, result_params, runs_at, runs_in_body, scalar_local, view_of}
+use Rattle.bl_emit_spec.specs.Activities.{activity_view, over_param, pointer_param, result_params, runs_at, runs_in_body, scalar_local}
 use Rattle.bl_emit_spec.specs.Blocks.{ActivityView, NodeCode, Sizes}
 use Rattle.bl_emit_spec.specs.Names.{flag_name, frame_name}
 use Rattle.bl_emit_spec.specs.Programs.{ProgramParts, activity_of, parts_of_activity}
@@ -78,7 +78,7 @@ module _ (number : Node → ℕ) where
   runs_are (unit ∷ units) [] = refl
   runs_are (unit ∷ units) (rule ∷ rules) = ap₂ ◌++◌ (run_is unit rule.node) (runs_are units rules)
 
-  asked_is : (asked : nodes.Asked) → is_flagged asked ≡ asks_flag (told_asked number asked)
+  asked_is : (condition : nodes.Condition) → is_flagged condition ≡ asks_flag (told_condition number condition)
   asked_is Flagged = refl
   asked_is (Rested slot) = refl
   asked_is (RestedIn slots) = refl
@@ -91,7 +91,7 @@ module _ (number : Node → ℕ) where
   flags_are (unit ∷ units) [] same = refl
   flags_are (unit ∷ units) (rule ∷ rules) same =
       ap₂ (λ (b : Bool) (more : List CLocal). (if b then scalar_local OfBool (flag_name (number rule.node)) ∷ [] else []) ++ more)
-      (asked_is rule.asked)
+      (asked_is rule.condition)
       (flags_are units rules (omega (arith, same)))
 
   mark_is : (change : nodes.Change) → mark_local number change ≡ mark_told (told_change number change)
@@ -113,9 +113,9 @@ module _ (number : Node → ℕ) where
   marks_are [] [] same = refl
   marks_are [] (rule ∷ rules) same = absurd (omega (arith, same))
   marks_are (unit ∷ units) [] same = refl
-  marks_are (unit ∷ units) (rule ∷ rules) same = ap₂ ◌++◌ (rule_marks rule.so) (marks_are units rules (omega (arith, same)))
+  marks_are (unit ∷ units) (rule ∷ rules) same = ap₂ ◌++◌ (rule_marks rule.on_true) (marks_are units rules (omega (arith, same)))
 
-  counter_is : (k : ℕ) (asked : nodes.Asked) → reads_counter k asked ≡ asks_counter k (told_asked number asked)
+  counter_is : (k : ℕ) (condition : nodes.Condition) → reads_counter k condition ≡ asks_counter k (told_condition number condition)
   counter_is k Flagged = refl
   counter_is k (Rested slot) = refl
   counter_is k (RestedIn slots) = refl
@@ -126,7 +126,7 @@ module _ (number : Node → ℕ) where
   reads_are [] [] same k = refl
   reads_are [] (rule ∷ rules) same k = absurd (omega (arith, same))
   reads_are (unit ∷ units) [] same k = refl
-  reads_are (unit ∷ units) (rule ∷ rules) same k = ap₂ ◌||◌ (counter_is k rule.asked) (reads_are units rules (omega (arith, same)) k)
+  reads_are (unit ∷ units) (rule ∷ rules) same k = ap₂ ◌||◌ (counter_is k rule.condition) (reads_are units rules (omega (arith, same)) k)
 
 -- ---- the entry
 
@@ -153,7 +153,7 @@ module _ (law : RulesAreListed) (bodies : BodiesAreNumbered) (alike : BlocksAlik
   t = told_of structs earlier remember unit one
 
   abbrev number : Node → ℕ
-  number = number_in (joined one.blocks) (plain_body unit.body)
+  number = node_number (joined one.blocks) (plain_body unit.body)
 
   abbrev calls : List ℕ
   calls = callees_in (plain_body unit.body)
@@ -191,26 +191,26 @@ module _ (law : RulesAreListed) (bodies : BodiesAreNumbered) (alike : BlocksAlik
   remembered_so : remembered_by structs earlier remember unit (runs_told t.rules) ≡ remembered a
   remembered_so = ap (remembered_by structs earlier remember unit) runs_so
 
-  entry_so : entry_told t.sizes t.rules ≡ entry_code (view_of a) (plain_body unit.body)
+  entry_so : entry_told t.sizes t.rules ≡ entry_code (activity_view a) (plain_body unit.body)
   entry_so =
       first_is t.sizes t.rules
       ∙ (ap (map (entry_at t.sizes)) (sym (law.begins unit.body (joined one.blocks) one.slots))
-      ∙ sym (entries_are (view_of a) (plain_body unit.body)))
+      ∙ sym (entries_are (activity_view a) (plain_body unit.body)))
 
-  views : Alike (view_told t) (view_of a)
+  views : Alike (view_told t) (activity_view a)
   views = record { site = refl; copies = refl; run = λ at. ap (λ (run : Place → ℕ). run at) (sym run_so); sizes = refl; is_read = read_at; remembers = λ k. refl }
 
-  turns_so : map (numbered_turn (view_told t)) t.rules ≡ map (numbered_turn (view_of a)) t.rules
-  turns_so = ap (λ (turn : NumberedTransition → NodeCode). map turn t.rules) (λ i rule. alike (view_told t) (view_of a) views rule i)
+  turns_so : map (numbered_turn (view_told t)) t.rules ≡ map (numbered_turn (activity_view a)) t.rules
+  turns_so = ap (λ (turn : NumberedTransition → NodeCode). map turn t.rules) (λ i rule. alike (view_told t) (activity_view a) views rule i)
 
   code_so : code_told t ≡ (activity_function a).body
   code_so =
       ap₂ (λ (counters : List ℕ) (start : List CStmt). map rested_code counters
       ++ (start
-      ++ (map (c_copied (view_of a).site) (copied_told unit) ++ blocks_code (map (numbered_turn (view_told t)) t.rules) t.blocks))) counters_so entry_so
+      ++ (map (c_copied (activity_view a).site) (copied_told unit) ++ blocks_code (map (numbered_turn (view_told t)) t.rules) t.blocks))) counters_so entry_so
       ∙ ap (λ (turns : List NodeCode). map rested_code (filter (is_read_by rules) (up_to (length t.sizes)))
-      ++ (entry_code (view_of a) (plain_body unit.body) ++ (map (c_copied (view_of a).site) (copied_told unit) ++ blocks_code turns t.blocks)))
-      (turns_so ∙ sym (bodies (view_of a) unit.body (joined one.blocks) one.slots refl))
+      ++ (entry_code (activity_view a) (plain_body unit.body) ++ (map (c_copied (activity_view a).site) (copied_told unit) ++ blocks_code turns t.blocks)))
+      (turns_so ∙ sym (bodies (activity_view a) unit.body (joined one.blocks) one.slots refl))
 
   locals_so : locals_told t ≡ (activity_function a).locals
   locals_so =

@@ -34,7 +34,7 @@ use Rattle.bl_tree.specs.declared.c.CMember.{CMember}
 use Rattle.bl_tree.specs.Reduce.{greatest}
 use Rattle.bl_machine.specs.declared.slots.Slot.{Slot}
 use Rattle.bl_machine.specs.Blocks.{up_to}
-use Rattle.bl_machine.specs.Slots.{counters_at, numbered, numbered_after, times}
+use Rattle.bl_machine.specs.Slots.{counters_at, numbered_after, numbered_slots, times}
 use Rattle.bl_machine_pass.specs.Numbered.{sizes_for, sizes_of}
 use Rattle.bl_emit_spec.specs.Activities.{Activity, counter_member, frame_member, frame_struct, runs_in_body}
 use Rattle.bl_emit_spec.specs.Names.{callee_name, counter_name}
@@ -166,7 +166,7 @@ of_numbered : (before counters : List ℕ) → counters_at (numbered_after befor
 of_numbered before [] = refl
 of_numbered before (c ∷ counters) = ap (λ rest. c ∷ rest) (of_numbered (before ++ c ∷ []) counters)
 
-pub sizes_wide : (slots : List Slot) (counters : List ℕ) (n : ℕ) → slots ≡ numbered counters → All (λ counter. counter < n) counters →
+pub sizes_wide : (slots : List Slot) (counters : List ℕ) (n : ℕ) → slots ≡ numbered_slots counters → All (λ counter. counter < n) counters →
     ((counter : ℕ) → counter < n → Contains counters counter) → length (sizes_of slots) ≡ n
 sizes_wide slots counters n is below each =
     ap (λ all. length (sizes_for all)) (ap counters_at is ∙ of_numbered [] counters) ∙ sizes_exact counters n below each

@@ -49,7 +49,7 @@ module _ (program : Program) (orderly : AcceptedIsOrderly) (wide : (body : List 
     there = unit_there w i unit is
 
     active : is_activity unit.kind ≡ true
-    active = ((orderly program.structs program.units program.entry compiled.keeps compiled.passes).each i unit is).activity
+    active = ((orderly program.structs program.units program.entry compiled.well_typed compiled.passes).each i unit is).activity
 
     made : MadeOf unit (activities k) (slice_get machine (graph_position program.units k))
     made = compiled.built.made k unit there active
@@ -70,9 +70,9 @@ module _ (program : Program) (orderly : AcceptedIsOrderly) (wide : (body : List 
 
     pub has_frame : FrameHasWidth (written_file program machine) unit
     has_frame =
-        let entry = entry_there (slice_get program.units program.entry) compiled.keeps.entry_stands in record {
+        let entry = entry_there (slice_get program.units program.entry) compiled.well_typed.entry_stands in record {
           frame = frame_struct (activities k);
-          there = (declares machine entry.0 compiled.keeps compiled.passes compiled.agrees entry.1).frames i unit is;
+          there = (declares machine entry.0 compiled.well_typed compiled.passes compiled.agrees entry.1).frames i unit is;
           named = ap (λ (u : UnitDef). frame_name u.name) (compiled.built.unit k unit there);
           counters = frame_counts (activities k) small ∙ many;
         }

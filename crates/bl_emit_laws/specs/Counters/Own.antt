@@ -13,7 +13,7 @@ use Rattle.bl_tree.specs.declared.tree.StructDef.{StructDef}
 use Rattle.bl_tree.specs.declared.tree.Unit.{Unit as UnitDef}
 use Rattle.bl_tree.specs.Typing.{is_activity}
 use Rattle.bl_ctree.specs.Instances.{setting_of, unit_at}
-use Rattle.bl_ctext_semantics.specs.Faults.{struct_table, variables_of}
+use Rattle.bl_ctext_semantics.specs.Faults.{parameters_and_locals, struct_table}
 use Rattle.bl_ctext_semantics.specs.Parts.{Parts}
 use Rattle.bl_ctext_semantics.specs.Tables.{Table, table_of}
 use Rattle.bl_emit_acts.specs.Types.{unit_name}
@@ -66,7 +66,7 @@ pub record NamesItsOwn (units : List UnitDef) (function : CFunc) (place : CPath)
   pub is_there : Contains units activity
   pub active : is_activity activity.kind ≡ true
   pub named : function.name ≡ unit_name activity.name
-  pub pointer : table_of (variables_of function) (codes "f") ≡ Some (record { pointer = true; ty = OfStruct (frame_name activity.name) })
+  pub pointer : table_of (parameters_and_locals function) (codes "f") ≡ Some (record { pointer = true; ty = OfStruct (frame_name activity.name) })
   pub counter : Text
   pub is : place ≡ record { through = true; name = codes "f"; members = counter ∷ [] }
 
@@ -99,7 +99,7 @@ members_through structs (Some (OfStruct struct)) (member ∷ rest) =
 -- the members that a place in a function of a file goes through, from its variable or from what that points to
 abbrev pub members_at : Parts → CFunc → CPath → List MemberOf
 members_at file function place =
-    members_through (struct_table file.structs) (option_map (λ variable. variable.ty) (table_of (variables_of function) place.name)) place.members
+    members_through (struct_table file.structs) (option_map (λ variable. variable.ty) (table_of (parameters_and_locals function) place.name)) place.members
 
 -- a place that goes through a counter of a struct `f_A` stands in the function `a_A`
 abbrev pub CountersStandInOne : Parts → Type 0

@@ -75,7 +75,7 @@ module _ (orderly : AcceptedIsOrderly) (calls : CallsSimulate) (structs : List S
   at_position i u unit is_number is_there = subst (λ (n : ℕ). slice_get units n ≡ Some unit) is_number (unit_there W i unit is_there)
 
   active : (i : ℕ) (unit : UnitDef) → unit_at W i ≡ Some unit → is_activity unit.kind ≡ true
-  active i unit is_there = ((orderly structs units entry compiled.keeps compiled.passes).each i unit is_there).activity
+  active i unit is_there = ((orderly structs units entry compiled.well_typed compiled.passes).each i unit is_there).activity
 
   come_below : (n u : ℕ) → u < n → (k : ℕ) (known : Table Meaning) (depth : ℕ) → AllKnownUpTo structs units activities k known → u < k →
       Comes u known depth
@@ -96,7 +96,7 @@ module _ (orderly : AcceptedIsOrderly) (calls : CallsSimulate) (structs : List S
           calls structs units entry machine activities begin pointers views remember passes u depth known below compiled
           (λ other is. (let same = same_Some unit other (sym there ∙ is) in
           subst (λ (x : UnitDef). known (unit_name x.name) ≡ Some (function_c below (activity_function (activities u)))) same one.1))
-          (λ scope is. functions u scope compiled.keeps overlaps compiled.names
+          (λ scope is. functions u scope compiled.well_typed overlaps compiled.names
           (subst (λ (t : Table Meaning). KnownUpTo structs units u t) (sym is) (functions_known structs units activities u below one.2)))
           (λ v d before. earlier v (omega (arith, less, before)) u below d one.2 before)
 

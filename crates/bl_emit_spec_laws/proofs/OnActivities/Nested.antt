@@ -11,8 +11,8 @@ use Rattle.bl_tree.specs.declared.value.Value.{Value}
 use Rattle.bl_tree.specs.Typing.{TypingContext, is_activity, var_at}
 use Rattle.bl_graph_nodes.specs.Nodes.{EnterAt, nodes_in}
 use Rattle.bl_graph_nodes.specs.Plain.{plain_body}
-use Rattle.bl_ctext_semantics.specs.Meaning.{Scope, further, start_of}
-use Rattle.bl_ctext_semantics.specs.Memory.{Location, Memory, Projection, Root, member, number_in, value_at}
+use Rattle.bl_ctext_semantics.specs.Meaning.{Scope, further, named_location}
+use Rattle.bl_ctext_semantics.specs.Memory.{Location, Memory, Projection, Root, member, scalar_number, value_at}
 use Rattle.bl_ctree.specs.declared.instance.Instance.{Instance}
 use Rattle.bl_ctree.specs.Instances.{Setting, setting_of, unit_at, unit_of}
 use Rattle.bl_ctree.specs.Store.{Store, view_at}
@@ -140,12 +140,12 @@ module _ (structs : List StructDef) (units : List UnitDef) (entry : ℕ) (machin
         location_in scope site x [] ≡ further (remembered_at scope) (member (variable_name x) ∷ [])
     held_location x held =
         ap (λ (h : Home). further (start_in scope (is_activity site.kind) h x) (lead_in h x ++ [])) held
-        ∙ ap (λ (b : Bool). further (start_of scope b (Rattle.std.specs.Prelude.codes "m")) (member (variable_name x) ∷ [])) active
+        ∙ ap (λ (b : Bool). further (named_location scope b (Rattle.std.specs.Prelude.codes "m")) (member (variable_name x) ∷ [])) active
 
     -- the counters
     counters_held : {k : ℕ} {f' m m' : Location} → Nests W activities i (frame_at scope) m k f' m' → (c : ℕ) →
         c < length (activity_at W activities k).sizes →
-        number_in (value_at after (further f' (member (counter_name c) ∷ []))) ≡ pos (with_at i r.counters frames k c)
+        scalar_number (value_at after (further f' (member (counter_name c) ∷ []))) ≡ pos (with_at i r.counters frames k c)
     counters_held memories.here c less =
         kept (frame_at scope).root (((frame_at scope).parts ++ member (counter_name c) ∷ []) ++ []) function.places.frame.frame_older
         ∙ stands.registers.each (Counter c) (less_true c (length a.sizes) less)

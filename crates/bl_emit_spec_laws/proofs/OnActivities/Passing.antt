@@ -15,7 +15,7 @@ use Rattle.bl_tree.specs.Numbers.{number_of}
 use Rattle.bl_tree.specs.Typing.{TypingContext, is_activity, outputs_of}
 use Rattle.bl_ctext_semantics.specs.Course.{Outcome, goes_on, result_at as result_of_end}
 use Rattle.bl_ctext_semantics.specs.Meaning.{ArgumentValue, CallResult, Meaning, Scope, applied, block_c, function_c, further}
-use Rattle.bl_ctext_semantics.specs.Memory.{Location, Memory, Projection, Root, input_object, number_in, output_object, state_object, value_at, variable}
+use Rattle.bl_ctext_semantics.specs.Memory.{Location, Memory, Projection, Root, input_object, output_object, scalar_number, state_object, value_at, variable}
 use Rattle.bl_ctext_semantics.specs.Tables.{Table}
 use Rattle.bl_ctree.specs.Actions.{result_at}
 use Rattle.bl_ctree.specs.Instances.{Setting, setting_of, unit_at}
@@ -33,6 +33,7 @@ use Rattle.bl_emit_spec.specs.Activities.{
   Activity,
   activity_code,
   activity_function,
+  activity_view,
   blocks_in_order,
   body_of,
   copied_in,
@@ -40,7 +41,6 @@ use Rattle.bl_emit_spec.specs.Activities.{
   entry_code,
   remembers_any,
   rested_code,
-  view_of,
 }
 use Rattle.bl_emit_acts.specs.Acts.{c_copied}
 use Rattle.bl_emit_spec_laws.specs.Registers.Registers.{Over, over_at}
@@ -141,8 +141,8 @@ module _ (structs : List StructDef) (units : List UnitDef) (entry : ℕ) (machin
     body_is : activity_code a ≡ start_code a ++ blocks_in_order a
     body_is =
         let rested = map rested_code (counters_read a) in
-        let entered = entry_code (view_of a) (body_of a) in
-        let copied = map (c_copied (view_of a).site) (copied_in a) in
+        let entered = entry_code (activity_view a) (body_of a) in
+        let copied = map (c_copied (activity_view a).site) (copied_in a) in
         sym (append_assoc rested (entered ++ copied) (blocks_in_order a)
         ∙ ap (λ (xs : List CStmt). rested ++ xs) (append_assoc entered copied (blocks_in_order a)))
 
@@ -176,20 +176,20 @@ module _ (structs : List StructDef) (units : List UnitDef) (entry : ℕ) (machin
       site = site_at W activities i
 
       spelled : (place : Location) → is_older scope.depth place.root ≡ true →
-          number_in (value_at called.memory place) ≡ number_in (value_at rest.memory place)
+          scalar_number (value_at called.memory place) ≡ scalar_number (value_at rest.memory place)
       spelled place older = kept_after place.root (place.parts ++ []) older
 
-      over_left : number_in (value_at called.memory given.over) ≡ number_of r'.over
+      over_left : scalar_number (value_at called.memory given.over) ≡ number_of r'.over
       over_left =
-          ap (λ (p : Location). number_in (value_at called.memory p)) (sym lead.over)
+          ap (λ (p : Location). scalar_number (value_at called.memory p)) (sym lead.over)
           ∙ spelled (over_at scope) function.places.frame.over_older
           ∙ ap (λ (ps : List Projection). rest.memory (over_at scope).root (ps ++ [])) (sym (append-nil (over_at scope).parts))
           ∙ part.stands.registers.each Over refl
 
       result_left : (value : Value) → r'.over ≡ true → is_some unit.result ≡ true → result_at left i ≡ Some value →
-          number_in (value_at called.memory given.result) ≡ number_or_zero value
+          scalar_number (value_at called.memory given.result) ≡ number_or_zero value
       result_left value over has is =
-          ap (λ (p : Location). number_in (value_at called.memory p)) (sym (lead.result has))
+          ap (λ (p : Location). scalar_number (value_at called.memory p)) (sym (lead.result has))
           ∙ spelled (result_at_c scope) (function.places.result has).older
           ∙ part.stands.result value over has is
 
@@ -210,7 +210,7 @@ module _ (structs : List StructDef) (units : List UnitDef) (entry : ℕ) (machin
           Encodes structs var.ty value (value_at called.memory place)
       output_left k var value place there is_value at =
           let x = unit.inputs + k in
-          let roles = unit_roles structs units entry (unit_number W i) unit compiled.keeps (unit_there W i unit is_there) in
+          let roles = unit_roles structs units entry (unit_number W i) unit compiled.well_typed (unit_there W i unit is_there) in
           let own = output_at site unit k var roles same_vars there in
           let lent = output_lent site x var own.0 own.1 in
           let is_now = get_drop unit.inputs (view_at W left i).now k value
@@ -254,7 +254,7 @@ module _ (structs : List StructDef) (units : List UnitDef) (entry : ℕ) (machin
           let later = any_right lies memories (given.outputs ++ (results ++ given.over ∷ [])) behind in
           let last = any_right lies given.outputs (results ++ given.over ∷ []) later in
           let end = any_right lies results (given.over ∷ []) last in
-          let roles = unit_roles structs units entry (unit_number W i) unit compiled.keeps (unit_there W i unit is_there) in
+          let roles = unit_roles structs units entry (unit_number W i) unit compiled.well_typed (unit_there W i unit is_there) in
           record {
             frame = ap lies lead.frame ∙ or_left (lies given.frame) (list_any lies (memories ++ (given.outputs ++ (results ++ given.over ∷ [])))) none;
             over = ap lies lead.over ∙ or_left (lies given.over) false end;

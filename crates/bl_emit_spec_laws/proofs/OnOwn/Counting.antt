@@ -8,7 +8,7 @@ use Rattle.std.proofs.lemmas.List.Sums.{sum_by-cons, sum_by_push}
 use Rattle.bl_tree.specs.Reduce.{greatest}
 use Rattle.bl_machine.specs.declared.slots.Slot.{Slot}
 use Rattle.bl_machine.specs.Blocks.{up_to}
-use Rattle.bl_machine.specs.Slots.{counters_at, numbered, numbered_after, times}
+use Rattle.bl_machine.specs.Slots.{counters_at, numbered_after, numbered_slots, times}
 use Rattle.bl_machine_pass.specs.Numbered.{sizes_for, sizes_of}
 use Rattle.bl_emit_spec_laws.specs.Own.{PlaceCounts}
 use Rattle.bl_emit_spec_laws.proofs.OnOwn.Members.{none_is, some_is}
@@ -78,7 +78,7 @@ value_after before (counter ∷ rest) (suc i) x is =
     let last = times_last x.counter counter before in omega arith
 
 -- the value of a number is one more than the number of those before it that have its counter
-pub value_at : (counters : List ℕ) (i : ℕ) (x : Slot) → slice_get (numbered counters) i ≡ Some x → x.value
+pub value_at : (counters : List ℕ) (i : ℕ) (x : Slot) → slice_get (numbered_slots counters) i ≡ Some x → x.value
     ≡ suc (in_front x.counter i counters)
 value_at counters i x is =
     let after = value_after [] counters i x is in let none : times x.counter [] ≡ 0 = refl in omega arith
@@ -155,7 +155,7 @@ size_at (k ∷ rest) i c is =
     )
 
 -- each number of such a list is one of its counter's values
-pub list_counts : (list : List Slot) → list ≡ numbered (counters_at list) → (i : ℕ) (x : Slot) → slice_get list i ≡ Some x →
+pub list_counts : (list : List Slot) → list ≡ numbered_slots (counters_at list) → (i : ℕ) (x : Slot) → slice_get list i ≡ Some x →
     PlaceCounts (sizes_of list) x
 list_counts list counted i x is =
     let at = counter_at list i x is in

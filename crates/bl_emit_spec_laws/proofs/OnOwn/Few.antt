@@ -17,7 +17,7 @@ use Rattle.bl_machine_pass.specs.Transitions.{Change, Transition}
 use Rattle.bl_machine_pass.specs.Transitions.{ClearsBoth, ClearsCounter, EndsWhen, Finishes, SetsCounter, SetsFlag, SetsMark}
 use Rattle.bl_machine_pass_laws.specs.Turns.Laws.{StaysPlaced}
 use Rattle.bl_machine_pass_laws.specs.Spots.{SpotsDiffer}
-use Rattle.bl_emit_spec.specs.Activities.{Activity, is_flagged, rules_at, view_of}
+use Rattle.bl_emit_spec.specs.Activities.{Activity, activity_view, is_flagged, rules_at}
 use Rattle.bl_emit_spec_laws.specs.Registers.Registers.{FewRegisters}
 use Rattle.bl_emit_spec_laws.specs.Calls.Built.{asks_flag, registered, sets_mark}
 use Rattle.bl_emit_spec_laws.proofs.OnOwn.Counting.{get_up_to}
@@ -42,7 +42,7 @@ module _ (a : Activity) (list : List Slot) (spots : SpotsDiffer) (slots_are : a.
     nodes = nodes_in (plain_body a.unit.body)
 
     abbrev number : Node → ℕ
-    number = (view_of a).number
+    number = (activity_view a).number
 
     -- the number of a node is one of its order
     number_below : (n : Node) → Contains nodes n → number n < length a.order
@@ -64,7 +64,7 @@ module _ (a : Activity) (list : List Slot) (spots : SpotsDiffer) (slots_are : a.
     flag_below k on =
         let found = any_found (asks_flag number k) (rules_at a) on in
         let same : k ≡ number found.one.node =
-        eqb-true k (number found.one.node) (both_second (is_flagged found.one.asked) (nat_eq k (number found.one.node)) found.on) in
+        eqb-true k (number found.one.node) (both_second (is_flagged found.one.condition) (nat_eq k (number found.one.node)) found.on) in
         subst (λ n. n < length a.order) (sym same) (rule_below found.one found.there)
 
     change_below : (k : ℕ) (change : Change) →
@@ -82,11 +82,11 @@ module _ (a : Activity) (list : List Slot) (spots : SpotsDiffer) (slots_are : a.
 
     mark_below : (k : ℕ) → (registered a).marks k ≡ true → k < length a.order
     mark_below k on =
-        let found = any_found (λ (rule : Transition). list_any (sets_mark number k) rule.so) (rules_at a) on in
-        let change = any_found (sets_mark number k) found.one.so found.on in
+        let found = any_found (λ (rule : Transition). list_any (sets_mark number k) rule.on_true) (rules_at a) on in
+        let change = any_found (sets_mark number k) found.one.on_true found.on in
         change_below k change.one
-        (every_at (ChangeFits a.slots (rules_at a) (Listed a list spots slots_are sizes_are counters)) found.one.so change.one
-        (rule_fits a list spots slots_are sizes_are counters found.one found.there).so change.there)
+        (every_at (ChangeFits a.slots (rules_at a) (Listed a list spots slots_are sizes_are counters)) found.one.on_true change.one
+        (rule_fits a list spots slots_are sizes_are counters found.one found.there).on_true change.there)
         change.on
 
     pub registers_few : length a.order ≤ 2 ^ 64 → length a.sizes ≤ 2 ^ 64 → FewRegisters (registered a)

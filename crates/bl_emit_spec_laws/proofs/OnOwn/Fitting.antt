@@ -33,7 +33,7 @@ use Rattle.bl_graph_nodes.specs.Plain.{
 use Rattle.bl_machine.specs.declared.slots.Slot.{Slot}
 use Rattle.bl_machine.specs.Uses.{Slots}
 use Rattle.bl_machine_pass.specs.SlotLayout.{Spot, slot_at, spots_in, spots_in_each, spots_of}
-use Rattle.bl_machine_pass.specs.Transitions.{Age, Asked, Change, Needed, Transition}
+use Rattle.bl_machine_pass.specs.Transitions.{Age, Change, Condition, Needed, Transition}
 use Rattle.bl_machine_pass.specs.Transitions.{ClearsBoth, ClearsCounter, Ended, EndsWhen, Finishes, Flagged, IsAny, IsNew, IsOld, Rested, RestedIn, SetsCounter, SetsFlag, SetsMark}
 use Rattle.bl_machine_pass.specs.Transitions.{age_of, body_ends, counters_in, counters_in_each, counters_of, endings, enter, enter_each, fires, flagged, joins}
 use Rattle.bl_machine_pass.specs.Transitions.{marked, needed, once, once_but, rests_in, rests_in_first, rests_of, rule_where, rules_in, rules_in_each, rules_of}
@@ -72,14 +72,14 @@ module _ (slots : Slots) (all : List Transition) (S : Slot → Type 0) where
   pub record HasFlag (n : Node) : Type 0 where
     pub rule : Transition
     pub there : Contains all rule
-    pub asked : rule.asked ≡ Flagged
+    pub condition : rule.condition ≡ Flagged
     pub is : rule.node ≡ n
 
   -- some rule sets its mark
   pub record HasMark (n : Node) : Type 0 where
     pub rule : Transition
     pub there : Contains all rule
-    pub marks : Contains rule.so (SetsMark n)
+    pub marks : Contains rule.on_true (SetsMark n)
     pub is : rule.node ≡ n
 
   -- it is the counter of a place
@@ -102,16 +102,16 @@ module _ (slots : Slots) (all : List Transition) (S : Slot → Type 0) where
   AgeFits (IsOld n) = HasMark n
   AgeFits IsAny = ⊤
 
-  abbrev pub AskedFits : Asked → Type 0
-  AskedFits Flagged = ⊤
-  AskedFits (Rested slot) = S slot
-  AskedFits (RestedIn some) = Every S some × (are_in_a_row some ≡ true)
-  AskedFits (Ended age needed) = AgeFits age × Every S needed.slots
+  abbrev pub ConditionFits : Condition → Type 0
+  ConditionFits Flagged = ⊤
+  ConditionFits (Rested slot) = S slot
+  ConditionFits (RestedIn some) = Every S some × (are_in_a_row some ≡ true)
+  ConditionFits (Ended age needed) = AgeFits age × Every S needed.slots
 
   pub record RuleFits (rule : Transition) : Type 0 where
-    pub so : Every ChangeFits rule.so
-    pub otherwise : Every ChangeFits rule.otherwise
-    pub asked : AskedFits rule.asked
+    pub on_true : Every ChangeFits rule.on_true
+    pub on_false : Every ChangeFits rule.on_false
+    pub condition : ConditionFits rule.condition
 
   -- these rules are among those of the body
   abbrev pub There : List Transition → Type 0
@@ -234,13 +234,13 @@ module _ (slots : Slots) (all : List Transition) (S : Slot → Type 0) where
 
   -- ---- where statements begin
 
-  flag_of : (n : Node) (so : List Change) → Contains all (flagged n so) → HasFlag n
-  flag_of n so there = record { rule = flagged n so; there = there; asked = refl; is = refl }
+  flag_of : (n : Node) (on_true : List Change) → Contains all (flagged n on_true) → HasFlag n
+  flag_of n on_true there = record { rule = flagged n on_true; there = there; condition = refl; is = refl }
 
-  test_of : (n : Node) (so otherwise : List Change) → Contains all (record { node = n; asked = Flagged; so = so; otherwise = otherwise }) →
+  test_of : (n : Node) (on_true on_false : List Change) → Contains all (record { node = n; condition = Flagged; on_true = on_true; on_false = on_false }) →
       HasFlag n
-  test_of n so otherwise there =
-      record { rule = record { node = n; asked = Flagged; so = so; otherwise = otherwise }; there = there; asked = refl; is = refl }
+  test_of n on_true on_false there =
+      record { rule = record { node = n; condition = Flagged; on_true = on_true; on_false = on_false }; there = there; condition = refl; is = refl }
 
   entry_flag : (s : Plain) (next : Change) → There (rules_of slots s next) → HasFlag (entry s)
   entry_flag (Act l s) next there = flag_of (ActAt l s) (next ∷ []) there.0
@@ -274,8 +274,8 @@ module _ (slots : Slots) (all : List Transition) (S : Slot → Type 0) where
 
   -- ---- rules
 
-  flagged_fits : (n : Node) (so : List Change) → Every ChangeFits so → RuleFits (flagged n so)
-  flagged_fits n so fits = record { so = fits; otherwise = tt; asked = tt }
+  flagged_fits : (n : Node) (on_true : List Change) → Every ChangeFits on_true → RuleFits (flagged n on_true)
+  flagged_fits n on_true fits = record { on_true = fits; on_false = tt; condition = tt }
 
   -- `cobegin`
   module _ (l : Label) (at : Place) (bodies : Bodies) (next : Change) (entered : List Change) (rs : List Transition) where
@@ -293,12 +293,12 @@ module _ (slots : Slots) (all : List Transition) (S : Slot → Type 0) where
     joins_fit : (age : Age) (n : Node) → Placed (spots_in_each l 0 bodies) → ChangeFits next → AgeFits age →
         RuleFits (joins slots l bodies age n next)
     joins_fit age n placed fits aged = record {
-      so = every_both ChangeFits (map ClearsCounter (once (counters_in_each slots l 0 bodies))) (next ∷ [])
+      on_true = every_both ChangeFits (map ClearsCounter (once (counters_in_each slots l 0 bodies))) (next ∷ [])
           (every_map IsCounter ChangeFits ClearsCounter (once (counters_in_each slots l 0 bodies)) (λ k is. is)
           (once_fit [] (counters_in_each slots l 0 bodies) (counters_each_fit l 0 bodies placed)))
           (fits, tt);
-      otherwise = tt;
-      asked = (aged, needed_fits l bodies placed);
+      on_false = tt;
+      condition = (aged, needed_fits l bodies placed);
     }
 
     fork_fit : (instant : Bool) → There (fork_rules instant) → Placed (spots_in_each l 0 bodies) → ChangeFits next →
@@ -371,9 +371,9 @@ module _ (slots : Slots) (all : List Transition) (S : Slot → Type 0) where
   abbrev check : Label → Place → Guard → Expr → Block → Change → Transition
   check l at guard e body next = record {
     node = CheckAt l at e;
-    asked = RestedIn (rests_in slots body);
-    so = map ClearsBoth (once (counters_in slots body)) ++ fires guard l at body next ∷ [];
-    otherwise = [];
+    condition = RestedIn (rests_in slots body);
+    on_true = map ClearsBoth (once (counters_in slots body)) ++ fires guard l at body next ∷ [];
+    on_false = [];
   }
 
   fires_fits : (guard : Guard) (l : Label) (at : Place) (body : Block) (next : Change) → ChangeFits next →
@@ -385,12 +385,12 @@ module _ (slots : Slots) (all : List Transition) (S : Slot → Type 0) where
       ChangeFits (enter body (body_ends l at body)) → Placed (spots_in body) → are_in_a_row (rests_in slots body) ≡ true →
       RuleFits (check l at guard e body next)
   check_fits l at guard e body next fits again placed row = record {
-    so = every_both ChangeFits (map ClearsBoth (once (counters_in slots body))) (fires guard l at body next ∷ [])
+    on_true = every_both ChangeFits (map ClearsBoth (once (counters_in slots body))) (fires guard l at body next ∷ [])
         (every_map IsCounter ChangeFits ClearsBoth (once (counters_in slots body)) (λ k is. is)
         (once_fit [] (counters_in slots body) (counters_in_fit body placed)))
         (fires_fits guard l at body next fits again, tt);
-    otherwise = tt;
-    asked = (rests_in_fit body placed, row);
+    on_false = tt;
+    condition = (rests_in_fit body placed, row);
   }
 
   -- a loop with its test behind
@@ -401,7 +401,7 @@ module _ (slots : Slots) (all : List Transition) (S : Slot → Type 0) where
       let head = flag_of (HeadAt l at) (enter body (SetsFlag (TestAt l at e)) ∷ []) there.0 in (
         flagged_fits (HeadAt l at) (enter body (SetsFlag (TestAt l at e)) ∷ [])
             (enter_fits body (SetsFlag (TestAt l at e)) (SetsFlag (TestAt l at e)) there.1.1 test, tt),
-        (record { so = (fits, tt); otherwise = (head, tt); asked = tt }, inner),
+        (record { on_true = (fits, tt); on_false = (head, tt); condition = tt }, inner),
       )
 
   mutual
@@ -410,16 +410,16 @@ module _ (slots : Slots) (all : List Transition) (S : Slot → Type 0) where
     rules_of_fit (Act l s) next there placed rows fits = (flagged_fits (ActAt l s) (next ∷ []) (fits, tt), tt)
     rules_of_fit (Await l at e) next there placed rows fits = (
       flagged_fits (PauseAt l at) (SetsCounter (slots.rest l) ∷ []) (placed.0, tt),
-      (record { so = (counter_fits (slots.rest l) placed.0, (fits, tt)); otherwise = tt; asked = placed.0 }, tt),
+      (record { on_true = (counter_fits (slots.rest l) placed.0, (fits, tt)); on_false = tt; condition = placed.0 }, tt),
     )
     rules_of_fit (RunOf l at target a inputs outputs) next there placed rows fits = (
       flagged_fits (EnterAt l at (arguments_of target inputs outputs)) (SetsCounter (slots.rest l) ∷ []) (placed.0, tt),
-      (record { so = (counter_fits (slots.rest l) placed.0, (fits, tt)); otherwise = tt; asked = placed.0 }, tt),
+      (record { on_true = (counter_fits (slots.rest l) placed.0, (fits, tt)); on_false = tt; condition = placed.0 }, tt),
     )
     rules_of_fit (If l at e body other) next there placed rows fits =
         let first = there_left (rules_in slots body next) (rules_in slots other next) there.1 in
         let second = there_right (rules_in slots body next) (rules_in slots other next) there.1 in (
-          record { so = (enter_fits body next next first fits, tt); otherwise = (enter_fits other next next second fits, tt); asked = tt },
+          record { on_true = (enter_fits body next next first fits, tt); on_false = (enter_fits other next next second fits, tt); condition = tt },
           every_both RuleFits (rules_in slots body next) (rules_in slots other next)
               (rules_in_fit body next first (placed_left (spots_in body) (spots_in other) placed) rows.0 fits)
               (rules_in_fit other next second (placed_right (spots_in body) (spots_in other) placed) rows.1 fits),
@@ -450,9 +450,9 @@ module _ (slots : Slots) (all : List Transition) (S : Slot → Type 0) where
     rules_of_fit (While l at e body) next there placed rows fits =
         let test = test_of (TestAt l at e) (enter body (SetsFlag (TestAt l at e)) ∷ []) (next ∷ []) there.0 in (
           record {
-            so = (enter_fits body (SetsFlag (TestAt l at e)) (SetsFlag (TestAt l at e)) there.1 test, tt);
-            otherwise = (fits, tt);
-            asked = tt;
+            on_true = (enter_fits body (SetsFlag (TestAt l at e)) (SetsFlag (TestAt l at e)) there.1 test, tt);
+            on_false = (fits, tt);
+            condition = tt;
           },
           rules_in_fit body (SetsFlag (TestAt l at e)) there.1 placed rows test,
         )

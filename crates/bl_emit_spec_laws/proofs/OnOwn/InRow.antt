@@ -26,8 +26,8 @@ use Rattle.bl_graph_nodes.specs.Plain.{
 }
 use Rattle.bl_machine.specs.declared.slots.Slot.{Slot}
 use Rattle.bl_machine.specs.Counters.{AllRestAt, EachRests, RestsAt}
-use Rattle.bl_machine.specs.Layout.{places_in, places_in_each, places_of}
-use Rattle.bl_machine.specs.Slots.{counters_at, numbered}
+use Rattle.bl_machine.specs.Layout.{places_in, places_in_each, resting_places}
+use Rattle.bl_machine.specs.Slots.{counters_at, numbered_slots}
 use Rattle.bl_machine.specs.Uses.{Slots}
 use Rattle.bl_machine_pass.specs.SlotLayout.{Spot, slot_at, spots_in, spots_in_each, spots_of}
 use Rattle.bl_machine_pass.specs.Numbered.{no_slot}
@@ -41,7 +41,7 @@ use Rattle.bl_emit_spec_laws.proofs.OnOwn.Members.{both_first, both_second, both
 -- ---- how many places
 
 mutual
-  spots_many : (s : Plain) → length (spots_of s) ≡ places_of s
+  spots_many : (s : Plain) → length (spots_of s) ≡ resting_places s
   spots_many (Act l s) = refl
   spots_many (Await l at e) = refl
   spots_many (RunOf l at target a inputs outputs) = refl
@@ -98,7 +98,7 @@ index_at [] i x is = absurd (cc)
 index_at (y ∷ xs) zero x is = cc
 index_at (y ∷ xs) (suc i) x is = index_at xs i x is
 
-module _ (list : List Slot) (counted : list ≡ numbered (counters_at list)) (slots : Slots) where
+module _ (list : List Slot) (counted : list ≡ numbered_slots (counters_at list)) (slots : Slots) where
   abbrev counter : ℕ → ℕ
   counter = slice_index (counters_at list)
 
@@ -198,8 +198,8 @@ module _ (list : List Slot) (counted : list ≡ numbered (counters_at list)) (sl
   in_right first n xs ys is placed = in_second_at (slot_at slots) slot xs ys first (first + n) (ap (λ m. first + m) is) placed
 
   mutual
-    row_of : (low first : ℕ) (s : Plain) → first + places_of s ≤ length list → Placed first (spots_of s) → RestsAt counter low first s →
-        Row low first (first + places_of s) (rests_of slots s)
+    row_of : (low first : ℕ) (s : Plain) → first + resting_places s ≤ length list → Placed first (spots_of s) → RestsAt counter low first s →
+        Row low first (first + resting_places s) (rests_of slots s)
     row_of low first (Act l s) within placed rests =
         row_none low first (first + 0) (let same : first + 0 ≡ first = omega arith in ap (count low) same)
     row_of low first (Await l at e) within placed rests = row_one low first (slots.rest l) (omega (arith, within)) rests placed.0
@@ -240,15 +240,15 @@ module _ (list : List Slot) (counted : list ≡ numbered (counters_at list)) (sl
     row_in low first Done within placed rests =
         row_none low first (first + 0) (let same : first + 0 ≡ first = omega arith in ap (count low) same)
     row_in low first (Then s rest) within placed rests =
-        row_until low first ((first + places_of s) + places_in rest) (first + (places_of s + places_in rest))
+        row_until low first ((first + resting_places s) + places_in rest) (first + (resting_places s + places_in rest))
         (rests_of slots s ++ rests_in slots rest) (omega arith)
-        (row_both low first (first + places_of s) ((first + places_of s) + places_in rest) (rests_of slots s) (rests_in slots rest)
+        (row_both low first (first + resting_places s) ((first + resting_places s) + places_in rest) (rests_of slots s) (rests_in slots rest)
         (row_of low first s (omega (arith, within)) (in_left first (spots_of s) (spots_in rest) placed) rests.0)
-        (row_in low (first + places_of s) rest (omega (arith, within))
-        (in_right first (places_of s) (spots_of s) (spots_in rest) (spots_many s) placed) rests.1))
+        (row_in low (first + resting_places s) rest (omega (arith, within))
+        (in_right first (resting_places s) (spots_of s) (spots_in rest) (spots_many s) placed) rests.1))
 
   mutual
-    rows_of : (low first : ℕ) (s : Plain) → first + places_of s ≤ length list → Placed first (spots_of s) → RestsAt counter low first s →
+    rows_of : (low first : ℕ) (s : Plain) → first + resting_places s ≤ length list → Placed first (spots_of s) → RestsAt counter low first s →
         RowsOf slots s
     rows_of low first (Act l s) within placed rests = tt
     rows_of low first (Await l at e) within placed rests = tt
@@ -274,8 +274,8 @@ module _ (list : List Slot) (counted : list ≡ numbered (counters_at list)) (sl
     rows_in low first Done within placed rests = tt
     rows_in low first (Then s rest) within placed rests = (
       rows_of low first s (omega (arith, within)) (in_left first (spots_of s) (spots_in rest) placed) rests.0,
-      rows_in low (first + places_of s) rest (omega (arith, within))
-          (in_right first (places_of s) (spots_of s) (spots_in rest) (spots_many s) placed) rests.1,
+      rows_in low (first + resting_places s) rest (omega (arith, within))
+          (in_right first (resting_places s) (spots_of s) (spots_in rest) (spots_many s) placed) rests.1,
     )
 
     rows_each : (first : ℕ) (l : Label) (k : ℕ) (bodies : Bodies) → first + places_in_each bodies ≤ length list →

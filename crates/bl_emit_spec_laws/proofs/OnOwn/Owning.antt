@@ -17,18 +17,18 @@ use Rattle.bl_machine.specs.Layout.{places_in}
 use Rattle.bl_machine.specs.Slots.{Counters}
 use Rattle.bl_machine_pass.specs.SlotLayout.{EndOf, RestOf, Spot, slot_at, spots_in}
 use Rattle.bl_machine_pass.specs.Numbered.{no_slot, sizes_of, slots_of}
-use Rattle.bl_machine_pass.specs.Transitions.{Age, Asked, Change, Transition}
+use Rattle.bl_machine_pass.specs.Transitions.{Age, Change, Condition, Transition}
 use Rattle.bl_machine_pass.specs.Transitions.{ClearsBoth, ClearsCounter, Ended, EndsWhen, Finishes, Flagged, IsAny, IsNew, IsOld, Rested, RestedIn, SetsCounter, SetsFlag, SetsMark}
 use Rattle.bl_machine_pass_laws.specs.Spots.{SpotsDiffer}
 use Rattle.bl_machine_transitions_laws.proofs.Agreeing.{each_agrees}
 use Rattle.bl_machine_pass_laws.proofs.OnSlots.Finding.{number_at}
-use Rattle.bl_emit_spec.specs.Activities.{Activity, is_flagged, reads_counter, rules_at, view_of}
+use Rattle.bl_emit_spec.specs.Activities.{Activity, activity_view, is_flagged, reads_counter, rules_at}
 use Rattle.bl_emit_spec.specs.Blocks.{Sizes, type_for}
 use Rattle.bl_emit_spec_laws.specs.Registers.Laws.{are_in_a_row, asks_its_own, changes_its_own, fits_counter, has_age}
 use Rattle.bl_emit_spec_laws.specs.Calls.Built.{asks_flag, registered, sets_mark}
 use Rattle.bl_emit_spec_laws.specs.Own.{PlaceCounts}
 use Rattle.bl_emit_spec_laws.proofs.OnOwn.Counting.{list_counts, size_few}
-use Rattle.bl_emit_spec_laws.proofs.OnOwn.Fitting.{AgeFits, AskedFits, ChangeFits, HasFlag, HasMark, IsCounter, RuleFits, RowsIn, rules_in_fit}
+use Rattle.bl_emit_spec_laws.proofs.OnOwn.Fitting.{AgeFits, ChangeFits, ConditionFits, HasFlag, HasMark, IsCounter, RowsIn, RuleFits, rules_in_fit}
 use Rattle.bl_emit_spec_laws.proofs.OnOwn.InRow.{rows_in, spots_in_many, there_at}
 use Rattle.bl_emit_spec_laws.proofs.OnOwn.Members.{Every, all_true, any_found, any_true, both_true, contains_at, every_at, every_from}
 use Rattle.bl_emit_spec_laws.proofs.OnOwn.Members.{stands_at}
@@ -133,18 +133,18 @@ module _ (a : Activity) (list : List Slot) (spots : SpotsDiffer) (slots_are : a.
     -- ---- registers
 
     abbrev number : Node → ℕ
-    number = (view_of a).number
+    number = (activity_view a).number
 
     flag_on : (n : Node) → HasFlag a.slots all Listed n → (registered a).flags (number n) ≡ true
     flag_on n flag =
         any_true (asks_flag number (number n)) all flag.rule flag.there
-        (both_true (is_flagged flag.rule.asked) (nat_eq (number n) (number flag.rule.node)) (ap is_flagged flag.asked)
+        (both_true (is_flagged flag.rule.condition) (nat_eq (number n) (number flag.rule.node)) (ap is_flagged flag.condition)
         (eq-eqb (number n) (number flag.rule.node) (ap number (sym flag.is))))
 
     mark_on : (n : Node) → HasMark a.slots all Listed n → (registered a).marks (number n) ≡ true
     mark_on n mark =
-        any_true (λ (rule : Transition). list_any (sets_mark number (number n)) rule.so) all mark.rule mark.there
-        (any_true (sets_mark number (number n)) mark.rule.so (SetsMark n) mark.marks (eq-eqb (number n) (number n) refl))
+        any_true (λ (rule : Transition). list_any (sets_mark number (number n)) rule.on_true) all mark.rule mark.there
+        (any_true (sets_mark number (number n)) mark.rule.on_true (SetsMark n) mark.marks (eq-eqb (number n) (number n) refl))
 
     slot_on : (slot : Slot) → Listed slot → (registered a).counters slot.counter ≡ true
     slot_on slot there = lt-ltb slot.counter (length a.sizes) (listed_counts slot there).counter
@@ -164,12 +164,12 @@ module _ (a : Activity) (list : List Slot) (spots : SpotsDiffer) (slots_are : a.
         (both_true ((registered a).flags (number surface)) ((registered a).flags (number depth)) (flag_on surface fits.1) (flag_on depth fits.2))
     change_on Finishes fits = refl
 
-    pub changes_on : (rule : Transition) → Contains all rule → (list_all (changes_its_own number (registered a)) rule.so ≡ true)
-        × (list_all (changes_its_own number (registered a)) rule.otherwise ≡ true)
+    pub changes_on : (rule : Transition) → Contains all rule → (list_all (changes_its_own number (registered a)) rule.on_true ≡ true)
+        × (list_all (changes_its_own number (registered a)) rule.on_false ≡ true)
     changes_on rule there =
         let fits = rule_fits rule there in (
-          all_true (ChangeFits a.slots all Listed) (changes_its_own number (registered a)) rule.so change_on fits.so,
-          all_true (ChangeFits a.slots all Listed) (changes_its_own number (registered a)) rule.otherwise change_on fits.otherwise,
+          all_true (ChangeFits a.slots all Listed) (changes_its_own number (registered a)) rule.on_true change_on fits.on_true,
+          all_true (ChangeFits a.slots all Listed) (changes_its_own number (registered a)) rule.on_false change_on fits.on_false,
         )
 
     -- ---- values that counters come to hold
@@ -188,9 +188,9 @@ module _ (a : Activity) (list : List Slot) (spots : SpotsDiffer) (slots_are : a.
         every_from (ChangeWithin a.sizes) changes
         (λ change there. change_within change (every_at (ChangeFits a.slots all Listed) changes change fits there))
 
-    pub changes_stay : (rule : Transition) → Contains all rule → Every (ChangeWithin a.sizes) rule.so × Every (ChangeWithin a.sizes) rule.otherwise
+    pub changes_stay : (rule : Transition) → Contains all rule → Every (ChangeWithin a.sizes) rule.on_true × Every (ChangeWithin a.sizes) rule.on_false
     changes_stay rule there =
-        let fits = rule_fits rule there in (each_within rule.so fits.so, each_within rule.otherwise fits.otherwise)
+        let fits = rule_fits rule there in (each_within rule.on_true fits.on_true, each_within rule.on_false fits.on_false)
 
     -- ---- what rules ask
 
@@ -200,12 +200,12 @@ module _ (a : Activity) (list : List Slot) (spots : SpotsDiffer) (slots_are : a.
     age_on IsAny fits = refl
 
     -- a counter of which the rule asks what it held is copied
-    copied_on : (rule : Transition) (k : ℕ) → Contains all rule → reads_counter k rule.asked ≡ true → (registered a).copied k ≡ true
-    copied_on rule k there reads = any_true (λ (other : Transition). reads_counter k other.asked) all rule there reads
+    copied_on : (rule : Transition) (k : ℕ) → Contains all rule → reads_counter k rule.condition ≡ true → (registered a).copied k ≡ true
+    copied_on rule k there reads = any_true (λ (other : Transition). reads_counter k other.condition) all rule there reads
 
-    asked_on : places_in body < 2 ^ 32 → (rule : Transition) (asked : Asked) → Contains all rule → rule.asked ≡ asked →
-        AskedFits a.slots all Listed asked → asks_its_own (view_of a) (registered a) rule.node asked ≡ true
-    asked_on few rule Flagged there is fits = flag_on rule.node (record { rule = rule; there = there; asked = is; is = refl })
+    asked_on : places_in body < 2 ^ 32 → (rule : Transition) (condition : Condition) → Contains all rule → rule.condition ≡ condition →
+        ConditionFits a.slots all Listed condition → asks_its_own (activity_view a) (registered a) rule.node condition ≡ true
+    asked_on few rule Flagged there is fits = flag_on rule.node (record { rule = rule; there = there; condition = is; is = refl })
     asked_on few rule (Rested slot) there is fits =
         copied_on rule slot.counter there (ap (reads_counter slot.counter) is ∙ eq-eqb slot.counter slot.counter refl)
     asked_on few rule (RestedIn some) there is fits =
@@ -223,12 +223,12 @@ module _ (a : Activity) (list : List Slot) (spots : SpotsDiffer) (slots_are : a.
         (age_on age fits.0) (all_true Listed (λ (slot : Slot). (registered a).counters slot.counter) needed.slots slot_on fits.1)
 
     pub asks_on : places_in body < 2 ^ 32 → (rule : Transition) → Contains all rule →
-        asks_its_own (view_of a) (registered a) rule.node rule.asked ≡ true
-    asks_on few rule there = asked_on few rule rule.asked there refl (rule_fits rule there).asked
+        asks_its_own (activity_view a) (registered a) rule.node rule.condition ≡ true
+    asks_on few rule there = asked_on few rule rule.condition there refl (rule_fits rule there).condition
 
     -- ---- copies
 
-    read_below : (k : ℕ) (asked : Asked) → AskedFits a.slots all Listed asked → reads_counter k asked ≡ true → k < length a.sizes
+    read_below : (k : ℕ) (condition : Condition) → ConditionFits a.slots all Listed condition → reads_counter k condition ≡ true → k < length a.sizes
     read_below k Flagged fits reads = absurd (cc)
     read_below k (Rested slot) fits reads =
         subst (λ c. c < length a.sizes) (sym (eqb-true k slot.counter reads)) (listed_counts slot fits).counter
@@ -238,7 +238,7 @@ module _ (a : Activity) (list : List Slot) (spots : SpotsDiffer) (slots_are : a.
         (listed_counts found.one (every_at Listed some found.one fits.0 found.there)).counter
     read_below k (Ended age needed) fits reads = absurd (cc)
 
-    pub copied_below : (k : ℕ) → (view_of a).is_read k ≡ true → k < length a.sizes
+    pub copied_below : (k : ℕ) → (activity_view a).is_read k ≡ true → k < length a.sizes
     copied_below k reads =
-        let found = any_found (λ (rule : Transition). reads_counter k rule.asked) all reads in
-        read_below k found.one.asked (rule_fits found.one found.there).asked found.on
+        let found = any_found (λ (rule : Transition). reads_counter k rule.condition) all reads in
+        read_below k found.one.condition (rule_fits found.one found.there).condition found.on

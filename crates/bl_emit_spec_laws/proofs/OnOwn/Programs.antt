@@ -19,7 +19,7 @@ use Rattle.bl_machine_pass.specs.Numbered.{sizes_of, slots_of}
 use Rattle.bl_machine_pass.specs.Transitions.{Transition, rules}
 use Rattle.bl_machine_pass_laws.specs.Turns.Laws.{StaysPlaced}
 use Rattle.bl_machine_pass_laws.specs.Spots.{SpotsDiffer}
-use Rattle.bl_emit_spec.specs.Activities.{Activity, rules_at, view_of}
+use Rattle.bl_emit_spec.specs.Activities.{Activity, activity_view, rules_at}
 use Rattle.bl_emit_spec_laws.specs.Registers.Laws.{asks_its_own, changes_its_own}
 use Rattle.bl_emit_spec_laws.specs.Registers.Registers.{FewRegisters}
 use Rattle.bl_emit_spec_laws.specs.Calls.Built.{Activities, registered}
@@ -70,20 +70,20 @@ module _ (spots : SpotsDiffer) (structs : List StructDef) (units : List UnitDef)
         place_counts a made.one.slots spots made.slots made.sizes made.counters p
         (subst (λ (u : UnitDef). Contains (spots_in (plain_body u.body)) p) (sym unit_is) there)
 
-    pub unit_copies : (c : ℕ) → (view_of a).is_read c ≡ true → c < length a.sizes
+    pub unit_copies : (c : ℕ) → (activity_view a).is_read c ≡ true → c < length a.sizes
     unit_copies c reads = copied_below a made.one.slots spots made.slots made.sizes made.counters c reads
 
     pub unit_changes : (rule : Transition) → Contains (rules a.slots (plain_body unit.body)) rule →
-        (list_all (changes_its_own (view_of a).number (registered a)) rule.so ≡ true)
-        × (list_all (changes_its_own (view_of a).number (registered a)) rule.otherwise ≡ true)
+        (list_all (changes_its_own (activity_view a).number (registered a)) rule.on_true ≡ true)
+        × (list_all (changes_its_own (activity_view a).number (registered a)) rule.on_false ≡ true)
     unit_changes rule there = changes_on a made.one.slots spots made.slots made.sizes made.counters rule (rule_there rule there)
 
     pub unit_within : (rule : Transition) → Contains (rules a.slots (plain_body unit.body)) rule →
-        Every (ChangeWithin a.sizes) rule.so × Every (ChangeWithin a.sizes) rule.otherwise
+        Every (ChangeWithin a.sizes) rule.on_true × Every (ChangeWithin a.sizes) rule.on_false
     unit_within rule there = changes_stay a made.one.slots spots made.slots made.sizes made.counters rule (rule_there rule there)
 
     pub unit_asks : places_in (plain_body unit.body) < 2 ^ 32 → (rule : Transition) → Contains (rules a.slots (plain_body unit.body)) rule →
-        asks_its_own (view_of a) (registered a) rule.node rule.asked ≡ true
+        asks_its_own (activity_view a) (registered a) rule.node rule.condition ≡ true
     unit_asks few rule there =
         asks_on a made.one.slots spots made.slots made.sizes made.counters
         (subst (λ (u : UnitDef). places_in (plain_body u.body) < 2 ^ 32) (sym unit_is) few) rule (rule_there rule there)

@@ -34,16 +34,16 @@ use Rattle.bl_ctree.specs.Store.{Store}
 use Rattle.bl_machine.specs.declared.machine.Activity.{Activity as InMachine}
 use Rattle.bl_machine.specs.Uses.{Slots}
 use Rattle.bl_machine_pass.specs.Registers.{Registers, after_rule, due_by, is_due}
-use Rattle.bl_machine_pass.specs.Transitions.{Asked, Change, Transition}
+use Rattle.bl_machine_pass.specs.Transitions.{Change, Condition, Transition}
 use Rattle.bl_machine_pass_laws_execution.specs.Executes as executes
 use Rattle.bl_machine_pass_laws_execution.specs.Executes.{CopiesMatch, Executes, HasRule, IsPoint, NodeTraps, PassTraps, Performs, recopied}
 use Rattle.bl_machine_pass_laws.specs.Flags.{MayFlag}
 use Rattle.bl_machine_pass_laws_execution.specs.Frames.{Frames}
-use Rattle.bl_emit_spec.specs.Activities.{Activity, blocks_in_order, remembers_any, turns_in_source, view_of}
-use Rattle.bl_emit_spec.specs.Blocks.{NodeCode, merged_code, turn_code, turn_of}
+use Rattle.bl_emit_spec.specs.Activities.{Activity, activity_view, blocks_in_order, remembers_any, turns_in_source}
+use Rattle.bl_emit_spec.specs.Blocks.{NodeCode, merged_code, node_turn, turn_code}
 use Rattle.bl_emit_spec_laws.specs.Calls.Built.{Activities, activity_at, cleared, rank_by, slots_by}
 use Rattle.bl_emit_spec_laws.specs.Calls.Calls.{PassStarts}
-use Rattle.bl_emit_spec_laws.specs.Calls.Laws.{BlocksSimulate, CalledAt, GuardsChoose, Midway, PartSimulates, PassKeepsFrame, block_done, guarded}
+use Rattle.bl_emit_spec_laws.specs.Calls.Laws.{BlocksSimulate, CalledAt, GuardsChoose, Midway, PartSimulates, PassKeepsFrame, block_done, guarded_by_rule}
 use Rattle.bl_emit_spec_laws.specs.Calls.Invariant.{PassRepresents}
 use Rattle.bl_emit_spec_laws.specs.Passes.{BlockAt, BlocksPass, BlocksPlaced, IsBehind, TurnsFit, behind_firsts, turns_in_blocks}
 use Rattle.bl_emit_spec_laws.specs.Within.{PassesStayWithin}
@@ -135,15 +135,15 @@ module _ (structs : List StructDef) (units : List UnitDef) (entry : ℕ) (machin
       Mid i unit scope frames store copies r here → (k : ℕ) (rule : Transition) (answer : Bool) → HasRule S i unit rule → R i rule.node ≡ k →
       Unflagged i k r → Unflagged i (suc k) (after_rule (R i) rule answer r)
   unflagged_next i unit scope frames store copies r here mid k rule answer has at unflagged p less behind =
-      flags_kept (R i) p (if answer then rule.so else rule.otherwise) r (by answer) (unflagged p (omega (arith, less)) behind)
+      flags_kept (R i) p (if answer then rule.on_true else rule.on_false) r (by answer) (unflagged p (omega (arith, less)) behind)
     where
-      none : (change : Change) (m : Node) → Contains rule.so change ⊎ Contains rule.otherwise change → MayFlag change m → R i m ≡ p → ⊥
+      none : (change : Change) (m : Node) → Contains rule.on_true change ⊎ Contains rule.on_false change → MayFlag change m → R i m ≡ p → ⊥
       none change m there may is =
           let number = placed.before i unit rule change m mid.compiled mid.is_there has there may
           (subst (λ (n : ℕ). IsBehind (A i) n) (sym is) behind) in
           omega (arith, number, is, at, less)
 
-      by : (b : Bool) (change : Change) (m : Node) → Contains (if b then rule.so else rule.otherwise) change → MayFlag change m → R i m ≡ p → ⊥
+      by : (b : Bool) (change : Change) (m : Node) → Contains (if b then rule.on_true else rule.on_false) change → MayFlag change m → R i m ≡ p → ⊥
       by true change m there = none change m (inl there)
       by false change m there = none change m (inr there)
 
@@ -152,15 +152,15 @@ module _ (structs : List StructDef) (units : List UnitDef) (entry : ℕ) (machin
       Mid i unit scope frames store copies r here → (rule : Transition) → HasRule S i unit rule → IsBehind (A i) (R i rule.node) →
       r.flags (R i rule.node) ≡ false → is_due (R i) rule r ≡ false
   not_due i unit scope frames store copies r here mid rule has behind unset =
-      ap (λ (asked : Asked). due_by (R i) r rule.node asked) (placed.waits i unit rule mid.compiled mid.is_there has behind) ∙ unset
+      ap (λ (condition : Condition). due_by (R i) r rule.node condition) (placed.waits i unit rule mid.compiled mid.is_there has behind) ∙ unset
 
   -- ---- turns
 
   -- the turn at a number is that of a rule with the number
   turn_there : (i k : ℕ) (unit : UnitDef) (rule : Transition) → R i rule.node ≡ k → (block : BlockAt (A i) unit (R i rule.node) rule) →
-      slice_get (all i) k ≡ Some (turn_of (view_of (A i)) block.u rule)
+      slice_get (all i) k ≡ Some (node_turn (activity_view (A i)) block.u rule)
   turn_there i k unit rule is block =
-      subst (λ (n : ℕ). slice_get (all i) n ≡ Some (turn_of (view_of (A i)) block.u rule)) is block.turn
+      subst (λ (n : ℕ). slice_get (all i) n ≡ Some (node_turn (activity_view (A i)) block.u rule)) is block.turn
 
   -- a number with a turn is within
   within : (i k : ℕ) (t : NodeCode) (ts : List NodeCode) → drop k (all i) ≡ t ∷ ts → k < length (all i)
@@ -176,7 +176,7 @@ module _ (structs : List StructDef) (units : List UnitDef) (entry : ℕ) (machin
     there : HasRule S i unit rule
     numbered : R i rule.node ≡ k
     u : ℕ
-    turn : t ≡ turn_of (view_of (A i)) u rule
+    turn : t ≡ node_turn (activity_view (A i)) u rule
 
   rule_there : (i k : ℕ) (unit : UnitDef) (scope : Scope) (frames : Frames) (store : Store) (copies : List Value) (r : Registers) (here : Memory) →
       Mid i unit scope frames store copies r here → (t : NodeCode) (ts : List NodeCode) → drop k (all i) ≡ t ∷ ts → Due i k unit t
@@ -188,7 +188,7 @@ module _ (structs : List StructDef) (units : List UnitDef) (entry : ℕ) (machin
         there = at.there;
         numbered = at.numbered;
         u = block.u;
-        turn = same_Some t (turn_of (view_of (A i)) block.u at.rule)
+        turn = same_Some t (node_turn (activity_view (A i)) block.u at.rule)
             (sym (get_first (all i) k t ts is) ∙ turn_there i k unit at.rule at.numbered block);
       }
 
@@ -230,7 +230,7 @@ module _ (structs : List StructDef) (units : List UnitDef) (entry : ℕ) (machin
       skip_open : (t : NodeCode) (ts : List NodeCode) (rest : List (List NodeCode)) → Place i k (t ∷ ts) rest → Left true (t ∷ ts) rest here r
       skip_open t ts rest place =
           let due = rule_there i k unit scope frames store copies r here mid t (ts ++ joined rest) place.turns in
-          let done = choose.skips i unit scope frames store copies r due.rule (turn_of (view_of (A i)) due.u due.rule).code here mid due.there
+          let done = choose.skips i unit scope frames store copies r due.rule (node_turn (activity_view (A i)) due.u due.rule).code here mid due.there
           (none due.rule due.there due.numbered) in
           record {
             enters = true;
@@ -243,7 +243,7 @@ module _ (structs : List StructDef) (units : List UnitDef) (entry : ℕ) (machin
             asleep = λ is. absurd (cc);
             alike = subst (λ (x : NodeCode). Alike (block_c (turn_code x ∷ (map turn_code ts ++ merged rest)) scope here)
                 (block_c (map turn_code ts ++ merged rest) scope here)) (sym due.turn)
-                (first_done (turn_code (turn_of (view_of (A i)) due.u due.rule)) (map turn_code ts ++ merged rest) scope here here done.0 done.1);
+                (first_done (turn_code (node_turn (activity_view (A i)) due.u due.rule)) (map turn_code ts ++ merged rest) scope here here done.0 done.1);
           }
 
       -- in one that wasn't
@@ -268,7 +268,8 @@ module _ (structs : List StructDef) (units : List UnitDef) (entry : ℕ) (machin
       skip_first t ts rest more place turns code behind =
           let due = rule_there i k unit scope frames store copies r here mid t (ts ++ joined more) (place.turns ∙ turns) in
           let inside = t.code ++ map turn_code ts in
-          let done = choose.skips i unit scope frames store copies r due.rule ((turn_of (view_of (A i)) due.u due.rule).code ++ map turn_code ts) here mid
+          let done = choose.skips i unit scope frames store copies r due.rule
+          ((node_turn (activity_view (A i)) due.u due.rule).code ++ map turn_code ts) here mid
           due.there (none due.rule due.there due.numbered) in
           let marks = drop_next (behind_firsts (turns_in_blocks (A i))) k false (map (λ (t : NodeCode). true) ts ++ behind_firsts more)
           (place.behind ∙ behind) in
@@ -282,7 +283,8 @@ module _ (structs : List StructDef) (units : List UnitDef) (entry : ℕ) (machin
                 not_due i unit scope frames store copies r here mid rule has stands (unflagged (R i rule.node) from stands));
             alike = subst (λ (b : List CStmt). Alike (block_c b scope here) (block_c (merged more) scope here)) (sym code)
                 (subst (λ (x : NodeCode). Alike (block_c (merged_code (x ∷ ts) ++ merged more) scope here) (block_c (merged more) scope here)) (sym due.turn)
-                (first_done (guarded (view_of (A i)) due.rule ((turn_of (view_of (A i)) due.u due.rule).code ++ map turn_code ts)) (merged more) scope here
+                (first_done (guarded_by_rule (activity_view (A i)) due.rule ((node_turn (activity_view (A i)) due.u due.rule).code ++ map turn_code ts))
+                (merged more) scope here
                 here done.0 done.1));
           }
 
@@ -327,7 +329,7 @@ module _ (structs : List StructDef) (units : List UnitDef) (entry : ℕ) (machin
     module _ (rule : Transition) (has : HasRule S i unit rule) (at : R i rule.node ≡ k) (due : is_due (R i) rule r ≡ true)
         (block : BlockAt (A i) unit (R i rule.node) rule) where
       abbrev turn : NodeCode
-      turn = turn_of (view_of (A i)) block.u rule
+      turn = node_turn (activity_view (A i)) block.u rule
 
       abbrev done : Outcome Memory
       done = block_done W activities i block.u rule scope here
@@ -342,7 +344,7 @@ module _ (structs : List StructDef) (units : List UnitDef) (entry : ℕ) (machin
 
       -- what the `if` of a block does whose first turn it is
       entered_so : (ts : List NodeCode) →
-          Alike (block_c (guarded (view_of (A i)) rule (turn.code ++ map turn_code ts) ∷ []) scope here)
+          Alike (block_c (guarded_by_rule (activity_view (A i)) rule (turn.code ++ map turn_code ts) ∷ []) scope here)
           (block_c (turn.code ++ map turn_code ts) scope here)
       entered_so ts = choose.enters i unit scope frames store copies r rule (turn.code ++ map turn_code ts) here mid has due
 
@@ -383,7 +385,7 @@ module _ (structs : List StructDef) (units : List UnitDef) (entry : ℕ) (machin
               (block_c (map turn_code ts ++ merged more) scope done.memory)) (same_turn t (ts ++ joined more) (place.turns ∙ turns))
               (subst (λ (m : Memory). Alike (block_c (merged_code (turn ∷ ts) ++ merged more) scope here)
               (block_c (map turn_code ts ++ merged more) scope m)) (sym done_so.1)
-              (opened (guarded (view_of (A i)) rule (turn.code ++ map turn_code ts)) turn.code (map turn_code ts) (merged more) scope here
+              (opened (guarded_by_rule (activity_view (A i)) rule (turn.code ++ map turn_code ts)) turn.code (map turn_code ts) (merged more) scope here
               (entered_so ts) (sym done_so.0 ∙ ends))));
         }
 
@@ -418,7 +420,7 @@ module _ (structs : List StructDef) (units : List UnitDef) (entry : ℕ) (machin
             ap (λ (b : List CStmt). (block_c b scope here).end) code
             ∙ ap (λ (x : NodeCode). (block_c (merged_code (x ∷ ts) ++ merged more) scope here).end)
             (sym (same_turn t (ts ++ joined more) (place.turns ∙ turns)))
-            ∙ more_traps (guarded (view_of (A i)) rule (turn.code ++ map turn_code ts)) (merged more) scope here
+            ∙ more_traps (guarded_by_rule (activity_view (A i)) rule (turn.code ++ map turn_code ts)) (merged more) scope here
             ((entered_so ts).0 ∙ then_traps turn.code (map turn_code ts) scope here (sym done_so.0 ∙ ends))
 
         pub trapped : (entered : Bool) (others : List NodeCode) (rest : List (List NodeCode)) → Place i k others rest → Asleep entered i unit k others r →
@@ -447,7 +449,7 @@ module _ (structs : List StructDef) (units : List UnitDef) (entry : ℕ) (machin
   -- code that does what other code does behind a part of it
   behind : (i : ℕ) (unit : UnitDef) (scope : Scope) (code later : List CStmt) (here middle : Memory) (frames : Frames) (store : Store) (r : Registers) →
       Alike (block_c code scope here) (block_c later scope middle) →
-      PassKeepsFrame (view_of (A i)).site unit (remembers_any (A i)) scope here middle → Came i unit scope later frames store r middle →
+      PassKeepsFrame (activity_view (A i)).site unit (remembers_any (A i)) scope here middle → Came i unit scope later frames store r middle →
       Came i unit scope code frames store r here
   behind i unit scope code later here middle frames store r alike kept rest = record {
     copies = rest.copies;

@@ -25,13 +25,13 @@ use Rattle.bl_machine_pass_laws_execution.specs.Executes.{HasRule, begun_registe
 use Rattle.bl_machine_pass_laws.specs.Turns.Laws.{StaysPlaced, entry_flag}
 use Rattle.bl_machine_pass_laws.specs.Flags.{FlagsAreAsked, FlagsAreReached, FlagsComeFromBefore, MayFlag}
 use Rattle.bl_machine_pass_laws.specs.Keys.{NodesHaveKeys}
-use Rattle.bl_machine_transitions.specs.Callees.{callees_in, number_in}
+use Rattle.bl_machine_transitions.specs.Callees.{callees_in, node_number}
 use Rattle.bl_machine_transitions.specs.Listed.{layout_of}
 use Rattle.bl_machine_transitions_laws.specs.Laws.{RulesAreListed}
 use Rattle.bl_machine_transitions_laws.proofs.Agreeing.{Agrees}
 use Rattle.bl_machine_transitions_laws.proofs.Standing.{nodes_stand}
-use Rattle.bl_emit_spec.specs.Activities.{Activity, picked, turns_in_source, view_of}
-use Rattle.bl_emit_spec.specs.Blocks.{ActivityView, NodeCode, turn_of, turns_of}
+use Rattle.bl_emit_spec.specs.Activities.{Activity, activity_view, picked, turns_in_source}
+use Rattle.bl_emit_spec.specs.Blocks.{ActivityView, NodeCode, node_turn, turns_of}
 use Rattle.bl_emit_spec_laws.specs.Calls.Built.{Activities, activity_at, rank_by, slots_by, unit_number}
 use Rattle.bl_emit_spec_laws.specs.Calls.Laws.{CompilationContext}
 use Rattle.bl_emit_spec_laws.specs.Passes.{BlockAt, BlocksPlaced, IsBehind, RuleAt, turns_in_blocks}
@@ -43,11 +43,11 @@ use Rattle.bl_emit_spec_laws.proofs.OnPlaced.Lists.{picked_at, picked_many, some
 
 turn_at : (view : ActivityView) (callees : List ℕ) (rs : List Transition) (k u : ℕ) (rule : Transition) → slice_get callees k ≡ Some u → slice_get rs k
     ≡ Some rule →
-    slice_get (turns_of view callees rs) k ≡ Some (turn_of view u rule)
+    slice_get (turns_of view callees rs) k ≡ Some (node_turn view u rule)
 turn_at view [] rs k u rule one two = absurd (cc)
 turn_at view (c ∷ callees) [] k u rule one two = absurd (cc)
 turn_at view (c ∷ callees) (r ∷ rs) zero u rule one two =
-    ap (λ a. Some (turn_of view a r)) (some_is c u one) ∙ ap (λ a. Some (turn_of view u a)) (some_is r rule two)
+    ap (λ a. Some (node_turn view a r)) (some_is c u one) ∙ ap (λ a. Some (node_turn view u a)) (some_is r rule two)
 turn_at view (c ∷ callees) (r ∷ rs) (suc k) u rule one two = turn_at view callees rs k u rule one two
 
 turns_many : (view : ActivityView) (callees : List ℕ) (rs : List Transition) → length callees ≡ length rs → length (turns_of view callees rs)
@@ -108,11 +108,11 @@ module _ (laws : Laws) (a : Activity) (unit : UnitDef) (one : InMachine) (unit_i
     permutes = subst (λ order. IsPermutation (up_to (length nodes)) order) (sym order_is) ordered.all
 
     -- the turns in source order
-    turns_are : turns ≡ turns_of (view_of a) (callees_in body) rs
-    turns_are = ap (λ (u : UnitDef). turns_of (view_of a) (callees_in (plain_body u.body)) (rules a.slots (plain_body u.body))) unit_is
+    turns_are : turns ≡ turns_of (activity_view a) (callees_in body) rs
+    turns_are = ap (λ (u : UnitDef). turns_of (activity_view a) (callees_in (plain_body u.body)) (rules a.slots (plain_body u.body))) unit_is
 
     many_turns : length turns ≡ length nodes
-    many_turns = ap (λ (xs : List NodeCode). length xs) turns_are ∙ turns_many (view_of a) (callees_in body) rs many_callees ∙ many_rules
+    many_turns = ap (λ (xs : List NodeCode). length xs) turns_are ∙ turns_many (activity_view a) (callees_in body) rs many_callees ∙ many_rules
 
     within : Within turns a.order
     within k p at = subst (λ n. p < n) (sym many_turns) (number_below (length nodes) a.order permutes p k at)
@@ -129,18 +129,18 @@ module _ (laws : Laws) (a : Activity) (unit : UnitDef) (one : InMachine) (unit_i
     node_at p rule is = ap (λ (xs : List Node). slice_get xs p) (sym nodes_are) ∙ mapped_at (λ (r : Transition). r.node) rs p rule is
 
     -- the number of a node is where its position stands in the order
-    number_of_node : (p k : ℕ) (n : Node) → slice_get nodes p ≡ Some n → slice_get a.order k ≡ Some p → (view_of a).number n ≡ k
+    number_of_node : (p k : ℕ) (n : Node) → slice_get nodes p ≡ Some n → slice_get a.order k ≡ Some p → (activity_view a).number n ≡ k
     number_of_node p k n is at =
         let none : 0 + p ≡ p = omega arith in
-        ap (λ (u : UnitDef). number_in a.order (plain_body u.body) n) unit_is
-        ∙ agrees_at (number_in a.order body) (layout_of a.order one.slots).number nodes 0 p n (nodes_stand laws.keys unit.body a.order one.slots) is
+        ap (λ (u : UnitDef). node_number a.order (plain_body u.body) n) unit_is
+        ∙ agrees_at (node_number a.order body) (layout_of a.order one.slots).number nodes 0 p n (nodes_stand laws.keys unit.body a.order one.slots) is
         ∙ ap (λ q. position_where (nat_eq q) a.order) none
         ∙ found_at p a.order k at (λ j there. number_once (length nodes) a.order permutes p j k there at)
 
-    number_is : (p k : ℕ) (rule : Transition) → slice_get rs p ≡ Some rule → slice_get a.order k ≡ Some p → (view_of a).number rule.node ≡ k
+    number_is : (p k : ℕ) (rule : Transition) → slice_get rs p ≡ Some rule → slice_get a.order k ≡ Some p → (activity_view a).number rule.node ≡ k
     number_is p k rule is at = number_of_node p k rule.node (node_at p rule is) at
 
-    pub of_rule : (rule : Transition) → Contains rs rule → BlockAt a unit ((view_of a).number rule.node) rule
+    pub of_rule : (rule : Transition) → Contains rs rule → BlockAt a unit ((activity_view a).number rule.node) rule
     of_rule rule there =
         let at = stands_at rs rule there in
         let below = within_at rs at.0 rule at.1 in
@@ -154,16 +154,16 @@ module _ (laws : Laws) (a : Activity) (unit : UnitDef) (one : InMachine) (unit_i
           called = record { position = at.0; node = node_at at.0 rule at.1; unit = called.1 };
           turn = ap (λ n. slice_get (joined (turns_in_blocks a)) n) number
               ∙ ap (λ (xs : List NodeCode). slice_get xs k.0) (sym all_turns)
-              ∙ picked_at turns a.order within k.0 at.0 (turn_of (view_of a) called.0 rule) k.1
+              ∙ picked_at turns a.order within k.0 at.0 (node_turn (activity_view a) called.0 rule) k.1
               (ap (λ (xs : List NodeCode). slice_get xs at.0) turns_are
-              ∙ turn_at (view_of a) (callees_in body) rs at.0 called.0 rule called.1 at.1);
+              ∙ turn_at (activity_view a) (callees_in body) rs at.0 called.0 rule called.1 at.1);
         }
 
     -- a rule whose node has a number
     pub record Numbered (number : ℕ) : Type 0 where
       pub rule : Transition
       pub there : Contains rs rule
-      pub numbered : (view_of a).number rule.node ≡ number
+      pub numbered : (activity_view a).number rule.node ≡ number
 
     pub of_number : (number : ℕ) → number < length (joined (turns_in_blocks a)) → Numbered number
     of_number number below =
@@ -181,10 +181,10 @@ module _ (laws : Laws) (a : Activity) (unit : UnitDef) (one : InMachine) (unit_i
     pub record Pair (p : ℕ) : Type 0 where
       pub first : Node
       pub second : Node
-      pub numbered : p ≡ suc ((view_of a).number first)
+      pub numbered : p ≡ suc ((activity_view a).number first)
       pub follow : CouldFollow body first second
       -- no other node has the number
-      pub only : (m : Node) → Contains nodes m → (view_of a).number m ≡ p → m ≡ second
+      pub only : (m : Node) → Contains nodes m → (activity_view a).number m ≡ p → m ≡ second
 
     pub pair : (p : ℕ) → IsBehind a p → Pair p
     pair p behind =
@@ -212,38 +212,38 @@ module _ (laws : Laws) (a : Activity) (unit : UnitDef) (one : InMachine) (unit_i
     rule_node rule there =
         let at = stands_at rs rule there in contains_at nodes at.0 rule.node (node_at at.0 rule at.1)
 
-    pub waits : (rule : Transition) → Contains rs rule → IsBehind a ((view_of a).number rule.node) → rule.asked ≡ Flagged
+    pub waits : (rule : Transition) → Contains rs rule → IsBehind a ((activity_view a).number rule.node) → rule.condition ≡ Flagged
     waits rule there behind =
-        let both = pair ((view_of a).number rule.node) behind in
+        let both = pair ((activity_view a).number rule.node) behind in
         laws.asked a.slots body both.first both.second rule both.follow there (both.only rule.node (rule_node rule there) refl)
 
-    pub before : (rule : Transition) (change : Change) (m : Node) → Contains rs rule → Contains rule.so change ⊎ Contains rule.otherwise change →
-        MayFlag change m → IsBehind a ((view_of a).number m) → (view_of a).number m ≡ suc ((view_of a).number rule.node)
+    pub before : (rule : Transition) (change : Change) (m : Node) → Contains rs rule → Contains rule.on_true change ⊎ Contains rule.on_false change →
+        MayFlag change m → IsBehind a ((activity_view a).number m) → (activity_view a).number m ≡ suc ((activity_view a).number rule.node)
     before rule change m there among may behind =
-        let both = pair ((view_of a).number m) behind in
+        let both = pair ((activity_view a).number m) behind in
         let via = laws.reached a.slots body m rule change there among may in
         let is : m ≡ both.second = both.only m ((laws.within body).edges via.0 m via.1).1 refl in
         let own : rule.node ≡ both.first =
         laws.before a.slots body both.first both.second rule change both.follow there among (subst (λ (x : Node). MayFlag change x) is may) in
-        both.numbered ∙ ap (λ (x : Node). suc ((view_of a).number x)) (sym own)
+        both.numbered ∙ ap (λ (x : Node). suc ((activity_view a).number x)) (sym own)
 
-    pub begins : (p : ℕ) → IsBehind a p → entry_flag (view_of a).number body p ≡ false
+    pub begins : (p : ℕ) → IsBehind a p → entry_flag (activity_view a).number body p ≡ false
     begins p behind = by body refl
       where
         both : Pair p
         both = pair p behind
 
-        by : (b : Block) → body ≡ b → entry_flag (view_of a).number b p ≡ false
+        by : (b : Block) → body ≡ b → entry_flag (activity_view a).number b p ≡ false
         by Done is = refl
-        by (Then s rest) is = unset (nat_eq p ((view_of a).number (first_node s))) refl
+        by (Then s rest) is = unset (nat_eq p ((activity_view a).number (first_node s))) refl
           where
             first : Entry body (first_node s)
             first = subst (λ (b : Block). Entry b (first_node s)) (sym is) refl
 
-            unset : (b : Bool) → nat_eq p ((view_of a).number (first_node s)) ≡ b → b ≡ false
+            unset : (b : Bool) → nat_eq p ((activity_view a).number (first_node s)) ≡ b → b ≡ false
             unset false equal = refl
             unset true equal =
-                let number : p ≡ (view_of a).number (first_node s) = eqb-true p ((view_of a).number (first_node s)) equal in
+                let number : p ≡ (activity_view a).number (first_node s) = eqb-true p ((activity_view a).number (first_node s)) equal in
                 let same = both.only (first_node s) ((laws.within body).entries (first_node s) first) (sym number) in
                 absurd (both.follow.no_entry (subst (λ (n : Node). Entry body n) same first))
 
@@ -272,7 +272,7 @@ module _ (laws : Laws) (orderly : AcceptedIsOrderly) (structs : List StructDef)
       there = unit_there w i unit (slice_get w.instances i) is
 
       activity : is_activity unit.kind ≡ true
-      activity = ((orderly structs units entry compiled.keeps compiled.passes).each i unit is).activity
+      activity = ((orderly structs units entry compiled.well_typed compiled.passes).each i unit is).activity
 
       record Made : Type 0 where
         one : InMachine
@@ -306,11 +306,11 @@ module _ (laws : Laws) (orderly : AcceptedIsOrderly) (structs : List StructDef)
           record { rule = found.rule; there = found.there; numbered = found.numbered }
 
       instance_waits : (rule : Transition) → HasRule (slots_by w activities) i unit rule → IsBehind a (rank_by w activities i rule.node) →
-          rule.asked ≡ Flagged
+          rule.condition ≡ Flagged
       instance_waits rule has behind = waits laws a unit made.one made.unit_is made.order made.blocks made.slots made.ordered rule has behind
 
       instance_before : (rule : Transition) (change : Change) (m : Node) → HasRule (slots_by w activities) i unit rule →
-          Contains rule.so change ⊎ Contains rule.otherwise change → MayFlag change m → IsBehind a (rank_by w activities i m) →
+          Contains rule.on_true change ⊎ Contains rule.on_false change → MayFlag change m → IsBehind a (rank_by w activities i m) →
           rank_by w activities i m ≡ suc (rank_by w activities i rule.node)
       instance_before rule change m has among may behind =
           before laws a unit made.one made.unit_is made.order made.blocks made.slots made.ordered rule change m has among may behind

@@ -9,7 +9,7 @@ use Rattle.std.specs.Fmt.{decimal}
 use Rattle.bl_tree.specs.declared.text.Text.{Text}
 use Rattle.bl_tree.specs.declared.tree.Var.{Var}
 use Rattle.bl_tree.specs.Typing.{TypingContext, is_activity, var_at}
-use Rattle.bl_ctext_semantics.specs.Meaning.{Scope, further, start_of}
+use Rattle.bl_ctext_semantics.specs.Meaning.{Scope, further, named_location}
 use Rattle.bl_ctext_semantics.specs.Memory.{Location, Projection, Root, input_object, member, output_object, same_root, state_object, variable}
 use Rattle.bl_emit_acts.specs.declared.home.Home.{Home}
 use Rattle.bl_emit_acts.specs.declared.home.Home.TheVariants.{Held, Given, Lent}
@@ -83,7 +83,7 @@ further_apart p q xs ys h =
 
 module _ (scope : Scope) (frame : FramePointersAreValid scope) where
   abbrev local_at : Text → Location
-  local_at name = start_of scope false name
+  local_at name = named_location scope false name
 
   local_older : (name : Text) (place : Location) → is_older scope.depth place.root ≡ true → are_apart (local_at name) place ≡ true
   local_older name place older = roots_differ (local_at name) place (older_differs scope.depth name place.root older)

@@ -8,7 +8,7 @@ use Rattle.bl_tree.specs.declared.c.CExpr.{CExpr}
 use Rattle.bl_tree.specs.declared.c.CStmt.{CStmt}
 use Rattle.bl_graph_nodes.specs.Nodes.{Node}
 use Rattle.bl_ctext_semantics.specs.Course.{End, goes_on}
-use Rattle.bl_ctext_semantics.specs.Memory.{CValue, Memory, number_in, scalar}
+use Rattle.bl_ctext_semantics.specs.Memory.{CValue, Memory, scalar, scalar_number}
 use Rattle.bl_ctext_semantics.specs.Meaning.{Counted, Scope, block_c, runs_c, value_c}
 use Rattle.bl_emit_acts.specs.Acts.{c_set}
 use Rattle.bl_emit_acts.specs.Trees.{c_read}
@@ -175,7 +175,7 @@ module _ (view : ActivityView) (has : Registered) (scope : Scope) (agree : Copie
 
     mark_truth : truth_c scope (c_read (mark_place (view.number start))) m ≡ Some (r.marks (view.number start))
     mark_truth =
-        ap (option_map (λ v. is_one (number_in v)))
+        ap (option_map (λ v. is_one (scalar_number v)))
         (read_answer scope m (mark_place (view.number start)) (register_at scope (Mark (view.number start)))
         (local_answer scope m (mark_name (view.number start))))
         ∙ ap Some (ap is_one (hold.each (Mark (view.number start)) marks) ∙ is_bit (r.marks (view.number start)))

@@ -16,9 +16,9 @@ use Rattle.bl_tree.specs.declared.c.CExpr.{CExpr, fold-roll-CExpr, roll-CExpr}
 use Rattle.bl_tree.specs.declared.c.CExprKind.{CExprKind, CExprKind-F, fold-roll-CExprKind, roll-CExprKind}
 use Rattle.bl_tree.specs.declared.c.CExprKind.TheVariants as expression
 use Rattle.bl_tree.specs.Numbers.{checked_one_of}
-use Rattle.bl_ctext_semantics.specs.Memory.{Projection, member, Location, CValue, Memory, scalar, number_in, value_at}
+use Rattle.bl_ctext_semantics.specs.Memory.{Projection, member, Location, CValue, Memory, scalar, scalar_number, value_at}
 use Rattle.bl_ctext_semantics.specs.Meaning.{Counted, Evaluates, given, next, ArgumentValue, by_value, CallResult}
-use Rattle.bl_ctext_semantics.specs.Meaning.{Scope, value_c, location_c, each_of, further, start_of, two_values}
+use Rattle.bl_ctext_semantics.specs.Meaning.{Scope, value_c, location_c, each_of, further, named_location, two_values}
 use Rattle.bl_ctext_semantics.specs.Meaning.{call_c, called_after, result_of, way_of, arg_step, kind_step, call_step, expr_step, index_step, place_step, step_step}
 use Rattle.bl_emit_acts.specs.Trees.{nowhere, c_call, c_called, c_literal, c_not, c_place, c_read, c_step, c_two}
 
@@ -56,7 +56,7 @@ module _ (scope : Scope) (memory : Memory) where
       (expression.rolls-Read place) (read-open place)
 
   abbrev negates : CExpr → Counted CValue
-  negates operand = next (value_c operand scope memory) (λ a. given (option_map scalar (checked_one_of Not OfBool (number_in a))))
+  negates operand = next (value_c operand scope memory) (λ a. given (option_map scalar (checked_one_of Not OfBool (scalar_number a))))
 
   not-open : (operand : CExpr) → value_c (kind (CExprKind-F.Not operand)) scope memory ≡ negates operand
   not-open operand = rw (fold-roll-CExpr, fold-roll-CExprKind) refl
@@ -108,5 +108,5 @@ module _ (scope : Scope) (memory : Memory) where
   step-way name = rw fold-roll-CStep refl
 
   pub place-location : (through : Bool) (name : Text) (steps : List CStep) → location_c (c_place through name steps) scope memory
-      ≡ next (each_of (map ways steps) scope memory) (λ ways. given (Some (further (start_of scope through name) (way_of ways))))
+      ≡ next (each_of (map ways steps) scope memory) (λ ways. given (Some (further (named_location scope through name) (way_of ways))))
   place-location through name steps = rw fold-roll-CPlace refl

@@ -15,7 +15,7 @@ use Rattle.bl_tree.specs.declared.scalar.Op.TheVariants.{And, Eq, Ge, Ne, Not, O
 use Rattle.bl_tree.specs.declared.scalar.Scalar.{Scalar}
 use Rattle.bl_tree.specs.declared.scalar.Scalar.TheVariants.{Bool as OfBool}
 use Rattle.bl_machine.specs.declared.slots.Slot.{Slot}
-use Rattle.bl_ctext_semantics.specs.Memory.{CValue, Memory, number_in}
+use Rattle.bl_ctext_semantics.specs.Memory.{CValue, Memory, scalar_number}
 use Rattle.bl_ctext_semantics.specs.Meaning.{Counted, Scope}
 use Rattle.bl_emit_acts.specs.Trees.{c_literal, c_not, c_read, c_two}
 use Rattle.bl_emit_functions.specs.Trees.{c_truth}
@@ -127,7 +127,7 @@ module _ (scope : Scope) (here : Memory) where
   Shows e b = gives scope here e ≡ Some (number_of b)
 
   pub literal_gives : (ty : Scalar) (n : ℤ) → gives scope here (c_literal ty n) ≡ Some n
-  literal_gives ty n = ap (λ (c : Counted CValue). option_map number_in c.answer) (literal-value scope here ty n)
+  literal_gives ty n = ap (λ (c : Counted CValue). option_map scalar_number c.answer) (literal-value scope here ty n)
 
   pub truth_shows : (b : Bool) → Shows (c_truth b) b
   truth_shows true = literal_gives OfBool (pos 1)
@@ -219,22 +219,22 @@ module _ (scope : Scope) (here : Memory) where
   module _ (view : ActivityView) (has : Registered) (r : Registers) (hold : RegistersEncoded has scope r here) where
     counter_gives : (k : ℕ) → has.counters k ≡ true → gives scope here (c_read (counter_place k)) ≡ Some (pos (r.counters k))
     counter_gives k its =
-        ap (option_map number_in) (read_answer scope here (counter_place k) (register_at scope (Counter k)) (counter_answer scope here k))
+        ap (option_map scalar_number) (read_answer scope here (counter_place k) (register_at scope (Counter k)) (counter_answer scope here k))
         ∙ ap Some (hold.each (Counter k) its)
 
     pub rested_gives : (k : ℕ) → has.copied k ≡ true → gives scope here (c_read (rested_place k)) ≡ Some (pos (r.rested k))
     rested_gives k its =
-        ap (option_map number_in) (read_answer scope here (rested_place k) (register_at scope (Before k)) (local_answer scope here (rested_name k)))
+        ap (option_map scalar_number) (read_answer scope here (rested_place k) (register_at scope (Before k)) (local_answer scope here (rested_name k)))
         ∙ ap Some (hold.each (Before k) its)
 
     pub flag_shows : (k : ℕ) → has.flags k ≡ true → Shows (c_read (flag_place k)) (r.flags k)
     flag_shows k its =
-        ap (option_map number_in) (read_answer scope here (flag_place k) (register_at scope (Flag k)) (local_answer scope here (flag_name k)))
+        ap (option_map scalar_number) (read_answer scope here (flag_place k) (register_at scope (Flag k)) (local_answer scope here (flag_name k)))
         ∙ ap Some (hold.each (Flag k) its)
 
     mark_shows : (k : ℕ) → has.marks k ≡ true → Shows (c_read (mark_place k)) (r.marks k)
     mark_shows k its =
-        ap (option_map number_in) (read_answer scope here (mark_place k) (register_at scope (Mark k)) (local_answer scope here (mark_name k)))
+        ap (option_map scalar_number) (read_answer scope here (mark_place k) (register_at scope (Mark k)) (local_answer scope here (mark_name k)))
         ∙ ap Some (hold.each (Mark k) its)
 
     pub since_shows : (k least : ℕ) → has.copied k ≡ true → Shows (rested_since view k least) (nat_le least (r.rested k))

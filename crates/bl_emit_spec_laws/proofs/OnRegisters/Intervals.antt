@@ -26,7 +26,7 @@ use Rattle.bl_ctext_semantics.specs.Meaning.{Scope}
 use Rattle.bl_emit_acts.specs.Expressions.{c_compare, cast_word, function_name, hidden, is_constant, is_literal_kind, is_read, side}
 use Rattle.bl_emit_acts.specs.Trees.{c_literal, c_read, c_two, nowhere}
 use Rattle.bl_machine_pass.specs.Registers.{Registers, are_ended, due_by, is_at}
-use Rattle.bl_machine_pass.specs.Transitions.{Asked}
+use Rattle.bl_machine_pass.specs.Transitions.{Condition}
 use Rattle.bl_machine_pass.specs.Transitions.{Ended, Flagged, Rested, RestedIn}
 use Rattle.bl_emit_spec.specs.Blocks.{ActivityView, counter_type, counter_value, ends_test, greatest_value, guard_of, is_greatest, last_value}
 use Rattle.bl_emit_spec.specs.Blocks.{rested_between, rested_in, rested_to, rested_within, type_for}
@@ -235,8 +235,8 @@ module _ (scope : Scope) (here : Memory) where
 
     -- ---- guards
 
-    pub guard_shows : (n : Node) (asked : Asked) → asks_its_own view has n asked ≡ true →
-        Shows scope here (guard_of view n asked) (due_by view.number r n asked)
+    pub guard_shows : (n : Node) (condition : Condition) → asks_its_own view has n condition ≡ true →
+        Shows scope here (guard_of view n condition) (due_by view.number r n condition)
     guard_shows n Flagged its = flag_shows scope here view has r hold (view.number n) its
     guard_shows n (Rested slot) its = rested_shows scope here view has r hold within slot its
     guard_shows n (RestedIn slots) its =

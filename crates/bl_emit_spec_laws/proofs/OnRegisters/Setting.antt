@@ -8,8 +8,8 @@ use Rattle.bl_tree.specs.declared.c.CExpr.{CExpr}
 use Rattle.bl_tree.specs.declared.c.CPlace.{CPlace}
 use Rattle.bl_tree.specs.declared.c.CStmt.{CStmt}
 use Rattle.bl_ctext_semantics.specs.Course.{End, Outcome, breaks, following_end, goes_on, returns, traps}
-use Rattle.bl_ctext_semantics.specs.Memory.{CValue, Location, Memory, Projection, left_after, number_in, number_or, scalar, set_at, value_at}
-use Rattle.bl_ctext_semantics.specs.Meaning.{Counted, Scope, block_c, each_of, further, given, location_c, next, runs_c, start_of, value_c, way_of}
+use Rattle.bl_ctext_semantics.specs.Memory.{CValue, Location, Memory, Projection, left_after, number_or, scalar, scalar_number, set_at, value_at}
+use Rattle.bl_ctext_semantics.specs.Meaning.{Counted, Scope, block_c, each_of, further, given, location_c, named_location, next, runs_c, value_c, way_of}
 use Rattle.bl_emit_acts.specs.Acts.{c_set}
 use Rattle.bl_emit_acts.specs.Trees.{c_place, c_read, c_step}
 use Rattle.bl_machine_pass.specs.Registers.{Registers}
@@ -50,7 +50,7 @@ register_is Over (Mark k) h = absurd (cc)
 -- ---- places
 
 module _ (scope : Scope) (m : Memory) where
-  pub local_answer : (name : Text) → (location_c (c_place false name []) scope m).answer ≡ Some (start_of scope false name)
+  pub local_answer : (name : Text) → (location_c (c_place false name []) scope m).answer ≡ Some (named_location scope false name)
   local_answer name = ap (λ (c : Counted Location). c.answer) (place-location scope m false name [])
 
   pub over_answer : (location_c over_place scope m).answer ≡ Some (register_at scope Over)
@@ -64,7 +64,7 @@ module _ (scope : Scope) (m : Memory) where
   pub counter_answer : (k : ℕ) → (location_c (counter_place k) scope m).answer ≡ Some (register_at scope (Counter k))
   counter_answer k =
       ap (λ (c : Counted Location). c.answer) (place-location scope m true _ (c_step (counter_name k) ∷ []))
-      ∙ ap (stepped (start_of scope true _)) (step-way scope m (counter_name k))
+      ∙ ap (stepped (named_location scope true _)) (step-way scope m (counter_name k))
 
   -- what stands at a place
   pub read_answer : (place : CPlace) (at : Location) → (location_c place scope m).answer ≡ Some at → (value_c (c_read place) scope m).answer
@@ -109,7 +109,7 @@ module _ (has : Registered) (scope : Scope) (apart : RegistersApart has scope) w
   abbrev pub set_to : Memory → Register → ℤ → Memory
   set_to m x n = set_at m (register_at scope x) (scalar n)
 
-  own_number : (m : Memory) (x : Register) (n : ℤ) → number_in (value_at (set_to m x n) (register_at scope x)) ≡ n
+  own_number : (m : Memory) (x : Register) (n : ℤ) → scalar_number (value_at (set_to m x n) (register_at scope x)) ≡ n
   own_number m x n =
       let place = register_at scope x in
       same_object m place (scalar n) (place.parts ++ [])
@@ -124,9 +124,9 @@ module _ (has : Registered) (scope : Scope) (apart : RegistersApart has scope) w
   }
     where
       by : (y : Register) → has_register has y ≡ true → (same : Bool) → same_register y x ≡ same →
-          number_in (value_at (set_to m x n) (register_at scope y)) ≡ held_in after y
+          scalar_number (value_at (set_to m x n) (register_at scope y)) ≡ held_in after y
       by y its true is =
-          subst (λ (y : Register). number_in (value_at (set_to m x n) (register_at scope y)) ≡ held_in after y) (sym (register_is y x is))
+          subst (λ (y : Register). scalar_number (value_at (set_to m x n) (register_at scope y)) ≡ held_in after y) (sym (register_is y x is))
           (own_number m x n ∙ sym set.0)
       by y its false is =
           apart_same m (register_at scope x) (scalar n) (register_at scope y)

@@ -8,7 +8,7 @@ use Rattle.bl_tree.specs.declared.c.CStmtKind.{CStmtKind, CStmtKind-F, fold-roll
 use Rattle.bl_tree.specs.declared.c.CStmtKind.TheVariants as statement
 use Rattle.bl_tree.specs.Numbers.{is_one}
 use Rattle.bl_ctext_semantics.specs.Course.{End, Outcome, breaks, ended_by, following_end, goes_on, going, returns, traps}
-use Rattle.bl_ctext_semantics.specs.Memory.{CValue, Location, Memory, number_in, set_at}
+use Rattle.bl_ctext_semantics.specs.Memory.{CValue, Location, Memory, scalar_number, set_at}
 use Rattle.bl_ctext_semantics.specs.Meaning.{Counted, Scope, block_c, block_of, executed, given, location_c, next, runs_c, value_c}
 use Rattle.bl_emit_acts.specs.Acts.{c_set}
 use Rattle.bl_emit_acts.specs.Trees.{nowhere}
@@ -72,7 +72,7 @@ module _ (scope : Scope) (here : Memory) where
   abbrev chooses : CExpr → List CStmt → Option (List CStmt) → Outcome Memory
   chooses test block other =
       executed here (value_c test scope here)
-      (λ v. (if is_one (number_in v) then block_of (map runs_c block) else block_of (unwrap_or (option_map (map runs_c) other) [])) scope here)
+      (λ v. (if is_one (scalar_number v) then block_of (map runs_c block) else block_of (unwrap_or (option_map (map runs_c) other) [])) scope here)
 
   if-open : (test : CExpr) (block : List CStmt) (other : Option (List CStmt)) → runs_c (what (CStmtKind-F.If test block other)) scope here
       ≡ chooses test block other
@@ -86,7 +86,7 @@ module _ (scope : Scope) (here : Memory) where
 
 -- whether a condition is true in C; none where it traps
 abbrev pub truth_c : Scope → CExpr → Memory → Option Bool
-truth_c scope test m = option_map (λ v. is_one (number_in v)) (value_c test scope m).answer
+truth_c scope test m = option_map (λ v. is_one (scalar_number v)) (value_c test scope m).answer
 
 -- an `if` comes to what its chosen block comes to
 abbrev pub Chosen : Scope → Memory → (End → Memory → Type 0) → List CStmt → Option (List CStmt) → Option Bool → Type 0
@@ -105,11 +105,11 @@ module _ (scope : Scope) (here : Memory) (Q : End → Memory → Type 0) where
   by_choice block (Some stmts) false h = h
 
   by_answer : (block : List CStmt) (other : Option (List CStmt)) (n : ℕ) (a : Option CValue) →
-      Chosen scope here Q block other (option_map (λ v. is_one (number_in v)) a) →
-      Of (ended_by here n a (λ v. (if is_one (number_in v) then block_of (map runs_c block) else block_of
+      Chosen scope here Q block other (option_map (λ v. is_one (scalar_number v)) a) →
+      Of (ended_by here n a (λ v. (if is_one (scalar_number v) then block_of (map runs_c block) else block_of
       (unwrap_or (option_map (map runs_c) other) [])) scope here))
   by_answer block other n None h = h
-  by_answer block other n (Some v) h = by_choice block other (is_one (number_in v)) h
+  by_answer block other n (Some v) h = by_choice block other (is_one (scalar_number v)) h
 
   pub if_comes : (test : CExpr) (block : List CStmt) (other : Option (List CStmt)) → Chosen scope here Q block other (truth_c scope test here) →
       Of (runs_c (c_if test block other) scope here)

@@ -31,7 +31,7 @@ use Rattle.bl_ctree_laws_traces.proofs.OnBounded.Statements.{body_few}
 use Rattle.bl_machine.specs.declared.machine.Activity.{Activity as InMachine}
 use Rattle.bl_machine_pass_laws.specs.Turns.Laws.{StaysPlaced}
 use Rattle.bl_machine_transitions.specs.Callees.{callees_in}
-use Rattle.bl_emit_spec.specs.Activities.{Activity, RunAt, body_of, memory_member, remembered, remembers_any, runs_in_body, view_of}
+use Rattle.bl_emit_spec.specs.Activities.{Activity, RunAt, activity_view, body_of, memory_member, remembered, remembers_any, runs_in_body}
 use Rattle.bl_emit_functions.specs.Functions.{members_of, memory_name}
 use Rattle.bl_emit_spec.specs.Activities.{struct_member}
 use Rattle.bl_emit_spec.specs.Blocks.{name_in}
@@ -88,15 +88,15 @@ shown : (b : Bool) (x : CMember) → b ≡ true → 0 < length (if b then x ∷ 
 shown true x on = let one : 0 < suc 0 = omega arith in one
 shown false x on = absurd cc
 
-member_there : (a : Activity) (run : RunAt) → (view_of a).remembers run.unit ≡ true → 0 < length (memory_member a run)
+member_there : (a : Activity) (run : RunAt) → (activity_view a).remembers run.unit ≡ true → 0 < length (memory_member a run)
 member_there a run on =
-    shown ((view_of a).remembers run.unit) (struct_member (callee_name run.number) (memory_name (name_in (slice_get a.earlier run.unit)))) on
+    shown ((activity_view a).remembers run.unit) (struct_member (callee_name run.number) (memory_name (name_in (slice_get a.earlier run.unit)))) on
 
-joined_there : (a : Activity) (u : ℕ) (runs : List RunAt) → HasRun u runs → (view_of a).remembers u ≡ true →
+joined_there : (a : Activity) (u : ℕ) (runs : List RunAt) → HasRun u runs → (activity_view a).remembers u ≡ true →
     0 < length (joined (map (memory_member a) runs))
 joined_there a u [] has on = absurd has
 joined_there a u (run ∷ runs) (inl is) on =
-    let own = member_there a run (ap (view_of a).remembers is ∙ on) in
+    let own = member_there a run (ap (activity_view a).remembers is ∙ on) in
     let all = length-append (memory_member a run) (joined (map (memory_member a) runs)) in
     let more : 0 < length (memory_member a run ++ joined (map (memory_member a) runs)) = omega arith in more
 joined_there a u (run ∷ runs) (inr has) on =
@@ -104,7 +104,7 @@ joined_there a u (run ∷ runs) (inr has) on =
     let all = length-append (memory_member a run) (joined (map (memory_member a) runs)) in
     let more : 0 < length (memory_member a run ++ joined (map (memory_member a) runs)) = omega arith in more
 
-remembers : (a : Activity) (u : ℕ) → HasRun u (runs_in_body a) → (view_of a).remembers u ≡ true → remembers_any a ≡ true
+remembers : (a : Activity) (u : ℕ) → HasRun u (runs_in_body a) → (activity_view a).remembers u ≡ true → remembers_any a ≡ true
 remembers a u has on =
     let rest = joined_there a u (runs_in_body a) has on in
     let all = length-append (members_of a.structs a.earlier a.unit) (joined (map (memory_member a) (runs_in_body a))) in
@@ -147,18 +147,18 @@ module _ (orderly : AcceptedIsOrderly) (callers : InstancesHaveCallers) (placed 
       by_run : (instance : Instance) (run : Run) → slice_get w.instances j ≡ Some instance → Among run (joined (map runs_in unit.body)) →
           instance.unit ≡ run.unit → remembers_any a ≡ true
       by_run instance run at among is_unit =
-          let typed = typed_at structs [] units k unit compiled.keeps.units_stand there in
+          let typed = typed_at structs [] units k unit compiled.well_typed.units_stand there in
           let runs = all_among (RunsUnit (take k units)) (joined (map runs_in unit.body)) run
           (body_runs (site_of structs (take k units) unit) unit.body typed) among in
           let callee_there = taken units k run.unit runs.callee runs.there in
           let less = taken_before units k run.unit runs.callee runs.there in
           let found : unit_at w j ≡ Some runs.callee =
           ap (option_and_then (unit_of w)) at ∙ ap (slice_get units) is_unit ∙ callee_there in
-          let active = ((orderly structs units entry compiled.keeps compiled.passes).each j runs.callee found).activity in
+          let active = ((orderly structs units entry compiled.well_typed compiled.passes).each j runs.callee found).activity in
           let kept = compiled.built.remember k run.unit unit runs.callee there callee_there less in
           let number : unit_number w j ≡ run.unit = number_is j instance at ∙ is_unit in
           let own : remembers_any (activities run.unit) ≡ true = ap (λ n. remembers_any (activities n)) (sym number) ∙ on in
-          let told : (view_of a).remembers run.unit ≡ true =
+          let told : (activity_view a).remembers run.unit ≡ true =
           ap (λ found. unwrap_or found false) kept ∙ ap (λ b. b && remembers_any (activities run.unit)) active ∙ own in
           let image = image_of (calls_in body) run
           (subst (λ rs. Among run rs) (sym (body_few (site_of structs (take k units) unit) unit.body typed).are) among) in
@@ -170,8 +170,8 @@ module _ (orderly : AcceptedIsOrderly) (callers : InstancesHaveCallers) (placed 
           subst (λ (u : UnitDef). EnteredAt run.unit (nodes_in (plain_body u.body)) (callees_in (plain_body u.body))) (sym own_unit)
           (entered_at run.unit (nodes_in body) (callees_in body) entered) in
           let has : HasRun run.unit (runs_in_body a) =
-          has_run (runs_in_body a) (record { place = by.at; number = (view_of a).run by.at; unit = run.unit })
-          (run_kept placed.nodes a structs units entry compiled.keeps k (there ∙ ap Some (sym own_unit)) by.position run.unit by.label by.at by.arguments
+          has_run (runs_in_body a) (record { place = by.at; number = (activity_view a).run by.at; unit = run.unit })
+          (run_kept placed.nodes a structs units entry compiled.well_typed k (there ∙ ap Some (sym own_unit)) by.position run.unit by.label by.at by.arguments
           by.node by.callee) in
           remembers a run.unit has told
 

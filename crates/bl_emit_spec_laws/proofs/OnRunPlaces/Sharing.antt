@@ -59,7 +59,8 @@ use Rattle.bl_ctree_laws_traces.proofs.OnBounded.Statements.{body_few}
 use Rattle.bl_machine.specs.Uses.{Slots}
 use Rattle.bl_machine_pass.specs.Transitions.{Transition, rules}
 use Rattle.bl_machine_transitions.specs.Callees.{callees_in}
-use Rattle.bl_emit_spec.specs.Activities.{Activity, RunAt, body_of, enters_at, one_a_place, rules_at, run_at, run_number_in, runs_at, runs_in_body, view_of}
+use Rattle.bl_emit_spec.specs.Activities.{Activity, RunAt, activity_view, body_of, enters_at, one_a_place, rules_at, run_at, run_number_in, runs_at}
+use Rattle.bl_emit_spec.specs.Activities.{runs_in_body}
 use Rattle.bl_emit_spec_laws.proofs.OnPlaced.Lists.{contains_at, further, here, mapped_at, stands_at}
 use Rattle.bl_emit_spec_laws.proofs.OnRemember.Entering.{callees_in_many}
 use Rattle.bl_emit_spec_laws.proofs.OnRunPlaces.Entered.{call_there, calls_in_are, entered_at, pick, picked_calls}
@@ -310,11 +311,11 @@ module _ {A : Type 0} (make : Place → ℕ → A) where
   -- the `run`s of an activity's nodes stand at the places of those of its statements, and call the same units
   pub runs_made : ((slots : Slots) (body : Block) → map (λ (rule : Transition). rule.node) (rules slots body) ≡ nodes_in body) → (a : Activity)
       (structs : List StructDef) (units : List UnitDef) (entry : ℕ) → IsWellTyped structs units entry → (k : ℕ) →
-      slice_get units k ≡ Some a.unit → map (λ (run : RunAt). make run.place run.unit) (runs_at (view_of a).number (callees_in (body_of a)) (rules_at a))
+      slice_get units k ≡ Some a.unit → map (λ (run : RunAt). make run.place run.unit) (runs_at (activity_view a).number (callees_in (body_of a)) (rules_at a))
       ≡ map (λ (run : Run). make run.place run.unit) (joined (map runs_in a.unit.body))
   runs_made nodes a structs units entry keeps k there =
       let typed = typed_at structs [] units k a.unit keeps.units_stand there in
-      runs_picked (view_of a).number (callees_in (body_of a)) (rules_at a)
+      runs_picked (activity_view a).number (callees_in (body_of a)) (rules_at a)
       ∙ (ap (λ (ns : List Node). map (λ (call : Call). make call.place call.unit) (picked_calls false ns (callees_in (body_of a))))
       (nodes a.slots (body_of a))
       ∙ (ap (map (λ (call : Call). make call.place call.unit)) (calls_in_are false (body_of a))
@@ -330,19 +331,19 @@ module _ (nodes : (slots : Slots) (body : Block) → map (λ (rule : Transition)
     pub label : Label
     pub arguments : Arguments
     pub is_there : slice_get (nodes_in (body_of a)) position ≡ Some (EnterAt label at arguments)
-    pub number_is : (view_of a).run at ≡ (view_of a).number (EnterAt label at arguments)
+    pub number_is : (activity_view a).run at ≡ (activity_view a).number (EnterAt label at arguments)
 
   nodes_are : map (λ (rule : Transition). rule.node) (rules_at a) ≡ nodes_in (body_of a)
   nodes_are = nodes a.slots (body_of a)
 
   rule_of : (p u : ℕ) (l : Label) (at : Place) (arguments : Arguments) → slice_get (nodes_in (body_of a)) p ≡ Some (EnterAt l at arguments) →
-      slice_get (callees_in (body_of a)) p ≡ Some u → FirstRun (view_of a).number (callees_in (body_of a)) (rules_at a) at
+      slice_get (callees_in (body_of a)) p ≡ Some u → FirstRun (activity_view a).number (callees_in (body_of a)) (rules_at a) at
   rule_of p u l at arguments node callee =
       let rule = of_map (λ (rule : Transition). rule.node) (rules_at a) p (EnterAt l at arguments)
       (ap (λ (ns : List Node). slice_get ns p) nodes_are ∙ node) in
-      run_there (view_of a).number (callees_in (body_of a)) (rules_at a) at p u rule.0 l arguments callee rule.1 rule.2
+      run_there (activity_view a).number (callees_in (body_of a)) (rules_at a) at p u rule.0 l arguments callee rule.1 rule.2
 
-  abbrev node_of : (at : Place) → FirstOf (view_of a).number (rules_at a) at → FirstNode at
+  abbrev node_of : (at : Place) → FirstOf (activity_view a).number (rules_at a) at → FirstNode at
   node_of at first = record {
     position = first.position;
     label = first.label;
@@ -363,7 +364,7 @@ module _ (nodes : (slots : Slots) (body : Block) → map (λ (rule : Transition)
     -- the activity has a `run` of each place at which one begins, with the number of the place and the unit that is called there
     pub run_kept : (p u : ℕ) (l : Label) (at : Place) (arguments : Arguments) → slice_get (nodes_in (body_of a)) p ≡ Some (EnterAt l at arguments) →
         slice_get (callees_in (body_of a)) p ≡ Some u →
-        Contains (runs_in_body a) (record { place = at; number = (view_of a).run at; unit = u })
+        Contains (runs_in_body a) (record { place = at; number = (activity_view a).run at; unit = u })
     run_kept p u l at arguments node callee =
         let found = rule_of p u l at arguments node callee in
         let own = node_of at found.first in
@@ -374,12 +375,12 @@ module _ (nodes : (slots : Slots) (body : Block) → map (λ (rule : Transition)
         (subst (Among s) (calls_in_are false (body_of a))
         (call_there false (nodes_in (body_of a)) (callees_in (body_of a)) own.position s own.is_there found.callee))
         (subst (Among t) (calls_in_are false (body_of a)) (call_there false (nodes_in (body_of a)) (callees_in (body_of a)) p t node callee)) refl in
-        subst (λ (v : ℕ). Contains (runs_in_body a) (record { place = at; number = (view_of a).run at; unit = v })) same found.kept
+        subst (λ (v : ℕ). Contains (runs_in_body a) (record { place = at; number = (activity_view a).run at; unit = v })) same found.kept
 
     -- so it has for a node at which a `run` goes on
     pub resumed_kept : (p u : ℕ) (l : Label) (at : Place) (arguments : Arguments) →
         slice_get (nodes_in (body_of a)) p ≡ Some (ResumeAt l at arguments) → slice_get (callees_in (body_of a)) p ≡ Some u →
-        Contains (runs_in_body a) (record { place = at; number = (view_of a).run at; unit = u })
+        Contains (runs_in_body a) (record { place = at; number = (activity_view a).run at; unit = u })
     resumed_kept p u l at arguments node callee =
         let s : Call = record { label = l; place = at; unit = u; arguments = arguments } in
         let among : Among s (calls_in (body_of a)) =

@@ -18,7 +18,7 @@ use Rattle.bl_emit_spec.specs.Programs.{ProgramParts, activity_of, file_at, init
 use Rattle.bl_emit_spec.specs.Programs.{parts_of_function, parts_of_next, parts_then, set_from, tick_function, where_needed}
 use Rattle.bl_emit_spec_laws.specs.Calls.Built.{Activities}
 use Rattle.bl_emit_spec_laws.specs.Tables.Laws.{WrittenIsKept}
-use Rattle.bl_emit_spec_laws.specs.Tables.Tables.{activities_of, each_from, functions_of_all, kept, no_part, no_unit, remembered_before, unit_function}
+use Rattle.bl_emit_spec_laws.specs.Tables.Tables.{activities_of, each_from, functions_of_all, kept_where, no_part, no_unit, remembered_before, unit_function}
 use Rattle.bl_emit_spec_laws.proofs.OnTables.Built.{part_at}
 use Rattle.bl_emit_spec_laws.proofs.OnTables.Lists.{drop_at, drop_next, each_got, length_last, take_next}
 
@@ -54,8 +54,8 @@ drop_one (x ∷ xs) (suc k) = drop_one xs k
 
 -- parts of a unit before others
 before_others : (test : Bool) (here rest : ProgramParts) (f : CFunc) (b : Bool) (tests flags : List Bool) (fs : List CFunc) → here.funcs ≡ f ∷ [] →
-    here.remember ≡ b ∷ [] → rest.funcs ≡ kept tests fs →
-    (length tests ≡ length flags → rest.remember ≡ flags) → ((parts_then (where_needed test here) rest).funcs ≡ kept (test ∷ tests) (f ∷ fs))
+    here.remember ≡ b ∷ [] → rest.funcs ≡ kept_where tests fs →
+    (length tests ≡ length flags → rest.remember ≡ flags) → ((parts_then (where_needed test here) rest).funcs ≡ kept_where (test ∷ tests) (f ∷ fs))
     × (suc (length tests) ≡ suc (length flags) → (parts_then (where_needed test here) rest).remember ≡ b ∷ flags)
 before_others true here rest f b tests flags fs own told funcs remember = (
   λ i. own i ++ funcs i,
@@ -137,9 +137,9 @@ module _ (structs : List StructDef) (units : List UnitDef) (machine : List InMac
     told_next : told (suc k) ≡ told k ++ flag k unit ∷ []
     told_next = ap (λ o. told k ++ (is_activity (unwrap_or o no_unit).kind && remembers_any (activities k)) ∷ []) there
 
-    step : (xs : List UnitDef) (test : Bool) (tests : List Bool) → ((parts (suc k) xs tests).funcs ≡ kept tests (each_from code (suc k) xs))
+    step : (xs : List UnitDef) (test : Bool) (tests : List Bool) → ((parts (suc k) xs tests).funcs ≡ kept_where tests (each_from code (suc k) xs))
         × (length tests ≡ length (each_from flag (suc k) xs) → (parts (suc k) xs tests).remember ≡ each_from flag (suc k) xs) →
-        ((parts k (unit ∷ xs) (test ∷ tests)).funcs ≡ kept (test ∷ tests) (each_from code k (unit ∷ xs)))
+        ((parts k (unit ∷ xs) (test ∷ tests)).funcs ≡ kept_where (test ∷ tests) (each_from code k (unit ∷ xs)))
         × (suc (length tests) ≡ suc (length (each_from flag (suc k) xs)) →
         (parts k (unit ∷ xs) (test ∷ tests)).remember ≡ each_from flag k (unit ∷ xs))
     step xs test tests more =
@@ -159,7 +159,7 @@ module _ (structs : List StructDef) (units : List UnitDef) (machine : List InMac
         rest_is =
             λ i. parts_from structs (take_next units k unit there i) (told_so i) xs tests (left_next (is_activity unit.kind) refl i)
 
-  walk : (xs : List UnitDef) (k : ℕ) (tests : List Bool) → drop k units ≡ xs → ((parts k xs tests).funcs ≡ kept tests (each_from code k xs))
+  walk : (xs : List UnitDef) (k : ℕ) (tests : List Bool) → drop k units ≡ xs → ((parts k xs tests).funcs ≡ kept_where tests (each_from code k xs))
       × (length tests ≡ length (each_from flag k xs) → (parts k xs tests).remember ≡ each_from flag k xs)
   walk [] k [] is = (refl, λ many. refl)
   walk [] k (test ∷ tests) is = (refl, λ many. refl)
@@ -189,7 +189,7 @@ all_kept program machine unit agrees there active = record {
     flags : ℕ → UnitDef → Bool
     flags k unit = is_activity unit.kind && remembers_any (activities_of program.structs program.units machine k)
 
-    whole : (parts_all.funcs ≡ kept needed (functions_of_all program.structs program.units (activities_of program.structs program.units machine)))
+    whole : (parts_all.funcs ≡ kept_where needed (functions_of_all program.structs program.units (activities_of program.structs program.units machine)))
         × (length needed ≡ length (each_from flags 0 program.units) → parts_all.remember ≡ each_from flags 0 program.units)
     whole = walk program.structs program.units machine agrees program.units 0 needed refl
 

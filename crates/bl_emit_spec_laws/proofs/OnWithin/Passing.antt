@@ -98,15 +98,15 @@ module _ (orderly : AcceptedIsOrderly) (spots : SpotsDiffer) (structs : List Str
         agrees = compiled.agrees;
         built = compiled.built;
         is_there = there;
-        activity = ((orderly structs units entry compiled.keeps compiled.passes).each i unit is).activity;
+        activity = ((orderly structs units entry compiled.well_typed compiled.passes).each i unit is).activity;
       }
 
       by : (b : Bool) → Own i (after_rule (R i) rule b r)
       by true =
-          changes_within (activity_at W activities i).sizes (R i) rule.so r
+          changes_within (activity_at W activities i).sizes (R i) rule.on_true r
           (unit_within spots structs units machine activities (unit_number W i) unit built rule has).0 within
       by false =
-          changes_within (activity_at W activities i).sizes (R i) rule.otherwise r
+          changes_within (activity_at W activities i).sizes (R i) rule.on_false r
           (unit_within spots structs units machine activities (unit_number W i) unit built rule has).1 within
 
   module _ (compiled : CompilationContext structs units entry machine activities) where

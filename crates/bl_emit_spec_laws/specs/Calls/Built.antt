@@ -18,7 +18,7 @@ use Rattle.bl_machine.specs.Uses.{Slots}
 use Rattle.bl_machine_pass.specs.Numbered.{sizes_of, slots_of}
 use Rattle.bl_machine_pass.specs.Transitions.{Change, SetsMark, Transition}
 use Rattle.bl_machine_pass_laws_execution.specs.Frames.{Frames}
-use Rattle.bl_emit_spec.specs.Activities.{Activity, is_flagged, remembers_any, rules_at, view_of}
+use Rattle.bl_emit_spec.specs.Activities.{Activity, activity_view, is_flagged, remembers_any, rules_at}
 use Rattle.bl_emit_spec_laws.specs.Registers.Registers.{Registered}
 
 -- ---- activities
@@ -37,15 +37,15 @@ activity_at w activities i = activities (unit_number w i)
 
 -- the site of an instance's statements: what they see
 abbrev pub site_at : Setting → Activities → ℕ → TypingContext
-site_at w activities i = (view_of (activity_at w activities i)).site
+site_at w activities i = (activity_view (activity_at w activities i)).site
 
 -- the numbers of nodes in C
 abbrev pub rank_by : Setting → Activities → ℕ → Node → ℕ
-rank_by w activities i = (view_of (activity_at w activities i)).number
+rank_by w activities i = (activity_view (activity_at w activities i)).number
 
 -- the numbers of `run`s in C, by their places
 abbrev pub run_by : Setting → Activities → ℕ → Place → ℕ
-run_by w activities i = (view_of (activity_at w activities i)).run
+run_by w activities i = (activity_view (activity_at w activities i)).run
 
 -- the numbers of resting places in C
 abbrev pub slots_by : Setting → Activities → ℕ → Slots
@@ -75,7 +75,7 @@ pub record AreBuilt (structs : List StructDef) (units : List UnitDef) (machine :
 
 -- whether a rule asks for the flag of the node with this number
 abbrev pub asks_flag : (Node → ℕ) → ℕ → Transition → Bool
-asks_flag number k rule = is_flagged rule.asked && nat_eq k (number rule.node)
+asks_flag number k rule = is_flagged rule.condition && nat_eq k (number rule.node)
 
 -- whether a change sets the mark of the node with this number
 abbrev pub sets_mark : (Node → ℕ) → ℕ → Change → Bool
@@ -87,9 +87,9 @@ sets_mark number k _ = false
 abbrev pub registered : Activity → Registered
 registered a = record {
   counters = λ k. nat_lt k (length a.sizes);
-  copied = (view_of a).is_read;
-  flags = λ k. list_any (asks_flag (view_of a).number k) (rules_at a);
-  marks = λ k. list_any (λ rule. list_any (sets_mark (view_of a).number k) rule.so) (rules_at a);
+  copied = (activity_view a).is_read;
+  flags = λ k. list_any (asks_flag (activity_view a).number k) (rules_at a);
+  marks = λ k. list_any (λ rule. list_any (sets_mark (activity_view a).number k) rule.on_true) (rules_at a);
 }
 
 -- ---- what the start of a `run` clears

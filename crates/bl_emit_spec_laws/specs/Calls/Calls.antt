@@ -26,7 +26,7 @@ use Rattle.bl_tree.specs.declared.value.Value.{Value}
 use Rattle.bl_tree.specs.Numbers.{number_of}
 use Rattle.bl_tree.specs.Typing.{inputs_of, outputs_of}
 use Rattle.bl_ctext_semantics.specs.Meaning.{ArgumentValue, CallResult, Meaning, applied, by_address}
-use Rattle.bl_ctext_semantics.specs.Memory.{Location, Memory, number_in, value_at}
+use Rattle.bl_ctext_semantics.specs.Memory.{Location, Memory, scalar_number, value_at}
 use Rattle.bl_ctext_semantics.specs.Tables.{Table}
 use Rattle.bl_ctree.specs.Actions.{result_at}
 use Rattle.bl_ctree.specs.Instances.{Setting, unit_at}
@@ -98,7 +98,7 @@ pub record CallBegins (w : Setting) (activities : Activities) (i : ℕ) (unit : 
   pub memory : MemoryEncodes w activities i given.frame given.memory frames store here
   pub inputs : ArgumentsEncoded w.structs depth here (inputs_of unit) (input_values w store i unit) given.inputs
   pub outputs : OutputsEncoded w.structs here (outputs_of unit) (output_values w store i unit) given.outputs
-  pub over : number_in (value_at here given.over) ≡ pos 0
+  pub over : scalar_number (value_at here given.over) ≡ pos 0
   -- all values are of their types, and no counter holds more than its greatest value
   pub fits : StoreFits w store
   pub within : FramesWithin w activities frames
@@ -117,10 +117,10 @@ pub record CallLeaves (w : Setting) (activities : Activities) (i : ℕ) (unit : 
   pub returned : called.result ≡ Some (pos 0)
   pub memory : MemoryEncodes w activities i given.frame given.memory (with_at i r.counters frames) left called.memory
   pub outputs : OutputsEncoded w.structs called.memory (outputs_of unit) (output_values w left i unit) given.outputs
-  pub over : number_in (value_at called.memory given.over) ≡ number_of r.over
+  pub over : scalar_number (value_at called.memory given.over) ≡ number_of r.over
   -- the result is there where the body has ended
   pub result : (value : Value) → r.over ≡ true → is_some unit.result ≡ true → result_at left i ≡ Some value →
-      number_in (value_at called.memory given.result) ≡ number_or_zero value
+      scalar_number (value_at called.memory given.result) ≡ number_or_zero value
   pub kept : UnchangedOutside depth (written_by unit (remembers_any (activity_at w activities i)) given) here called.memory
 
 -- the C function of the activity at a position simulates the passes by rules of its instances, traps included, if a function at this depth calls it

@@ -8,8 +8,8 @@ use Rattle.bl_tree.specs.declared.value.Value.{Value}
 use Rattle.bl_tree.specs.Typing.{TypingContext, is_activity, var_at}
 use Rattle.bl_graph_nodes.specs.Nodes.{Arguments, EnterAt, nodes_in}
 use Rattle.bl_graph_nodes.specs.Plain.{Label, plain_body}
-use Rattle.bl_ctext_semantics.specs.Meaning.{Scope, start_of}
-use Rattle.bl_ctext_semantics.specs.Memory.{Location, Memory, number_in, value_at}
+use Rattle.bl_ctext_semantics.specs.Meaning.{Scope, named_location}
+use Rattle.bl_ctext_semantics.specs.Memory.{Location, Memory, scalar_number, value_at}
 use Rattle.bl_ctree.specs.Actions.{result_at}
 use Rattle.bl_ctree.specs.Instances.{Setting, callee_of}
 use Rattle.bl_ctree.specs.Store.{Store, number_or_zero, view_at}
@@ -30,7 +30,7 @@ use Rattle.bl_emit_spec_laws.specs.Calls.Memories.{MemoryEncodes, inner}
 
 -- the location to which the pointer for the result leads
 abbrev pub result_at_c : Scope → Location
-result_at_c scope = start_of scope true (codes "r")
+result_at_c scope = named_location scope true (codes "r")
 
 -- a place is older than the function's call, and apart from its counters, its end flag, and what the pointers for variables lead to
 pub record PlaceIsSeparate (site : TypingContext) (scope : Scope) (place : Location) : Type 0 where
@@ -75,4 +75,4 @@ pub record PassRepresents (w : Setting) (activities : Activities) (i : ℕ) (uni
       let n = run_by w activities i at in
       MemoryEncodes w activities j (inner (frame_at scope) n) (inner (remembered_at scope) n) frames store here
   pub result : (value : Value) → r.over ≡ true → is_some unit.result ≡ true → result_at store i ≡ Some value →
-      number_in (value_at here (result_at_c scope)) ≡ number_or_zero value
+      scalar_number (value_at here (result_at_c scope)) ≡ number_or_zero value

@@ -32,6 +32,7 @@ use Rattle.bl_emit_functions_laws_simulation.specs.Units.{AllAgree, AllNamesSuff
 use Rattle.bl_emit_spec.specs.Activities.{
   Activity,
   activity_function,
+  activity_view,
   blocks_in_order,
   body_of,
   callees_in,
@@ -40,7 +41,6 @@ use Rattle.bl_emit_spec.specs.Activities.{
   entry_code,
   remembers_any,
   rested_code,
-  view_of,
 }
 use Rattle.bl_emit_spec.specs.Blocks.{ActivityView, block_code, guard_of, turn_code}
 use Rattle.bl_emit_spec_laws.specs.Registers.Laws.{RegistersWithin}
@@ -59,7 +59,7 @@ use Rattle.bl_emit_spec_laws.specs.Calls.Invariant.{FunctionContext, PassReprese
 
 -- a typed program made of a text that passes the rules, with a machine of it, and what C is made of
 pub record CompilationContext (structs : List StructDef) (units : List UnitDef) (entry : ℕ) (machine : List InMachine) (activities : Activities) : Type 0 where
-  pub keeps : IsWellTyped structs units entry
+  pub well_typed : IsWellTyped structs units entry
   pub passes : Passes units
   pub text : FromText units
   pub agrees : AreActivitiesOf units machine
@@ -97,7 +97,7 @@ pub record PartSimulates (w : Setting) (activities : Activities) (i : ℕ) (unit
 
 -- what stands before the blocks: copies of counters, the flag of the entry, and copies of variables
 abbrev pub start_code : Activity → List CStmt
-start_code a = map rested_code (counters_read a) ++ (entry_code (view_of a) (body_of a) ++ map (c_copied (view_of a).site) (copied_in a))
+start_code a = map rested_code (counters_read a) ++ (entry_code (activity_view a) (body_of a) ++ map (c_copied (activity_view a).site) (copied_in a))
 
 -- the scope in which a called function of an instance's activity begins
 abbrev pub scope_in : Setting → Activities → ℕ → UnitDef → Table Meaning → ℕ → CallAddresses → Scope
@@ -134,12 +134,12 @@ pub record CalledAt (body : Block) (n : Node) (u : ℕ) : Type 0 where
   pub unit : slice_get (callees_in body) position ≡ Some u
 
 -- an `if` by the guard of a rule
-abbrev pub guarded : ActivityView → Transition → List CStmt → CStmt
-guarded view rule code = turn_code (record { test = guard_of view rule.node rule.asked; code = code })
+abbrev pub guarded_by_rule : ActivityView → Transition → List CStmt → CStmt
+guarded_by_rule view rule code = turn_code (record { test = guard_of view rule.node rule.condition; code = code })
 
 -- the outcome of the block of one node
 abbrev pub block_done : Setting → Activities → ℕ → ℕ → Transition → Scope → Memory → Outcome Memory
-block_done w activities i u rule scope here = block_c (block_code (view_of (activity_at w activities i)) u rule ∷ []) scope here
+block_done w activities i u rule scope here = block_c (block_code (activity_view (activity_at w activities i)) u rule ∷ []) scope here
 
 -- the function of an instance stands in the middle of its pass
 pub record Midway (structs : List StructDef) (units : List UnitDef) (entry : ℕ) (machine : List InMachine) (activities : Activities) (i : ℕ)
@@ -179,13 +179,13 @@ pub record GuardsChoose (structs : List StructDef) (units : List UnitDef) (entry
       (code : List CStmt) (here : Memory) → let w = setting_of structs units entry in
       Midway structs units entry machine activities i unit scope frames store copies r here → HasRule (slots_by w activities) i unit rule →
       is_due (rank_by w activities i) rule r ≡ true →
-      let o = block_c (guarded (view_of (activity_at w activities i)) rule code ∷ []) scope here in
+      let o = block_c (guarded_by_rule (activity_view (activity_at w activities i)) rule code ∷ []) scope here in
       (o.end ≡ (block_c code scope here).end) × (o.memory ≡ (block_c code scope here).memory)
   pub skips : (i : ℕ) (unit : UnitDef) (scope : Scope) (frames : Frames) (store : Store) (copies : List Value) (r : Registers) (rule : Transition)
       (code : List CStmt) (here : Memory) → let w = setting_of structs units entry in
       Midway structs units entry machine activities i unit scope frames store copies r here → HasRule (slots_by w activities) i unit rule →
       is_due (rank_by w activities i) rule r ≡ false →
-      let o = block_c (guarded (view_of (activity_at w activities i)) rule code ∷ []) scope here in (o.end ≡ goes_on) × (o.memory ≡ here)
+      let o = block_c (guarded_by_rule (activity_view (activity_at w activities i)) rule code ∷ []) scope here in (o.end ≡ goes_on) × (o.memory ≡ here)
 
 -- ---- the whole pass
 

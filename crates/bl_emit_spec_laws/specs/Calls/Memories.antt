@@ -8,7 +8,7 @@ use Rattle.bl_tree.specs.Typing.{var_at}
 use Rattle.bl_graph_nodes.specs.Nodes.{Arguments, EnterAt, nodes_in}
 use Rattle.bl_graph_nodes.specs.Plain.{Label, plain_body}
 use Rattle.bl_ctext_semantics.specs.Meaning.{further}
-use Rattle.bl_ctext_semantics.specs.Memory.{Location, Memory, member, number_in, value_at}
+use Rattle.bl_ctext_semantics.specs.Memory.{Location, Memory, member, scalar_number, value_at}
 use Rattle.bl_ctree.specs.Instances.{Setting, callee_of, unit_at}
 use Rattle.bl_ctree.specs.Store.{Store, view_at}
 use Rattle.bl_emit_acts.specs.declared.home.Home.TheVariants.{Held}
@@ -34,7 +34,7 @@ pub data Nests (w : Setting) (activities : Activities) : ℕ → Location → Lo
 -- memory encodes, at these places, the counters and variables of the instance and of all that it calls
 pub record MemoryEncodes (w : Setting) (activities : Activities) (i : ℕ) (f m : Location) (frames : Frames) (store : Store) (here : Memory) : Type 0 where
   pub counters : (k : ℕ) (f' m' : Location) → Nests w activities i f m k f' m' → (c : ℕ) → c < length (activity_at w activities k).sizes →
-      number_in (value_at here (further f' (member (counter_name c) ∷ []))) ≡ pos (frames k c)
+      scalar_number (value_at here (further f' (member (counter_name c) ∷ []))) ≡ pos (frames k c)
   pub variables : (k : ℕ) (f' m' : Location) → Nests w activities i f m k f' m' → (x : ℕ) (var : Var) (value : Value) →
       var_at (site_at w activities k) x ≡ Some var → home_at (site_at w activities k) x ≡ Held → slice_get (view_at w store k).now x ≡ Some value →
       Encodes w.structs var.ty value (value_at here (further m' (member (variable_name x) ∷ [])))

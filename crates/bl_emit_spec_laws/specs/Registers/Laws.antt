@@ -8,9 +8,9 @@ use Rattle.bl_graph_nodes.specs.Nodes.{Node}
 use Rattle.bl_machine.specs.declared.slots.Slot.{Slot}
 use Rattle.bl_ctext_semantics.specs.Course.{goes_on}
 use Rattle.bl_ctext_semantics.specs.Meaning.{Scope, block_c, value_c}
-use Rattle.bl_ctext_semantics.specs.Memory.{Memory, number_in}
+use Rattle.bl_ctext_semantics.specs.Memory.{Memory, scalar_number}
 use Rattle.bl_machine_pass.specs.Registers.{Registers, all_changed, due_by}
-use Rattle.bl_machine_pass.specs.Transitions.{Age, Asked, Change}
+use Rattle.bl_machine_pass.specs.Transitions.{Age, Change, Condition}
 use Rattle.bl_machine_pass.specs.Transitions.{ClearsBoth, ClearsCounter, Ended, EndsWhen, Finishes, Flagged, IsAny, IsNew, IsOld, Rested, RestedIn, SetsCounter, SetsFlag, SetsMark}
 use Rattle.bl_emit_spec.specs.Blocks.{ActivityView, Sizes, changes_code, counter_type, greatest_value, guard_of}
 use Rattle.bl_emit_spec_laws.specs.Registers.Registers.{ApartFromPointers, FewRegisters, FramePointersAreValid, PointersOlder, Registered, RegistersApart}
@@ -71,7 +71,7 @@ has_age number has (IsOld n) = has.marks (number n)
 has_age number has IsAny = true
 
 -- whether all that is asked is told by registers of the activity, and numbers of which some one is asked for are in a row
-abbrev pub asks_its_own : ActivityView → Registered → Node → Asked → Bool
+abbrev pub asks_its_own : ActivityView → Registered → Node → Condition → Bool
 asks_its_own view has n Flagged = has.flags (view.number n)
 asks_its_own view has n (Rested slot) = has.copied slot.counter
 asks_its_own view has n (RestedIn slots) =
@@ -81,9 +81,9 @@ asks_its_own view has n (Ended age needed) = has_age view.number has age && list
 -- the C of a guard doesn't trap, and is 1 where the guard holds, and 0 where it doesn't
 abbrev pub GuardsEvaluate : Type 0
 GuardsEvaluate =
-    (view : ActivityView) (has : Registered) (scope : Scope) (n : Node) (asked : Asked) (r : Registers) (here : Memory) →
-    RegistersEncoded has scope r here → RestsWithin view.sizes r → asks_its_own view has n asked ≡ true →
-    option_map number_in (value_c (guard_of view n asked) scope here).answer ≡ Some (number_of (due_by view.number r n asked))
+    (view : ActivityView) (has : Registered) (scope : Scope) (n : Node) (condition : Condition) (r : Registers) (here : Memory) →
+    RegistersEncoded has scope r here → RestsWithin view.sizes r → asks_its_own view has n condition ≡ true →
+    option_map scalar_number (value_c (guard_of view n condition) scope here).answer ≡ Some (number_of (due_by view.number r n condition))
 
 -- ---- what keeps apart
 

@@ -3,8 +3,8 @@ use Rattle.std.specs.Prelude.{◌≡◌, ℕ, ℤ, pos, ◌<◌, ◌^◌, Bool, 
 use Rattle.bl_tree.specs.declared.tree.Var.{Var}
 use Rattle.bl_tree.specs.Numbers.{number_of}
 use Rattle.bl_tree.specs.Typing.{TypingContext, is_activity, var_at}
-use Rattle.bl_ctext_semantics.specs.Meaning.{Scope, further, start_of}
-use Rattle.bl_ctext_semantics.specs.Memory.{Location, Memory, Projection, Root, member, number_in, value_at}
+use Rattle.bl_ctext_semantics.specs.Meaning.{Scope, further, named_location}
+use Rattle.bl_ctext_semantics.specs.Memory.{Location, Memory, Projection, Root, member, scalar_number, value_at}
 use Rattle.bl_emit_acts.specs.declared.home.Home.TheVariants.{Held, Lent}
 use Rattle.bl_emit_acts_laws_simulation.specs.Acts.{copy_location, lies_in}
 use Rattle.bl_emit_acts_laws_simulation.specs.Frames.{is_older, lent_at, remembered_at}
@@ -54,18 +54,18 @@ has_register has Over = true
 
 -- the location to which the pointer to an instance's counters leads
 abbrev pub frame_at : Scope → Location
-frame_at scope = start_of scope true (codes "f")
+frame_at scope = named_location scope true (codes "f")
 
 -- the location in which a pass tells whether the body has ended
 abbrev pub over_at : Scope → Location
-over_at scope = start_of scope true (codes "e")
+over_at scope = named_location scope true (codes "e")
 
 -- the place of a register
 abbrev pub register_at : Scope → Register → Location
 register_at scope (Counter k) = further (frame_at scope) (member (counter_name k) ∷ [])
-register_at scope (Before k) = start_of scope false (rested_name k)
-register_at scope (Flag k) = start_of scope false (flag_name k)
-register_at scope (Mark k) = start_of scope false (mark_name k)
+register_at scope (Before k) = named_location scope false (rested_name k)
+register_at scope (Flag k) = named_location scope false (flag_name k)
+register_at scope (Mark k) = named_location scope false (mark_name k)
 register_at scope Over = further (over_at scope) []
 
 -- ---- what memory holds
@@ -80,7 +80,7 @@ held_in r Over = number_of r.over
 
 -- each register of an activity has its number at its place
 pub record RegistersEncoded (has : Registered) (scope : Scope) (r : Registers) (here : Memory) : Type 0 where
-  pub each : (x : Register) → has_register has x ≡ true → number_in (value_at here (register_at scope x)) ≡ held_in r x
+  pub each : (x : Register) → has_register has x ≡ true → scalar_number (value_at here (register_at scope x)) ≡ held_in r x
 
 -- a number of memory, at a way from a root, that belongs to no register
 pub record Outside (has : Registered) (scope : Scope) (root : Root) (way : List Projection) : Type 0 where

@@ -11,7 +11,7 @@ use Rattle.bl_emit_spec.specs.Activities.{remembers_any}
 use Rattle.bl_emit_spec.specs.Programs.{init_function, needed_units, parts_from, tick_function, written}
 use Rattle.bl_emit_spec_laws.specs.Calls.Built.{Activities, AreBuilt}
 use Rattle.bl_emit_spec_laws.specs.Calls.Laws.{AllKnownUpTo}
-use Rattle.bl_emit_spec_laws.specs.Tables.Tables.{activities_of, functions_of_all, kept, table_of_all, table_up_to}
+use Rattle.bl_emit_spec_laws.specs.Tables.Tables.{activities_of, functions_of_all, kept_where, table_of_all, table_up_to}
 
 -- the activities of a machine are built as it says
 abbrev pub ActivitiesBuilt : Type 0
@@ -33,7 +33,7 @@ pub record WrittenAs (program : Program) (machine : List InMachine) (unit : Unit
   pub remembers : unwrap_or (slice_get (parts_from program.structs [] [] program.units (needed_units program.units program.entry) machine).remember
       program.entry) false ≡ remembers_any (activities_of program.structs program.units machine program.entry)
   pub funcs : (written program machine).funcs
-      ≡ kept (needed_units program.units program.entry)
+      ≡ kept_where (needed_units program.units program.entry)
       (functions_of_all program.structs program.units (activities_of program.structs program.units machine))
       ++ (init_function
       ∷ tick_function unit (remembers_any (activities_of program.structs program.units machine program.entry)) ∷ [])

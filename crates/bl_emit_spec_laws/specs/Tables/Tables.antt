@@ -75,8 +75,8 @@ table_of_all structs units activities = known_after no_entries (functions_of_all
 -- ---- the C functions of the units that are needed
 
 -- the elements at the positions where a test is true
-abbrev pub kept : {X : Type 0} → List Bool → List X → List X
-kept [] xs = []
-kept (test ∷ tests) [] = []
-kept (true ∷ tests) (x ∷ xs) = x ∷ kept tests xs
-kept (false ∷ tests) (x ∷ xs) = kept tests xs
+abbrev pub kept_where : {X : Type 0} → List Bool → List X → List X
+kept_where [] xs = []
+kept_where (test ∷ tests) [] = []
+kept_where (true ∷ tests) (x ∷ xs) = x ∷ kept_where tests xs
+kept_where (false ∷ tests) (x ∷ xs) = kept_where tests xs

@@ -18,7 +18,7 @@ use Rattle.bl_graph_nodes.specs.Nodes.{Arguments, EnterAt, entry, nodes_in}
 use Rattle.bl_graph_nodes.specs.Plain.{Block, Label, plain_body}
 use Rattle.bl_ctext_semantics.specs.Course.{goes_on}
 use Rattle.bl_ctext_semantics.specs.Meaning.{Meaning, Scope, block_c, further}
-use Rattle.bl_ctext_semantics.specs.Memory.{Location, Memory, Projection, Root, left_after, member, number_in, same_root, value_at, variable}
+use Rattle.bl_ctext_semantics.specs.Memory.{Location, Memory, Projection, Root, left_after, member, same_root, scalar_number, value_at, variable}
 use Rattle.bl_ctext_semantics.specs.Tables.{Table}
 use Rattle.bl_ctree.specs.Instances.{Setting, callee_of, setting_of, unit_at}
 use Rattle.bl_ctree.specs.Store.{Store, view_at}
@@ -31,7 +31,7 @@ use Rattle.bl_emit_acts_laws_simulation.specs.Encodes.{CopiesEncoded, are_apart,
 use Rattle.bl_emit_acts_laws_simulation.specs.Laws.{CopiesBegin, FramesApart}
 use Rattle.bl_emit_functions_laws_simulation.specs.Calls.{CallsKeepFrame, HandsOver, memory_begun}
 use Rattle.bl_emit_spec.specs.Activities.{Activity, activity_function, body_of, copied_in, copies_of, counters_read, entry_code, remembers_any}
-use Rattle.bl_emit_spec.specs.Activities.{rested_code, view_of}
+use Rattle.bl_emit_spec.specs.Activities.{activity_view, rested_code}
 use Rattle.bl_emit_spec.specs.Names.{counter_name, flag_name, mark_name, rested_name}
 use Rattle.bl_emit_spec_laws.specs.Registers.Laws.{GuardsEvaluate, RegistersKeepApart, RegistersWithin}
 use Rattle.bl_emit_spec_laws.specs.Registers.Registers.{Before, Counter, FewRegisters, Flag, Mark, Over, PointersOlder, Register, Registered, RegistersApart}
@@ -172,16 +172,16 @@ module _ (structs : List StructDef) (units : List UnitDef) (entry_at : ℕ) (ord
       here name differ way)
 
   first_holds : (x : Register) → has_register has x ≡ true →
-      number_in (value_at begun (register_at scope x)) ≡ held_in (at_first (frames i)) x
+      scalar_number (value_at begun (register_at scope x)) ≡ held_in (at_first (frames i)) x
   first_holds (Counter c) its =
-      ap (λ (p : Location). number_in (value_at begun (further p (member (counter_name c) ∷ [])))) go.frame
+      ap (λ (p : Location). scalar_number (value_at begun (further p (member (counter_name c) ∷ [])))) go.frame
       ∙ (begun_older given.frame.root ((given.frame.parts ++ member (counter_name c) ∷ []) ++ []) frame_older
       ∙ begins.memory.counters i given.frame given.memory memories.here c (ltb-true c (length a.sizes) its))
   first_holds (Before k) its = zero_at (rested_name k) (λ j. refl) []
   first_holds (Flag k) its = zero_at (flag_name k) (λ j. refl) []
   first_holds (Mark k) its = zero_at (mark_name k) (λ j. refl) []
   first_holds Over its =
-      ap (λ (p : Location). number_in (value_at begun (further p []))) go.over
+      ap (λ (p : Location). scalar_number (value_at begun (further p []))) go.over
       ∙ (ap (λ (parts : List Projection). begun given.over.root (parts ++ [])) (append-nil given.over.parts)
       ∙ (begun_older given.over.root (given.over.parts ++ []) over_older ∙ begins.over))
 
@@ -205,7 +205,7 @@ module _ (structs : List StructDef) (units : List UnitDef) (entry_at : ℕ) (ord
   second = with_rested Read (at_first (frames i))
 
   abbrev third : Registers
-  third = with_entry (view_of a) (body_of a) second
+  third = with_entry (activity_view a) (body_of a) second
 
   second_within : RegistersWithin a.sizes second
   second_within =
@@ -213,25 +213,25 @@ module _ (structs : List StructDef) (units : List UnitDef) (entry_at : ℕ) (ord
 
   read_below : (k : ℕ) → list_any (nat_eq k) Read ≡ true → has.counters k ≡ true
   read_below k h =
-      lt-ltb k (length a.sizes) (there_below (length a.sizes) k (there_picked (view_of a).is_read (up_to (length a.sizes)) k h).1)
+      lt-ltb k (length a.sizes) (there_below (length a.sizes) k (there_picked (activity_view a).is_read (up_to (length a.sizes)) k h).1)
 
   read_copied : (k : ℕ) → list_any (nat_eq k) Read ≡ true → has.copied k ≡ true
-  read_copied k h = (there_picked (view_of a).is_read (up_to (length a.sizes)) k h).0
+  read_copied k h = (there_picked (activity_view a).is_read (up_to (length a.sizes)) k h).0
 
   copied_read : (k : ℕ) → has.copied k ≡ true → list_any (nat_eq k) Read ≡ true
-  copied_read k is = picked_there (view_of a).is_read (up_to (length a.sizes)) k is (below_there (length a.sizes) k (suffice.asked k is))
+  copied_read k is = picked_there (activity_view a).is_read (up_to (length a.sizes)) k is (below_there (length a.sizes) k (suffice.asked k is))
 
   rested_done : GoesTo (Mid second) (block_c (map rested_code Read) scope begun)
   rested_done =
       rested_goes has site scope apart beside now begun Read (at_first (frames i)) begun (all_said has.counters Read read_below)
       (all_said has.copied Read read_copied) first_stands
 
-  entry_done : (m : Memory) → Mid second m → GoesTo (Mid third) (block_c (entry_code (view_of a) (body_of a)) scope m)
+  entry_done : (m : Memory) → Mid second m → GoesTo (Mid third) (block_c (entry_code (activity_view a) (body_of a)) scope m)
   entry_done m stands =
-      entry_goes has site scope apart beside now begun (view_of a) guards (lt-ltb 0 (length a.sizes) suffice.some) (body_of a) second m
-      (λ s rest is. subst (λ (body : Block). list_any (asks_flag (view_of a).number ((view_of a).number (entry s))) (rules a.slots body) ≡ true)
+      entry_goes has site scope apart beside now begun (activity_view a) guards (lt-ltb 0 (length a.sizes) suffice.some) (body_of a) second m
+      (λ s rest is. subst (λ (body : Block). list_any (asks_flag (activity_view a).number ((activity_view a).number (entry s))) (rules a.slots body) ≡ true)
       (sym is)
-      (entry_asks (view_of a).number a.slots s rest Finishes)) second_within.rested stands
+      (entry_asks (activity_view a).number a.slots s rest Finishes)) second_within.rested stands
 
   -- ---- the copies of variables
 
@@ -268,7 +268,7 @@ module _ (structs : List StructDef) (units : List UnitDef) (entry_at : ℕ) (ord
 
     kept_third : (third.counters ≡ second.counters) × (third.rested ≡ second.rested) × (third.marks ≡ second.marks) ×
         (third.over ≡ second.over)
-    kept_third = other_parts (view_of a) (body_of a) second
+    kept_third = other_parts (activity_view a) (body_of a) second
 
     counter_third : (k : ℕ) → third.counters k ≡ frames i k
     counter_third k = ap (λ (f : ℕ → ℕ). f k) (kept_third.0 ∙ kept_second.0)
@@ -295,8 +295,8 @@ module _ (structs : List StructDef) (units : List UnitDef) (entry_at : ℕ) (ord
     same_begun zeros (Counter k) its = ap pos (counter_third k ∙ zeros k)
     same_begun zeros (Before k) its = ap pos (rested_third k its ∙ zeros k)
     same_begun zeros (Flag k) its =
-        ap number_of (entry_begun (view_of a) (body_of a) second k (first_counter ∙ zeros 0) (none_flagged k)
-        ∙ ap (λ (body : Block). entry_flag (view_of a).number body k) body_is)
+        ap number_of (entry_begun (activity_view a) (body_of a) second k (first_counter ∙ zeros 0) (none_flagged k)
+        ∙ ap (λ (body : Block). entry_flag (activity_view a).number body k) body_is)
     same_begun zeros (Mark k) its = ap number_of (mark_third k)
     same_begun zeros Over its = ap number_of over_third
 
@@ -304,7 +304,7 @@ module _ (structs : List StructDef) (units : List UnitDef) (entry_at : ℕ) (ord
     same_resumed goes (Counter k) its = ap pos (counter_third k)
     same_resumed goes (Before k) its = ap pos (rested_third k its)
     same_resumed goes (Flag k) its =
-        ap number_of (entry_resumed (view_of a) (body_of a) second k (λ is. goes (sym first_counter ∙ is)) (none_flagged k))
+        ap number_of (entry_resumed (activity_view a) (body_of a) second k (λ is. goes (sym first_counter ∙ is)) (none_flagged k))
     same_resumed goes (Mark k) its = ap number_of (mark_third k)
     same_resumed goes Over its = ap number_of over_third
 
@@ -329,7 +329,7 @@ module _ (structs : List StructDef) (units : List UnitDef) (entry_at : ℕ) (ord
           (λ k. ap (λ b. b && is_some (left_after [] way)) (older_differs (depth + 1) (copy_name k) root older)))
           ∙ stands.older root way older
 
-      after_holds : (x : Register) → has_register has x ≡ true → number_in (value_at after (register_at scope x)) ≡ held_in r x
+      after_holds : (x : Register) → has_register has x ≡ true → scalar_number (value_at after (register_at scope x)) ≡ held_in r x
       after_holds x its =
           left.kept (register_at scope x).root ((register_at scope x).parts ++ [])
           (any_false (λ k. lies_in (copy_location scope k) (register_at scope x).root ((register_at scope x).parts ++ [])) Copied
@@ -376,10 +376,11 @@ module _ (structs : List StructDef) (units : List UnitDef) (entry_at : ℕ) (ord
 
     done : GoesTo Left (block_c (start_code a) scope begun)
     done =
-        then_goes scope (map rested_code Read) (entry_code (view_of a) (body_of a) ++ map (c_copied (view_of a).site) Copied) begun (Mid second) Left
+        then_goes scope (map rested_code Read) (entry_code (activity_view a) (body_of a) ++ map (c_copied (activity_view a).site) Copied) begun
+        (Mid second) Left
         rested_done
         (λ m stands.
-        then_goes scope (entry_code (view_of a) (body_of a)) (map (c_copied (view_of a).site) Copied) m (Mid third) Left (entry_done m stands)
+        then_goes scope (entry_code (activity_view a) (body_of a)) (map (c_copied (activity_view a).site) Copied) m (Mid third) Left (entry_done m stands)
         (λ k next.
         let copies = copies_done k next in (
           copies.0,

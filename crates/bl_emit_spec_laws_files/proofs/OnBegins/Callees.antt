@@ -11,7 +11,7 @@ use Rattle.bl_tree.specs.Typing.{var_at}
 use Rattle.bl_graph_nodes.specs.Nodes.{Arguments, EnterAt, nodes_in}
 use Rattle.bl_graph_nodes.specs.Plain.{Label, plain_body}
 use Rattle.bl_ctext_semantics.specs.Meaning.{further}
-use Rattle.bl_ctext_semantics.specs.Memory.{Location, Memory, Projection, Root, member, number_in, value_at}
+use Rattle.bl_ctext_semantics.specs.Memory.{Location, Memory, Projection, Root, member, scalar_number, value_at}
 use Rattle.bl_ctree.specs.Instances.{Setting, callee_of, setting_of, unit_at}
 use Rattle.bl_ctree.specs.Store.{Store, view_at}
 use Rattle.bl_emit_acts.specs.declared.home.Home.TheVariants.{Held}
@@ -73,7 +73,7 @@ module _ (structs : List StructDef) (units : List UnitDef) (entry : ℕ) (machin
 
     counters_kept : (k : ℕ) (f' m' : Location) → Nests W activities j (inner f n) (inner m2 n) k f' m' → (c : ℕ) → c
         < length (activity_at W activities k).sizes →
-        number_in (value_at after (further f' (member (counter_name c) ∷ []))) ≡ pos (frames k c)
+        scalar_number (value_at after (further f' (member (counter_name c) ∷ []))) ≡ pos (frames k c)
     counters_kept k f' m' nests c less =
         let moved = elsewhere W activities nests (inner m n) in
         older f'.root ((f'.parts ++ member (counter_name c) ∷ []) ++ [])

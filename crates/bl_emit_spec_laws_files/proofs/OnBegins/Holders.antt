@@ -12,7 +12,7 @@ use Rattle.bl_emit_acts.specs.Places.{home_of}
 use Rattle.bl_emit_acts.specs.declared.home.Home.TheVariants.{Held}
 use Rattle.bl_emit_acts_laws_simulation.specs.Encodes.{home_at}
 use Rattle.bl_emit_functions.specs.Functions.{is_held, member_of, members_from}
-use Rattle.bl_emit_spec.specs.Activities.{Activity, memory_member, remembered, remembers_any, runs_in_body, view_of}
+use Rattle.bl_emit_spec.specs.Activities.{Activity, activity_view, memory_member, remembered, remembers_any, runs_in_body}
 
 one_more : (b : Bool) (structs : List StructDef) (k : ℕ) (var : Var) → b ≡ true → 0 < length (member_of b structs k var)
 one_more true structs k var is = omega arith
@@ -36,10 +36,10 @@ less_true : (n : ℕ) → 0 < n → nat_lt 0 n ≡ true
 less_true n less = lt-ltb 0 n less
 
 -- so an activity with a variable that is held remembers something
-pub holder_remembers : (a : Activity) (x : ℕ) (var : Var) → var_at (view_of a).site x ≡ Some var → home_at (view_of a).site x ≡ Held →
+pub holder_remembers : (a : Activity) (x : ℕ) (var : Var) → var_at (activity_view a).site x ≡ Some var → home_at (activity_view a).site x ≡ Held →
     remembers_any a ≡ true
 holder_remembers a x var there held =
-    let own = held_member (view_of a).site 0 (view_of a).site.vars x var there
-    (ap is_held (ap (home_of (view_of a).site) (sym there) ∙ held)) in
-    let all = length-append (members_from (view_of a).site 0 (view_of a).site.vars) (joined (map (memory_member a) (runs_in_body a))) in
+    let own = held_member (activity_view a).site 0 (activity_view a).site.vars x var there
+    (ap is_held (ap (home_of (activity_view a).site) (sym there) ∙ held)) in
+    let all = length-append (members_from (activity_view a).site 0 (activity_view a).site.vars) (joined (map (memory_member a) (runs_in_body a))) in
     less_true (length (remembered a)) (omega (arith, own, all))

@@ -31,7 +31,7 @@ use Rattle.bl_emit_spec_laws_files.proofs.OnBegins.Lists.{front_all, middle_all,
 -- a variable is a number that is given, or stands where a pointer leads that is given, or belongs to what the activity remembers
 pub data Where (site : TypingContext) (depth : ℕ) (here : Memory) (values : List Value) (passed : List ArgumentValue) (n j : ℕ) (var : Var) : Type 0 where
   number : (held : CValue) (value : Value) → slice_get passed j ≡ Some (by_value held) → slice_get values j ≡ Some value →
-      number_in value ≡ Some (memory.number_in held) → j < n → home_at site j ≡ Given → Where site depth here values passed n j var
+      number_in value ≡ Some (memory.scalar_number held) → j < n → home_at site j ≡ Given → Where site depth here values passed n j var
   place : (at : Location) (value : Value) → slice_get passed j ≡ Some (by_address at) → slice_get values j ≡ Some value →
       is_older depth at.root ≡ true → Encodes site.structs var.ty value (value_at here at) → j < n → home_at site j ≡ Lent →
       (is_input var.role || is_output var.role) ≡ true → Where site depth here values passed n j var

@@ -18,7 +18,7 @@ use Rattle.bl_emit_acts_laws_simulation.specs.Acts.{all_apart, places_in_args}
 use Rattle.bl_emit_acts_laws_simulation.specs.Frames.{PointersAreValid, is_older, lent_at, remembered_at}
 use Rattle.bl_emit_acts_laws_simulation.specs.Encodes.{are_apart, home_at, is_live, ways_part}
 use Rattle.bl_emit_functions_laws_simulation.specs.Calls.{HandedOver}
-use Rattle.bl_emit_spec.specs.Activities.{Activity, remembers_any, view_of}
+use Rattle.bl_emit_spec.specs.Activities.{Activity, activity_view, remembers_any}
 use Rattle.bl_emit_spec_laws.specs.Registers.Registers.{FramePointersAreValid, frame_at, over_at}
 use Rattle.bl_emit_spec_laws.specs.Calls.Calls.{CallAddresses, MayGive, where_true, written_by}
 use Rattle.bl_emit_spec_laws.specs.Calls.Invariant.{PlacesAreSeparate, result_at_c}
@@ -62,7 +62,7 @@ module _ (a : Activity) (standing : roles_stand a.unit ≡ true) (active : is_ac
     (many : length (given.inputs ++ map by_address given.outputs) ≡ a.unit.inputs + a.unit.outputs)
     (may : MayGive a.unit (remembers_any a) depth given) where
   abbrev site : TypingContext
-  site = (view_of a).site
+  site = (activity_view a).site
 
   abbrev remembers : Bool
   remembers = remembers_any a
@@ -250,7 +250,7 @@ module _ (a : Activity) (standing : roles_stand a.unit ≡ true) (active : is_ac
           ∙ roots_apart (record { root = variable (depth + 1) (codes "m"); parts = [] }) (lent_at scope k)
           (older_differs (depth + 1) (codes "m") (lent_at scope k).root (lent_older k var (lent k var there home)))
 
-  pub pointers_stand : PointersAreValid (view_of a).site (Begun a known (depth + 1) given as_many)
+  pub pointers_stand : PointersAreValid (activity_view a).site (Begun a known (depth + 1) given as_many)
   pointers_stand = record {
     few = few;
     lent_older = λ k var there home. lent_older k var (lent k var there home);
@@ -280,7 +280,7 @@ module _ (a : Activity) (standing : roles_stand a.unit ≡ true) (active : is_ac
   over_lent =
       lent_place given.over (over_at scope) over_is (for_over FromInputs may.inputs_apart) (one_flip given.outputs given.over output_ends.1)
 
-  pub places_stand : PlacesAreSeparate (view_of a).site a.unit (remembers_any a) (Begun a known (depth + 1) given as_many)
+  pub places_stand : PlacesAreSeparate (activity_view a).site a.unit (remembers_any a) (Begun a known (depth + 1) given as_many)
   places_stand = record {
     pointers = pointers_stand;
     frame = frame_stands;

@@ -8,7 +8,7 @@ use Rattle.bl_tree.specs.declared.c.CParam.{CParam}
 use Rattle.bl_tree.specs.declared.scalar.Scalar.{Scalar}
 use Rattle.bl_tree.specs.declared.text.Text.{Text}
 use Rattle.bl_tree.specs.Program.{parameters_of}
-use Rattle.bl_ctext_semantics.specs.Meaning.{ArgumentValue, Meaning, Scope, by_address, pointers_of, start_of, with_params}
+use Rattle.bl_ctext_semantics.specs.Meaning.{ArgumentValue, Meaning, Scope, by_address, named_location, pointers_of, with_params}
 use Rattle.bl_ctext_semantics.specs.Memory.{Location, Memory, Projection, variable, without_frame, zeros}
 use Rattle.bl_ctext_semantics.specs.Tables.{Table, found}
 use Rattle.bl_emit_acts.specs.Types.{variable_name}
@@ -91,13 +91,13 @@ module _ (a : Activity) (known : Table Meaning) (depth : ℕ) (given : CallAddre
   Listed = where_true (remembers_any a) (codes "m", given.memory) ++ (Own ++ Behind)
 
   -- a name that isn't that of the counters is found behind them
-  leads : (name : Text) (at : Location) → bytes_eq (codes "f") name ≡ false → found name Listed ≡ Some at → start_of Begun true name ≡ at
+  leads : (name : Text) (at : Location) → bytes_eq (codes "f") name ≡ false → found name Listed ≡ Some at → named_location Begun true name ≡ at
   leads name at differ is =
       ap (λ o. unwrap_or o (record { root = variable depth name; parts = [] }))
       (ap (found name) pointers_are ∙ (ap (λ b. if b then Some given.frame else found name Listed) differ ∙ is))
 
   nowhere_found : (name : Text) → bytes_eq (codes "f") name ≡ false → found name Listed ≡ None →
-      start_of Begun true name ≡ record { root = variable depth name; parts = [] }
+      named_location Begun true name ≡ record { root = variable depth name; parts = [] }
   nowhere_found name differ is =
       ap (λ o. unwrap_or o (record { root = variable depth name; parts = [] }))
       (ap (found name) pointers_are ∙ (ap (λ b. if b then Some given.frame else found name Listed) differ ∙ is))

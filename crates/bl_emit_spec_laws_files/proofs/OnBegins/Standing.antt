@@ -100,7 +100,7 @@ module _ (structs : List StructDef) (units : List UnitDef) (entry : ℕ) (orderl
   structs_are = compiled.built.structures k unit stands_there
 
   ordered : OrderlyUnit structs units unit
-  ordered = (orderly structs units entry compiled.keeps compiled.passes).each i unit there
+  ordered = (orderly structs units entry compiled.well_typed compiled.passes).each i unit there
 
   pub standing : roles_stand (activities (unit_number (setting_of structs units entry) i)).unit ≡ true
   standing = ap roles_stand unit_is ∙ ordered.roles
@@ -113,7 +113,7 @@ module _ (structs : List StructDef) (units : List UnitDef) (entry : ℕ) (orderl
 
   given_over : HandedOver structs unit (depth + 1) here values (given.inputs ++ map by_address given.outputs)
   given_over =
-      hands k unit depth here (input_values w store i unit) (output_values w store i unit) given.inputs given.outputs compiled.keeps stands_there
+      hands k unit depth here (input_values w store i unit) (output_values w store i unit) given.inputs given.outputs compiled.well_typed stands_there
       begins.inputs begins.outputs (may_pass unit (remembers_any a) depth given may)
 
   pub handed : HandedOver (activities (unit_number (setting_of structs units entry) i)).structs

@@ -19,8 +19,8 @@ use Rattle.bl_graph_nodes.specs.Nodes.{ActAt, EnterAt, ForkAt, HeadAt, Node, Pau
 use Rattle.bl_graph_nodes.specs.Plain.{Act, Again, Await, Block, Cobegin, Done, If, Plain, Repeat, Run, Then, Until, When, While}
 use Rattle.bl_machine.specs.Uses.{Slots}
 use Rattle.bl_eval.proofs.PassLemmas.{and_left, and_right}
-use Rattle.bl_ctext_semantics.specs.Meaning.{Scope, block_c, location_c, runs_c, start_of, value_c}
-use Rattle.bl_ctext_semantics.specs.Memory.{CValue, Location, Memory, Projection, Root, left_after, number_in, number_or, set_at, value_at}
+use Rattle.bl_ctext_semantics.specs.Meaning.{Scope, block_c, location_c, named_location, runs_c, value_c}
+use Rattle.bl_ctext_semantics.specs.Memory.{CValue, Location, Memory, Projection, Root, left_after, number_or, scalar_number, set_at, value_at}
 use Rattle.bl_ctext_semantics.specs.Memory.{with_part}
 use Rattle.bl_emit_acts.specs.Acts.{c_set}
 use Rattle.bl_emit_acts.specs.Trees.{c_read, c_two}
@@ -33,7 +33,7 @@ use Rattle.bl_emit_spec_laws.specs.Registers.Laws.{GuardsEvaluate, RegistersWith
 use Rattle.bl_emit_spec_laws.specs.Registers.Registers.{Before, Counter, Flag, Mark, Over, Register, Registered, RegistersApart, RegistersBeside, RegistersEncoded}
 use Rattle.bl_emit_spec_laws.specs.Registers.Registers.{has_register, held_in, register_at, same_register}
 use Rattle.bl_machine_pass.specs.Registers.{Registers, with_at}
-use Rattle.bl_machine_pass.specs.Transitions.{Asked, Change, Ended, IsAny, Transition, enter, rules_in, rules_of}
+use Rattle.bl_machine_pass.specs.Transitions.{Change, Condition, Ended, IsAny, Transition, enter, rules_in, rules_of}
 use Rattle.bl_machine_pass_laws.specs.Turns.Laws.{entry_flag}
 use Rattle.bl_emit_spec_laws.specs.Calls.Built.{asks_flag}
 use Rattle.bl_emit_spec_laws.proofs.OnWithin.Changing.{with_within}
@@ -73,9 +73,9 @@ holds_same structs ty value held other same holds = record {
   each = λ ks n is. sym (same (way_to structs ks (Some ty))) ∙ holds.each ks n is;
 }
 
-number_is : (o : Option CValue) (n : ℤ) → option_map number_in o ≡ Some n → (v : CValue) × (o ≡ Some v) × (number_in v ≡ n)
+number_is : (o : Option CValue) (n : ℤ) → option_map scalar_number o ≡ Some n → (v : CValue) × (o ≡ Some v) × (scalar_number v ≡ n)
 number_is None n h = absurd (cc)
-number_is (Some v) n h = (v, refl, same_Some (number_in v) n h)
+number_is (Some v) n h = (v, refl, same_Some (scalar_number v) n h)
 
 at_other : {X : Type 0} (k : ℕ) (x : X) (f : ℕ → X) (j : ℕ) → nat_eq j k ≡ false → with_at k x f j ≡ f j
 at_other k x f j h = ap (λ b. if b then x else f j) h
@@ -98,8 +98,8 @@ module _ (has : Registered) (site : TypingContext) (scope : Scope) (apart : Regi
   abbrev Mid : Registers → Memory → Type 0
   Mid = Stands has site scope now begun
 
-  own_number : (m : Memory) (x : Register) (held : CValue) → number_in (value_at (set_at m (register_at scope x) held) (register_at scope x))
-      ≡ number_in held
+  own_number : (m : Memory) (x : Register) (held : CValue) → scalar_number (value_at (set_at m (register_at scope x) held) (register_at scope x))
+      ≡ scalar_number held
   own_number m x held =
       let place = register_at scope x in
       same_object m place held (place.parts ++ [])
@@ -108,7 +108,7 @@ module _ (has : Registered) (site : TypingContext) (scope : Scope) (apart : Regi
 
   -- a register that is a variable of the function is set
   set_stands : (m : Memory) (r after : Registers) (x : Register) (name : List ℕ) (held : CValue) → has_register has x ≡ true →
-      register_at scope x ≡ start_of scope false name → SetIn has r after x (number_in held) → Mid r m → Mid after
+      register_at scope x ≡ named_location scope false name → SetIn has r after x (scalar_number held) → Mid r m → Mid after
       (set_at m (register_at scope x) held)
   set_stands m r after x name held there is set stands = record {
     hold = record { each = λ y its. by y its (same_register y x) refl };
@@ -125,9 +125,9 @@ module _ (has : Registered) (site : TypingContext) (scope : Scope) (apart : Regi
   }
     where
       by : (y : Register) → has_register has y ≡ true → (same : Bool) → same_register y x ≡ same →
-          number_in (value_at (set_at m (register_at scope x) held) (register_at scope y)) ≡ held_in after y
+          scalar_number (value_at (set_at m (register_at scope x) held) (register_at scope y)) ≡ held_in after y
       by y its true same =
-          subst (λ (y : Register). number_in (value_at (set_at m (register_at scope x) held) (register_at scope y)) ≡ held_in after y)
+          subst (λ (y : Register). scalar_number (value_at (set_at m (register_at scope x) held) (register_at scope y)) ≡ held_in after y)
           (sym (register_is y x same)) (own_number m x held ∙ sym set.0)
       by y its false differ =
           apart_same m (register_at scope x) held (register_at scope y)
@@ -136,9 +136,9 @@ module _ (has : Registered) (site : TypingContext) (scope : Scope) (apart : Regi
 
   -- the C that does that
   set_goes : (m : Memory) (r after : Registers) (x : Register) (name : List ℕ) (held : CValue) (place : CPlace) (value : CExpr) →
-      has_register has x ≡ true → register_at scope x ≡ start_of scope false name →
+      has_register has x ≡ true → register_at scope x ≡ named_location scope false name →
       (location_c place scope m).answer ≡ Some (register_at scope x) → (value_c value scope m).answer ≡ Some held →
-      SetIn has r after x (number_in held) → Mid r m → GoesTo (Mid after) (block_c (c_set place value ∷ []) scope m)
+      SetIn has r after x (scalar_number held) → Mid r m → GoesTo (Mid after) (block_c (c_set place value ∷ []) scope m)
   set_goes m r after x name held place value there local at is set stands =
       let o = runs_c (c_set place value) scope m in
       let alone = alone_alike scope (c_set place value) m in
@@ -171,7 +171,7 @@ module _ (has : Registered) (site : TypingContext) (scope : Scope) (apart : Regi
       (set_goes m r (with_rested (k ∷ []) r) (Before k) (rested_name k) (value_at m (register_at scope (Counter k))) (rested_place k)
       (c_read (counter_place k)) (and_left (has.copied k) (list_all has.copied ks) copied) refl (local_answer scope m (rested_name k))
       (read_answer scope m (counter_place k) (register_at scope (Counter k)) (counter_answer scope m k))
-      (rested_sets k r (number_in (value_at m (register_at scope (Counter k)))) (stands.hold.each (Counter k) counted)) stands)
+      (rested_sets k r (scalar_number (value_at m (register_at scope (Counter k)))) (stands.hold.each (Counter k) counted)) stands)
       (λ m' next. rested_goes ks (with_rested (k ∷ []) r) m' (and_right (has.counters k) (list_all has.counters ks) counters)
       (and_right (has.copied k) (list_all has.copied ks) copied) next)
 
@@ -202,7 +202,7 @@ module _ (has : Registered) (site : TypingContext) (scope : Scope) (apart : Regi
 
   module _ (view : ActivityView) (guards : GuardsEvaluate) (first : has.counters 0 ≡ true) where
     -- the first number of the first counter, as a guard asks it
-    abbrev none_yet : Asked
+    abbrev none_yet : Condition
     none_yet = Ended IsAny (record { all = true; slots = record { counter = 0; value = 0 } ∷ [] })
 
     pub entry_goes : (body : Block) (r : Registers) (m : Memory) →
@@ -210,7 +210,7 @@ module _ (has : Registered) (site : TypingContext) (scope : Scope) (apart : Regi
         GoesTo (Mid (with_entry view body r)) (block_c (entry_code view body) scope m)
     entry_goes Done r m flagged within stands = (refl, stands)
     entry_goes (Then s rest) r m flagged within stands =
-        let shows : option_map number_in (value_c (c_two Eq (c_read (counter_place 0)) (counter_value view.sizes 0 0)) scope m).answer
+        let shows : option_map scalar_number (value_c (c_two Eq (c_read (counter_place 0)) (counter_value view.sizes 0 0)) scope m).answer
         ≡ Some (number_of (nat_eq (r.counters 0) 0)) =
         guards view has scope (entry s) none_yet r m stands.hold within (ap (λ b. b && true) first)
         ∙ ap (λ b. Some (number_of b)) (and_true (nat_eq (r.counters 0) 0)) in
@@ -219,7 +219,7 @@ module _ (has : Registered) (site : TypingContext) (scope : Scope) (apart : Regi
         set_goes m r (with_entry view (Then s rest) r) (Flag (view.number (entry s))) (flag_name (view.number (entry s))) found.0
         (flag_place (view.number (entry s))) (c_two Eq (c_read (counter_place 0)) (counter_value view.sizes 0 0)) (flagged s rest refl) refl
         (local_answer scope m (flag_name (view.number (entry s)))) found.1
-        (entry_sets (view.number (entry s)) r (with_entry view (Then s rest) r) (nat_eq (r.counters 0) 0) refl (number_in found.0) found.2) stands
+        (entry_sets (view.number (entry s)) r (with_entry view (Then s rest) r) (nat_eq (r.counters 0) 0) refl (scalar_number found.0) found.2) stands
 
 -- ---- what the registers hold then
 

@@ -27,9 +27,9 @@ use Rattle.bl_emit_acts.specs.declared.home.Home.{Home}
 use Rattle.bl_emit_acts.specs.declared.home.Home.TheVariants.{Held, Given as IsGiven, Lent}
 use Rattle.bl_emit_acts.specs.Types.{variable_name}
 use Rattle.bl_emit_acts_laws_simulation.specs.Frames.{is_older}
-use Rattle.bl_emit_acts_laws_simulation.specs.Encodes.{Encodes, VariablesEncoded, home_at, lead_in, location_in, number_at, start_in, way_to}
+use Rattle.bl_emit_acts_laws_simulation.specs.Encodes.{Encodes, VariablesEncoded, home_at, lead_in, location_in, number_within, start_in, way_to}
 use Rattle.bl_emit_functions_laws_simulation.specs.Calls.{CallsKeepFrame, HandedOver, HandsOver, memory_begun}
-use Rattle.bl_emit_spec.specs.Activities.{Activity, activity_function, remembers_any, view_of}
+use Rattle.bl_emit_spec.specs.Activities.{Activity, activity_function, activity_view, remembers_any}
 use Rattle.bl_emit_spec_laws.specs.Calls.Built.{site_at, unit_number}
 use Rattle.bl_emit_spec_laws.specs.Calls.Calls.{CallAddresses, MayGive, input_values, output_values, passed_to}
 use Rattle.bl_emit_spec_laws.specs.Calls.Laws.{memory_in, scope_in}
@@ -51,7 +51,7 @@ holds_same structs ty value held other same holds = record {
 }
 
 -- a value that is a number is held where that number is
-number_alone : (structs : List StructDef) (ty : Ty) (value : Value) (held : CValue) → number_in value ≡ Some (memory.number_in held) →
+number_alone : (structs : List StructDef) (ty : Ty) (value : Value) (held : CValue) → number_in value ≡ Some (memory.scalar_number held) →
     Encodes structs ty value held
 number_alone structs ty value held is = record { each = each }
   where
@@ -60,9 +60,9 @@ number_alone structs ty value held is = record { each = each }
     no_part (Value-F.Number x) k ks n m is h = cc
     no_part (Value-F.Parts all) k ks n m is h = cc
 
-    each : (ks : List ℕ) (n : ℤ) → number_at ks value ≡ Some n → held (way_to structs ks (Some ty)) ≡ n
+    each : (ks : List ℕ) (n : ℤ) → number_within ks value ≡ Some n → held (way_to structs ks (Some ty)) ≡ n
     each [] n h = same_Some (held []) n (sym is ∙ h)
-    each (k ∷ ks) n h = absurd (no_part (out-Value value) k ks (memory.number_in held) n is h)
+    each (k ∷ ks) n h = absurd (no_part (out-Value value) k ks (memory.scalar_number held) n is h)
 
 module _ (a : Activity) (standing : roles_stand a.unit ≡ true) (active : is_activity a.unit.kind ≡ true) (few : length a.unit.vars ≤ 2 ^ 64)
     (known : Table Meaning) (depth : ℕ) (given : CallAddresses) (values : List Value) (here : Memory)
@@ -70,10 +70,10 @@ module _ (a : Activity) (standing : roles_stand a.unit ≡ true) (active : is_ac
     (many : length (given.inputs ++ map by_address given.outputs) ≡ a.unit.inputs + a.unit.outputs)
     (may : MayGive a.unit (remembers_any a) depth given) (keeps : CallsKeepFrame) (now : List Value)
     (front : (j : ℕ) → j < a.unit.inputs + a.unit.outputs → slice_get values j ≡ slice_get now j)
-    (held : (j : ℕ) (var : Var) (value : Value) → var_at (view_of a).site j ≡ Some var → home_at (view_of a).site j ≡ Held →
+    (held : (j : ℕ) (var : Var) (value : Value) → var_at (activity_view a).site j ≡ Some var → home_at (activity_view a).site j ≡ Held →
     slice_get now j ≡ Some value → Encodes a.structs var.ty value (value_at here (further given.memory (member (variable_name j) ∷ [])))) where
   abbrev site : TypingContext
-  site = (view_of a).site
+  site = (activity_view a).site
 
   abbrev n : ℕ
   n = a.unit.inputs + a.unit.outputs
@@ -141,7 +141,7 @@ module _ (a : Activity) (standing : roles_stand a.unit ≡ true) (active : is_ac
       (λ way. sym (older_same inner way (memory_older a standing active few known depth given values here handed many may is)))
       (held j var value there home at)))
 
-  pub variables_hold : VariablesEncoded (view_of a).site now
+  pub variables_hold : VariablesEncoded (activity_view a).site now
       (Begun a known (depth + 1) given (as_many a standing active few known depth given values here handed many may))
       (memory_begun (activity_function a) (depth + 1) (passed_to a.unit (remembers_any a) given) here)
   variables_hold = record {

@@ -45,11 +45,11 @@ use Rattle.bl_ctext_semantics.specs.Meaning.{
   location_c,
   next,
   runs_c,
-  start_of,
+  named_location,
   value_c,
   way_of,
 }
-use Rattle.bl_ctext_semantics.specs.Memory.{CValue, Location, Memory, Projection, input_object, member, number_in, output_object, state_object, value_at, variable}
+use Rattle.bl_ctext_semantics.specs.Memory.{CValue, Location, Memory, Projection, input_object, member, output_object, scalar_number, state_object, value_at, variable}
 use Rattle.bl_ctext_semantics.specs.Memory.{without_frame}
 use Rattle.bl_ctext_semantics.specs.Tables.{Table, table_of}
 use Rattle.bl_ctext_semantics.specs.Trace.{object}
@@ -71,17 +71,17 @@ module _ (scope : Scope) (here : Memory) where
 
   -- a pointer's member
   pub member_place : (name of : Text) → location_c (c_place true name (c_step of ∷ [])) scope here
-      ≡ given (Some (further (start_of scope true name) (member of ∷ [])))
+      ≡ given (Some (further (named_location scope true name) (member of ∷ [])))
   member_place name of =
       place-location scope here true name (c_step of ∷ [])
       ∙ ap (λ (first : Counted (List Projection)). next (next first (λ a. next (each_of [] scope here) (λ others. given (Some (a ∷ others)))))
-      (λ ways. given (Some (further (start_of scope true name) (way_of ways))))) (step-way scope here of)
+      (λ ways. given (Some (further (named_location scope true name) (way_of ways))))) (step-way scope here of)
 
   -- what a pointer points to
-  pub whole_place : (name : Text) → location_c (c_place true name []) scope here ≡ given (Some (further (start_of scope true name) []))
+  pub whole_place : (name : Text) → location_c (c_place true name []) scope here ≡ given (Some (further (named_location scope true name) []))
   whole_place name = place-location scope here true name []
 
-  pub local_place : (name : Text) → location_c (c_place false name []) scope here ≡ given (Some (further (start_of scope false name) []))
+  pub local_place : (name : Text) → location_c (c_place false name []) scope here ≡ given (Some (further (named_location scope false name) []))
   local_place name = place-location scope here false name []
 
   address_arg-open : (place : CPlace) →
@@ -140,7 +140,7 @@ module _ (scope : Scope) (here : Memory) where
       (statement.rolls-Call call) (calling-open call)
 
   abbrev returning : CExpr → Outcome Memory
-  returning e = executed here (value_c e scope here) (λ v. ending (returns (number_in v)) here)
+  returning e = executed here (value_c e scope here) (λ v. ending (returns (scalar_number v)) here)
 
   return-open : (e : CExpr) → runs_c (what (CStmtKind-F.Return (Some e))) scope here ≡ returning e
   return-open e = rw (fold-roll-CStmt, fold-roll-CStmtKind) refl
@@ -157,7 +157,7 @@ module _ (scope : Scope) (here : Memory) where
   pub returned_runs : (n : ℕ) → runs_c (c_returned n) scope here ≡ returned n
   returned_runs n =
       return-runs (c_literal (Nat W32) (pos n))
-      ∙ ap (λ (c : Counted CValue). executed here c (λ v. ending (returns (number_in v)) here)) (literal-value scope here (Nat W32) (pos n))
+      ∙ ap (λ (c : Counted CValue). executed here c (λ v. ending (returns (scalar_number v)) here)) (literal-value scope here (Nat W32) (pos n))
 
 -- ---- the body of a tick
 
@@ -284,7 +284,7 @@ module _ (known : Table Meaning) (unit : UnitDef) (remembers : Bool) (resultless
         (local_place S here (codes "e"))
 
     abbrev if_by : Counted CValue → Outcome Memory
-    if_by c = executed here c (λ v. (if is_one (number_in v) then block_c (c_returned 1 ∷ []) else block_c []) S here)
+    if_by c = executed here c (λ v. (if is_one (scalar_number v) then block_c (c_returned 1 ∷ []) else block_c []) S here)
 
     abbrev chosen : Bool → Outcome Memory
     chosen b =
@@ -313,13 +313,13 @@ module _ (known : Table Meaning) (unit : UnitDef) (remembers : Bool) (resultless
     truth true = refl
     truth false = refl
 
-    rest_is : (over : Bool) → number_in (value_at here over_place) ≡ number_of over → rest_runs ≡ chosen over
+    rest_is : (over : Bool) → scalar_number (value_at here over_place) ≡ number_of over → rest_runs ≡ chosen over
     rest_is over is =
         ap (λ (o : Outcome Memory). following o (λ m. block_c (c_returned 0 ∷ []) S m))
         (if-runs S here (c_read (c_place false (codes "e") [])) (c_returned 1 ∷ []) None ∙ ap if_by over_read)
         ∙ ap chosen (ap is_one is ∙ truth over)
 
-    pub rest_answers : (over : Bool) → number_in (value_at here over_place) ≡ number_of over → Answers rest_runs over
+    pub rest_answers : (over : Bool) → scalar_number (value_at here over_place) ≡ number_of over → Answers rest_runs over
     rest_answers over is = subst (λ (o : Outcome Memory). Answers o over) (sym (rest_is over is)) (by_over over)
 
   -- ---- a tick
@@ -352,7 +352,7 @@ module _ (known : Table Meaning) (unit : UnitDef) (remembers : Bool) (resultless
     pub result : called.result ≡ Some (number_of over)
     pub memory : called.memory ≡ without_frame 0 after
 
-  answered : (c : CallResult) (over : Bool) → c.result ≡ Some (pos 0) → number_in (value_at c.memory over_place) ≡ number_of over →
+  answered : (c : CallResult) (over : Bool) → c.result ≡ Some (pos 0) → scalar_number (value_at c.memory over_place) ≡ number_of over →
       Replies (as_called (then_rest c)) over c.memory
   answered c over is told = by c.result is
     where
@@ -365,7 +365,7 @@ module _ (known : Table Meaning) (unit : UnitDef) (remembers : Bool) (resultless
 
   -- else it tells whether the entry has ended
   pub tick_replies : (here : Memory) (over : Bool) → (entry_called (without_frame 0 here)).result ≡ Some (pos 0) →
-      number_in (value_at (entry_called (without_frame 0 here)).memory over_place) ≡ number_of over →
+      scalar_number (value_at (entry_called (without_frame 0 here)).memory over_place) ≡ number_of over →
       Replies (ticked here) over (entry_called (without_frame 0 here)).memory
   tick_replies here over is told =
       subst (λ (called : CallResult). Replies called over (entry_called (without_frame 0 here)).memory) (sym (ticked_is here))

@@ -29,10 +29,10 @@ use Rattle.bl_ctext_semantics.specs.Cells as cells
 use Rattle.bl_ctext_semantics.specs.Cells.{cells_of, column_of, memory_of, numbers_of, outputs_in, ports_of, with_inputs}
 use Rattle.bl_ctext_semantics.specs.Meaning.{CallResult, Meaning, applied, further}
 use Rattle.bl_ctext_semantics.specs.Memory.{cleared as cleared_memory}
-use Rattle.bl_ctext_semantics.specs.Memory.{Location, Memory, input_object, member, number_in, output_object, state_object, value_at, without_frame}
+use Rattle.bl_ctext_semantics.specs.Memory.{Location, Memory, input_object, member, output_object, scalar_number, state_object, value_at, without_frame}
 use Rattle.bl_ctext_semantics.specs.Parts.{Parts}
 use Rattle.bl_ctext_semantics.specs.Tables.{Table}
-use Rattle.bl_ctext_semantics.specs.Trace.{Reply, TickOfFile, c_trace_from, cells_if, entered, object, reply_of, start_c, started, tick_c, tick_of, trace_after, traced}
+use Rattle.bl_ctext_semantics.specs.Trace.{Reply, TickOfFile, c_trace_from, call_from_outside, cells_if, object, reply_of, start_c, started, tick_c, tick_of, trace_after, traced}
 use Rattle.bl_ctree.specs.Instances.{Setting, setting_of, unit_at}
 use Rattle.bl_ctree.specs.Store as store
 use Rattle.bl_ctree.specs.Store.{Frame, Store, aged, first_frame, first_store, number_or_zero, outputs_of_frame, outputs_row, view_at, woken_store}
@@ -101,7 +101,7 @@ number_there (Value-F.Parts all) s is = absurd (cc)
 module _ (structs : List StructDef) where
   -- the number of a scalar that memory holds
   held_number : (var : Var) (value : Value) (place : Location) (here : Memory) → is_scalar var ≡ true → value_fits structs var.ty value ≡ true →
-      Encodes structs var.ty value (value_at here place) → number_in (value_at here place) ≡ number_or_zero value
+      Encodes structs var.ty value (value_at here place) → scalar_number (value_at here place) ≡ number_or_zero value
   held_number var value place here scalar fit holds =
       let found = some_scalar (scalar_in var.ty) scalar in
       let fits = sym (fits_scalar (tests_after [] structs) found.0 value)
@@ -159,7 +159,7 @@ module _ (out : HomesLeadOut) (orderly : AcceptedIsOrderly) (keep : PassesKeepTy
   -- ---- the entry's unit
 
   entry_so : (is_activity unit.kind && (is_none unit.result && list_all is_scalar (parameters_of unit))) ≡ true
-  entry_so = ap is_entry (sym there) ∙ compiled.keeps.entry_stands
+  entry_so = ap is_entry (sym there) ∙ compiled.well_typed.entry_stands
 
   none_so : (o : Option ScalarType) → is_none o ≡ true → o ≡ None
   none_so None h = refl
@@ -219,9 +219,9 @@ module _ (out : HomesLeadOut) (orderly : AcceptedIsOrderly) (keep : PassesKeepTy
 
   -- ---- the functions of the file
 
-  tick_entered : (here : Memory) → entered file (codes "bl_tick") (object state_object ∷ object
+  tick_entered : (here : Memory) → call_from_outside file (codes "bl_tick") (object state_object ∷ object
       input_object ∷ object output_object ∷ []) here ≡ ticked known unit remembers resultless here
-  unfolding entered
+  unfolding call_from_outside
   tick_entered here =
       ap (λ (o : Option Meaning). applied o 0 (object state_object ∷ object
       input_object ∷ object output_object ∷ []) here) stands.ticks
@@ -234,7 +234,7 @@ module _ (out : HomesLeadOut) (orderly : AcceptedIsOrderly) (keep : PassesKeepTy
       ≡ tick_of file (ticked known unit remembers resultless (set row here))
   unfolding tick_c
   tick_is row here =
-      ap (λ (ports : List CMember). tick_of file (entered file (codes "bl_tick") (object state_object ∷ object
+      ap (λ (ports : List CMember). tick_of file (call_from_outside file (codes "bl_tick") (object state_object ∷ object
       input_object ∷ object output_object ∷ [])
       (with_inputs ports row (regained file here)))) stands.inputs
       ∙ ap (tick_of file) (tick_entered (set row here))
@@ -289,7 +289,7 @@ module _ (out : HomesLeadOut) (orderly : AcceptedIsOrderly) (keep : PassesKeepTy
       long_row = mapped_length Number row ∙ long ∙ taken_length unit.inputs unit.vars enough
 
       woken_fits : StoreFits W (woken_store row s)
-      woken_fits = (starts_fit structs units entry compiled.keeps).woken unit row s there fit between.fits
+      woken_fits = (starts_fit structs units entry compiled.well_typed).woken unit row s there fit between.fits
 
       abbrev has : Has s
       has = between.fits.each 0 unit is
@@ -391,7 +391,7 @@ module _ (out : HomesLeadOut) (orderly : AcceptedIsOrderly) (keep : PassesKeepTy
           let replies = tick_replies known unit remembers resultless (set row here) r'.over leaves.returned leaves.over in
           let after = without_frame 0 c.memory in
           let fits : StoreFits W left =
-          (keep structs units entry compiled.keeps).executes (rank_by W activities) (slots_by W activities) (cleared W) 0 0 frames
+          (keep structs units entry compiled.well_typed).executes (rank_by W activities) (slots_by W activities) (cleared W) 0 0 frames
           (woken_store row s) (view_at W (woken_store row s) 0).now r inner left r' woken_fits pass in
           let within : FramesWithin W activities inner × RegistersWithin (activity_at W activities 0).sizes r' =
           (stay structs units entry machine activities).executes 0 0 frames (woken_store row s) (view_at W (woken_store row s) 0).now r inner left r'
@@ -453,7 +453,7 @@ module _ (out : HomesLeadOut) (orderly : AcceptedIsOrderly) (keep : PassesKeepTy
   -- ---- the start
 
   started_is : started file ≡ begun stands.before
-  unfolding started entered
+  unfolding started call_from_outside
   started_is = ap (λ (o : Option Meaning). applied o 0 (object state_object ∷ []) cleared_memory) stands.starts
 
   abbrev first_memory : Memory
@@ -488,7 +488,7 @@ module _ (out : HomesLeadOut) (orderly : AcceptedIsOrderly) (keep : PassesKeepTy
   }
     where
       first_fits : StoreFits W (first_store W)
-      first_fits = (starts_fit structs units entry compiled.keeps).first
+      first_fits = (starts_fit structs units entry compiled.well_typed).first
 
       first_outputs : output_values W (first_store W) 0 unit ≡ map (λ (var : Var). zero_of structs var.ty) (outputs_of unit)
       first_outputs =

@@ -189,19 +189,19 @@ module _ (out : HomesLeadOut) (orderly : AcceptedIsOrderly) (structs : List Stru
   pub roles_at : (k : ℕ) (unit : UnitDef) → slice_get units k ≡ Some unit → roles_stand unit ≡ true
   roles_at k unit there =
       and_left (roles_stand unit) (list_all is_name (names_of unit.vars) && are_distinct (names_of (parameters_of unit)))
-      (and_left _ _ (unit_stands_at structs [] units k unit compiled.keeps.units_stand there))
+      (and_left _ _ (unit_stands_at structs [] units k unit compiled.well_typed.units_stand there))
 
   pub distinct_at : (k : ℕ) (unit : UnitDef) → slice_get units k ≡ Some unit → are_distinct (names_of (parameters_of unit)) ≡ true
   distinct_at k unit there =
       and_right (list_all is_name (names_of unit.vars)) (are_distinct (names_of (parameters_of unit)))
       (and_right (roles_stand unit) (list_all is_name (names_of unit.vars) && are_distinct (names_of (parameters_of unit)))
-      (and_left _ _ (unit_stands_at structs [] units k unit compiled.keeps.units_stand there)))
+      (and_left _ _ (unit_stands_at structs [] units k unit compiled.well_typed.units_stand there)))
 
   -- a variable that an instance remembers is behind the parameters
   module _ (i x : ℕ) (var : Var) (unit : UnitDef) (is : unit_at W i ≡ Some unit) (is_var : var_at (site_at W activities i) x ≡ Some var)
       (held : home_at (site_at W activities i) x ≡ Held) where
     active : is_activity unit.kind ≡ true
-    active = ((orderly structs units entry compiled.keeps compiled.passes).each i unit is).activity
+    active = ((orderly structs units entry compiled.well_typed compiled.passes).each i unit is).activity
 
     var_there : slice_get unit.vars x ≡ Some var
     var_there = subst (λ (u : UnitDef). slice_get u.vars x ≡ Some var) (own_unit i unit is) is_var

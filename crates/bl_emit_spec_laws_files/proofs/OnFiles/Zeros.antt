@@ -11,11 +11,11 @@ use Rattle.bl_tree.specs.declared.value.Value.{Value}
 use Rattle.bl_tree.specs.declared.value.Value.TheVariants.{Number, Parts, outs-Number, outs-Parts}
 use Rattle.bl_eval.specs.Values.{number_at as number_level, number_in, parts_at, struct_zero, value_at, zero_by, zero_of, zeros_after}
 use Rattle.bl_ctext_semantics.specs.Memory.{CValue, Projection}
-use Rattle.bl_emit_acts_laws_simulation.specs.Encodes.{Encodes, number_at, way_to}
+use Rattle.bl_emit_acts_laws_simulation.specs.Encodes.{Encodes, number_within, way_to}
 
 -- each number in a value is 0
 abbrev pub AllZero : Value → Type 0
-AllZero value = (ks : List ℕ) (n : ℤ) → number_at ks value ≡ Some n → n ≡ pos 0
+AllZero value = (ks : List ℕ) (n : ℤ) → number_within ks value ≡ Some n → n ≡ pos 0
 
 abbrev EachZero : List Value → Type 0
 EachZero all = (k : ℕ) (value : Value) → slice_get all k ≡ Some value → AllZero value

@@ -22,7 +22,7 @@ use Rattle.bl_eval.specs.Values.{value_fits}
 use Rattle.bl_eval.proofs.PassLemmas.{and_left, and_right, both, pass_at}
 use Rattle.bl_ctext_semantics.specs.Faults.{WellFormed, struct_table}
 use Rattle.bl_ctext_semantics.specs.Meaning.{further as further_place}
-use Rattle.bl_ctext_semantics.specs.Memory.{Location, Memory, Projection, Root, member, number_in, output_object, state_object, value_at}
+use Rattle.bl_ctext_semantics.specs.Memory.{Location, Memory, Projection, Root, member, output_object, scalar_number, state_object, value_at}
 use Rattle.bl_ctext_semantics.specs.Parts.{Parts}
 use Rattle.bl_ctext_semantics_laws.specs.Fitting.{ValueSpot, walk, whole, whole_spot, whole_type}
 use Rattle.bl_ctree.specs.declared.instance.Instance.{Instance}
@@ -209,8 +209,8 @@ module _ (orderly : AcceptedIsOrderly) (placed : StaysPlaced) (views : ViewsAreT
   goes_along = along orderly placed structs units entry machine activities unit file compiled runs formed declared
 
   counter_kept : (memory : Memory) (k c : ℕ) (f' m' : Location) → Stands k f' m' → c < length (A k).sizes →
-      number_in (value_at (regained file memory) (further_place f' (member (counter_name c) ∷ [])))
-      ≡ number_in (value_at memory (further_place f' (member (counter_name c) ∷ [])))
+      scalar_number (value_at (regained file memory) (further_place f' (member (counter_name c) ∷ [])))
+      ≡ scalar_number (value_at memory (further_place f' (member (counter_name c) ∷ [])))
   counter_kept memory k c f' m' stands less =
       let counters = map (counter_member (A k).sizes) (up_to (length (A k).sizes)) in
       let step = member_step file formed (frame_struct (A k)) (counter_member (A k).sizes c) (declared.frames k stands.other stands.is_there)
@@ -265,7 +265,7 @@ module _ (orderly : AcceptedIsOrderly) (placed : StaysPlaced) (views : ViewsAreT
 
     fitting : value_fits structs var.ty value ≡ true
     fitting =
-        let seen = views structs units entry k stands.other store compiled.keeps is_there fits in
+        let seen = views structs units entry k stands.other store compiled.well_typed is_there fits in
         let found = pass_at (λ (var : Var). value_fits structs var.ty) stands.other.vars (view_at W store k).now x var seen.now var_there in
         subst (λ (v : Value). value_fits structs var.ty v ≡ true) (same_Some found.0 value (sym found.1 ∙ is_value)) found.2
 
@@ -279,7 +279,7 @@ module _ (orderly : AcceptedIsOrderly) (placed : StaysPlaced) (views : ViewsAreT
         Encodes structs var.ty value (value_at (regained file memory) (further_place m' (member (variable_name x) ∷ [])))
     variable_kept holds = record {
       each = λ ks n number.
-          (let scalar = leads structs compiled.keeps.structs_stand file formed ks var.ty value n all_declared fitting number in
+          (let scalar = leads structs compiled.well_typed.structs_stand file formed ks var.ty value n all_declared fitting number in
           state_kept memory m'.root ((m'.parts ++ member (variable_name x) ∷ []) ++ way_to structs ks (Some var.ty)) scalar.kind stands.memory_root
           (goes_along (m'.parts ++ member (variable_name x) ∷ []) (way_to structs ks (Some var.ty)) (whole (c_type structs var.ty))
           (whole (OfScalar scalar.kind)) leading scalar.walks))
@@ -299,7 +299,7 @@ module _ (orderly : AcceptedIsOrderly) (placed : StaysPlaced) (views : ViewsAreT
   -- ---- outputs
 
   entry_so : (is_activity unit.kind && (is_none unit.result && list_all is_scalar (parameters_of unit))) ≡ true
-  entry_so = ap is_entry (sym there) ∙ compiled.keeps.entry_stands
+  entry_so = ap is_entry (sym there) ∙ compiled.well_typed.entry_stands
 
   outputs_scalar : list_all is_scalar (outputs_of unit) ≡ true
   outputs_scalar =

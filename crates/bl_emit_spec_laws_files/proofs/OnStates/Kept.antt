@@ -11,7 +11,8 @@ use Rattle.bl_tree.specs.declared.scalar.Scalar.{Scalar}
 use Rattle.bl_tree.specs.declared.text.Text.{Text}
 use Rattle.bl_ctext_semantics.specs.Cells.{Cell, Inner, cells_at, cells_of, inner_of, memory_of, numbers_of}
 use Rattle.bl_ctext_semantics.specs.Faults.{WellFormed, struct_table}
-use Rattle.bl_ctext_semantics.specs.Memory.{CValue, Memory, Projection, Root, element, input_object, left_after, member, number_in, number_or, output_object}
+use Rattle.bl_ctext_semantics.specs.Memory.{CValue, Memory, Projection, Root, element, input_object, left_after, member, number_or, output_object}
+use Rattle.bl_ctext_semantics.specs.Memory.{scalar_number}
 use Rattle.bl_ctext_semantics.specs.Memory.{same_root, scalar, set_at, state_object, value_at, variable, with_part}
 use Rattle.bl_ctext_semantics.specs.Parts.{Parts}
 use Rattle.bl_ctext_semantics.specs.Sizes.{size_of_type, sizes}
@@ -64,7 +65,7 @@ module _ (here : Memory) (root : Root) (way : List Projection) where
   missed true parts v value h = kept_in (left_after parts way) v (value way) h
 
   found : (same : Bool) (parts : List Projection) (v value : CValue) → same ≡ true → left_after parts way ≡ Some [] →
-      (if same then with_part value parts v else value) way ≡ number_in v
+      (if same then with_part value parts v else value) way ≡ scalar_number v
   found true parts v value h i = ap (λ left. number_or left v (value way)) i
   found false parts v value h i = absurd (cc)
 
@@ -82,7 +83,7 @@ module _ (here : Memory) (root : Root) (way : List Projection) where
       rest = memory_of cells (numbers_of cells here)
 
       own : CValue
-      own = scalar (number_in (value_at here cell.location))
+      own = scalar (scalar_number (value_at here cell.location))
 
       later : Is cell ⊎ SomeIs cells → Misses cell → SomeIs cells
       later (inl is) misses = absurd (is_hit cell is misses)

@@ -26,6 +26,7 @@ use Rattle.bl_emit_functions.specs.Functions.{members_of, memory_name}
 use Rattle.bl_emit_spec.specs.Activities.{
   Activity,
   RunAt,
+  activity_view,
   counter_member,
   frame_member,
   frame_struct,
@@ -34,7 +35,6 @@ use Rattle.bl_emit_spec.specs.Activities.{
   remembers_any,
   runs_in_body,
   struct_member,
-  view_of,
 }
 use Rattle.bl_emit_spec.specs.Blocks.{name_in}
 use Rattle.bl_emit_spec.specs.Names.{callee_name, frame_name}
@@ -172,7 +172,7 @@ module _ (orderly : AcceptedIsOrderly) (placed : StaysPlaced) (structs : List St
     run_within =
         let called = subst (λ (x : UnitDef). Rattle.bl_emit_spec_laws.specs.Calls.Laws.CalledAt (plain_body x.body) (EnterAt l at arguments)
         (unit_number W j)) (sym (own_unit i u is)) found.called in
-        run_kept placed.nodes (A i) structs units entry compiled.keeps (unit_number W i) (unit_there i u is ∙ ap Some (sym (own_unit i u is)))
+        run_kept placed.nodes (A i) structs units entry compiled.well_typed (unit_number W i) (unit_there i u is ∙ ap Some (sym (own_unit i u is)))
         called.position (unit_number W j) l at arguments called.node called.unit
 
     earlier_is : slice_get (A i).earlier (unit_number W j) ≡ Some found.other
@@ -194,9 +194,9 @@ module _ (orderly : AcceptedIsOrderly) (placed : StaysPlaced) (structs : List St
         ∙ ap (λ (name : Text). Some (whole (OfStruct (frame_name name)))) named
 
     module _ (remembers : remembers_any (A j) ≡ true) where
-      told : (view_of (A i)).remembers (unit_number W j) ≡ true
+      told : (activity_view (A i)).remembers (unit_number W j) ≡ true
       told =
-          let active = ((orderly structs units entry compiled.keeps compiled.passes).each j found.other found.is_there).activity in
+          let active = ((orderly structs units entry compiled.well_typed compiled.passes).each j found.other found.is_there).activity in
           ap (λ (o : Option Bool). unwrap_or o false) (compiled.built.remember (unit_number W i) (unit_number W j) u found.other (unit_there i u is)
           (unit_there j found.other found.is_there) found.earlier)
           ∙ ap₂ (λ a b. a && b) active remembers

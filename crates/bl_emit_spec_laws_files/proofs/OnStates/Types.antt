@@ -41,7 +41,7 @@ use Rattle.bl_ctext_semantics.specs.Parts.{Parts}
 use Rattle.bl_ctext_semantics_laws.specs.Fitting.{ValueSpot, step_in, walk, whole}
 use Rattle.bl_emit_acts.specs.Structs.{c_array, c_definition, c_elements, c_field}
 use Rattle.bl_emit_acts.specs.Types.{c_scalar, c_type, elements_name, field_name, name_level, type_level, type_name}
-use Rattle.bl_emit_acts_laws_simulation.specs.Encodes.{number_at, part_level, part_type, type_after, way_to}
+use Rattle.bl_emit_acts_laws_simulation.specs.Encodes.{number_within, part_level, part_type, type_after, way_to}
 use Rattle.bl_emit_spec_laws_files.specs.States.States.{TypeDeclared}
 use Rattle.bl_emit_spec_laws_files.proofs.OnStates.Declared.{member_step}
 
@@ -101,7 +101,7 @@ module _ (structs : List StructDef) (stand : structs_stand_from 0 structs ≡ tr
   AllDeclared ty = (ks : List ℕ) (inner : Ty) → type_after structs ks (Some ty) ≡ Some inner → TypeDeclared structs file.structs (out-Ty inner)
 
   abbrev pub Leading : List ℕ → Type 0
-  Leading ks = (ty : Ty) (value : Value) (n : ℤ) → AllDeclared ty → value_fits structs ty value ≡ true → number_at ks value ≡ Some n →
+  Leading ks = (ty : Ty) (value : Value) (n : ℤ) → AllDeclared ty → value_fits structs ty value ≡ true → number_within ks value ≡ Some n →
       LeadsToScalar (Some (whole (c_type structs ty))) (way_to structs ks (Some ty))
 
   -- ---- structs
@@ -156,9 +156,9 @@ module _ (structs : List StructDef) (stand : structs_stand_from 0 structs ≡ tr
   record PartFound (value : Value) (k : ℕ) (ks : List ℕ) (n : ℤ) : Type 0 where
     part : Value
     is : part_of k value ≡ Some part
-    number : number_at ks part ≡ Some n
+    number : number_within ks part ≡ Some n
 
-  part_found : (value : Value) (k : ℕ) (ks : List ℕ) (n : ℤ) → number_at (k ∷ ks) value ≡ Some n → PartFound value k ks n
+  part_found : (value : Value) (k : ℕ) (ks : List ℕ) (n : ℤ) → number_within (k ∷ ks) value ≡ Some n → PartFound value k ks n
   part_found value k ks n number = by (part_of k value) refl number
     where
       by : (o : Option Value) → part_of k value ≡ o → option_and_then number_in (option_and_then (value_at ks) o) ≡ Some n → PartFound value k ks n
@@ -245,7 +245,7 @@ module _ (structs : List StructDef) (stand : structs_stand_from 0 structs ≡ tr
       along (Some spot) (p ∷ first) = along (step_in (struct_table file.structs) spot p) first
 
   step_by : (k : ℕ) (ks : List ℕ) → Leading ks → (ty : Ty) (value : Value) (n : ℤ) (layer : Ty-F Ty) → out-Ty ty ≡ layer → AllDeclared ty →
-      value_fits structs ty value ≡ true → number_at (k ∷ ks) value ≡ Some n →
+      value_fits structs ty value ≡ true → number_within (k ∷ ks) value ≡ Some n →
       LeadsToScalar (Some (whole (c_type structs ty))) (way_to structs (k ∷ ks) (Some ty))
   step_by k ks lead ty value n (Ty-F.Scalar s) is all fit number =
       absurd (let found = part_found value k ks n number in

@@ -4,7 +4,7 @@ use Rattle.bl_tree.specs.declared.c.CType.TheVariants.{Scalar as OfScalar, Struc
 use Rattle.bl_tree.specs.declared.scalar.Scalar.{Scalar}
 use Rattle.bl_ctext_semantics.specs.Cells.{cells_of, memory_of, numbers_of}
 use Rattle.bl_ctext_semantics.specs.Faults.{WellFormed}
-use Rattle.bl_ctext_semantics.specs.Memory.{Location, Memory, input_object, number_in, output_object, state_object, value_at, variable}
+use Rattle.bl_ctext_semantics.specs.Memory.{Location, Memory, input_object, output_object, scalar_number, state_object, value_at, variable}
 use Rattle.bl_ctext_semantics.specs.Parts.{Parts}
 use Rattle.bl_ctext_semantics_laws.specs.Fitting.{RootTypes, place_type}
 
@@ -23,7 +23,7 @@ regained file here = memory_of (cells_of file) (numbers_of (cells_of file) here)
 abbrev pub CellsKept : Parts → Type 0
 CellsKept file =
     (here : Memory) (place : Location) (kind : Scalar) → place_type file.structs object_types place ≡ Some (OfScalar kind) →
-    number_in (value_at (regained file here) place) ≡ number_in (value_at here place)
+    scalar_number (value_at (regained file here) place) ≡ scalar_number (value_at here place)
 
 -- the number of each scalar place is kept, in every well-formed file
 abbrev pub AllCellsKept : Type 0

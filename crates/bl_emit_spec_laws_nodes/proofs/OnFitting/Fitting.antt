@@ -24,7 +24,7 @@ use Rattle.bl_graph_nodes.specs.Nodes.{nodes_in, nodes_in_each, nodes_of, where_
 use Rattle.bl_graph_nodes.specs.Plain.{Act, Arm as PlainArm, Await, Block, Bodies, Branch as PlainBranch, Cobegin, Done, If}
 use Rattle.bl_graph_nodes.specs.Plain.{Label, Plain, Position, Repeat, Run, Then, Until, When}
 use Rattle.bl_graph_nodes.specs.Plain.{While, arm_plain, block_at, block_from, bodies_from, branch_plain, else_at, if_with}
-use Rattle.bl_graph_nodes.specs.Plain.{inside, kind_plain, label_at, passed_one, place_of_test, plain, plain_body, stmt_plain}
+use Rattle.bl_graph_nodes.specs.Plain.{inside, kind_plain, label_at, passed_one, place_of_test, plain_body, plain_stmt, stmt_plain}
 use Rattle.bl_emit_acts_laws_simulation.specs.Acts.{is_act}
 use Rattle.bl_emit_acts_laws_simulation.specs.Laws.{overlaps_in}
 use Rattle.bl_emit_spec_laws_nodes.specs.Points.Nodes.{fits_there}
@@ -90,14 +90,14 @@ aliased_branch = fold-Branch (List Aliased) (List Aliased) (List Aliased) (List 
 
 module _ (site : TypingContext) where
   abbrev S : Stmt → Type 0
-  S s = fits site s ≡ true → aliases_in s ≡ [] → (at : Position) → FinePlain site (plain s at)
+  S s = fits site s ≡ true → aliases_in s ≡ [] → (at : Position) → FinePlain site (plain_stmt s at)
 
   blocks_fine : (body : List Stmt) → Each S body → all_of (map (fits site) body) ≡ true → joined (map aliases_in body) ≡ [] → (k : ℕ)
-      (at : Position) → FineBlock site (block_from (map plain body) k at)
+      (at : Position) → FineBlock site (block_from (map plain_stmt body) k at)
   blocks_fine [] each fitted apart k at = nothing site
   blocks_fine (s ∷ body) each fitted apart k at =
       let none = none_in_both (aliases_in s) (joined (map aliases_in body)) apart in
-      append_fine site (nodes_of (plain s (at ++ k ∷ []))) (nodes_in (block_from (map plain body) (suc k) at))
+      append_fine site (nodes_of (plain_stmt s (at ++ k ∷ []))) (nodes_in (block_from (map plain_stmt body) (suc k) at))
       (All-head S s body each (and_left (fits site s) (all_of (map (fits site) body)) fitted) none.0 (at ++ k ∷ []))
       (blocks_fine body (All-tail S s body each) (and_right (fits site s) (all_of (map (fits site) body)) fitted) none.1 (suc k) at)
 
@@ -235,51 +235,51 @@ module _ (site : TypingContext) where
   some_there f g (x ∷ xs) h = refl
 
   module _ (place : Place) where
-    declare_plain : (k : ℕ) (initial : Option Expr) (at : Position) → plain (stmt place (StmtKind-F.Declare k initial)) at
+    declare_plain : (k : ℕ) (initial : Option Expr) (at : Position) → plain_stmt (stmt place (StmtKind-F.Declare k initial)) at
         ≡ Act (label_at at) (stmt place (StmtKind-F.Declare k initial))
     declare_plain k initial at = rw (fold-roll-Stmt, fold-roll-StmtKind) refl
 
-    assign_plain : (path : Path) (e : Expr) (at : Position) → plain (stmt place (StmtKind-F.Assign path e)) at
+    assign_plain : (path : Path) (e : Expr) (at : Position) → plain_stmt (stmt place (StmtKind-F.Assign path e)) at
         ≡ Act (label_at at) (stmt place (StmtKind-F.Assign path e))
     assign_plain path e at = rw (fold-roll-Stmt, fold-roll-StmtKind) refl
 
-    call_plain : (f : ℕ) (inputs : List Expr) (outputs : List Path) (at : Position) → plain (stmt place (StmtKind-F.Call f inputs outputs)) at
+    call_plain : (f : ℕ) (inputs : List Expr) (outputs : List Path) (at : Position) → plain_stmt (stmt place (StmtKind-F.Call f inputs outputs)) at
         ≡ Act (label_at at) (stmt place (StmtKind-F.Call f inputs outputs))
     call_plain f inputs outputs at = rw (fold-roll-Stmt, fold-roll-StmtKind) refl
 
     return_plain : (e : Option Expr) (at : Position) →
-        plain (stmt place (StmtKind-F.Return e)) at ≡ Act (label_at at) (stmt place (StmtKind-F.Return e))
+        plain_stmt (stmt place (StmtKind-F.Return e)) at ≡ Act (label_at at) (stmt place (StmtKind-F.Return e))
     return_plain e at = rw (fold-roll-Stmt, fold-roll-StmtKind) refl
 
-    await_plain : (e : Expr) (at : Position) → plain (stmt place (StmtKind-F.Await e)) at ≡ Await (label_at at) place e
+    await_plain : (e : Expr) (at : Position) → plain_stmt (stmt place (StmtKind-F.Await e)) at ≡ Await (label_at at) place e
     await_plain e at = rw (fold-roll-Stmt, fold-roll-StmtKind) refl
 
     run_plain : (target : Option Path) (a : ℕ) (inputs : List Expr) (outputs : List Path) (at : Position) →
-        plain (stmt place (StmtKind-F.Run target a inputs outputs)) at ≡ Run (label_at at) place target a inputs outputs
+        plain_stmt (stmt place (StmtKind-F.Run target a inputs outputs)) at ≡ Run (label_at at) place target a inputs outputs
     run_plain target a inputs outputs at = rw (fold-roll-Stmt, fold-roll-StmtKind) refl
 
-    if_plain : (arms : List Arm) (other : List Stmt) (at : Position) → plain (stmt place (StmtKind-F.If arms other)) at
-        ≡ if_with (label_at at) place (map plain_arm arms) (block_at (map plain other))
+    if_plain : (arms : List Arm) (other : List Stmt) (at : Position) → plain_stmt (stmt place (StmtKind-F.If arms other)) at
+        ≡ if_with (label_at at) place (map plain_arm arms) (block_at (map plain_stmt other))
     if_plain arms other at = rw (fold-roll-Stmt, fold-roll-StmtKind) refl
 
-    cobegin_plain : (branches : List Branch) (at : Position) → plain (stmt place (StmtKind-F.Cobegin branches)) at
+    cobegin_plain : (branches : List Branch) (at : Position) → plain_stmt (stmt place (StmtKind-F.Cobegin branches)) at
         ≡ Cobegin (label_at at) place (bodies_from (map plain_branch branches) 0 (label_at at))
     cobegin_plain branches at = rw (fold-roll-Stmt, fold-roll-StmtKind) refl
 
-    when_plain : (guard : Guard) (e : Expr) (body : List Stmt) (at : Position) → plain (stmt place (StmtKind-F.When guard e body)) at
-        ≡ When (label_at at) place guard e (block_at (map plain body) (inside (label_at at) 0))
+    when_plain : (guard : Guard) (e : Expr) (body : List Stmt) (at : Position) → plain_stmt (stmt place (StmtKind-F.When guard e body)) at
+        ≡ When (label_at at) place guard e (block_at (map plain_stmt body) (inside (label_at at) 0))
     when_plain guard e body at = rw (fold-roll-Stmt, fold-roll-StmtKind) refl
 
-    repeat_plain : (body : List Stmt) (at : Position) → plain (stmt place (StmtKind-F.Repeat body)) at
-        ≡ Repeat (label_at at) place (block_at (map plain body) (inside (label_at at) 0))
+    repeat_plain : (body : List Stmt) (at : Position) → plain_stmt (stmt place (StmtKind-F.Repeat body)) at
+        ≡ Repeat (label_at at) place (block_at (map plain_stmt body) (inside (label_at at) 0))
     repeat_plain body at = rw (fold-roll-Stmt, fold-roll-StmtKind) refl
 
-    until_plain : (body : List Stmt) (e : Expr) (at : Position) → plain (stmt place (StmtKind-F.Until body e)) at
-        ≡ Until (label_at at) place (block_at (map plain body) (inside (label_at at) 0)) e
+    until_plain : (body : List Stmt) (e : Expr) (at : Position) → plain_stmt (stmt place (StmtKind-F.Until body e)) at
+        ≡ Until (label_at at) place (block_at (map plain_stmt body) (inside (label_at at) 0)) e
     until_plain body e at = rw (fold-roll-Stmt, fold-roll-StmtKind) refl
 
-    while_plain : (e : Expr) (body : List Stmt) (at : Position) → plain (stmt place (StmtKind-F.While e body)) at
-        ≡ While (label_at at) place e (block_at (map plain body) (inside (label_at at) 0))
+    while_plain : (e : Expr) (body : List Stmt) (at : Position) → plain_stmt (stmt place (StmtKind-F.While e body)) at
+        ≡ While (label_at at) place e (block_at (map plain_stmt body) (inside (label_at at) 0))
     while_plain e body at = rw (fold-roll-Stmt, fold-roll-StmtKind) refl
 
     await_case : (e : Expr) → S (stmt place (StmtKind-F.Await e))
@@ -304,7 +304,7 @@ module _ (site : TypingContext) where
         let none = none_in_both (joined (map aliased_arm arms)) (joined (map aliases_in other))
         (rw (fold-roll-Stmt, fold-roll-StmtKind) at apart) in
         as_fine _ _ (if_plain arms other at)
-        (with_fine (label_at at) place (map plain_arm arms) (block_at (map plain other)) (some_there arm_fitted plain_arm arms some)
+        (with_fine (label_at at) place (map plain_arm arms) (block_at (map plain_stmt other)) (some_there arm_fitted plain_arm arms some)
         (arms_fine arms each (and_left (all_of (map arm_fitted arms)) (all_of (map (fits site) other)) more) none.0)
         (λ at. blocks_fine other others (and_right (all_of (map arm_fitted arms)) (all_of (map (fits site) other)) more) none.1 0 at))
 
@@ -330,7 +330,7 @@ module _ (site : TypingContext) where
         (rw (fold-roll-Stmt, fold-roll-StmtKind) at fitted) in
         let none : joined (map aliases_in body) ≡ [] = rw (fold-roll-Stmt, fold-roll-StmtKind) at apart in
         let l : Label = label_at at in
-        let inner : Block = block_at (map plain body) (inside l 0) in
+        let inner : Block = block_at (map plain_stmt body) (inside l 0) in
         as_fine _ _ (when_plain guard e body at)
         (one_more site (StartAt l place)
         (where_so (are_instant inner) (SurfaceEndAt l place) ++ CheckAt l place e ∷ DepthEndAt l place ∷ nodes_in inner) refl
@@ -345,7 +345,7 @@ module _ (site : TypingContext) where
     repeat_case body each fitted apart at =
         let none : joined (map aliases_in body) ≡ [] = rw (fold-roll-Stmt, fold-roll-StmtKind) at apart in
         let l : Label = label_at at in
-        let inner : Block = block_at (map plain body) (inside l 0) in
+        let inner : Block = block_at (map plain_stmt body) (inside l 0) in
         as_fine _ _ (repeat_plain body at)
         (one_more site (HeadAt l place) (nodes_in inner) refl
         (blocks_fine body each (rw (fold-roll-Stmt, fold-roll-StmtKind) at fitted) none 0 (inside l 0)))
@@ -355,7 +355,7 @@ module _ (site : TypingContext) where
         let parts = rw (fold-roll-Stmt, fold-roll-StmtKind) at fitted in
         let none : joined (map aliases_in body) ≡ [] = rw (fold-roll-Stmt, fold-roll-StmtKind) at apart in
         let l : Label = label_at at in
-        let inner : Block = block_at (map plain body) (inside l 0) in
+        let inner : Block = block_at (map plain_stmt body) (inside l 0) in
         as_fine _ _ (until_plain body e at)
         (one_more site (HeadAt l place) (TestAt l place e ∷ nodes_in inner) refl
         (one_more site (TestAt l place e) (nodes_in inner)
@@ -367,7 +367,7 @@ module _ (site : TypingContext) where
         let parts = rw (fold-roll-Stmt, fold-roll-StmtKind) at fitted in
         let none : joined (map aliases_in body) ≡ [] = rw (fold-roll-Stmt, fold-roll-StmtKind) at apart in
         let l : Label = label_at at in
-        let inner : Block = block_at (map plain body) (inside l 0) in
+        let inner : Block = block_at (map plain_stmt body) (inside l 0) in
         as_fine _ _ (while_plain e body at)
         (one_more site (TestAt l place e) (nodes_in inner)
         (truth_fine (is_truth (type_of site e)) (and_left (is_truth (type_of site e)) (all_of (map (fits site) body)) parts))

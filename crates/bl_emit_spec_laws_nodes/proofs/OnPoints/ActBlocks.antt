@@ -21,7 +21,7 @@ use Rattle.bl_ctree_laws.specs.Ends.{done_by}
 use Rattle.bl_emit_acts.specs.Acts.{act_code}
 use Rattle.bl_emit_acts_laws_simulation.specs.Acts.{before_after}
 use Rattle.bl_emit_acts_laws_simulation.specs.Laws.{ActsSimulate, FramesApart}
-use Rattle.bl_emit_spec.specs.Activities.{copies_of, view_of}
+use Rattle.bl_emit_spec.specs.Activities.{activity_view, copies_of}
 use Rattle.bl_emit_spec.specs.Blocks.{changes_code, node_code}
 use Rattle.bl_emit_spec_laws.specs.Registers.Laws.{RegistersKeepApart}
 use Rattle.bl_machine_pass.specs.Registers.{Registers, after_rule, all_changed}
@@ -43,7 +43,7 @@ use Rattle.bl_emit_spec_laws_nodes.proofs.OnPoints.Silent.{comes_as, either, no_
 -- what is left where something was done that answers true
 pub as_left : (w : Setting) (activities : Activities) (i : ℕ) (unit : UnitDef) (scope : Scope) (r : Registers) (rule : Transition) (here : Memory)
     (o : Outcome Memory) (frames frames' : Frames) (left : Store) (copies copied : List Value) (answer : Bool) → frames' ≡ frames → answer ≡ true →
-    copied ≡ copies → PartSimulates w activities i unit scope frames left copies (all_changed (rank_by w activities i) rule.so r) here o →
+    copied ≡ copies → PartSimulates w activities i unit scope frames left copies (all_changed (rank_by w activities i) rule.on_true r) here o →
     PartSimulates w activities i unit scope frames' left copied (after_rule (rank_by w activities i) rule answer r) here o
 as_left w activities i unit scope r rule here o frames frames' left copies copied answer same_frames same_answer same_copies comes =
     subst (λ f. PartSimulates w activities i unit scope f left copied (after_rule (rank_by w activities i) rule answer r) here o) (sym same_frames)
@@ -77,7 +77,7 @@ act_nodes_simulate stand choose apart keep structs units entry come machine acti
       let values = made.0 in
       let did_so = subst (λ b. done_by w (deed_at i (ActAt l s)) store ≡ Some (record { answer = b; store = left })) made.2 did in
       let act_c = act_code site (copies_of unit) s in
-      let changes_c = changes_code (view_of a) rule.so in
+      let changes_c = changes_code (activity_view a) rule.on_true in
       let mid = (block_c act_c scope here).memory in
       let after_copies = before_after layer values copies in
       let goes =
@@ -93,28 +93,28 @@ act_nodes_simulate stand choose apart keep structs units entry come machine acti
       copies r
       here midway l s called.position node is agreeing values left made.1 did_so in
       let no_ret : is_return_node rule.node ≡ false = ap is_return_node n_is ∙ no_return layer is in
-      let told : ResultTold unit i scope left (all_changed number rule.so r) mid =
+      let told : ResultTold unit i scope left (all_changed number rule.on_true r) mid =
       λ value over one at. stood.result value
-      (either r.over (list_any ends_body rule.so) (over_after number rule.so r over)
-      (not_so (list_any ends_body rule.so)
-      (λ ending. no_such (sym (ends.so k unit rule there_unit midway.function.active one there ending) ∙ no_ret)))) one at in
+      (either r.over (list_any ends_body rule.on_true) (over_after number rule.on_true r over)
+      (not_so (list_any ends_body rule.on_true)
+      (λ ending. no_such (sym (ends.on_true k unit rule there_unit midway.function.active one there ending) ∙ no_ret)))) one at in
       let changed =
-      stand structs units entry machine activities i unit scope frames left after_copies r mid rule.so midway.compiled midway.function
+      stand structs units entry machine activities i unit scope frames left after_copies r mid rule.on_true midway.compiled midway.function
       midway.is_there
-      remembering stood (own.so i unit rule midway.is_there there) told in
+      remembering stood (own.on_true i unit rule midway.is_there there) told in
       let alike = append_goes scope act_c changes_c here goes in
       let whole = block_c (act_c ++ changes_c) scope here in
-      let comes : PartSimulates w activities i unit scope frames left after_copies (all_changed number rule.so r) here whole = record {
+      let comes : PartSimulates w activities i unit scope frames left after_copies (all_changed number rule.on_true r) here whole = record {
         ends = alike.0 ∙ changed.ends;
         stands =
-            subst (PassRepresents w activities i unit scope frames left after_copies (all_changed number rule.so r)) (sym alike.1) changed.stands;
+            subst (PassRepresents w activities i unit scope frames left after_copies (all_changed number rule.on_true r)) (sym alike.1) changed.stands;
         kept = λ root way older outside.
             ap (λ (m : Memory). m root way) alike.1 ∙ (changed.kept root way older outside ∙ kept root way older outside);
       } in
-      let code_is : node_code (view_of a) u rule rule.node ≡ act_c ++ changes_c =
-      ap (node_code (view_of a) u rule) n_is
-      ∙ ap (λ code. code ++ changes_c) (acted_is (view_of a) s layer is
-      ∙ (ap (λ site. act_code site (view_of a).copies s)
+      let code_is : node_code (activity_view a) u rule rule.node ≡ act_c ++ changes_c =
+      ap (node_code (activity_view a) u rule) n_is
+      ∙ ap (λ code. code ++ changes_c) (acted_is (activity_view a) s layer is
+      ∙ (ap (λ site. act_code site (activity_view a).copies s)
       (site_is apart structs units entry views machine activities i unit scope frames store copies r here midway)
       ∙ ap (λ (unit : UnitDef). act_code site (copies_of unit) s) (midway.compiled.built.unit k unit there_unit))) in
       let chosen = choose structs units entry machine activities own i unit scope frames store copies r rule u here midway there due in
@@ -134,7 +134,7 @@ act_nodes_simulate stand choose apart keep structs units entry come machine acti
       performed.0 made.2
       (ap (λ n. recopied w i n left copies) n_is
       ∙ (ap (λ now. recopied_kind layer now copies) seen_now ∙ recopied_is layer values copies is))
-      (comes_as w activities i unit scope frames left after_copies (all_changed number rule.so r) here done whole
+      (comes_as w activities i unit scope frames left after_copies (all_changed number rule.on_true r) here done whole
       (chosen.0 ∙ ap (λ code. (block_c code scope here).end) code_is) (chosen.1 ∙ ap (λ code. (block_c code scope here).memory) code_is) comes);
   stops = λ i unit scope frames store copies r rule u here midway there act called due sees stops.
       let w = setting_of structs units entry in
@@ -154,11 +154,11 @@ act_nodes_simulate stand choose apart keep structs units entry come machine acti
       let did =
       subst (λ n. done_by w (deed_at i n) store ≡ None) n_is (act_stops w activities i frames store rule.node act stops) in
       let act_c = act_code site (copies_of unit) s in
-      let changes_c = changes_code (view_of a) rule.so in
-      let code_is : node_code (view_of a) u rule rule.node ≡ act_c ++ changes_c =
-      ap (node_code (view_of a) u rule) n_is
-      ∙ ap (λ code. code ++ changes_c) (acted_is (view_of a) s layer is
-      ∙ (ap (λ site. act_code site (view_of a).copies s)
+      let changes_c = changes_code (activity_view a) rule.on_true in
+      let code_is : node_code (activity_view a) u rule rule.node ≡ act_c ++ changes_c =
+      ap (node_code (activity_view a) u rule) n_is
+      ∙ ap (λ code. code ++ changes_c) (acted_is (activity_view a) s layer is
+      ∙ (ap (λ site. act_code site (activity_view a).copies s)
       (site_is apart structs units entry views machine activities i unit scope frames store copies r here midway)
       ∙ ap (λ (unit : UnitDef). act_code site (copies_of unit) s) (midway.compiled.built.unit k unit there_unit))) in
       let chosen = choose structs units entry machine activities own i unit scope frames store copies r rule u here midway there due in

@@ -23,7 +23,7 @@ use Rattle.bl_tree.specs.Returns.{activity_returns, function_returns, is_return,
 use Rattle.bl_tree.specs.Types.{type_stands}
 use Rattle.bl_tree.specs.Typing.{fits, is_activity, site_of}
 use Rattle.bl_tree.specs.Words.{are_distinct, is_name}
-use Rattle.bl_graph_nodes.specs.Plain.{Act, Plain, Position, block_from, label_at, plain, plain_body}
+use Rattle.bl_graph_nodes.specs.Plain.{Act, Plain, Position, block_from, label_at, plain_body, plain_stmt}
 use Rattle.bl_machine.specs.Uses.{Slots}
 use Rattle.bl_machine_pass.specs.Transitions.{Change, Finishes, Transition, enter, rules, rules_in, rules_of}
 use Rattle.bl_emit_spec_laws_nodes.specs.Points.Laws.{ends_body, is_return_node}
@@ -84,24 +84,24 @@ kind_made : (place : Place) (layer : StmtKind-F StmtKind Arm Branch Stmt) → ou
 kind_made place layer =
     ap (λ s. out-StmtKind s.what) (out-roll-Stmt (record { place = place; what = roll-StmtKind layer })) ∙ out-roll-StmtKind layer
 
-plain_return : (place : Place) (e : Option Expr) (at : Position) → plain (made place (StmtKind-F.Return e)) at
+plain_return : (place : Place) (e : Option Expr) (at : Position) → plain_stmt (made place (StmtKind-F.Return e)) at
     ≡ Act (label_at at) (made place (StmtKind-F.Return e))
 plain_return place e at = rw (fold-roll-Stmt, fold-roll-StmtKind) refl
 
 return_fine : (slots : Slots) (place : Place) (e : Option Expr) (at : Position) (next : Change) →
-    Fine (rules_of slots (plain (made place (StmtKind-F.Return e)) at) next)
+    Fine (rules_of slots (plain_stmt (made place (StmtKind-F.Return e)) at) next)
 return_fine slots place e at next =
     subst (λ (s : Plain). Fine (rules_of slots s next)) (sym (plain_return place e at))
     (ap (λ layer. (is_return_kind layer || (not (ends_body next || false) && true)) && true) (kind_made place (StmtKind-F.Return e)))
 
-last_fine : (slots : Slots) (s : Stmt) (at : Position) (next : Change) → is_return s ≡ true → Fine (rules_of slots (plain s at) next)
+last_fine : (slots : Slots) (s : Stmt) (at : Position) (next : Change) → is_return s ≡ true → Fine (rules_of slots (plain_stmt s at) next)
 last_fine slots s at next h =
-    subst (λ s. Fine (rules_of slots (plain s at) next)) (made_is s) (by (out-StmtKind (out-Stmt s).what) h)
+    subst (λ s. Fine (rules_of slots (plain_stmt s at) next)) (made_is s) (by (out-StmtKind (out-Stmt s).what) h)
   where
     place : Place
     place = (out-Stmt s).place
 
-    by : (layer : StmtKind-F StmtKind Arm Branch Stmt) → is_return_kind layer ≡ true → Fine (rules_of slots (plain (made place layer) at) next)
+    by : (layer : StmtKind-F StmtKind Arm Branch Stmt) → is_return_kind layer ≡ true → Fine (rules_of slots (plain_stmt (made place layer) at) next)
     by (StmtKind-F.Return e) h = return_fine slots place e at next
     by (StmtKind-F.Declare k initial) h = absurd (cc)
     by (StmtKind-F.Assign path e) h = absurd (cc)
@@ -117,15 +117,15 @@ last_fine slots s at next h =
 
 -- the rules of a body whose last statement is a `return`
 body_fine : (slots : Slots) (body : List Stmt) (k : ℕ) (block : Position) → last_of (map is_return body) ≡ true →
-    Fine (rules_in slots (block_from (map plain body) k block) Finishes)
+    Fine (rules_in slots (block_from (map plain_stmt body) k block) Finishes)
 body_fine slots [] k block h = absurd (cc)
 body_fine slots (s ∷ []) k block h =
-    fine_both (rules_of slots (plain s (block ++ k ∷ [])) Finishes) [] (last_fine slots s (block ++ k ∷ []) Finishes h) refl
+    fine_both (rules_of slots (plain_stmt s (block ++ k ∷ [])) Finishes) [] (last_fine slots s (block ++ k ∷ []) Finishes h) refl
 body_fine slots (s ∷ t ∷ rest) k block h =
-    let more = block_from (map plain (t ∷ rest)) (suc k) block in
-    let first = rules_of slots (plain s (block ++ k ∷ [])) (enter more Finishes) in
+    let more = block_from (map plain_stmt (t ∷ rest)) (suc k) block in
+    let first = rules_of slots (plain_stmt s (block ++ k ∷ [])) (enter more Finishes) in
     fine_both first (rules_in slots more Finishes)
-    (quiet_fine first (quiet_of slots (plain s (block ++ k ∷ [])) (enter more Finishes) refl).all) (body_fine slots (t ∷ rest) (suc k) block h)
+    (quiet_fine first (quiet_of slots (plain_stmt s (block ++ k ∷ [])) (enter more Finishes) refl).all) (body_fine slots (t ∷ rest) (suc k) block h)
 
 -- ---- units
 
@@ -166,9 +166,9 @@ last_returns unit active one all = by_kind (is_activity unit.kind) active all
         (and_right (returns_last_alone unit.body) (is_none unit.result || last_of (map is_return unit.body)) all)
     by_kind false is all = absurd (cc)
 
-ended : (rule : Transition) → is_fine rule ≡ true → (list_any ends_body rule.so || list_any ends_body rule.otherwise) ≡ true →
+ended : (rule : Transition) → is_fine rule ≡ true → (list_any ends_body rule.on_true || list_any ends_body rule.on_false) ≡ true →
     is_return_node rule.node ≡ true
-ended rule fine ends = by (is_return_node rule.node) (list_any ends_body rule.so) (list_any ends_body rule.otherwise) fine ends
+ended rule fine ends = by (is_return_node rule.node) (list_any ends_body rule.on_true) (list_any ends_body rule.on_false) fine ends
   where
     by : (a b c : Bool) → (a || (not b && not c)) ≡ true → (b || c) ≡ true → a ≡ true
     by true b c fine ends = refl
@@ -186,12 +186,12 @@ or_last false b h = h
 
 pub bodies_end : (structs : List StructDef) (units : List UnitDef) (entry : ℕ) → BodiesEnd structs units entry
 bodies_end structs units entry activities keeps = record {
-  so = λ k unit rule there active one has ends.
+  on_true = λ k unit rule there active one has ends.
       ended rule (fine k unit rule there active one has)
-      (or_first (list_any ends_body rule.so) (list_any ends_body rule.otherwise) ends);
-  otherwise = λ k unit rule there active one has ends.
+      (or_first (list_any ends_body rule.on_true) (list_any ends_body rule.on_false) ends);
+  on_false = λ k unit rule there active one has ends.
       ended rule (fine k unit rule there active one has)
-      (or_last (list_any ends_body rule.so) (list_any ends_body rule.otherwise) ends);
+      (or_last (list_any ends_body rule.on_true) (list_any ends_body rule.on_false) ends);
 }
   where
     fine : (k : ℕ) (unit : UnitDef) (rule : Transition) → slice_get units k ≡ Some unit → is_activity unit.kind ≡ true →

@@ -17,7 +17,7 @@ use Rattle.bl_emit_acts.specs.Types.{variable_name}
 use Rattle.bl_emit_acts_laws_simulation.specs.Acts.{copy_location}
 use Rattle.bl_emit_acts_laws_simulation.specs.Frames.{remembered_at}
 use Rattle.bl_emit_acts_laws_simulation.specs.Encodes.{CopiesEncoded, Encodes, VariablesEncoded, are_apart, location_in}
-use Rattle.bl_emit_spec.specs.Activities.{copies_of, remembers_any, view_of}
+use Rattle.bl_emit_spec.specs.Activities.{activity_view, copies_of, remembers_any}
 use Rattle.bl_emit_spec.specs.Blocks.{changes_code}
 use Rattle.bl_emit_spec.specs.Names.{callee_name, counter_name}
 use Rattle.bl_emit_spec_laws.specs.Registers.Laws.{ChangesSimulate, RegistersKeepApart}
@@ -147,9 +147,9 @@ all_stand come keep structs units entry machine activities i unit scope frames s
     let apart =
     keep site (registered a) scope (compiled.registers (unit_number w i) unit function.is_there function.active) places.frame
     (pointers_older site unit (remembers_any a) scope places) places.frame_apart places.over_apart in
-    let came = come (view_of a) (registered a) scope changes r here (λ k. refl) apart.0 stands.registers own in
+    let came = come (activity_view a) (registered a) scope changes r here (λ k. refl) apart.0 stands.registers own in
     let after_r = all_changed (rank_by w activities i) changes r in
-    let after = (block_c (changes_code (view_of a) changes) scope here).memory in
+    let after = (block_c (changes_code (activity_view a) changes) scope here).memory in
     record {
       ends = came.0;
       stands =

@@ -15,18 +15,18 @@ use Rattle.bl_tree.specs.declared.c.CStmtKind.{CStmtKind, CStmtKind-F, fold-roll
 use Rattle.bl_tree.specs.declared.c.CStmtKind.TheVariants as statement
 use Rattle.bl_tree.specs.Numbers.{is_one, number_of}
 use Rattle.bl_ctext_semantics.specs.Course.{End, Outcome, breaks, ended_by, following_end, goes_on, returns, traps}
-use Rattle.bl_ctext_semantics.specs.Memory.{CValue, Memory, number_in}
+use Rattle.bl_ctext_semantics.specs.Memory.{CValue, Memory, scalar_number}
 use Rattle.bl_ctext_semantics.specs.Meaning.{Scope, block_c, block_of, executed, runs_c, value_c}
 use Rattle.bl_emit_acts.specs.Trees.{nowhere}
 use Rattle.bl_emit_functions.specs.Statements.{else_code}
 use Rattle.bl_emit_functions.specs.Trees.{c_if}
-use Rattle.bl_emit_spec.specs.Activities.{view_of}
+use Rattle.bl_emit_spec.specs.Activities.{activity_view}
 use Rattle.bl_emit_spec.specs.Blocks.{choice_code, guard_of, node_code, spelled_in_kind, spelled_truth}
 use Rattle.bl_emit_spec_laws.specs.Registers.Laws.{GuardsEvaluate}
 use Rattle.bl_ctree.specs.Instances.{Setting, setting_of}
 use Rattle.bl_ctree.specs.Store.{Store}
 use Rattle.bl_emit_spec_laws.specs.Calls.Built.{Activities, activity_at, rank_by, registered, slots_by}
-use Rattle.bl_emit_spec_laws.specs.Calls.Laws.{Midway, guarded}
+use Rattle.bl_emit_spec_laws.specs.Calls.Laws.{Midway, guarded_by_rule}
 use Rattle.bl_machine_pass.specs.Registers.{Registers, is_due}
 use Rattle.bl_machine_pass.specs.Transitions.{Transition}
 use Rattle.bl_machine_pass_laws_execution.specs.Executes.{HasRule}
@@ -60,7 +60,7 @@ module _ (scope : Scope) (here : Memory) where
   abbrev chooses : CExpr → List CStmt → Option (List CStmt) → Outcome Memory
   chooses test block other =
       executed here (value_c test scope here)
-      (λ v. (if is_one (number_in v) then block_of (map runs_c block) else block_of (unwrap_or (option_map (map runs_c) other) [])) scope here)
+      (λ v. (if is_one (scalar_number v) then block_of (map runs_c block) else block_of (unwrap_or (option_map (map runs_c) other) [])) scope here)
 
   if-open : (test : CExpr) (block : List CStmt) (other : Option (List CStmt)) → runs_c (what (CStmtKind-F.If test block other)) scope here
       ≡ chooses test block other
@@ -75,7 +75,7 @@ module _ (scope : Scope) (here : Memory) where
 
 -- whether a condition is true in C; none where it traps
 abbrev pub truth_c : Scope → CExpr → Memory → Option Bool
-truth_c scope test m = option_map (λ v. is_one (number_in v)) (value_c test scope m).answer
+truth_c scope test m = option_map (λ v. is_one (scalar_number v)) (value_c test scope m).answer
 
 -- an `if` comes to what its chosen block comes to
 abbrev pub Chosen : Scope → Memory → (End → Memory → Type 0) → List CStmt → Option (List CStmt) → Option Bool → Type 0
@@ -94,11 +94,11 @@ module _ (scope : Scope) (here : Memory) (Q : End → Memory → Type 0) where
   by_choice block (Some stmts) false h = h
 
   by_answer : (block : List CStmt) (other : Option (List CStmt)) (n : ℕ) (a : Option CValue) →
-      Chosen scope here Q block other (option_map (λ v. is_one (number_in v)) a) →
-      Of (ended_by here n a (λ v. (if is_one (number_in v) then block_of (map runs_c block) else block_of
+      Chosen scope here Q block other (option_map (λ v. is_one (scalar_number v)) a) →
+      Of (ended_by here n a (λ v. (if is_one (scalar_number v) then block_of (map runs_c block) else block_of
       (unwrap_or (option_map (map runs_c) other) [])) scope here))
   by_answer block other n None h = h
-  by_answer block other n (Some v) h = by_choice block other (is_one (number_in v)) h
+  by_answer block other n (Some v) h = by_choice block other (is_one (scalar_number v)) h
 
   pub if_comes : (test : CExpr) (block : List CStmt) (other : Option (List CStmt)) → Chosen scope here Q block other (truth_c scope test here) →
       Of (runs_c (c_if test block other) scope here)
@@ -112,7 +112,7 @@ is_bit : (b : Bool) → is_one (number_of b) ≡ b
 is_bit true = refl
 is_bit false = refl
 
-both_maps : (a : Option CValue) → option_map (λ v. is_one (number_in v)) a ≡ option_map is_one (option_map number_in a)
+both_maps : (a : Option CValue) → option_map (λ v. is_one (scalar_number v)) a ≡ option_map is_one (option_map scalar_number a)
 both_maps None = refl
 both_maps (Some v) = refl
 
@@ -130,7 +130,7 @@ if_alone scope here Q test block other chosen =
 -- one whose test has this answer
 if_block : (scope : Scope) (here : Memory) (Q : End → Memory → Type 0) (test : CExpr) (block : List CStmt) (other : Option (List CStmt))
     (b : Bool) →
-    option_map number_in (value_c test scope here).answer ≡ Some (number_of b) → Chosen scope here Q block other (Some b) →
+    option_map scalar_number (value_c test scope here).answer ≡ Some (number_of b) → Chosen scope here Q block other (Some b) →
     Q (block_c (c_if test block other ∷ []) scope here).end (block_c (c_if test block other ∷ []) scope here).memory
 if_block scope here Q test block other b shown chosen =
     let truth : truth_c scope test here ≡ Some b =
@@ -174,18 +174,18 @@ else_same [] = refl
 else_same (s ∷ rest) = refl
 
 -- a choice alone comes to what its chosen side comes to
-pub choice_alone : (scope : Scope) (here : Memory) (Q : End → Memory → Type 0) (test : CExpr) (so other : List CStmt) →
-    Chosen scope here Q so (else_code other) (truth_c scope test here) →
-    Q (block_c (choice_code test (spelled_truth test) so other) scope here).end (block_c (choice_code test (spelled_truth test) so other) scope here).memory
-choice_alone scope here Q test so other chosen = by (spelled_truth test) refl
+pub choice_alone : (scope : Scope) (here : Memory) (Q : End → Memory → Type 0) (test : CExpr) (on_true other : List CStmt) →
+    Chosen scope here Q on_true (else_code other) (truth_c scope test here) →
+    Q (block_c (choice_code test (spelled_truth test) on_true other) scope here).end (block_c (choice_code test (spelled_truth test) on_true other) scope here).memory
+choice_alone scope here Q test on_true other chosen = by (spelled_truth test) refl
   where
     by : (truth : Option Bool) → spelled_truth test ≡ truth →
-        Q (block_c (choice_code test truth so other) scope here).end (block_c (choice_code test truth so other) scope here).memory
-    by None is = if_alone scope here Q test so (else_code other) chosen
-    by (Some true) is = subst (Chosen scope here Q so (else_code other)) (spelled_gives test true scope here is) chosen
+        Q (block_c (choice_code test truth on_true other) scope here).end (block_c (choice_code test truth on_true other) scope here).memory
+    by None is = if_alone scope here Q test on_true (else_code other) chosen
+    by (Some true) is = subst (Chosen scope here Q on_true (else_code other)) (spelled_gives test true scope here is) chosen
     by (Some false) is =
         subst (λ code. Q (block_c code scope here).end (block_c code scope here).memory) (else_same other)
-        (subst (Chosen scope here Q so (else_code other)) (spelled_gives test false scope here is) chosen)
+        (subst (Chosen scope here Q on_true (else_code other)) (spelled_gives test false scope here is) chosen)
 
 -- ---- blocks
 
@@ -199,13 +199,13 @@ module _ (show : GuardsEvaluate) (structs : List StructDef) (units : List UnitDe
       (code : List CStmt) (here : Memory) → Midway structs units entry machine activities i unit scope frames store copies r here →
       HasRule (slots_by w activities) i unit rule → (b : Bool) → is_due (rank_by w activities i) rule r ≡ b → (Q : End → Memory → Type 0) →
       Chosen scope here Q code None (Some b) →
-      Q (block_c (guarded (view_of (activity_at w activities i)) rule code ∷ []) scope here).end
-      (block_c (guarded (view_of (activity_at w activities i)) rule code ∷ []) scope here).memory
+      Q (block_c (guarded_by_rule (activity_view (activity_at w activities i)) rule code ∷ []) scope here).end
+      (block_c (guarded_by_rule (activity_view (activity_at w activities i)) rule code ∷ []) scope here).memory
   chosen i unit scope frames store copies r rule code here midway there b due Q so =
       let a = activity_at w activities i in
       let asks = own.asks i unit rule midway.is_there there in
-      let shown = show (view_of a) (registered a) scope rule.node rule.asked r here midway.stands.registers midway.within.rested asks in
-      if_block scope here Q (guard_of (view_of a) rule.node rule.asked) code None b (shown ∙ ap (λ b. Some (number_of b)) due) so
+      let shown = show (activity_view a) (registered a) scope rule.node rule.condition r here midway.stands.registers midway.within.rested asks in
+      if_block scope here Q (guard_of (activity_view a) rule.node rule.condition) code None b (shown ∙ ap (λ b. Some (number_of b)) due) so
 
 pub guards_choose : GuardsEvaluate → GuardsSimulate
 guards_choose show structs units entry machine activities own = record {
@@ -220,4 +220,4 @@ guards_choose show structs units entry machine activities own = record {
 pub choose : GuardsEvaluate → BlocksChoose
 choose show structs units entry machine activities own i unit scope frames store copies r rule u here midway there due =
     (guards_choose show structs units entry machine activities own).enters i unit scope frames store copies r rule
-    (node_code (view_of (activity_at (setting_of structs units entry) activities i)) u rule rule.node) here midway there due
+    (node_code (activity_view (activity_at (setting_of structs units entry) activities i)) u rule rule.node) here midway there due

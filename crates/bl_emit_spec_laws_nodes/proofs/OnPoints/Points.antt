@@ -69,17 +69,17 @@ module _ (silent : SilentNodesSimulate) (structs : List StructDef) (units : List
 
   module _ (compiled : CompilationContext structs units entry machine activities) (p : PointsStand structs units entry activities) where
     pub silents : Of IsSilent
-    silents = silent structs units entry machine activities p.own (end activities compiled.keeps) p.remembering
+    silents = silent structs units entry machine activities p.own (end activities compiled.well_typed) p.remembering
 
     pub all_tests : Of IsTest
-    all_tests = test machine activities compiled.keeps p.own (end activities compiled.keeps) p.remembering p.nodes p.views p.agree
+    all_tests = test machine activities compiled.well_typed p.own (end activities compiled.well_typed) p.remembering p.nodes p.views p.agree
 
     pub all_acts : Of IsActNode
     all_acts =
-        act machine activities compiled.keeps p.own (end activities compiled.keeps) p.remembering p.nodes p.views p.agree p.apart p.seen
+        act machine activities compiled.well_typed p.own (end activities compiled.well_typed) p.remembering p.nodes p.views p.agree p.apart p.seen
 
     pub all_returns : Of (λ n. is_return_node n ≡ true)
-    all_returns = return_done machine activities compiled.keeps p.own p.remembering p.nodes p.views p.agree
+    all_returns = return_done machine activities compiled.well_typed p.own p.remembering p.nodes p.views p.agree
 
   module _ (stands : CompilationContext structs units entry machine activities → PointsStand structs units entry activities) (i : ℕ) (unit : UnitDef)
       (scope : Scope) (frames : Frames) (store : Store) (copies : List Value) (r : Registers) (rule : Transition) (u : ℕ) (here : Memory)

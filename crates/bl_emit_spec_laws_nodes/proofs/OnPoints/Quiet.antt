@@ -35,7 +35,7 @@ use Rattle.bl_emit_spec_laws_nodes.specs.Points.Laws.{ends_body}
 
 -- whether no change of a rule ends the body
 abbrev pub is_quiet : Transition → Bool
-is_quiet rule = not (list_any ends_body rule.so) && not (list_any ends_body rule.otherwise)
+is_quiet rule = not (list_any ends_body rule.on_true) && not (list_any ends_body rule.on_false)
 
 -- no rule does
 pub record Quiet (rules : List Transition) : Type 0 where
@@ -57,11 +57,11 @@ not_so true h = absurd (cc)
 pub record Going (changes : List Change) : Type 0 where
   pub none : list_any ends_body changes ≡ false
 
-pub quiet_cons : (rule : Transition) (rest : List Transition) → Going rule.so → Going rule.otherwise → Quiet rest → Quiet (rule ∷ rest)
-quiet_cons rule rest so otherwise more = record {
+pub quiet_cons : (rule : Transition) (rest : List Transition) → Going rule.on_true → Going rule.on_false → Quiet rest → Quiet (rule ∷ rest)
+quiet_cons rule rest on_true on_false more = record {
   all = both (is_quiet rule) (list_all is_quiet rest)
-      (both (not (list_any ends_body rule.so)) (not (list_any ends_body rule.otherwise)) (not_so (list_any ends_body rule.so) so.none)
-      (not_so (list_any ends_body rule.otherwise) otherwise.none)) more.all;
+      (both (not (list_any ends_body rule.on_true)) (not (list_any ends_body rule.on_false)) (not_so (list_any ends_body rule.on_true) on_true.none)
+      (not_so (list_any ends_body rule.on_false) on_false.none)) more.all;
 }
 
 both_lists : (first rest : List Transition) → list_all is_quiet first ≡ true → list_all is_quiet rest ≡ true → list_all is_quiet (first ++ rest) ≡ true
@@ -130,8 +130,8 @@ where_quiet true rule h = h
 where_quiet false rule h = no_rules
 
 -- a node that waits by its flag
-flagged_quiet : (n : Node) (so : List Change) (rest : List Transition) → Going so → Quiet rest → Quiet (flagged n so ∷ rest)
-flagged_quiet n so rest h more = quiet_cons (flagged n so) rest h no_changes more
+flagged_quiet : (n : Node) (on_true : List Change) (rest : List Transition) → Going on_true → Quiet rest → Quiet (flagged n on_true ∷ rest)
+flagged_quiet n on_true rest h more = quiet_cons (flagged n on_true) rest h no_changes more
 
 joins_quiet : (slots : Slots) (l : Label) (bodies : Bodies) (age : Age) (n : Node) (next : Change) (rest : List Transition) → ends_body next ≡ false →
     Quiet rest → Quiet (joins slots l bodies age n next ∷ rest)
@@ -140,7 +140,7 @@ joins_quiet slots l bodies age n next rest h more =
 
 -- a node at which the instance rested
 abbrev rules_behind : Node → Slot → Change → Transition
-rules_behind n slot next = record { node = n; asked = Rested slot; so = ClearsCounter slot.counter ∷ next ∷ []; otherwise = [] }
+rules_behind n slot next = record { node = n; condition = Rested slot; on_true = ClearsCounter slot.counter ∷ next ∷ []; on_false = [] }
 
 -- ---- statements
 
@@ -158,7 +158,7 @@ mutual
       (quiet_cons (rules_behind (ResumeAt l at (arguments_of target inputs outputs)) (slots.rest l) next) []
       (first_quiet (ClearsCounter (slots.rest l).counter) (next ∷ []) refl (one_quiet next h)) no_changes no_rules)
   quiet_of slots (If l at e body other) next h =
-      quiet_cons (record { node = TestAt l at e; asked = Flagged; so = enter body next ∷ []; otherwise = enter other next ∷ [] })
+      quiet_cons (record { node = TestAt l at e; condition = Flagged; on_true = enter body next ∷ []; on_false = enter other next ∷ [] })
       (rules_in slots body next ++ rules_in slots other next)
       (one_quiet (enter body next) (enter_quiet body next h)) (one_quiet (enter other next) (enter_quiet other next h))
       (quiet_both (rules_in slots body next) (rules_in slots other next) (quiet_in slots body next h) (quiet_in slots other next h))
@@ -176,8 +176,8 @@ mutual
   quiet_of slots (When l at guard e body) next h =
       let instant = are_instant body in
       let end = body_ends l at body in
-      let so = map ClearsBoth (once (counters_in slots body)) ++ fires guard l at body next ∷ [] in
-      let check : Transition = record { node = CheckAt l at e; asked = RestedIn (rests_in slots body); so = so; otherwise = [] } in
+      let on_true = map ClearsBoth (once (counters_in slots body)) ++ fires guard l at body next ∷ [] in
+      let check : Transition = record { node = CheckAt l at e; condition = RestedIn (rests_in slots body); on_true = on_true; on_false = [] } in
       let last = flagged (DepthEndAt l at) (next ∷ []) ∷ rules_in slots body end in
       flagged_quiet (StartAt l at) (marked instant (StartAt l at) (enter body end ∷ []))
       (rule_where instant (flagged (SurfaceEndAt l at) (next ∷ [])) ++ check ∷ last)
@@ -193,17 +193,17 @@ mutual
       (quiet_in slots body again refl)
   quiet_of slots (Until l at body e) next h =
       let test = SetsFlag (TestAt l at e) in
-      let tests : Transition = record { node = TestAt l at e; asked = Flagged; so = next ∷ []; otherwise = SetsFlag (HeadAt l at) ∷ [] } in
+      let tests : Transition = record { node = TestAt l at e; condition = Flagged; on_true = next ∷ []; on_false = SetsFlag (HeadAt l at) ∷ [] } in
       flagged_quiet (HeadAt l at) (enter body test ∷ []) (tests ∷ rules_in slots body test)
       (one_quiet (enter body test) (enter_quiet body test refl))
       (quiet_cons tests (rules_in slots body test) (one_quiet next h) (one_quiet (SetsFlag (HeadAt l at)) refl) (quiet_in slots body test refl))
   quiet_of slots (While l at e body) next h =
       let test = SetsFlag (TestAt l at e) in
-      quiet_cons (record { node = TestAt l at e; asked = Flagged; so = enter body test ∷ []; otherwise = next ∷ [] }) (rules_in slots body test)
+      quiet_cons (record { node = TestAt l at e; condition = Flagged; on_true = enter body test ∷ []; on_false = next ∷ [] }) (rules_in slots body test)
       (one_quiet (enter body test) (enter_quiet body test refl)) (one_quiet next h) (quiet_in slots body test refl)
   quiet_of slots (Again l at body e) next h =
       let test = SetsFlag (TestAt l at e) in
-      let tests : Transition = record { node = TestAt l at e; asked = Flagged; so = next ∷ []; otherwise = SetsFlag (HeadAt l at) ∷ [] } in
+      let tests : Transition = record { node = TestAt l at e; condition = Flagged; on_true = next ∷ []; on_false = SetsFlag (HeadAt l at) ∷ [] } in
       flagged_quiet (HeadAt l at) (enter body test ∷ []) (tests ∷ rules_in slots body test)
       (one_quiet (enter body test) (enter_quiet body test refl))
       (quiet_cons tests (rules_in slots body test) (one_quiet next h) (one_quiet (SetsFlag (HeadAt l at)) refl) (quiet_in slots body test refl))

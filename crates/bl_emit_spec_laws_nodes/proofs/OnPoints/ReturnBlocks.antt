@@ -53,7 +53,7 @@ use Rattle.bl_eval.proofs.OperatorFits.{DatumFits, scalar_alone}
 use Rattle.bl_eval.proofs.UnitFits.{sound_at}
 use Rattle.bl_ctext_semantics.specs.Course.{Outcome, goes_on, traps}
 use Rattle.bl_ctext_semantics.specs.Meaning.{Counted, Scope, block_c, further, location_c, runs_c, value_c}
-use Rattle.bl_ctext_semantics.specs.Memory.{CValue, Location, Memory, number_in, set_at}
+use Rattle.bl_ctext_semantics.specs.Memory.{CValue, Location, Memory, scalar_number, set_at}
 use Rattle.bl_ctree.specs.Actions.{Performed, acted_kind, done, value_there, with_result}
 use Rattle.bl_ctree.specs.Instances.{Setting, setting_of}
 use Rattle.bl_ctree.specs.Store.{Store, number_or_zero, view_at, with_frame}
@@ -63,7 +63,7 @@ use Rattle.bl_emit_acts.specs.Expressions.{made_of}
 use Rattle.bl_emit_acts_laws_simulation.specs.Encodes.{copied_in}
 use Rattle.bl_emit_acts_laws_simulation.specs.Laws.{ExpressionsSimulate, FramesApart}
 use Rattle.bl_emit_acts_laws_simulation.specs.Simulation.{number_given}
-use Rattle.bl_emit_spec.specs.Activities.{copies_of, remembers_any, view_of}
+use Rattle.bl_emit_spec.specs.Activities.{activity_view, copies_of, remembers_any}
 use Rattle.bl_emit_spec.specs.Blocks.{ActivityView, changes_code, layer_acted, node_code}
 use Rattle.bl_emit_spec.specs.Names.{result_place}
 use Rattle.bl_machine.specs.declared.machine.Activity.{Activity as InMachine}
@@ -166,8 +166,8 @@ module _ (w : Setting) (activities : Activities) (i : ℕ) (frames : Frames) (st
 -- ---- numbers
 
 number_by : (structs : List StructDef) (ty : Ty) (s : ScalarType) (o : Option CValue) (datum : Option Datum) → scalar_in ty ≡ Some s →
-    IfSome datum (DatumFits structs ty) → option_map number_in o ≡ option_map number_given datum →
-    option_map number_in o ≡ option_map number_or_zero (option_map plain datum)
+    IfSome datum (DatumFits structs ty) → option_map scalar_number o ≡ option_map number_given datum →
+    option_map scalar_number o ≡ option_map number_or_zero (option_map plain datum)
 number_by structs ty s None None is fit same = refl
 number_by structs ty s None (Some datum) is fit same = absurd (cc)
 number_by structs ty s (Some v) None is fit same = absurd (cc)
@@ -175,11 +175,11 @@ number_by structs ty s (Some v) (Some (OfScalar t n)) is fit same =
     same ∙ ap (λ level. Some (unwrap_or (number_at level) (pos 0))) (sym (outs-Number n))
 number_by structs ty s (Some v) (Some (OfWhole value)) is fit same = absurd (let none = fit.0 in cc)
 
-held_by : (a : Option CValue) (n : ℤ) → option_map number_in a ≡ Some n → (v : CValue) × (a ≡ Some v) × (number_in v ≡ n)
+held_by : (a : Option CValue) (n : ℤ) → option_map scalar_number a ≡ Some n → (v : CValue) × (a ≡ Some v) × (scalar_number v ≡ n)
 held_by None n h = absurd (cc)
-held_by (Some v) n h = (v, refl, same_Some (number_in v) n h)
+held_by (Some v) n h = (v, refl, same_Some (scalar_number v) n h)
 
-no_held : (a : Option CValue) → option_map number_in a ≡ None → a ≡ None
+no_held : (a : Option CValue) → option_map scalar_number a ≡ None → a ≡ None
 no_held None h = refl
 no_held (Some v) h = absurd (cc)
 
@@ -213,10 +213,10 @@ module _ (stand : ChangesSimulateInPass) (choose : BlocksChoose) (frames_apart :
   site = site_of structs (take k units) unit
 
   abbrev view : ActivityView
-  view = view_of (activity_at w activities i)
+  view = activity_view (activity_at w activities i)
 
   abbrev after_r : Registers
-  after_r = all_changed (rank_by w activities i) rule.so r
+  after_r = all_changed (rank_by w activities i) rule.on_true r
 
   -- changes behind the C of the node
   then_changes : (code : List CStmt) (left : Store) (mid : Memory) → (block_c code scope here).end ≡ goes_on →
@@ -224,14 +224,14 @@ module _ (stand : ChangesSimulateInPass) (choose : BlocksChoose) (frames_apart :
       PassRepresents w activities i unit scope frames left copies r mid →
       PassKeepsFrame (site_at w activities i) unit (remembers_any (activity_at w activities i)) scope here mid →
       ResultTold unit i scope left after_r mid →
-      PartSimulates w activities i unit scope frames left copies after_r here (block_c (code ++ changes_code view rule.so) scope here)
+      PartSimulates w activities i unit scope frames left copies after_r here (block_c (code ++ changes_code view rule.on_true) scope here)
   then_changes code left mid goes is stood kept told =
       let changed =
-      stand structs units entry machine activities i unit scope frames left copies r mid rule.so midway.compiled midway.function midway.is_there
-      remembering stood (own.so i unit rule midway.is_there there) told in
-      let alike = append_goes scope code (changes_code view rule.so) here goes in
-      let end = alike.0 ∙ ap (λ (m : Memory). (block_c (changes_code view rule.so) scope m).end) is in
-      let memory = alike.1 ∙ ap (λ (m : Memory). (block_c (changes_code view rule.so) scope m).memory) is in
+      stand structs units entry machine activities i unit scope frames left copies r mid rule.on_true midway.compiled midway.function midway.is_there
+      remembering stood (own.on_true i unit rule midway.is_there there) told in
+      let alike = append_goes scope code (changes_code view rule.on_true) here goes in
+      let end = alike.0 ∙ ap (λ (m : Memory). (block_c (changes_code view rule.on_true) scope m).end) is in
+      let memory = alike.1 ∙ ap (λ (m : Memory). (block_c (changes_code view rule.on_true) scope m).memory) is in
       record {
         ends = end ∙ changed.ends;
         stands = subst (PassRepresents w activities i unit scope frames left copies after_r) (sym memory) changed.stands;
@@ -248,7 +248,7 @@ module _ (stand : ChangesSimulateInPass) (choose : BlocksChoose) (frames_apart :
   -- ---- without a result
 
   none_comes : out-StmtKind (out-Stmt s).what ≡ StmtKind-F.Return None →
-      PartSimulates w activities i unit scope frames store copies after_r here (block_c ([] ++ changes_code view rule.so) scope here)
+      PartSimulates w activities i unit scope frames store copies after_r here (block_c ([] ++ changes_code view rule.on_true) scope here)
   none_comes kind =
       then_changes [] store here refl refl midway.stands (λ root way older outside. refl)
       (λ value over one is. absurd (result_none site site.result refl (fitted None kind) one))
@@ -263,7 +263,7 @@ module _ (stand : ChangesSimulateInPass) (choose : BlocksChoose) (frames_apart :
     one : is_some unit.result ≡ true
     one = ap is_some typed.1
 
-    same_number : option_map number_in (value_c (code_made view.site e) scope here).answer ≡ option_map number_or_zero (value_there w store i e)
+    same_number : option_map scalar_number (value_c (code_made view.site e) scope here).answer ≡ option_map number_or_zero (value_there w store i e)
     same_number =
         let now = (view_at w store i).now in
         let before = (view_at w store i).before in
@@ -287,7 +287,7 @@ module _ (stand : ChangesSimulateInPass) (choose : BlocksChoose) (frames_apart :
         ap prevs_in (made_is s (StmtKind-F.Return (Some e)) kind) ∙ prevs_made (out-Stmt s).place (Some e) in
         let agreed : datum ≡ meaning_of (scope_of site) e (record { now = now; before = before }) =
         agree.values (scope_of site) e now copies before (λ x among. sees x (ap (λ ks. list_any (nat_eq x) ks) prevs ∙ among)) in
-        ap (λ site. option_map number_in (value_c (code_made site e) scope here).answer)
+        ap (λ site. option_map scalar_number (value_c (code_made site e) scope here).answer)
         (site_is frames_apart structs units entry views machine activities i unit scope frames store copies r here midway)
         ∙ (number_by structs found.0 typed.0 (value_c (code_made site e) scope here).answer datum is fit shown
         ∙ ap (option_map number_or_zero) (ap (option_map plain) agreed ∙ sym (value_there_is w i unit e store midway.is_there)))
@@ -314,7 +314,7 @@ module _ (stand : ChangesSimulateInPass) (choose : BlocksChoose) (frames_apart :
 
     some_comes : (value : Value) → value_there w store i e ≡ Some value →
         PartSimulates w activities i unit scope frames (with_frame i (with_result value) store) copies after_r here
-        (block_c (code ++ changes_code view rule.so) scope here)
+        (block_c (code ++ changes_code view rule.on_true) scope here)
     some_comes value is =
         let found = held_by (value_c (code_made view.site e) scope here).answer (number_or_zero value)
         (same_number ∙ ap (option_map number_or_zero) is) in
@@ -333,9 +333,9 @@ module _ (stand : ChangesSimulateInPass) (choose : BlocksChoose) (frames_apart :
         (λ v over has at. told w activities i unit scope frames store copies r here midway.is_there one midway.function.places active remembering
         midway.stands frame.frame frame.is value found.0 found.2 v at)
 
-    some_cut : value_there w store i e ≡ None → (block_c (code ++ changes_code view rule.so) scope here).end ≡ traps
+    some_cut : value_there w store i e ≡ None → (block_c (code ++ changes_code view rule.on_true) scope here).end ≡ traps
     some_cut is =
-        append_traps scope code (changes_code view rule.so) here
+        append_traps scope code (changes_code view rule.on_true) here
         (code_ends None (no_held (value_c (code_made view.site e) scope here).answer (same_number ∙ ap (option_map number_or_zero) is)))
 
   -- ---- either
@@ -345,21 +345,21 @@ module _ (stand : ChangesSimulateInPass) (choose : BlocksChoose) (frames_apart :
   Comes answer left =
       (answer ≡ true)
       × PartSimulates w activities i unit scope frames left copies after_r here
-      (block_c (layer_acted view s (out-StmtKind (out-Stmt s).what) ++ changes_code view rule.so) scope here)
+      (block_c (layer_acted view s (out-StmtKind (out-Stmt s).what) ++ changes_code view rule.on_true) scope here)
 
   coded : (e : Option Expr) → out-StmtKind (out-Stmt s).what ≡ StmtKind-F.Return e →
-      layer_acted view s (out-StmtKind (out-Stmt s).what) ++ changes_code view rule.so ≡ returned view e ++ changes_code view rule.so
-  coded e kind = ap (λ code. code ++ changes_code view rule.so) (ap (layer_acted view s) kind ∙ returned_is view s e)
+      layer_acted view s (out-StmtKind (out-Stmt s).what) ++ changes_code view rule.on_true ≡ returned view e ++ changes_code view rule.on_true
+  coded e kind = ap (λ code. code ++ changes_code view rule.on_true) (ap (layer_acted view s) kind ∙ returned_is view s e)
 
   left_so : (answer : Bool) (left made_store : Store) → Some (done made_store) ≡ Some (record { answer = answer; store = left }) →
       PartSimulates w activities i unit scope frames made_store copies after_r here
-      (block_c (layer_acted view s (out-StmtKind (out-Stmt s).what) ++ changes_code view rule.so) scope here) → Comes answer left
+      (block_c (layer_acted view s (out-StmtKind (out-Stmt s).what) ++ changes_code view rule.on_true) scope here) → Comes answer left
   left_so answer left made_store did comes =
       let is : done made_store ≡ record { answer = answer; store = left } = same_Some (done made_store)
       (record { answer = answer; store = left }) did in (
         sym (ap (λ (p : Performed). p.answer) is),
         subst (λ left. PartSimulates w activities i unit scope frames left copies after_r here
-            (block_c (layer_acted view s (out-StmtKind (out-Stmt s).what) ++ changes_code view rule.so) scope here))
+            (block_c (layer_acted view s (out-StmtKind (out-Stmt s).what) ++ changes_code view rule.on_true) scope here))
             (ap (λ (p : Performed). p.store) is) comes,
       )
 
@@ -383,13 +383,13 @@ module _ (stand : ChangesSimulateInPass) (choose : BlocksChoose) (frames_apart :
 
   cut_by : (e : Option Expr) → out-StmtKind (out-Stmt s).what ≡ StmtKind-F.Return e → CopiesMatch w i (ActAt l s) store copies →
       option_map done (acted_kind w i s (StmtKind-F.Return e) store) ≡ None →
-      (block_c (layer_acted view s (out-StmtKind (out-Stmt s).what) ++ changes_code view rule.so) scope here).end ≡ traps
+      (block_c (layer_acted view s (out-StmtKind (out-Stmt s).what) ++ changes_code view rule.on_true) scope here).end ≡ traps
   cut_by None kind sees did = absurd (cc)
   cut_by (Some e) kind sees did = by (value_there w store i e) refl did
     where
       by : (o : Option Value) → value_there w store i e ≡ o →
           option_map done (option_map (λ value. with_frame i (with_result value) store) o) ≡ None →
-          (block_c (layer_acted view s (out-StmtKind (out-Stmt s).what) ++ changes_code view rule.so) scope here).end ≡ traps
+          (block_c (layer_acted view s (out-StmtKind (out-Stmt s).what) ++ changes_code view rule.on_true) scope here).end ≡ traps
       by (Some value) is did = absurd (cc)
       by None is did = ap (λ code. (block_c code scope here).end) (coded (Some e) kind) ∙ some_cut e kind sees is
 
@@ -414,13 +414,13 @@ return_nodes_simulate stand choose apart structs units entry show machine activi
       (subst (λ n. CopiesMatch w i n store copies) n_is sees) answer left
       (ap (λ layer. option_map done (acted_kind w i s layer store)) (sym kind.1) ∙ did) in
       let chosen = choose structs units entry machine activities own i unit scope frames store copies r rule u here midway there due in
-      let code_is = ap (node_code (view_of a) u rule) n_is in
+      let code_is = ap (node_code (activity_view a) u rule) n_is in
       let done_block = block_done w activities i u rule scope here in
-      let whole = block_c (layer_acted (view_of a) s layer ++ changes_code (view_of a) rule.so) scope here in
+      let whole = block_c (layer_acted (activity_view a) s layer ++ changes_code (activity_view a) rule.on_true) scope here in
       as_left w activities i unit scope r rule here done_block frames frames' left copies (recopied w i rule.node left copies) answer
       performed.0 comes.0
       (ap (λ n. recopied w i n left copies) n_is ∙ ap (λ layer. recopied_kind layer (view_at w left i).now copies) kind.1)
-      (comes_as w activities i unit scope frames left copies (all_changed (rank_by w activities i) rule.so r) here done_block whole
+      (comes_as w activities i unit scope frames left copies (all_changed (rank_by w activities i) rule.on_true r) here done_block whole
       (chosen.0 ∙ ap (λ code. (block_c code scope here).end) code_is) (chosen.1 ∙ ap (λ code. (block_c code scope here).memory) code_is) comes.1);
   stops = λ i unit scope frames store copies r rule u here midway there returning called due sees stops.
       let w = setting_of structs units entry in
@@ -438,6 +438,6 @@ return_nodes_simulate stand choose apart structs units entry show machine activi
       rule u here midway there l s called.position (called.node ∙ ap Some n_is) kind.0 kind.1
       (subst (λ n. CopiesMatch w i n store copies) n_is sees) (ap (λ layer. option_map done (acted_kind w i s layer store)) (sym kind.1) ∙ did) in
       let chosen = choose structs units entry machine activities own i unit scope frames store copies r rule u here midway there due in
-      let code_is = ap (node_code (view_of a) u rule) n_is in
+      let code_is = ap (node_code (activity_view a) u rule) n_is in
       chosen.0 ∙ (ap (λ code. (block_c code scope here).end) code_is ∙ cut);
 }

@@ -10,7 +10,7 @@ use Rattle.bl_tree.specs.Typing.{TypingContext, is_activity, var_at}
 use Rattle.bl_graph_nodes.specs.Nodes.{Arguments, EnterAt, nodes_in}
 use Rattle.bl_graph_nodes.specs.Plain.{Label, plain_body}
 use Rattle.bl_ctext_semantics.specs.Meaning.{Scope, further}
-use Rattle.bl_ctext_semantics.specs.Memory.{CValue, Location, Memory, Projection, member, number_in, number_or, set_at, value_at}
+use Rattle.bl_ctext_semantics.specs.Memory.{CValue, Location, Memory, Projection, member, number_or, scalar_number, set_at, value_at}
 use Rattle.bl_ctree.specs.Actions.{result_at, with_result}
 use Rattle.bl_ctree.specs.Instances.{Setting, callee_of, unit_at}
 use Rattle.bl_ctree.specs.Store.{Frame, Store, number_or_zero, view_at, with_frame}
@@ -42,7 +42,7 @@ module _ (w : Setting) (activities : Activities) (i : ℕ) (unit : UnitDef) (sco
     (places : PlacesAreSeparate (site_at w activities i) unit (remembers_any (activity_at w activities i)) scope)
     (active : is_activity (site_at w activities i).kind ≡ true) (remembering : Remembering w activities)
     (stands : PassRepresents w activities i unit scope frames store copies r here) (frame : Frame) (has_frame : slice_get store i ≡ Some frame)
-    (value : Value) (held : CValue) (number : number_in held ≡ number_or_zero value) where
+    (value : Value) (held : CValue) (number : scalar_number held ≡ number_or_zero value) where
   abbrev site : TypingContext
   site = site_at w activities i
 
@@ -129,14 +129,14 @@ module _ (w : Setting) (activities : Activities) (i : ℕ) (unit : UnitDef) (sco
 
   -- ---- the result
 
-  own_number : number_in (value_at after (result_at_c scope)) ≡ number_in held
+  own_number : scalar_number (value_at after (result_at_c scope)) ≡ scalar_number held
   own_number =
       let start = result_at_c scope in
       same_object here at_c held (start.parts ++ [])
       ∙ ap (λ left. number_or left held (here start.root (start.parts ++ []))) (left_behind start.parts [] [])
 
   -- whatever the result is told to be
-  pub told : (v : Value) → result_at left i ≡ Some v → number_in (value_at after (result_at_c scope)) ≡ number_or_zero v
+  pub told : (v : Value) → result_at left i ≡ Some v → scalar_number (value_at after (result_at_c scope)) ≡ number_or_zero v
   told v is =
       own_number ∙ (number ∙ ap number_or_zero (same_Some value v (sym (result_own i value store frame has_frame) ∙ is)))
 

@@ -28,7 +28,7 @@ use Rattle.bl_ctree.specs.Actions.{Performed}
 use Rattle.bl_ctree.specs.Instances.{Setting, setting_of}
 use Rattle.bl_ctree.specs.Store.{Store}
 use Rattle.bl_ctree_laws.specs.Ends.{done_by}
-use Rattle.bl_emit_spec.specs.Activities.{remembers_any, view_of}
+use Rattle.bl_emit_spec.specs.Activities.{activity_view, remembers_any}
 use Rattle.bl_emit_spec.specs.Blocks.{ActivityView, changes_code, node_code}
 use Rattle.bl_machine_pass.specs.Registers.{Registers, after_rule, all_changed, changed}
 use Rattle.bl_machine_pass.specs.Transitions.{Change, Transition}
@@ -99,7 +99,7 @@ module _ (w : Setting) (activities : Activities) (i : ℕ) (unit : UnitDef) (sco
 
 -- ---- nodes
 
-silent_code : (view : ActivityView) (u : ℕ) (rule : Transition) (n : Node) → IsSilent n → node_code view u rule n ≡ changes_code view rule.so
+silent_code : (view : ActivityView) (u : ℕ) (rule : Transition) (n : Node) → IsSilent n → node_code view u rule n ≡ changes_code view rule.on_true
 silent_code view u rule (PauseAt l at) silent = refl
 silent_code view u rule (HeadAt l at) silent = refl
 silent_code view u rule (StartAt l at) silent = refl
@@ -197,7 +197,7 @@ module _ (w : Setting) (activities : Activities) (i : ℕ) (copies : List Value)
 as_left : (w : Setting) (activities : Activities) (i : ℕ) (unit : UnitDef) (scope : Scope) (r : Registers) (rule : Transition) (here : Memory)
     (o : Outcome Memory) (frames frames' : Frames) (store left : Store) (copies copied : List Value) (answer : Bool) → frames' ≡ frames →
     answer ≡ true → left ≡ store → copied ≡ copies →
-    PartSimulates w activities i unit scope frames store copies (all_changed (rank_by w activities i) rule.so r) here o →
+    PartSimulates w activities i unit scope frames store copies (all_changed (rank_by w activities i) rule.on_true r) here o →
     PartSimulates w activities i unit scope frames' left copied (after_rule (rank_by w activities i) rule answer r) here o
 as_left w activities i unit scope r rule here o frames frames' store left copies copied answer same_frames same_answer same_store same_copies
     comes =
@@ -224,22 +224,22 @@ silent_comes stand choose structs units entry machine activities own ends rememb
       let k = unit_number w i in
       let did = silent_performs w activities i copies frames store rule.node answer frames' left silent performs in
       let quiet = did.1 in
-      let never : list_any ends_body rule.so ≡ true → is_some unit.result ≡ true → ⊥ =
-      λ ending one. no_such (sym (ends.so k unit rule midway.function.is_there midway.function.active one there ending)
+      let never : list_any ends_body rule.on_true ≡ true → is_some unit.result ≡ true → ⊥ =
+      λ ending one. no_such (sym (ends.on_true k unit rule midway.function.is_there midway.function.active one there ending)
       ∙ silent_no_return rule.node silent) in
-      let told : ResultTold unit i scope store (all_changed number rule.so r) here =
+      let told : ResultTold unit i scope store (all_changed number rule.on_true r) here =
       λ value over one is. midway.stands.result value
-      (either r.over (list_any ends_body rule.so) (over_after number rule.so r over)
-      (not_so (list_any ends_body rule.so) (λ ending. never ending one))) one is in
-      let after_r = all_changed number rule.so r in
-      let o = block_c (changes_code (view_of a) rule.so) scope here in
+      (either r.over (list_any ends_body rule.on_true) (over_after number rule.on_true r over)
+      (not_so (list_any ends_body rule.on_true) (λ ending. never ending one))) one is in
+      let after_r = all_changed number rule.on_true r in
+      let o = block_c (changes_code (activity_view a) rule.on_true) scope here in
       let comes : PartSimulates w activities i unit scope frames store copies after_r here o =
-      stand structs units entry machine activities i unit scope frames store copies r here rule.so midway.compiled midway.function midway.is_there
-      remembering midway.stands (own.so i unit rule midway.is_there there) told in
+      stand structs units entry machine activities i unit scope frames store copies r here rule.on_true midway.compiled midway.function midway.is_there
+      remembering midway.stands (own.on_true i unit rule midway.is_there there) told in
       let done = block_done w activities i u rule scope here in
       let all : PartSimulates w activities i unit scope frames store copies after_r here done =
       let chosen = choose structs units entry machine activities own i unit scope frames store copies r rule u here midway there due in
-      let code = silent_code (view_of a) u rule rule.node silent in
+      let code = silent_code (activity_view a) u rule rule.node silent in
       comes_as w activities i unit scope frames store copies after_r here done o
       (chosen.0 ∙ ap (λ code. (block_c code scope here).end) code) (chosen.1 ∙ ap (λ code. (block_c code scope here).memory) code) comes in
       as_left w activities i unit scope r rule here done frames frames' store left copies (recopied w i rule.node left copies) answer did.0 quiet.0

@@ -32,7 +32,7 @@ use Rattle.bl_eval.proofs.OperatorFits.{DatumFits}
 use Rattle.bl_eval.proofs.UnitFits.{sound_at}
 use Rattle.bl_ctext_semantics.specs.Course.{Outcome, ending, traps}
 use Rattle.bl_ctext_semantics.specs.Meaning.{Scope, block_c, value_c}
-use Rattle.bl_ctext_semantics.specs.Memory.{CValue, Memory, number_in}
+use Rattle.bl_ctext_semantics.specs.Memory.{CValue, Memory, scalar_number}
 use Rattle.bl_ctree.specs.Actions.{Performed, is_true_value, value_there}
 use Rattle.bl_ctree.specs.Instances.{Setting, setting_of}
 use Rattle.bl_ctree.specs.Store.{Store, view_at}
@@ -45,8 +45,8 @@ use Rattle.bl_emit_acts_laws_simulation.specs.Encodes.{copied_in}
 use Rattle.bl_emit_acts_laws_simulation.specs.Laws.{ExpressionsSimulate, FramesApart}
 use Rattle.bl_emit_acts_laws_simulation.specs.Simulation.{ExpressionSimulates, number_given}
 use Rattle.bl_emit_functions.specs.Statements.{else_code}
-use Rattle.bl_emit_spec.specs.Activities.{copies_of, view_of}
-use Rattle.bl_emit_spec.specs.Blocks.{ActivityView, changes_code, node_code, tested}
+use Rattle.bl_emit_spec.specs.Activities.{activity_view, copies_of}
+use Rattle.bl_emit_spec.specs.Blocks.{ActivityView, changes_code, node_code, test_code}
 use Rattle.bl_emit_spec_laws.specs.Registers.Laws.{changes_its_own}
 use Rattle.bl_machine.specs.declared.machine.Activity.{Activity as InMachine}
 use Rattle.bl_machine_pass.specs.Registers.{Registers, after_rule, all_changed}
@@ -71,7 +71,7 @@ tested_so store value = record { answer = is_true_value value; store = store }
 
 -- what is done at a node that tests this expression
 record TestIs (n : Node) (e : Expr) : Type 0 where
-  code : (view : ActivityView) (u : ℕ) (rule : Transition) → node_code view u rule n ≡ tested view (code_made view.site e) rule
+  code : (view : ActivityView) (u : ℕ) (rule : Transition) → node_code view u rule n ≡ test_code view (code_made view.site e) rule
   does : (w : Setting) (i : ℕ) (store : Store) → done_by w (deed_at i n) store ≡ option_map (tested_so store) (value_there w store i e)
   prevs : prevs_at n ≡ prevs_in_expr e
   fitting : (site : TypingContext) → fits_there site n ≡ is_truth (type_of site e)
@@ -130,8 +130,8 @@ truth_typed (Some ty) h = (ty, refl, by (scalar_in ty) refl h)
 
 -- numbers in C and in the program are true together
 truth_by : (structs : List StructDef) (ty : Ty) (s : ScalarType) (o : Option CValue) (datum : Option Datum) → scalar_in ty ≡ Some s →
-    IfSome datum (DatumFits structs ty) → option_map number_in o ≡ option_map number_given datum →
-    option_map (λ v. is_one (number_in v)) o ≡ option_map is_true_value (option_map plain datum)
+    IfSome datum (DatumFits structs ty) → option_map scalar_number o ≡ option_map number_given datum →
+    option_map (λ v. is_one (scalar_number v)) o ≡ option_map is_true_value (option_map plain datum)
 truth_by structs ty s None None is fit same = refl
 truth_by structs ty s None (Some datum) is fit same = absurd (cc)
 truth_by structs ty s (Some v) None is fit same = absurd (cc)
@@ -142,7 +142,7 @@ truth_by structs ty s (Some v) (Some (OfWhole value)) is fit same = absurd (let 
 -- what is made of an expression of a scalar type gives its number
 pub number_made : (structs : List StructDef) (ty : Ty) (s : ScalarType) (scope : Scope) (here : Memory) (made : Made) (datum : Option Datum) →
     scalar_in ty ≡ Some s → ExpressionSimulates structs ty scope here made datum →
-    option_map number_in (value_c (code_of made) scope here).answer ≡ option_map number_given datum
+    option_map scalar_number (value_c (code_of made) scope here).answer ≡ option_map number_given datum
 number_made structs ty s scope here (Number r code) datum is shown = shown.1
 number_made structs ty s scope here (Whole place) datum is shown = absurd (let none = shown.0 in cc)
 
@@ -220,7 +220,7 @@ module _ (stand : ChangesSimulateInPass) (choose : BlocksChoose) (frames_apart :
     is = (test_is rule.node test).1
 
     -- the C test is true where the value is
-    same_truth : truth_c scope (code_made (view_of (activity_at w activities i)).site e) here ≡ option_map is_true_value (value_there w store i e)
+    same_truth : truth_c scope (code_made (activity_view (activity_at w activities i)).site e) here ≡ option_map is_true_value (value_there w store i e)
     same_truth =
         let now = (view_at w store i).now in
         let before = (view_at w store i).before in
@@ -253,7 +253,7 @@ module _ (stand : ChangesSimulateInPass) (choose : BlocksChoose) (frames_apart :
         list_all (changes_its_own (rank_by w activities i) (registered (activity_at w activities i))) changes ≡ true →
         (list_any ends_body changes ≡ true → is_some unit.result ≡ true → is_return_node rule.node ≡ true) →
         PartSimulates w activities i unit scope frames store copies (all_changed (rank_by w activities i) changes r) here
-        (block_c (changes_code (view_of (activity_at w activities i)) changes) scope here)
+        (block_c (changes_code (activity_view (activity_at w activities i)) changes) scope here)
     changes_simulate changes its returns =
         stand structs units entry machine activities i unit scope frames store copies r here changes midway.compiled midway.function midway.is_there
         remembering midway.stands its told
@@ -268,10 +268,10 @@ module _ (stand : ChangesSimulateInPass) (choose : BlocksChoose) (frames_apart :
     Left b o = PartSimulates w activities i unit scope frames store copies (after_rule (rank_by w activities i) rule b r) here o
 
     abbrev so_code : List CStmt
-    so_code = changes_code (view_of (activity_at w activities i)) rule.so
+    so_code = changes_code (activity_view (activity_at w activities i)) rule.on_true
 
     abbrev other_code : List CStmt
-    other_code = changes_code (view_of (activity_at w activities i)) rule.otherwise
+    other_code = changes_code (activity_view (activity_at w activities i)) rule.on_false
 
     as_ending : (b : Bool) (o : Outcome Memory) → Left b o → Left b (ending o.end o.memory)
     as_ending b o comes =
@@ -281,16 +281,16 @@ module _ (stand : ChangesSimulateInPass) (choose : BlocksChoose) (frames_apart :
     chosen_by : (b : Bool) → Chosen scope here (λ end m. Left b (ending end m)) so_code (else_code other_code) (Some b)
     chosen_by true =
         as_ending true (block_c so_code scope here)
-        (changes_simulate rule.so (own.so i unit rule midway.is_there there)
-        (λ ending one. ends.so k unit rule midway.function.is_there midway.function.active one there ending))
+        (changes_simulate rule.on_true (own.on_true i unit rule midway.is_there there)
+        (λ ending one. ends.on_true k unit rule midway.function.is_there midway.function.active one there ending))
     chosen_by false =
         subst (λ code. Left false (ending (block_c code scope here).end (block_c code scope here).memory)) (sym (else_same other_code))
         (as_ending false (block_c other_code scope here)
-        (changes_simulate rule.otherwise (own.otherwise i unit rule midway.is_there there)
-        (λ ending one. ends.otherwise k unit rule midway.function.is_there midway.function.active one there ending)))
+        (changes_simulate rule.on_false (own.on_false i unit rule midway.is_there there)
+        (λ ending one. ends.on_false k unit rule midway.function.is_there midway.function.active one there ending)))
 
     abbrev code : List CStmt
-    code = tested (view_of (activity_at w activities i)) (code_made (view_of (activity_at w activities i)).site e) rule
+    code = test_code (activity_view (activity_at w activities i)) (code_made (activity_view (activity_at w activities i)).site e) rule
 
     answers : (value : Value) → value_there w store i e ≡ Some value → Left (is_true_value value) (block_c code scope here)
     answers value at =
@@ -298,13 +298,13 @@ module _ (stand : ChangesSimulateInPass) (choose : BlocksChoose) (frames_apart :
         let o = block_c code scope here in
         comes_as w activities i unit scope frames store copies (after_rule (rank_by w activities i) rule b r) here o (ending o.end o.memory)
         refl refl
-        (choice_alone scope here (λ end m. Left b (ending end m)) (code_made (view_of (activity_at w activities i)).site e) so_code other_code
+        (choice_alone scope here (λ end m. Left b (ending end m)) (code_made (activity_view (activity_at w activities i)).site e) so_code other_code
         (subst (Chosen scope here (λ end m. Left b (ending end m)) so_code (else_code other_code))
         (sym (same_truth ∙ ap (option_map is_true_value) at)) (chosen_by b)))
 
     cut : value_there w store i e ≡ None → (block_c code scope here).end ≡ traps
     cut at =
-        choice_alone scope here (λ end m. end ≡ traps) (code_made (view_of (activity_at w activities i)).site e) so_code other_code
+        choice_alone scope here (λ end m. end ≡ traps) (code_made (activity_view (activity_at w activities i)).site e) so_code other_code
         (subst (Chosen scope here (λ end m. end ≡ traps) so_code (else_code other_code)) (sym (same_truth ∙ ap (option_map is_true_value) at)) refl)
 
 pub tests_come_so : ChangesSimulateInPass → BlocksChoose → FramesApart → (structs : List StructDef) (units : List UnitDef) (entry : ℕ) →
@@ -322,7 +322,7 @@ tests_come_so stand choose apart structs units entry show machine activities kee
       answers stand choose apart structs units entry keeps show machine activities own ends remembering nodes views agree i unit scope frames store
       copies r rule u here midway there test called sees found.0 found.1 in
       let chosen = choose structs units entry machine activities own i unit scope frames store copies r rule u here midway there due in
-      let code_is = is.code (view_of (activity_at w activities i)) u rule in
+      let code_is = is.code (activity_view (activity_at w activities i)) u rule in
       let done = block_done w activities i u rule scope here in
       as_left w activities i unit scope r rule here done frames frames' store left copies (recopied w i rule.node left copies) answer
       (is_true_value found.0) did.0 found.2 found.3 (is.recopies w i left copies)
@@ -335,7 +335,7 @@ tests_come_so stand choose apart structs units entry show machine activities kee
       let did = test_stops w activities i frames store rule.node test stops in
       let none = no_answer store (value_there w store i e) (sym (is.does w i store) ∙ did) in
       let chosen = choose structs units entry machine activities own i unit scope frames store copies r rule u here midway there due in
-      let code_is = is.code (view_of (activity_at w activities i)) u rule in
+      let code_is = is.code (activity_view (activity_at w activities i)) u rule in
       chosen.0 ∙ (ap (λ code. (block_c code scope here).end) code_is
       ∙ cut stand choose apart structs units entry keeps show machine activities own ends remembering nodes views agree i unit scope frames
       store copies

@@ -195,7 +195,7 @@ module _ (structs : List StructDef) (units : List UnitDef) (entry : ℕ) (machin
         let unit_is : (activities (unit_number w k)).unit ≡ unit =
         ap (λ k. (activities k).unit) number_is ∙ compiled.built.unit instance.unit unit there in
         held_inside structs units entry instance.unit x unit var (is_some (scalar_in var.ty)) (copies_inputs (site_at w activities k))
-        compiled.keeps
+        compiled.well_typed
         there (ap (λ (unit : UnitDef). slice_get unit.vars x) (sym unit_is) ∙ known)
         (sym (ap (home_of (site_at w activities k)) known) ∙ held)
 

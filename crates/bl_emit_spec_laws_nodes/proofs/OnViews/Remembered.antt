@@ -13,7 +13,7 @@ use Rattle.bl_emit_acts.specs.declared.home.Home.TheVariants.{Held}
 use Rattle.bl_emit_acts.specs.Places.{home_of}
 use Rattle.bl_emit_acts_laws_simulation.specs.Encodes.{home_at}
 use Rattle.bl_emit_functions.specs.Functions.{is_held, member_of, members_from}
-use Rattle.bl_emit_spec.specs.Activities.{Activity, memory_member, remembers_any, runs_in_body, view_of}
+use Rattle.bl_emit_spec.specs.Activities.{Activity, activity_view, memory_member, remembers_any, runs_in_body}
 use Rattle.bl_emit_spec_laws.specs.Calls.Built.{Activities, activity_at, run_by, site_at}
 use Rattle.bl_emit_spec_laws.specs.Calls.Memories as memories
 use Rattle.bl_emit_spec_laws.specs.Calls.Memories.{Nests, inner}
@@ -42,11 +42,11 @@ some_member site k (suc x) (first ∷ vars) var more there held =
     by true again = has_some (length (members_from site (k + 1) vars ++ more))
     by false again = again
 
-own_remembers : (a : Activity) (x : ℕ) (var : Var) → var_at (view_of a).site x ≡ Some var → home_at (view_of a).site x ≡ Held →
+own_remembers : (a : Activity) (x : ℕ) (var : Var) → var_at (activity_view a).site x ≡ Some var → home_at (activity_view a).site x ≡ Held →
     remembers_any a ≡ true
 own_remembers a x var there held =
-    some_member (view_of a).site 0 x a.unit.vars var (joined (map (memory_member a) (runs_in_body a))) there
-    (sym (ap (home_of (view_of a).site) there) ∙ held)
+    some_member (activity_view a).site 0 x a.unit.vars var (joined (map (memory_member a) (runs_in_body a))) there
+    (sym (ap (home_of (activity_view a).site) there) ∙ held)
 
 -- ---- calls
 

@@ -23,13 +23,13 @@ use Rattle.bl_graph_nodes.specs.Nodes.{
 }
 use Rattle.bl_graph_nodes.specs.Plain.{plain_body}
 use Rattle.bl_ctext_semantics.specs.Meaning.{Scope, block_c}
-use Rattle.bl_ctext_semantics.specs.Memory.{Location, Memory, number_in, value_at}
+use Rattle.bl_ctext_semantics.specs.Memory.{Location, Memory, scalar_number, value_at}
 use Rattle.bl_ctree.specs.Actions.{result_at}
 use Rattle.bl_ctree.specs.Instances.{Setting, setting_of, unit_at}
 use Rattle.bl_ctree.specs.Store.{Store, number_or_zero}
 use Rattle.bl_emit_acts.specs.declared.home.Home.TheVariants.{Held}
 use Rattle.bl_emit_acts_laws_simulation.specs.Encodes.{home_at}
-use Rattle.bl_emit_spec.specs.Activities.{remembers_any, view_of}
+use Rattle.bl_emit_spec.specs.Activities.{activity_view, remembers_any}
 use Rattle.bl_emit_spec.specs.Blocks.{changes_code, node_code}
 use Rattle.bl_emit_spec_laws.specs.Registers.Laws.{asks_its_own, changes_its_own}
 use Rattle.bl_machine.specs.declared.machine.Activity.{Activity as InMachine}
@@ -47,11 +47,11 @@ use Rattle.bl_emit_spec_laws.specs.Calls.Invariant.{FunctionContext, PassReprese
 -- all that rules of an instance's activity ask and change are registers that its function has
 pub record RulesOwn (w : Setting) (activities : Activities) : Type 0 where
   pub asks : (i : ℕ) (unit : UnitDef) (rule : Transition) → unit_at w i ≡ Some unit → HasRule (slots_by w activities) i unit rule →
-      asks_its_own (view_of (activity_at w activities i)) (registered (activity_at w activities i)) rule.node rule.asked ≡ true
-  pub so : (i : ℕ) (unit : UnitDef) (rule : Transition) → unit_at w i ≡ Some unit → HasRule (slots_by w activities) i unit rule →
-      list_all (changes_its_own (rank_by w activities i) (registered (activity_at w activities i))) rule.so ≡ true
-  pub otherwise : (i : ℕ) (unit : UnitDef) (rule : Transition) → unit_at w i ≡ Some unit → HasRule (slots_by w activities) i unit rule →
-      list_all (changes_its_own (rank_by w activities i) (registered (activity_at w activities i))) rule.otherwise ≡ true
+      asks_its_own (activity_view (activity_at w activities i)) (registered (activity_at w activities i)) rule.node rule.condition ≡ true
+  pub on_true : (i : ℕ) (unit : UnitDef) (rule : Transition) → unit_at w i ≡ Some unit → HasRule (slots_by w activities) i unit rule →
+      list_all (changes_its_own (rank_by w activities i) (registered (activity_at w activities i))) rule.on_true ≡ true
+  pub on_false : (i : ℕ) (unit : UnitDef) (rule : Transition) → unit_at w i ≡ Some unit → HasRule (slots_by w activities) i unit rule →
+      list_all (changes_its_own (rank_by w activities i) (registered (activity_at w activities i))) rule.on_false ≡ true
 
 -- whether a change ends the body
 abbrev pub ends_body : Change → Bool
@@ -65,12 +65,12 @@ is_return_node _ = false
 
 -- only a `return` ends the body of an activity with a result
 pub record ReturnsEnd (units : List UnitDef) (activities : Activities) : Type 0 where
-  pub so : (k : ℕ) (unit : UnitDef) (rule : Transition) → slice_get units k ≡ Some unit → is_activity unit.kind ≡ true →
+  pub on_true : (k : ℕ) (unit : UnitDef) (rule : Transition) → slice_get units k ≡ Some unit → is_activity unit.kind ≡ true →
       is_some unit.result ≡ true →
-      Contains (rules (activities k).slots (plain_body unit.body)) rule → list_any ends_body rule.so ≡ true → is_return_node rule.node ≡ true
-  pub otherwise : (k : ℕ) (unit : UnitDef) (rule : Transition) → slice_get units k ≡ Some unit → is_activity unit.kind ≡ true →
+      Contains (rules (activities k).slots (plain_body unit.body)) rule → list_any ends_body rule.on_true ≡ true → is_return_node rule.node ≡ true
+  pub on_false : (k : ℕ) (unit : UnitDef) (rule : Transition) → slice_get units k ≡ Some unit → is_activity unit.kind ≡ true →
       is_some unit.result ≡ true → Contains (rules (activities k).slots (plain_body unit.body)) rule →
-      list_any ends_body rule.otherwise ≡ true → is_return_node rule.node ≡ true
+      list_any ends_body rule.on_false ≡ true → is_return_node rule.node ≡ true
 
 -- ---- what is asked of activities
 
@@ -86,7 +86,7 @@ pub record Remembering (w : Setting) (activities : Activities) : Type 0 where
 abbrev pub ResultTold : UnitDef → ℕ → Scope → Store → Registers → Memory → Type 0
 ResultTold unit i scope store r here =
     (value : Value) → r.over ≡ true → is_some unit.result ≡ true → result_at store i ≡ Some value →
-    number_in (value_at here (result_at_c scope)) ≡ number_or_zero value
+    scalar_number (value_at here (result_at_c scope)) ≡ number_or_zero value
 
 -- the C of changes simulates them in the middle of a pass, and leaves all else
 abbrev pub ChangesSimulateInPass : Type 0
@@ -100,7 +100,7 @@ ChangesSimulateInPass =
     list_all (changes_its_own (rank_by w activities i) (registered (activity_at w activities i))) changes ≡ true →
     ResultTold unit i scope store (all_changed (rank_by w activities i) changes r) here →
     PartSimulates w activities i unit scope frames store copies (all_changed (rank_by w activities i) changes r) here
-    (block_c (changes_code (view_of (activity_at w activities i)) changes) scope here)
+    (block_c (changes_code (activity_view (activity_at w activities i)) changes) scope here)
 
 -- ---- blocks
 
@@ -119,7 +119,7 @@ BlocksChoose =
     (here : Memory) → let w = setting_of structs units entry in
     Midway structs units entry machine activities i unit scope frames store copies r here → HasRule (slots_by w activities) i unit rule →
     is_due (rank_by w activities i) rule r ≡ true →
-    let o = block_c (node_code (view_of (activity_at w activities i)) u rule rule.node) scope here in
+    let o = block_c (node_code (activity_view (activity_at w activities i)) u rule rule.node) scope here in
     ((block_done w activities i u rule scope here).end ≡ o.end) × ((block_done w activities i u rule scope here).memory ≡ o.memory)
 
 -- nothing is done at the node but changes

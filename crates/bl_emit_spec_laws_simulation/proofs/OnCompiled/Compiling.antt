@@ -76,7 +76,7 @@ module _ (structs : List StructDef) (units : List UnitDef) (entry : ℕ) (counte
 
     pub compiled : Passes units → FromText units → CompilationContext structs units entry machine activities
     compiled passes text = record {
-      keeps = keeps;
+      well_typed = keeps;
       passes = passes;
       text = text;
       agrees = agrees;

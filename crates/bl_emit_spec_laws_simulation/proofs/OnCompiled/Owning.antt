@@ -59,19 +59,19 @@ module _ (structs : List StructDef) (units : List UnitDef) (entry : ℕ) (orderl
 
     unit_is : (i : ℕ) (unit : UnitDef) → unit_at W i ≡ Some unit → IsOf units entry (unit_number W i) unit
     unit_is i unit there =
-        of_instance units entry W (slice_get W.instances i) unit refl (λ instance at. instances i instance compiled.keeps at) there
+        of_instance units entry W (slice_get W.instances i) unit refl (λ instance at. instances i instance compiled.well_typed at) there
 
     built_at : (i : ℕ) (unit : UnitDef) → unit_at W i ≡ Some unit → BuiltAt structs units machine activities (unit_number W i) unit
     built_at i unit there = record {
       agrees = compiled.agrees;
       built = compiled.built;
       is_there = (unit_is i unit there).there;
-      activity = ((orderly structs units entry compiled.keeps compiled.passes).each i unit there).activity;
+      activity = ((orderly structs units entry compiled.well_typed compiled.passes).each i unit there).activity;
     }
 
     statements_less : (k : ℕ) (unit : UnitDef) → slice_get units k ≡ Some unit → cell_statements_of unit ≤ cells_at structs units k
     statements_less k unit there =
-        subst (λ n. cell_statements_of unit ≤ n) (sym (add structs units k unit (uses structs units compiled.keeps.units_stand) there))
+        subst (λ n. cell_statements_of unit ≤ n) (sym (add structs units k unit (uses structs units compiled.well_typed.units_stand) there))
         (enough unit.kind (variables_of structs unit) (cell_statements_of unit) (total (map (cells_at structs units) (activities_by_place unit)))
         (greatest (map (cells_at structs units) (calls_of unit))))
 
@@ -79,8 +79,8 @@ module _ (structs : List StructDef) (units : List UnitDef) (entry : ℕ) (orderl
     few i unit there =
         let is = unit_is i unit there in
         places_small (places_in (plain_body unit.body)) (cell_statements_of unit) (cells_at structs units (unit_number W i))
-        (counted (unit_number W i) unit compiled.keeps is.there).places (statements_less (unit_number W i) unit is.there)
-        (small (unit_number W i) compiled.keeps limits is.needed)
+        (counted (unit_number W i) unit compiled.well_typed is.there).places (statements_less (unit_number W i) unit is.there)
+        (small (unit_number W i) compiled.well_typed limits is.needed)
 
 pub rules_are_own : (structs : List StructDef) (units : List UnitDef) (entry : ℕ) → AcceptedIsOrderly → ChangesAreOwn → AskedAreOwn →
     InstancesNeeded structs units entry → NeededSmall structs units entry → NodesCounted structs units entry → UnitsUseEarlierOnes → CellsAdd →
@@ -89,8 +89,8 @@ rules_are_own structs units entry orderly changes asked instances small counted 
   asks = λ i unit rule there is.
       asked structs units machine activities (unit_number (setting_of structs units entry) i) unit rule (at i unit there)
       (few structs units entry orderly changes asked instances small counted uses add machine activities limits compiled i unit there) is;
-  so = λ i unit rule there is. (changes structs units machine activities (unit_number (setting_of structs units entry) i) unit rule (at i unit there) is).0;
-  otherwise = λ i unit rule there is. (changes structs units machine activities (unit_number (setting_of structs units entry) i) unit rule
+  on_true = λ i unit rule there is. (changes structs units machine activities (unit_number (setting_of structs units entry) i) unit rule (at i unit there) is).0;
+  on_false = λ i unit rule there is. (changes structs units machine activities (unit_number (setting_of structs units entry) i) unit rule
       (at i unit there) is).1;
 }
   where

@@ -8,7 +8,7 @@ use Rattle.bl_tree.specs.declared.tree.Unit.{Unit as UnitDef}
 use Rattle.bl_tree.specs.declared.tree.Var.{Var}
 use Rattle.bl_tree.specs.Typing.{TypingContext, is_activity, var_at}
 use Rattle.bl_eval.proofs.PassLemmas.{and_left, and_right, both}
-use Rattle.bl_ctext_semantics.specs.Meaning.{ArgumentValue, Scope, further, start_of}
+use Rattle.bl_ctext_semantics.specs.Meaning.{ArgumentValue, Scope, further, named_location}
 use Rattle.bl_ctext_semantics.specs.Memory.{Location, Projection, Root, input_object, member, output_object, same_root, state_object, variable}
 use Rattle.bl_emit_acts.specs.declared.home.Home.{Home}
 use Rattle.bl_emit_acts.specs.declared.home.Home.TheVariants.{Given as ByValue, Held, Lent}
@@ -131,10 +131,10 @@ module _ (site : TypingContext) (unit : UnitDef) (remembers : Bool) (scope : Sco
   memory = inner (remembered_at scope) n
 
   abbrev pub result : Location
-  result = start_of scope false (given_name n)
+  result = named_location scope false (given_name n)
 
   abbrev pub over : Location
-  over = start_of scope false (ended_name n)
+  over = named_location scope false (ended_name n)
 
   abbrev place_of : Bool → Home → ℕ → Location
   place_of activity home k = further (start_in scope activity home k) (lead_in home k ++ [])
@@ -161,10 +161,10 @@ module _ (site : TypingContext) (unit : UnitDef) (remembers : Bool) (scope : Sco
 
   -- an older place is apart from the function's own variables
   older_apart : (place : Location) (name : List ℕ) (way : List Projection) → is_older scope.depth place.root ≡ true →
-      are_apart place (further (start_of scope false name) way) ≡ true
+      are_apart place (further (named_location scope false name) way) ≡ true
   older_apart place name way older =
-      apart_flip (further (start_of scope false name) way) place
-      (local_older scope.depth (further (start_of scope false name) way) place name refl older)
+      apart_flip (further (named_location scope false name) way) place
+      (local_older scope.depth (further (named_location scope false name) way) place name refl older)
 
   pub frame_variables : ApartFromVariables site scope frame
   frame_variables =
@@ -189,9 +189,9 @@ module _ (site : TypingContext) (unit : UnitDef) (remembers : Bool) (scope : Sco
 
   -- a local of another name is apart from all variables
   local_variables : (name : List ℕ) → ((k : ℕ) → bytes_eq name (variable_name k) ≡ false) →
-      ApartFromVariables site scope (start_of scope false name)
+      ApartFromVariables site scope (named_location scope false name)
   local_variables name differ =
-      let place = start_of scope false name in
+      let place = named_location scope false name in
       apart_by place
       (λ k var there is.
       last_further place (remembered_at scope) (member (variable_name k) ∷ [])

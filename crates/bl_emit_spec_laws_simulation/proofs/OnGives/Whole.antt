@@ -40,7 +40,7 @@ use Rattle.bl_emit_acts_laws_simulation.specs.Arguments.{ArgumentsGiven, Argumen
 use Rattle.bl_emit_acts_laws_simulation.specs.Encodes.{home_at}
 use Rattle.bl_emit_acts_laws_simulation.specs.Laws.{BesideActs, FramesApart}
 use Rattle.bl_emit_acts_laws_simulation.specs.Simulation.{ArgumentsEncoded}
-use Rattle.bl_emit_spec.specs.Activities.{copies_of, remembers_any, view_of}
+use Rattle.bl_emit_spec.specs.Activities.{activity_view, copies_of, remembers_any}
 use Rattle.bl_machine.specs.declared.machine.Activity.{Activity as InMachine}
 use Rattle.bl_machine_laws.specs.Passes.Follows.{DeedYields}
 use Rattle.bl_machine_pass.specs.Registers.{Registers}
@@ -117,7 +117,7 @@ module _ (structs : List StructDef) (units : List UnitDef) (entry : ℕ) (laws :
   has = remembers_any (activity_at w activities j)
 
   views_fit : ViewsFit structs units entry
-  views_fit i unit store is fits = (laws.views structs units entry i unit store midway.compiled.keeps is fits).now
+  views_fit i unit store is fits = (laws.views structs units entry i unit store midway.compiled.well_typed is fits).now
 
   site_same : site_at w activities i ≡ site
   site_same = site_is laws.apart structs units entry views_fit machine activities i unit scope frames store copies r here midway
@@ -142,7 +142,7 @@ module _ (structs : List StructDef) (units : List UnitDef) (entry : ℕ) (laws :
 
   argues : RunArgues structs units k unit arguments other
   argues =
-      run_argues structs units entry laws.callers midway.compiled.keeps midway.compiled.passes i unit midway.is_there l at arguments j other run.node
+      run_argues structs units entry laws.callers midway.compiled.well_typed midway.compiled.passes i unit midway.is_there l at arguments j other run.node
       run.callee run.is_there
 
   abbrev answer : Option (List ArgumentValue)
@@ -155,28 +155,28 @@ module _ (structs : List StructDef) (units : List UnitDef) (entry : ℕ) (laws :
   come =
       subst Come (sym (values_same laws.agree w i unit store midway.is_there copies arguments.inputs sees))
       (laws.arguments k unit sight (copies_of unit) scope here arguments.inputs arguments.outputs (inputs_of other) (outputs_of other)
-      midway.compiled.keeps beside_acts argues.inputs argues.outputs argues.outlets
+      midway.compiled.well_typed beside_acts argues.inputs argues.outputs argues.outlets
       (stand.inputs k unit l at arguments there_unit run.node) (stand.outputs k unit l at arguments there_unit run.node) argues.alone)
 
   -- ---- the call
 
-  earlier_is : slice_get (view_of (activity_at w activities i)).site.earlier u ≡ Some other
+  earlier_is : slice_get (activity_view (activity_at w activities i)).site.earlier u ≡ Some other
   earlier_is =
       ap (λ earlier. slice_get earlier u) (midway.compiled.built.earlier k unit there_unit) ∙ (get_taken units k u run.earlier ∙ there_other)
 
-  remembers_is : (view_of (activity_at w activities i)).remembers u ≡ has
+  remembers_is : (activity_view (activity_at w activities i)).remembers u ≡ has
   remembers_is =
       ap (λ o. unwrap_or o false) (midway.compiled.built.remember k u unit other there_unit there_other run.earlier)
       ∙ ap (λ b. b && has) run.active
 
   between_is : (o : Option (List ArgumentValue)) → answer ≡ o →
-      arguments_c (call_args (view_of (activity_at w activities i)).site arguments.inputs arguments.outputs) scope here ≡ o
+      arguments_c (call_args (activity_view (activity_at w activities i)).site arguments.inputs arguments.outputs) scope here ≡ o
   between_is o is = ap (λ site. arguments_c (call_args site arguments.inputs arguments.outputs) scope here) site_same ∙ is
 
   pub traps : done_by w (deed i at (Copies j arguments.inputs)) store ≡ None →
       (call_written w activities i n u arguments scope here).result ≡ None
   traps stops =
-      written_traps (view_of (activity_at w activities i)) n u arguments other has scope here earlier_is remembers_is
+      written_traps (activity_view (activity_at w activities i)) n u arguments other has scope here earlier_is remembers_is
       (between_is None (subst Come (none_there (values_there w store i arguments.inputs) stops) come))
     where
       none_there : (o : Option (List Value)) → option_map (λ values. done (with_frame j (with_inputs values) store)) o ≡ None → o ≡ None
@@ -196,7 +196,7 @@ module _ (structs : List StructDef) (units : List UnitDef) (entry : ℕ) (laws :
     places = subst (λ (site : TypingContext). PlacesAreSeparate site unit remembers scope) site_same midway.function.places
 
     few : other.inputs + other.outputs ≤ length other.vars
-    few = parameters_few other (roles_at structs units entry u other midway.compiled.keeps there_other)
+    few = parameters_few other (roles_at structs units entry u other midway.compiled.well_typed there_other)
 
     long : length c.values ≡ other.inputs
     long = inputs_long other few structs scope.depth here c.values args.inputs args.hold
@@ -246,7 +246,7 @@ module _ (structs : List StructDef) (units : List UnitDef) (entry : ℕ) (laws :
         get_behind (view_at w left j).now other.inputs x
         ∙ (output_seen laws.keep laws.homes laws.along structs units entry (laws.nest structs units entry) j other run.is_there store frame_there
         c.values long few i x at (static_of lead.path) v run.callee less
-        ((laws.outputs structs units entry midway.compiled.keeps).homes i j x at arguments.outputs unit other lead.path midway.is_there run.is_there
+        ((laws.outputs structs units entry midway.compiled.well_typed).homes i j x at arguments.outputs unit other lead.path midway.is_there run.is_there
         some_in run.callee less lead.got) lead.leads.has
         ∙ sym got)
 
@@ -272,7 +272,7 @@ module _ (structs : List StructDef) (units : List UnitDef) (entry : ℕ) (laws :
               let unit_is : (activities (unit_number w x)).unit ≡ unit =
               ap (λ k. (activities k).unit) number_is ∙ midway.compiled.built.unit instance.unit unit of in
               held_no_output unit v var (is_some (scalar_in var.ty)) (copies_inputs (site_at w activities x))
-              (roles_at structs units entry instance.unit unit midway.compiled.keeps of)
+              (roles_at structs units entry instance.unit unit midway.compiled.well_typed of)
               (ap (λ (unit : UnitDef). slice_get unit.vars v) (sym unit_is) ∙ known) home_held
 
     behind : (x v : ℕ) (var : Var) → var_at (site_at w activities x) v ≡ Some var → home_at (site_at w activities x) v ≡ Held → j ≡ x →
@@ -284,7 +284,7 @@ module _ (structs : List StructDef) (units : List UnitDef) (entry : ℕ) (laws :
         let unit_is : (activity_at w activities j).unit ≡ other = midway.compiled.built.unit u other there_other in
         let copies_none : copies_inputs (site_at w activities j) ≡ false =
         ap (λ (unit : UnitDef). is_function unit.kind && is_some unit.result) unit_is ∙ ap (λ b. not b && is_some other.result) run.active in
-        held_behind other v var (is_some (scalar_in var.ty)) (roles_at structs units entry u other midway.compiled.keeps there_other)
+        held_behind other v var (is_some (scalar_in var.ty)) (roles_at structs units entry u other midway.compiled.well_typed there_other)
         (ap (λ (unit : UnitDef). slice_get unit.vars v) (sym unit_is) ∙ known_here)
         (subst (λ b. home_of_role var.role (is_some (scalar_in var.ty)) b ≡ Held) copies_none (home_held j v var known_here held_here))
 
@@ -306,7 +306,7 @@ module _ (structs : List StructDef) (units : List UnitDef) (entry : ℕ) (laws :
         let stands = stands_at structs units entry i unit midway.is_there in
         let number_is : k ≡ stands.instance.unit =
         ap (λ o. unwrap_or (option_map (λ (instance : Instance). instance.unit) o) 0) stands.there in
-        copy_fits laws.callers laws.views structs units entry midway.compiled.keeps i unit midway.is_there store midway.fits j other arguments.inputs
+        copy_fits laws.callers laws.views structs units entry midway.compiled.well_typed i unit midway.is_there store midway.fits j other arguments.inputs
         given run.is_there
         (subst (λ k. types_match (map (type_of (site_of structs (take k units) unit)) arguments.inputs) (inputs_of other) ≡ true) number_is
         argues.inputs) does
@@ -329,7 +329,7 @@ module _ (structs : List StructDef) (units : List UnitDef) (entry : ℕ) (laws :
       inputs = args.inputs;
       outputs = args.outputs;
       count = _;
-      called = written_given (view_of (activity_at w activities i)) n u arguments other has scope here earlier_is remembers_is args.inputs args.outputs
+      called = written_given (activity_view (activity_at w activities i)) n u arguments other has scope here earlier_is remembers_is args.inputs args.outputs
           (between_is (Some (args.inputs ++ map by_address args.outputs)) args.are);
       leads = leads;
       may = may;

@@ -11,7 +11,7 @@ use Rattle.bl_graph_nodes.specs.Nodes.{Arguments}
 use Rattle.bl_ctext.specs.declared.builtin.Builtin.{Builtin}
 use Rattle.bl_ctext_semantics.specs.Meaning.{ArgumentValue, CallResult, Counted, Scope, applied, by_address}
 use Rattle.bl_ctext_semantics.specs.Meaning.{call_c, called_after, called_as, further, given, later_call}
-use Rattle.bl_ctext_semantics.specs.Meaning.{location_c, next, start_of, way_of}
+use Rattle.bl_ctext_semantics.specs.Meaning.{location_c, named_location, next, way_of}
 use Rattle.bl_ctext_semantics.specs.Memory.{Location, Memory, Projection, member}
 use Rattle.bl_emit_acts.specs.Acts.{call_args, name_of_callee}
 use Rattle.bl_emit_acts.specs.Trees.{c_call, c_place, c_step}
@@ -34,14 +34,14 @@ module _ (structs : List StructDef) (scope : Scope) (here : Memory) where
 
   -- a member behind a pointer
   member_answer : (name part : List ℕ) → (location_c (c_place true name (c_step part ∷ [])) scope here).answer
-      ≡ Some (further (start_of scope true name) (member part ∷ []))
+      ≡ Some (further (named_location scope true name) (member part ∷ []))
   member_answer name part =
       ap (λ (c : Counted Location). c.answer) (place-location scope here true name (c_step part ∷ []))
       ∙ ap (λ (c : Counted (List Projection)). (next (next c (λ a. next (given (Some [])) (λ others. given (Some (a ∷ others)))))
-      (λ ways. given (Some (further (start_of scope true name) (way_of ways))))).answer) (step-way scope here part)
+      (λ ways. given (Some (further (named_location scope true name) (way_of ways))))).answer) (step-way scope here part)
 
   -- a variable of the function
-  local_answer : (name : List ℕ) → (location_c (c_place false name []) scope here).answer ≡ Some (start_of scope false name)
+  local_answer : (name : List ℕ) → (location_c (c_place false name []) scope here).answer ≡ Some (named_location scope false name)
   local_answer name = ap (λ (c : Counted Location). c.answer) (place-location scope here false name [])
 
   -- ---- arguments
@@ -64,8 +64,8 @@ module _ (structs : List StructDef) (scope : Scope) (here : Memory) where
       joined_answer (Some (by_address (inner (frame_at scope) n) ∷ []))
       (joined_answer (Some (where_true remembers (by_address (inner (remembered_at scope) n))))
       (joined_answer between
-      (joined_answer (Some (where_true result (by_address (start_of scope false (given_name n)))))
-      (Some (by_address (start_of scope false (ended_name n)) ∷ [])))))
+      (joined_answer (Some (where_true result (by_address (named_location scope false (given_name n)))))
+      (Some (by_address (named_location scope false (ended_name n)) ∷ [])))))
 
   args_answer : (n : ℕ) (remembers result : Bool) (between : List CArg) →
       (pass_all structs scope here
@@ -77,11 +77,11 @@ module _ (structs : List StructDef) (scope : Scope) (here : Memory) where
       let frame : List CArg = Address (callee_frame n) ∷ [] in
       let memory : List CArg = arg_where remembers (Address (callee_memory n)) in
       let lasts : (pass_all structs scope here last).answer
-      ≡ joined_answer (Some (where_true result (by_address (start_of scope false (given_name n)))))
-      (Some (by_address (start_of scope false (ended_name n)) ∷ [])) =
+      ≡ joined_answer (Some (where_true result (by_address (named_location scope false (given_name n)))))
+      (Some (by_address (named_location scope false (ended_name n)) ∷ [])) =
       pass_both structs scope here (arg_where result (Address (given_place n))) (Address (ended_place n) ∷ [])
-      ∙ ap₂ joined_answer (where_answer result (given_place n) (start_of scope false (given_name n)) (local_answer (given_name n)))
-      (address_answer (ended_place n) (start_of scope false (ended_name n)) (local_answer (ended_name n))) in
+      ∙ ap₂ joined_answer (where_answer result (given_place n) (named_location scope false (given_name n)) (local_answer (given_name n)))
+      (address_answer (ended_place n) (named_location scope false (ended_name n)) (local_answer (ended_name n))) in
       pass_both structs scope here frame (memory ++ (between ++ last))
       ∙ ap₂ joined_answer
       (address_answer (callee_frame n) (inner (frame_at scope) n) (member_answer (codes "f") _))

@@ -11,7 +11,7 @@ use Rattle.bl_tree.specs.declared.tree.Unit.{Unit as UnitDef}
 use Rattle.bl_tree.specs.declared.tree.Var.{Var}
 use Rattle.bl_tree.specs.Program.{is_input}
 use Rattle.bl_tree.specs.Typing.{TypingContext, is_activity, var_at}
-use Rattle.bl_ctext_semantics.specs.Meaning.{ArgumentValue, Scope, further, start_of}
+use Rattle.bl_ctext_semantics.specs.Meaning.{ArgumentValue, Scope, further, named_location}
 use Rattle.bl_ctext_semantics.specs.Memory.{Location, Memory, Projection, Root, left_after, member, same_root, value_at, variable}
 use Rattle.bl_emit_acts.specs.declared.home.Home.{Home}
 use Rattle.bl_emit_acts.specs.declared.home.Home.TheVariants.{Given as GivenHome, Held, Lent}
@@ -80,10 +80,10 @@ module _ (site : TypingContext) (unit : UnitDef) (remembers : Bool) (scope : Sco
   m = inner (remembered_at scope) n
 
   abbrev given : Location
-  given = start_of scope false (given_name n)
+  given = named_location scope false (given_name n)
 
   abbrev ended : Location
-  ended = start_of scope false (ended_name n)
+  ended = named_location scope false (ended_name n)
 
   -- no variable is copied as far as this is concerned
   abbrev none : ℕ → Bool
@@ -142,14 +142,14 @@ module _ (site : TypingContext) (unit : UnitDef) (remembers : Bool) (scope : Sco
         no_ended = lies_apart ended p way two;
       })
 
-  local_older : (name : Text) (p : Location) → is_older scope.depth p.root ≡ true → are_apart (start_of scope false name) p ≡ true
-  local_older name p older = roots_differ (start_of scope false name) p (older_differs scope.depth name p.root older)
+  local_older : (name : Text) (p : Location) → is_older scope.depth p.root ≡ true → are_apart (named_location scope false name) p ≡ true
+  local_older name p older = roots_differ (named_location scope false name) p (older_differs scope.depth name p.root older)
 
-  local_local : (name other : Text) → bytes_eq name other ≡ false → are_apart (start_of scope false name) (start_of scope false other) ≡ true
-  local_local name other differ = roots_differ (start_of scope false name) (start_of scope false other) (own_differ scope.depth name other differ)
+  local_local : (name other : Text) → bytes_eq name other ≡ false → are_apart (named_location scope false name) (named_location scope false other) ≡ true
+  local_local name other differ = roots_differ (named_location scope false name) (named_location scope false other) (own_differ scope.depth name other differ)
 
-  older_local : (p : Location) (name : Text) → is_older scope.depth p.root ≡ true → are_apart p (start_of scope false name) ≡ true
-  older_local p name older = apart_flip (start_of scope false name) p (local_older name p older)
+  older_local : (p : Location) (name : Text) → is_older scope.depth p.root ≡ true → are_apart p (named_location scope false name) ≡ true
+  older_local p name older = apart_flip (named_location scope false name) p (local_older name p older)
 
   -- the structs of the caller are older
   memory_older : takes ≡ true → is_older scope.depth m.root ≡ true
@@ -282,14 +282,14 @@ module _ (site : TypingContext) (unit : UnitDef) (remembers : Bool) (scope : Sco
 
   -- a local of a `run` keeps apart from variables
   local_variable : (name : Text) → ((k : ℕ) → bytes_eq name (variable_name k) ≡ false) → (k : ℕ) (var : Var) → var_at site k ≡ Some var →
-      are_apart (start_of scope false name) (location_in scope site k []) ≡ true
+      are_apart (named_location scope false name) (location_in scope site k []) ≡ true
   local_variable name differ k var there = by (is_activity site.kind) (home_at site k) refl refl
     where
       no_such : false ≡ true → ⊥
       no_such h = cc
 
       by : (activity : Bool) (x : Home) → is_activity site.kind ≡ activity → home_at site k ≡ x →
-          are_apart (start_of scope false name) (place_of activity x k) ≡ true
+          are_apart (named_location scope false name) (place_of activity x k) ≡ true
       by false Held kind is = absurd (no_such (sym kind ∙ active))
       by true Held kind is = local_older name (place_of true Held k) (places.memory (held_here k var there is)).older
       by activity GivenHome kind is = local_local name (variable_name k) (differ k)

@@ -22,7 +22,7 @@ use Rattle.bl_eval.proofs.PartFits.{Fits}
 use Rattle.bl_eval.proofs.PassLemmas.{pass_at}
 use Rattle.bl_graph_nodes.specs.Nodes.{Arguments, EnterAt, Node, nodes_in}
 use Rattle.bl_graph_nodes.specs.Plain.{Label, plain_body}
-use Rattle.bl_ctext_semantics.specs.Meaning.{Scope, further, start_of}
+use Rattle.bl_ctext_semantics.specs.Meaning.{Scope, further, named_location}
 use Rattle.bl_ctext_semantics.specs.Memory.{Location, Memory, member, value_at}
 use Rattle.bl_ctree.specs.Actions.{Copies}
 use Rattle.bl_ctree.specs.Instances.{Setting, callee_of, setting_of}
@@ -41,7 +41,7 @@ use Rattle.bl_emit_acts.specs.Acts.{is_copied}
 use Rattle.bl_emit_acts.specs.declared.home.Home.TheVariants.{Held}
 use Rattle.bl_emit_acts.specs.Types.{copy_name, variable_name}
 use Rattle.bl_emit_acts_laws_simulation.specs.Frames.{FrameApart, remembered_at}
-use Rattle.bl_emit_acts_laws_simulation.specs.Encodes.{CopiesEncoded, Encodes, VariablesEncoded, home_at, location_in, number_at, way_to}
+use Rattle.bl_emit_acts_laws_simulation.specs.Encodes.{CopiesEncoded, Encodes, VariablesEncoded, home_at, location_in, number_within, way_to}
 use Rattle.bl_emit_acts_laws_simulation.specs.Laws.{FramesApart}
 use Rattle.bl_emit_spec.specs.Activities.{Activity, copies_of, remembers_any}
 use Rattle.bl_emit_spec.specs.Names.{callee_name, counter_name}
@@ -206,22 +206,22 @@ module _ (laws : Laws) (structs : List StructDef) (units : List UnitDef) (entry 
   -- ---- outputs
 
   abbrev lead : OutputsLeadIn structs units entry
-  lead = laws.outputs structs units entry compiled.keeps
+  lead = laws.outputs structs units entry compiled.well_typed
 
   output : (o : ℕ) (path : Path) (var : Var) → slice_get arguments.outputs o ≡ Some path → slice_get (outputs_of other) o ≡ Some var →
       OutputOf site path var.ty
   output =
-      output_of laws.callers laws.run laws.placed structs units entry compiled.keeps lead i j k unit other l at arguments midway.is_there there
+      output_of laws.callers laws.run laws.placed structs units entry compiled.well_typed lead i j k unit other l at arguments midway.is_there there
       run.node run.callee run.is_there (slots_by W activities)
 
   output_var : (o : ℕ) (path : Path) → slice_get arguments.outputs o ≡ Some path → (var : Var) × (slice_get (outputs_of other) o ≡ Some var)
   output_var =
-      output_there laws.callers laws.run laws.placed structs units entry compiled.keeps lead i j k unit other l at arguments midway.is_there there
+      output_there laws.callers laws.run laws.placed structs units entry compiled.well_typed lead i j k unit other l at arguments midway.is_there there
       run.node run.callee run.is_there (slots_by W activities)
 
   output_path : (o : ℕ) (var : Var) → slice_get (outputs_of other) o ≡ Some var → (path : Path) × (slice_get arguments.outputs o ≡ Some path)
   output_path =
-      path_there laws.callers laws.run laws.placed structs units entry compiled.keeps lead i j k unit other l at arguments midway.is_there there
+      path_there laws.callers laws.run laws.placed structs units entry compiled.well_typed lead i j k unit other l at arguments midway.is_there there
       run.node run.callee run.is_there (slots_by W activities)
 
   leads : (o : ℕ) (path : Path) (place : Location) → slice_get arguments.outputs o ≡ Some path → slice_get gives.outputs o ≡ Some place →
@@ -266,12 +266,12 @@ module _ (laws : Laws) (structs : List StructDef) (units : List UnitDef) (entry 
   begun_here : (instance : Instance) (origin : Origin) → slice_get W.instances j ≡ Some instance → instance.origin ≡ Some origin →
       origin.outputs ≡ map static_of arguments.outputs
   begun_here =
-      begun_with laws.callers laws.run laws.placed structs units entry compiled.keeps lead i j k unit other l at arguments midway.is_there there
+      begun_with laws.callers laws.run laws.placed structs units entry compiled.well_typed lead i j k unit other l at arguments midway.is_there there
       run.node run.callee run.is_there (slots_by W activities)
 
   -- no two outputs of a call overlap
   parted : OutputsAreApart W
-  parted = (laws.orderly structs units entry compiled.keeps compiled.passes).outputs
+  parted = (laws.orderly structs units entry compiled.well_typed compiled.passes).outputs
 
   kept_store : StoreKept W j other given left
   kept_store =
@@ -280,7 +280,7 @@ module _ (laws : Laws) (structs : List StructDef) (units : List UnitDef) (entry 
 
   fits_left : StoreFits W left
   fits_left =
-      (laws.types structs units entry compiled.keeps).executes (rank_by W activities) (slots_by W activities) (cleared W) j 0 frames given
+      (laws.types structs units entry compiled.well_typed).executes (rank_by W activities) (slots_by W activities) (cleared W) j 0 frames given
       (view_at W given j).now begun frames' left r' gives.begins.fits executes
 
   abbrev nest : InstancesNest structs units entry
@@ -292,13 +292,13 @@ module _ (laws : Laws) (structs : List StructDef) (units : List UnitDef) (entry 
     fit : Fits structs var.ty value
     fit =
         let found = pass_at (λ (var : Var). value_fits structs var.ty) unit.vars (view_at W left i).now x var
-        (laws.views structs units entry i unit left compiled.keeps midway.is_there fits_left).now known in
+        (laws.views structs units entry i unit left compiled.well_typed midway.is_there fits_left).now known in
         subst (λ v. value_fits structs var.ty v ≡ true) (same_Some found.0 value (sym found.1 ∙ now)) found.2
 
     old_found : (old : Value) × (slice_get (view_at W store i).now x ≡ Some old)
     old_found =
         let found = pass_at (λ (var : Var). value_fits structs var.ty) unit.vars (view_at W store i).now x var
-        (laws.views structs units entry i unit store compiled.keeps midway.is_there midway.fits).now known in (found.0, found.1)
+        (laws.views structs units entry i unit store compiled.well_typed midway.is_there midway.fits).now known in (found.0, found.1)
 
     was : Encodes structs var.ty old_found.0 (value_at here (location_in scope site x []))
     was =
@@ -307,14 +307,14 @@ module _ (laws : Laws) (structs : List StructDef) (units : List UnitDef) (entry 
 
     agree : (o : ℕ) (path : Path) (left_value : Value) (rest : List ℕ) → slice_get arguments.outputs o ≡ Some path →
         slice_get (output_values W left j other) o ≡ Some left_value → (static_of path).root ≡ x →
-        number_at ((static_of path).fields ++ rest) value ≡ number_at rest left_value
+        number_within ((static_of path).fields ++ rest) value ≡ number_within rest left_value
     agree o path left_value rest there_path is root =
         let fields = (static_of path).fields in
         let y : ℕ = other.inputs + o in
         let first = taken_get other.outputs (drop other.inputs (view_at W left j).now) o left_value is in
         let seen : slice_get (view_at W left j).now y ≡ Some left_value = dropped_get other.inputs (view_at W left j).now o left_value first.0 in
         let stands =
-        stands_there laws.callers laws.run laws.placed structs units entry compiled.keeps lead i j k unit other l at arguments midway.is_there there
+        stands_there laws.callers laws.run laws.placed structs units entry compiled.well_typed lead i j k unit other l at arguments midway.is_there there
         run.node run.callee run.is_there (slots_by W activities) in
         let homes : home W (whole_of j y) ≡ home W (path_at i x fields) =
         lead.homes i j o at arguments.outputs unit other path midway.is_there run.is_there stands run.callee first.1 there_path
@@ -340,7 +340,7 @@ module _ (laws : Laws) (structs : List StructDef) (units : List UnitDef) (entry 
         }
 
     unchanged : (ks : List ℕ) (m : ℤ) → ((o : ℕ) (path : Path) → slice_get arguments.outputs o ≡ Some path →
-        overlaps (record { root = x; fields = ks }) (static_of path) ≡ false) → number_at ks value ≡ Some m → number_at ks old_found.0 ≡ Some m
+        overlaps (record { root = x; fields = ks }) (static_of path) ≡ false) → number_within ks value ≡ Some m → number_within ks old_found.0 ≡ Some m
     unchanged ks m clear number =
         let path : Static = record { root = x; fields = ks } in
         seen_number laws.leads W store i x old_found.0 ks old_found.1
@@ -352,7 +352,7 @@ module _ (laws : Laws) (structs : List StructDef) (units : List UnitDef) (entry 
 
     variable_left : Encodes structs var.ty value (value_at after (location_in scope site x []))
     variable_left =
-        variable_holds site compiled.keeps.structs_stand scope here after arguments.outputs gives.outputs apart_here.variables x var known value
+        variable_holds site compiled.well_typed.structs_stand scope here after arguments.outputs gives.outputs apart_here.variables x var known value
         old_found.0 fit was out from unchanged
         (variable_same site unit remembers scope places active held_here other takes so n gives.inputs gives.outputs within here after called.kept x var
         known (apart_here.live.each x var known))
@@ -502,7 +502,7 @@ module _ (laws : Laws) (structs : List StructDef) (units : List UnitDef) (entry 
         subst (λ (site : TypingContext). CopiesEncoded site copies (is_copied (copies_of unit)) scope after) (sym site_same)
         (record {
           each = λ x var value its known now.
-              holds_same structs var.ty value here after (start_of scope false (copy_name x))
+              holds_same structs var.ty value here after (named_location scope false (copy_name x))
               (copy_same site unit remembers scope places active held_here other takes so n gives.inputs gives.outputs within here after called.kept x
               (λ y v there_v. apart_here.copies.variables y x v there_v its))
               ((subst (λ (site : TypingContext). CopiesEncoded site copies (is_copied (copies_of unit)) scope here) site_same midway.stands.copied).each x var value

@@ -36,11 +36,11 @@ use Rattle.bl_emit_spec.specs.Names.{callee_name}
 use Rattle.bl_machine.specs.Blocks.{up_to}
 use Rattle.bl_machine.specs.Uses.{Slots}
 use Rattle.bl_machine_pass.specs.Numbered.{position_where}
-use Rattle.bl_machine_pass.specs.Transitions.{Asked, Change, IsNew, SetsCounter, SetsFlag, Transition, age_of, body_ends, enter, flagged, joins, rule_where, rules}
+use Rattle.bl_machine_pass.specs.Transitions.{Change, Condition, IsNew, SetsCounter, SetsFlag, Transition, age_of, body_ends, enter, flagged, joins, rule_where, rules}
 use Rattle.bl_machine_pass.specs.Transitions.{Finishes, rules_in, rules_in_each, rules_of}
 use Rattle.bl_machine_pass_laws.specs.Turns.Laws.{StaysPlaced}
 use Rattle.bl_machine_pass_laws.specs.Keys.{NodesHaveKeys}
-use Rattle.bl_machine_transitions.specs.Callees.{number_in}
+use Rattle.bl_machine_transitions.specs.Callees.{node_number}
 use Rattle.bl_machine_transitions.specs.Listed.{layout_of}
 use Rattle.bl_machine_transitions_laws.proofs.Agreeing.{Agrees}
 use Rattle.bl_machine_transitions_laws.proofs.Standing.{nodes_stand}
@@ -64,20 +64,20 @@ module _ (keys : NodesHaveKeys) (body : List Stmt) (order : List ℕ)
 
   -- the number of the node at a position is where that position stands in the order
   number_at : (i : ℕ) (x : Node) → slice_get nodes i ≡ Some x →
-      (k : ℕ) × (slice_get order k ≡ Some i) × (number_in order (plain_body body) x ≡ k)
+      (k : ℕ) × (slice_get order k ≡ Some i) × (node_number order (plain_body body) x ≡ k)
   number_at i x at =
       let k = number_there (length nodes) order permutes i (within_at nodes i x at) in
       let none : 0 + i ≡ i = omega arith in (
         k.0,
         k.1,
-        agrees_at (number_in order (plain_body body)) (layout_of order []).number nodes 0 i x (nodes_stand keys body order []) at
+        agrees_at (node_number order (plain_body body)) (layout_of order []).number nodes 0 i x (nodes_stand keys body order []) at
             ∙ ap (λ q. position_where (nat_eq q) order) none
             ∙ found_at i order k.0 k.1 (λ j there. number_once (length nodes) order permutes i j k.0 there k.1),
       )
 
   -- nodes with one number are one
   pub one_number : (x y : Node) → Contains nodes x → Contains nodes y →
-      number_in order (plain_body body) x ≡ number_in order (plain_body body) y → x ≡ y
+      node_number order (plain_body body) x ≡ node_number order (plain_body body) y → x ≡ y
   one_number x y first second same =
       let a = stands_at nodes x first in
       let b = stands_at nodes y second in
@@ -89,12 +89,12 @@ module _ (keys : NodesHaveKeys) (body : List Stmt) (order : List ℕ)
 
 -- ---- the rule of a `run` that begins asks for its flag
 
-abbrev is_fine : Node → Asked → Bool
-is_fine (EnterAt l at arguments) asked = is_flagged asked
-is_fine _ asked = true
+abbrev is_fine : Node → Condition → Bool
+is_fine (EnterAt l at arguments) condition = is_flagged condition
+is_fine _ condition = true
 
 abbrev fine : Transition → Bool
-fine rule = is_fine rule.node rule.asked
+fine rule = is_fine rule.node rule.condition
 
 record Fine (rs : List Transition) : Type 0 where
   all : list_all fine rs ≡ true
@@ -222,11 +222,11 @@ pub run_flagged : StaysPlaced → (slots : Slots) (body : Block) (number : Node 
 run_flagged placed slots body number l at arguments there =
     let n = EnterAt l at arguments in
     let found = rule_of placed slots body n there in
-    let so : is_fine found.rule.node found.rule.asked ≡ true =
+    let so : is_fine found.rule.node found.rule.condition ≡ true =
     all_got fine (rules slots body) found.position found.rule (fine_in slots body Finishes).all found.at in
-    let asked : is_flagged found.rule.asked ≡ true = subst (λ m. is_fine m found.rule.asked ≡ true) found.of_node so in
+    let asked : is_flagged found.rule.condition ≡ true = subst (λ m. is_fine m found.rule.condition ≡ true) found.of_node so in
     any_got (asks_flag number (number n)) (rules slots body) found.position found.rule found.at
-    (both (is_flagged found.rule.asked) (nat_eq (number n) (number found.rule.node)) asked
+    (both (is_flagged found.rule.condition) (nat_eq (number n) (number found.rule.node)) asked
     (ap (λ m. nat_eq (number n) (number m)) found.of_node ∙ itself (number n)))
 
 -- ---- names

@@ -14,7 +14,7 @@ use Rattle.bl_eval.specs.Values as values
 use Rattle.bl_ctree.specs.Instances.{Setting}
 use Rattle.bl_ctree.specs.Store.{Frame, Location, Store, home, value_among, variable_among, vars_at, view_at, whole_of}
 use Rattle.bl_ctree_laws_confluence.specs.Stores.{HomesLeadOn, now_of, onward}
-use Rattle.bl_emit_acts_laws_simulation.specs.Encodes.{number_at}
+use Rattle.bl_emit_acts_laws_simulation.specs.Encodes.{number_within}
 use Rattle.bl_emit_spec_laws_simulation.proofs.OnLeaves.Ways.{value_further}
 use Rattle.bl_emit_spec_laws_nodes.proofs.OnViews.Leaving.{range_at}
 
@@ -33,46 +33,46 @@ nothing_at [] is zero = refl
 nothing_at [] is (suc k) = refl
 nothing_at (x ∷ xs) is k = absurd cc
 
-no_number : (ks : List ℕ) → number_at ks (Parts []) ≡ None
+no_number : (ks : List ℕ) → number_within ks (Parts []) ≡ None
 no_number [] = ap (λ (layer : Value-F Value). values.number_at layer) (outs-Parts [])
 no_number (k ∷ ks) =
     ap (λ o. option_and_then number_in (option_and_then (value_at ks) o))
     (ap (λ (layer : Value-F Value). option_and_then (λ all. slice_get all k) (parts_at layer)) (outs-Parts []) ∙ nothing_at [] refl k)
 
-number_or_none : (ks : List ℕ) (o : Option Value) → number_at ks (unwrap_or o (Parts [])) ≡ option_and_then (number_at ks) o
+number_or_none : (ks : List ℕ) (o : Option Value) → number_within ks (unwrap_or o (Parts [])) ≡ option_and_then (number_within ks) o
 number_or_none ks None = no_number ks
 number_or_none ks (Some value) = refl
 
 -- ---- onward
 
-behind_value : (qs rest : List ℕ) (u : Value) → number_at (qs ++ rest) u ≡ option_and_then (number_at rest) (value_at qs u)
+behind_value : (qs rest : List ℕ) (u : Value) → number_within (qs ++ rest) u ≡ option_and_then (number_within rest) (value_at qs u)
 behind_value qs rest u = ap (option_and_then number_in) (value_further qs rest u) ∙ by (value_at qs u)
   where
-    by : (o : Option Value) → option_and_then number_in (option_and_then (value_at rest) o) ≡ option_and_then (number_at rest) o
+    by : (o : Option Value) → option_and_then number_in (option_and_then (value_at rest) o) ≡ option_and_then (number_within rest) o
     by None = refl
     by (Some x) = refl
 
 onward_number : (store : Store) (at : Location) (qs rest : List ℕ) →
-    option_and_then (number_at (qs ++ rest)) (value_among now_of store at)
-    ≡ option_and_then (number_at rest) (value_among now_of store (onward at qs))
+    option_and_then (number_within (qs ++ rest)) (value_among now_of store at)
+    ≡ option_and_then (number_within rest) (value_among now_of store (onward at qs))
 onward_number store at qs rest = by_frame (slice_get store at.instance)
   where
     by_part : (v : Value) (o : Option Value) → value_at at.path.fields v ≡ o →
-        option_and_then (number_at (qs ++ rest)) o ≡ option_and_then (number_at rest) (option_and_then (value_at qs) o)
+        option_and_then (number_within (qs ++ rest)) o ≡ option_and_then (number_within rest) (option_and_then (value_at qs) o)
     by_part v None is = refl
     by_part v (Some u) is = behind_value qs rest u
 
     by_value : (o : Option Value) →
-        option_and_then (number_at (qs ++ rest)) (option_and_then (value_at at.path.fields) o)
-        ≡ option_and_then (number_at rest) (option_and_then (value_at (at.path.fields ++ qs)) o)
+        option_and_then (number_within (qs ++ rest)) (option_and_then (value_at at.path.fields) o)
+        ≡ option_and_then (number_within rest) (option_and_then (value_at (at.path.fields ++ qs)) o)
     by_value None = refl
     by_value (Some v) =
-        by_part v (value_at at.path.fields v) refl ∙ sym (ap (option_and_then (number_at rest)) (value_further at.path.fields qs v))
+        by_part v (value_at at.path.fields v) refl ∙ sym (ap (option_and_then (number_within rest)) (value_further at.path.fields qs v))
 
     by_frame : (o : Option Frame) →
-        option_and_then (number_at (qs ++ rest))
+        option_and_then (number_within (qs ++ rest))
         (option_and_then (λ frame. option_and_then (value_at at.path.fields) (slice_get (now_of frame) at.path.root)) o)
-        ≡ option_and_then (number_at rest)
+        ≡ option_and_then (number_within rest)
         (option_and_then (λ frame. option_and_then (value_at (at.path.fields ++ qs)) (slice_get (now_of frame) at.path.root)) o)
     by_frame None = refl
     by_frame (Some frame) = by_value (slice_get (now_of frame) at.path.root)
@@ -104,13 +104,13 @@ seen_there w store i k less =
 module _ (leads : HomesLeadOn) (w : Setting) where
   -- the number at positions of a variable's value stands at the home of the path that goes there
   pub seen_number : (store : Store) (i k : ℕ) (value : Value) (ks : List ℕ) → slice_get (view_at w store i).now k ≡ Some value →
-      number_at ks value ≡ number_of_home store (home w (path_at i k ks))
+      number_within ks value ≡ number_of_home store (home w (path_at i k ks))
   seen_number store i k value ks is =
       let at = home w (whole_of i k) in
       let path : Static = record { root = k; fields = ks } in
-      ap (number_at ks) (sym (seen_by (variable_among now_of w store i) (length (vars_at w i)) k value is))
+      ap (number_within ks) (sym (seen_by (variable_among now_of w store i) (length (vars_at w i)) k value is))
       ∙ (number_or_none ks (value_among now_of store at)
-      ∙ (ap (λ ks. option_and_then (number_at ks) (value_among now_of store at)) (sym (append-nil ks))
+      ∙ (ap (λ ks. option_and_then (number_within ks) (value_among now_of store at)) (sym (append-nil ks))
       ∙ (onward_number store at ks []
       ∙ ap (number_of_home store) (sym (leads w i path)))))
 

@@ -21,7 +21,7 @@ use Rattle.bl_ctext_semantics.specs.Meaning.{Scope}
 use Rattle.bl_ctext_semantics.specs.Memory.{Location, Memory, Projection, left_after, same_root, value_at}
 use Rattle.bl_ctree_laws_typing.proofs.OnViews.Along.{along, along_there}
 use Rattle.bl_emit_acts_laws_simulation.specs.Acts.{lies_in}
-use Rattle.bl_emit_acts_laws_simulation.specs.Encodes.{Encodes, VariablesApart, location_in, number_at, type_after, way_to}
+use Rattle.bl_emit_acts_laws_simulation.specs.Encodes.{Encodes, VariablesApart, location_in, number_within, type_after, way_to}
 use Rattle.bl_emit_acts_laws_simulation.proofs.Cells.{lies_inside, location_along}
 use Rattle.bl_emit_spec_laws_nodes.proofs.OnPoints.Apart.{lies_apart}
 use Rattle.bl_emit_spec_laws_nodes.proofs.OnPoints.Cells.{left_apart, left_behind}
@@ -53,7 +53,7 @@ pub record OutputLeft (site : TypingContext) (scope : Scope) (after : Memory) (k
   pub is : place ≡ location_in scope site (static_of path).root (way_to site.structs (static_of path).fields (Some out.var.ty))
   pub left : Value
   pub holds : Encodes site.structs ty left (value_at after place)
-  pub agrees : (rest : List ℕ) → (static_of path).root ≡ k → number_at ((static_of path).fields ++ rest) value ≡ number_at rest left
+  pub agrees : (rest : List ℕ) → (static_of path).root ≡ k → number_within ((static_of path).fields ++ rest) value ≡ number_within rest left
 
 -- whether positions of the variable lie in what the path leads to
 abbrev pub is_inside : ℕ → List ℕ → Path → Bool
@@ -90,7 +90,7 @@ module _ (site : TypingContext) (stand : structs_stand_from 0 site.structs ≡ t
     (out : (o : ℕ) (path : Path) → slice_get paths o ≡ Some path → OutputLeft site scope after k value places o path)
     (from : (o : ℕ) (place : Location) → slice_get places o ≡ Some place → (path : Path) × (slice_get paths o ≡ Some path))
     (unchanged : (ks : List ℕ) (n : ℤ) → ((o : ℕ) (path : Path) → slice_get paths o ≡ Some path →
-    overlaps (record { root = k; fields = ks }) (static_of path) ≡ false) → number_at ks value ≡ Some n → number_at ks old ≡ Some n)
+    overlaps (record { root = k; fields = ks }) (static_of path) ≡ false) → number_within ks value ≡ Some n → number_within ks old ≡ Some n)
     (same : (way : List Projection) → list_any (λ place. lies_in place (location_in scope site k []).root ((location_in scope site k []).parts ++ way)) places
     ≡ false → value_at after (location_in scope site k []) way ≡ value_at here (location_in scope site k []) way) where
   abbrev base : Location
@@ -120,7 +120,7 @@ module _ (site : TypingContext) (stand : structs_stand_from 0 site.structs ≡ t
 
   -- ---- in an output
 
-  inside : (ks : List ℕ) (n : ℤ) → number_at ks value ≡ Some n → Inside k ks paths → value_at after base (to ks) ≡ n
+  inside : (ks : List ℕ) (n : ℤ) → number_within ks value ≡ Some n → Inside k ks paths → value_at after base (to ks) ≡ n
   inside ks n number (o, path, at, is) =
       let two = both (nat_eq (static_of path).root k) (is_front (static_of path).fields ks) is in
       let root : (static_of path).root ≡ k = eqb-true (static_of path).root k two.0 in
@@ -134,14 +134,14 @@ module _ (site : TypingContext) (stand : structs_stand_from 0 site.structs ≡ t
           let typed = leads_to path one.ty one.out root in
           let way : to ks ≡ to fields ++ way_to site.structs rest (Some one.ty) =
           ap to whole ∙ way_further site.structs fields rest var.ty one.ty typed in
-          let held = one.holds.each rest n (sym (one.agrees rest root) ∙ (ap (λ ks. number_at ks value) (sym whole) ∙ number)) in
+          let held = one.holds.each rest n (sym (one.agrees rest root) ∙ (ap (λ ks. number_within ks value) (sym whole) ∙ number)) in
           ap (λ way. value_at after base way) way
           ∙ (ap (after base.root) (sym (append_assoc base.parts (to fields) (way_to site.structs rest (Some one.ty))))
           ∙ (ap (λ (p : Location). value_at after p (way_to site.structs rest (Some one.ty))) (sym (place_parts o path one root)) ∙ held))
 
   -- ---- in none
 
-  module _ (ks : List ℕ) (n : ℤ) (number : number_at ks value ≡ Some n) (none : Outside k ks paths) where
+  module _ (ks : List ℕ) (n : ℤ) (number : number_within ks value ≡ Some n) (none : Outside k ks paths) where
     not_front : (o : ℕ) (path : Path) → slice_get paths o ≡ Some path → nat_eq (static_of path).root k ≡ true →
         (is_front (static_of path).fields ks ≡ false) × (is_front ks (static_of path).fields ≡ false)
     not_front o path at same_root =
@@ -224,6 +224,6 @@ module _ (site : TypingContext) (stand : structs_stand_from 0 site.structs ≡ t
   pub variable_holds : Encodes site.structs var.ty value (value_at after base)
   variable_holds = record { each = λ ks n number. by ks n number (found k ks paths) }
     where
-      by : (ks : List ℕ) (n : ℤ) → number_at ks value ≡ Some n → Inside k ks paths ⊎ Outside k ks paths → value_at after base (to ks) ≡ n
+      by : (ks : List ℕ) (n : ℤ) → number_within ks value ≡ Some n → Inside k ks paths ⊎ Outside k ks paths → value_at after base (to ks) ≡ n
       by ks n number (inl one) = inside ks n number one
       by ks n number (inr none) = outside ks n number none

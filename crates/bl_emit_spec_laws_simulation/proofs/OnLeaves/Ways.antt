@@ -27,7 +27,7 @@ use Rattle.bl_ctree_laws_typing.proofs.OnViews.Along.{along, along_leads, elemen
 use Rattle.bl_ctree_laws_typing.proofs.OnViews.Along as typed
 use Rattle.bl_emit_acts.specs.Expressions.{field_of_struct, name_of_field}
 use Rattle.bl_emit_acts.specs.Types.{elements_name, field_name}
-use Rattle.bl_emit_acts_laws_simulation.specs.Encodes.{lead_level, lead_to, number_at, part_level, part_type, type_after, way_to, ways_part}
+use Rattle.bl_emit_acts_laws_simulation.specs.Encodes.{lead_level, lead_to, number_within, part_level, part_type, type_after, way_to, ways_part}
 use Rattle.bl_emit_spec_laws_nodes.proofs.OnPoints.Cells.{behind_front, further_both}
 
 no_such : true ≡ false → ⊥
@@ -108,7 +108,7 @@ front_itself (k ∷ ks) = ap (λ b. b && is_front ks ks) (itself k) ∙ front_it
 
 -- where a number stands at a front of a path that leads to a type, it stands at the end
 pub number_ends : (structs : List StructDef) → structs_stand_from 0 structs ≡ true → (ks js : List ℕ) (a c : Ty) (value : Value) (n : ℤ) →
-    Fits structs a value → along structs js a ≡ Some c → number_at ks value ≡ Some n → is_front ks js ≡ true → is_front js ks ≡ true
+    Fits structs a value → along structs js a ≡ Some c → number_within ks value ≡ Some n → is_front ks js ≡ true → is_front js ks ≡ true
 number_ends structs stand ks js a c value n fit leads number front =
     let found = some_found number_in (value_at ks value) n number in
     let split = front_split ks js front in

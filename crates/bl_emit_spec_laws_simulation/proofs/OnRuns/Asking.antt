@@ -54,8 +54,8 @@ are_none (change ∷ rest) = false
 
 -- what is told of the rule of a `run`'s node
 abbrev told_by : Node → Transition → Bool
-told_by (EnterAt l at arguments) rule = is_flagged rule.asked
-told_by (ResumeAt l at arguments) rule = are_none rule.otherwise
+told_by (EnterAt l at arguments) rule = is_flagged rule.condition
+told_by (ResumeAt l at arguments) rule = are_none rule.on_false
 told_by (ActAt l s) rule = true
 told_by (TestAt l at e) rule = true
 told_by (PauseAt l at) rule = true
@@ -136,10 +136,10 @@ none_is (change ∷ rest) h = absurd (cc)
 
 module _ (slots : Slots) (body : Block) (rule : Transition) (there : Contains (rules slots body) rule) (l : Label) (at : Place) (arguments : Arguments) where
   -- where a `run` begins its flag is asked for
-  pub enters_flagged : rule.node ≡ EnterAt l at arguments → is_flagged rule.asked ≡ true
+  pub enters_flagged : rule.node ≡ EnterAt l at arguments → is_flagged rule.condition ≡ true
   enters_flagged is = ap (λ n. told_by n rule) (sym is) ∙ of_member (rules slots body) rule (block_so slots body Finishes) there
 
   -- where it goes on nothing changes unless the answer is true
-  pub resumes_quiet : rule.node ≡ ResumeAt l at arguments → rule.otherwise ≡ []
+  pub resumes_quiet : rule.node ≡ ResumeAt l at arguments → rule.on_false ≡ []
   resumes_quiet is =
-      none_is rule.otherwise (ap (λ n. told_by n rule) (sym is) ∙ of_member (rules slots body) rule (block_so slots body Finishes) there)
+      none_is rule.on_false (ap (λ n. told_by n rule) (sym is) ∙ of_member (rules slots body) rule (block_so slots body Finishes) there)

@@ -14,7 +14,7 @@ use Rattle.bl_tree.specs.Typing.{site_of, target_fits}
 use Rattle.bl_graph_nodes.specs.Nodes.{Arguments, EnterAt, Node, ResumeAt}
 use Rattle.bl_graph_nodes.specs.Plain.{Label, plain_body}
 use Rattle.bl_ctext_semantics.specs.Course.{End, Outcome, goes_on, traps}
-use Rattle.bl_ctext_semantics.specs.Meaning.{Scope, block_c, runs_c, start_of}
+use Rattle.bl_ctext_semantics.specs.Meaning.{Scope, block_c, named_location, runs_c}
 use Rattle.bl_ctext_semantics.specs.Memory.{Memory, scalar, set_at, zeros}
 use Rattle.bl_ctree.specs.Actions.{Copies, Gives, Performed, done, given_to, result_at}
 use Rattle.bl_ctree.specs.Instances.{Setting, callee_of, setting_of}
@@ -28,7 +28,7 @@ use Rattle.bl_emit_acts.specs.Acts.{c_calling, c_clear, c_set}
 use Rattle.bl_emit_acts.specs.Trees.{c_read}
 use Rattle.bl_emit_acts_laws_simulation.specs.Laws.{FramesApart, PlacesSimulate, WritesEncode}
 use Rattle.bl_emit_functions.specs.Trees.{c_if, c_truth}
-use Rattle.bl_emit_spec.specs.Activities.{remembers_any, view_of}
+use Rattle.bl_emit_spec.specs.Activities.{activity_view, remembers_any}
 use Rattle.bl_emit_spec.specs.Blocks.{ActivityView, changes_code, name_in, node_code, target_code}
 use Rattle.bl_emit_spec.specs.Names.{callee_frame, ended_name, ended_place, frame_name}
 use Rattle.bl_emit_spec_laws.specs.Registers.Laws.{RegistersKeepApart}
@@ -99,7 +99,7 @@ module _ (orderly : AcceptedIsOrderly) (callers : InstancesHaveCallers) (nests :
     k = unit_number w i
 
     abbrev view : ActivityView
-    view = view_of (activity_at w activities i)
+    view = activity_view (activity_at w activities i)
 
     abbrev number : Node → ℕ
     number = rank_by w activities i
@@ -127,17 +127,17 @@ module _ (orderly : AcceptedIsOrderly) (callers : InstancesHaveCallers) (nests :
     -- changes behind what was done
     changes_behind : (frames' : Frames) (left : Store) (after : Memory) → is_return_node rule.node ≡ false → Keeping here after →
         PassRepresents w activities i unit scope frames' left copies r after →
-        PartSimulates w activities i unit scope frames' left copies (all_changed number rule.so r) here (block_c (changes_code view rule.so) scope after)
+        PartSimulates w activities i unit scope frames' left copies (all_changed number rule.on_true r) here (block_c (changes_code view rule.on_true) scope after)
     changes_behind frames' left after no_return kept stands =
-        let told : ResultTold unit i scope left (all_changed number rule.so r) after =
+        let told : ResultTold unit i scope left (all_changed number rule.on_true r) after =
         λ value over one is. stands.result value
-        (either r.over (list_any ends_body rule.so) (over_after number rule.so r over)
-        (not_so (list_any ends_body rule.so)
+        (either r.over (list_any ends_body rule.on_true) (over_after number rule.on_true r over)
+        (not_so (list_any ends_body rule.on_true)
         (λ ending. no_such
-        (sym ((end activities midway.compiled.keeps).so k unit rule midway.function.is_there midway.function.active one there ending) ∙ no_return))))
+        (sym ((end activities midway.compiled.well_typed).on_true k unit rule midway.function.is_there midway.function.active one there ending) ∙ no_return))))
         one is in
-        let changed = stand structs units entry machine activities i unit scope frames' left copies r after rule.so midway.compiled midway.function
-        midway.is_there points.remembering stands (points.own.so i unit rule midway.is_there there) told in record {
+        let changed = stand structs units entry machine activities i unit scope frames' left copies r after rule.on_true midway.compiled midway.function
+        midway.is_there points.remembering stands (points.own.on_true i unit rule midway.is_there there) told in record {
           ends = changed.ends;
           stands = changed.stands;
           kept = keeping here after _ kept changed.kept;
@@ -164,7 +164,7 @@ module _ (orderly : AcceptedIsOrderly) (callers : InstancesHaveCallers) (nests :
         forget = c_set (ended_place n) (c_truth false)
 
         abbrev forgotten : Memory → Memory
-        forgotten m = set_at m (start_of scope false (ended_name n)) (scalar (pos 0))
+        forgotten m = set_at m (named_location scope false (ended_name n)) (scalar (pos 0))
 
         -- ---- it begins
 
@@ -224,8 +224,8 @@ module _ (orderly : AcceptedIsOrderly) (callers : InstancesHaveCallers) (nests :
               runs ≡ (runs_c call scope (forgotten cleared_here)).end → block.end ≡ traps
           trapped runs traps_so same =
               (chosen (EnterAt l at arguments) is).0
-              ∙ ((before_call (call ∷ changes_code view rule.so)).0
-              ∙ step_traps scope call (changes_code view rule.so) (forgotten cleared_here) (sym same ∙ traps_so))
+              ∙ ((before_call (call ∷ changes_code view rule.on_true)).0
+              ∙ step_traps scope call (changes_code view rule.on_true) (forgotten cleared_here) (sym same ∙ traps_so))
 
           pub enter_inputs : done_by w (deed i at (Copies j arguments.inputs)) store ≡ None → block.end ≡ traps
           enter_inputs did =
@@ -255,11 +255,11 @@ module _ (orderly : AcceptedIsOrderly) (callers : InstancesHaveCallers) (nests :
                 let ended = call_left structs units entry machine activities gives leaves i unit scope begun_frames store copies r
                 (forgotten cleared_here) mid_begun l at arguments j other run u is_number sees_begun given not_ended_begun copied begun starts_begun
                 frames' left r' executed in
-                let changes = changes_code view rule.so in
+                let changes = changes_code view rule.on_true in
                 let so = chosen (EnterAt l at arguments) is in
                 let before = before_call (call ∷ changes) in
                 let called_so = step_goes scope call changes (forgotten cleared_here) after goes in
-                comes_as w activities i unit scope (with_at j r'.counters frames') left copies (all_changed number rule.so r) here block
+                comes_as w activities i unit scope (with_at j r'.counters frames') left copies (all_changed number rule.on_true r) here block
                 (block_c changes scope after) (so.0 ∙ (before.0 ∙ called_so.0)) (so.1 ∙ (before.1 ∙ called_so.1))
                 (changes_behind (with_at j r'.counters frames') left after (ap is_return_node is)
                 (keeping here (forgotten cleared_here) after kept_begun ended.kept) ended.stands)
@@ -290,7 +290,7 @@ module _ (orderly : AcceptedIsOrderly) (callers : InstancesHaveCallers) (nests :
               mid_resumed l at arguments j other run u is_number sees_resumed)
 
           abbrev told : List CStmt
-          told = target_code view n arguments.target ++ changes_code view rule.so
+          told = target_code view n arguments.target ++ changes_code view rule.on_true
 
           abbrev asked : CStmt
           asked = c_if (c_read (ended_place n)) told None
@@ -358,13 +358,13 @@ module _ (orderly : AcceptedIsOrderly) (callers : InstancesHaveCallers) (nests :
                     let truth = ended_truth scope after n false (ended.over ∙ ap number_of over) in
                     let rest = if_alone scope after (λ e m. (e ≡ goes_on) × (m ≡ after)) (c_read (ended_place n)) told None
                     (subst (Chosen scope after (λ e m. (e ≡ goes_on) × (m ≡ after)) told None) (sym truth) (refl, refl)) in
-                    let quiet : rule.otherwise ≡ [] =
+                    let quiet : rule.on_false ≡ [] =
                     resumes_quiet (slots_by w activities i) (plain_body unit.body) rule there l at arguments is in
-                    let unchanged : r ≡ all_changed number rule.otherwise r = ap (λ changes. all_changed number changes r) (sym quiet) in
+                    let unchanged : r ≡ all_changed number rule.on_false r = ap (λ changes. all_changed number changes r) (sym quiet) in
                     let memory : block.memory ≡ after = asked_so.1 ∙ rest.1 in
                     record {
                       ends = asked_so.0 ∙ rest.0;
-                      stands = subst (PassRepresents w activities i unit scope new_frames left copies (all_changed number rule.otherwise r)) (sym memory)
+                      stands = subst (PassRepresents w activities i unit scope new_frames left copies (all_changed number rule.on_false r)) (sym memory)
                           (subst (λ r. PassRepresents w activities i unit scope new_frames left copies r after) unchanged ended.stands);
                       kept = subst (Keeping here) (sym memory) kept_after;
                     }
@@ -388,7 +388,7 @@ module _ (orderly : AcceptedIsOrderly) (callers : InstancesHaveCallers) (nests :
                   is_there = midway.is_there;
                   function = midway.function;
                   stands = ended.stands;
-                  fits = (fitting structs units entry midway.compiled.keeps).executes (rank_by w activities) (slots_by w activities) (cleared w) j 0
+                  fits = (fitting structs units entry midway.compiled.well_typed).executes (rank_by w activities) (slots_by w activities) (cleared w) j 0
                       frames given (view_at w given j).now (resumed_registers frames j) frames' left r'
                       (given_fits structs units entry machine activities gives leaves i unit scope frames store copies r
                       (forgotten here) mid_resumed l at arguments j other run u is_number sees_resumed given not_ended_resumed copied
@@ -414,7 +414,7 @@ module _ (orderly : AcceptedIsOrderly) (callers : InstancesHaveCallers) (nests :
                 targeted over (Some path) some last did =
                     let fit = subst (λ target. target_fits
                     (site_of structs (take k units) unit) other.result target ≡ true) some
-                    (target_typed callers structs units entry midway.compiled.keeps activities i unit midway.is_there l at arguments j other run) in
+                    (target_typed callers structs units entry midway.compiled.well_typed activities i unit midway.is_there l at arguments j other run) in
                     let set = target_comes frames_apart keep structs units entry lead write points.views machine activities points.remembering seen i unit
                     scope new_frames left copies r after mid_after l at arguments j other run n
                     (λ value one is. ended.result value over one is) path last some did fit in
@@ -435,11 +435,11 @@ module _ (orderly : AcceptedIsOrderly) (callers : InstancesHaveCallers) (nests :
                     let rest = if_alone scope after (λ e m. (e ≡ inside.end) × (m ≡ inside.memory)) (c_read (ended_place n)) told None
                     (subst (Chosen scope after (λ e m. (e ≡ inside.end) × (m ≡ inside.memory)) told None) (sym truth) (refl, refl)) in
                     let set = targeted over arguments.target refl last did in
-                    let changes = changes_code view rule.so in
+                    let changes = changes_code view rule.on_true in
                     let alike = append_goes scope (target_code view n arguments.target) changes after set.goes in
                     let end_so = ap (λ (m : Memory). (block_c changes scope m).end) set.leaves_it in
                     let memory_so = ap (λ (m : Memory). (block_c changes scope m).memory) set.leaves_it in
-                    comes_as w activities i unit scope new_frames last copies (all_changed number rule.so r) here block
+                    comes_as w activities i unit scope new_frames last copies (all_changed number rule.on_true r) here block
                     (block_c changes scope set.memory) (asked_so.0 ∙ (rest.0 ∙ (alike.0 ∙ end_so))) (asked_so.1 ∙ (rest.1 ∙ (alike.1 ∙ memory_so)))
                     (changes_behind new_frames last set.memory (ap is_return_node is) (keeping here after set.memory kept_after set.kept) set.stands)
 

@@ -19,7 +19,7 @@ use Rattle.bl_ctree_laws.specs.Pending.{deed}
 use Rattle.bl_ctree_laws_typing.specs.Fits.{StoreFits}
 use Rattle.bl_emit_acts.specs.Acts.{c_calling, name_of_callee}
 use Rattle.bl_emit_acts.specs.Trees.{c_call}
-use Rattle.bl_emit_spec.specs.Activities.{view_of}
+use Rattle.bl_emit_spec.specs.Activities.{activity_view}
 use Rattle.bl_emit_spec.specs.Blocks.{run_args}
 use Rattle.bl_machine.specs.declared.machine.Activity.{Activity as InMachine}
 use Rattle.bl_machine_laws.specs.Passes.Follows.{DeedYields}
@@ -51,7 +51,7 @@ module _ (structs : List StructDef) (units : List UnitDef) (entry : ℕ) (machin
     -- the call as it is written
     abbrev pub written : CCall
     written =
-        let view = view_of (activity_at w activities i) in c_call (name_of_callee (slice_get view.site.earlier u)) (run_args view n u arguments)
+        let view = activity_view (activity_at w activities i) in c_call (name_of_callee (slice_get view.site.earlier u)) (run_args view n u arguments)
 
     comes : ActivitySimulates w activities (unit_number w j) scope.known scope.depth
     comes = midway.function.others (unit_number w j) other run.earlier (unit_there w j other run.is_there) run.active

@@ -20,8 +20,8 @@ use Rattle.bl_graph_nodes.specs.Nodes.{
   nodes_in,
 }
 use Rattle.bl_graph_nodes.specs.Plain.{Label, plain_body}
-use Rattle.bl_ctext_semantics.specs.Meaning.{Scope, further, start_of}
-use Rattle.bl_ctext_semantics.specs.Memory.{CValue, Location, Memory, Projection, left_after, member, number_in}
+use Rattle.bl_ctext_semantics.specs.Meaning.{Scope, further, named_location}
+use Rattle.bl_ctext_semantics.specs.Memory.{CValue, Location, Memory, Projection, left_after, member, scalar_number}
 use Rattle.bl_ctext_semantics.specs.Memory.{number_or, same_root, scalar, set_at, value_at, zeros}
 use Rattle.bl_ctree.specs.Instances.{Setting, callee_of, setting_of}
 use Rattle.bl_ctree.specs.Store.{Store, view_at}
@@ -147,7 +147,7 @@ module _ (orderly : AcceptedIsOrderly) (callers : InstancesHaveCallers) (clearin
 
     module _ (name : List ℕ) (other : OtherName site unit remembers scope places active_site name) (held : CValue) where
       abbrev local : Location
-      local = start_of scope false name
+      local = named_location scope false name
 
       -- memory stands for the same pass
       pub local_midway : Midway structs units entry machine activities i unit scope frames store copies r (set_at here local held)
@@ -175,19 +175,19 @@ module _ (orderly : AcceptedIsOrderly) (callers : InstancesHaveCallers) (clearin
 
     module _ (n : ℕ) where
       abbrev over_local : Location
-      over_local = start_of scope false (ended_name n)
+      over_local = named_location scope false (ended_name n)
 
       ended_other : OtherName site unit remembers scope places active_site (ended_name n)
       ended_other = record { rested = λ k. refl; flag = λ k. refl; mark = λ k. refl; variable = λ k. refl; copy = λ k. refl }
 
       pub ended_midway : Midway structs units entry machine activities i unit scope frames store copies r
-          (set_at here (start_of scope false (ended_name n)) (scalar (pos 0)))
+          (set_at here (named_location scope false (ended_name n)) (scalar (pos 0)))
       ended_midway = local_midway (ended_name n) ended_other (scalar (pos 0))
 
-      pub ended_keeps : PassKeepsFrame site unit remembers scope here (set_at here (start_of scope false (ended_name n)) (scalar (pos 0)))
+      pub ended_keeps : PassKeepsFrame site unit remembers scope here (set_at here (named_location scope false (ended_name n)) (scalar (pos 0)))
       ended_keeps = local_keeps (ended_name n) ended_other (scalar (pos 0))
 
-      pub not_ended : NotEnded scope n (set_at here (start_of scope false (ended_name n)) (scalar (pos 0)))
+      pub not_ended : NotEnded scope n (set_at here (named_location scope false (ended_name n)) (scalar (pos 0)))
       not_ended = same_object here over_local (scalar (pos 0)) []
 
     -- ---- the counters of a callee are cleared
@@ -225,7 +225,7 @@ module _ (orderly : AcceptedIsOrderly) (callers : InstancesHaveCallers) (clearin
 
             -- those of this callee
             own_counter : at ≡ at' → (k : ℕ) (f' m' : Location) → Nests W activities j' f2 m2 k f' m' → (c : ℕ) →
-                number_in (value_at after (further f' (member (counter_name c) ∷ []))) ≡ pos (cleared W j frames k c)
+                scalar_number (value_at after (further f' (member (counter_name c) ∷ []))) ≡ pos (cleared W j frames k c)
             own_counter same k f' m' nests c =
                 let number : own ≡ n2 = ap (run_by W activities i) same in
                 let callee : j' ≡ j = same_Some j' j (sym called' ∙ (ap (callee_of W i) (sym same) ∙ called)) in
@@ -242,7 +242,7 @@ module _ (orderly : AcceptedIsOrderly) (callers : InstancesHaveCallers) (clearin
             -- those of another one
             other_counter : (at ≡ at' → ⊥) → (k : ℕ) (f' m' : Location) → Nests W activities j' f2 m2 k f' m' → (c : ℕ) →
                 c < length (activity_at W activities k).sizes →
-                number_in (value_at after (further f' (member (counter_name c) ∷ []))) ≡ pos (cleared W j frames k c)
+                scalar_number (value_at after (further f' (member (counter_name c) ∷ []))) ≡ pos (cleared W j frames k c)
             other_counter differ k f' m' nests c below =
                 let names : bytes_eq (callee_name own) (callee_name n2) ≡ false =
                 callees_differ keys placed structs units entry machine activities midway.compiled i unit midway.is_there midway.function.active
@@ -263,11 +263,11 @@ module _ (orderly : AcceptedIsOrderly) (callers : InstancesHaveCallers) (clearin
 
             counter_so : (k : ℕ) (f' m' : Location) → Nests W activities j' f2 m2 k f' m' → (c : ℕ) →
                 c < length (activity_at W activities k).sizes →
-                number_in (value_at after (further f' (member (counter_name c) ∷ []))) ≡ pos (cleared W j frames k c)
+                scalar_number (value_at after (further f' (member (counter_name c) ∷ []))) ≡ pos (cleared W j frames k c)
             counter_so k f' m' nests c below = by (same_place at at') refl
               where
                 by : (b : Bool) → same_place at at' ≡ b →
-                    number_in (value_at after (further f' (member (counter_name c) ∷ []))) ≡ pos (cleared W j frames k c)
+                    scalar_number (value_at after (further f' (member (counter_name c) ∷ []))) ≡ pos (cleared W j frames k c)
                 by true is = own_counter (same_place_is at at' is) k f' m' nests c
                 by false is =
                     other_counter (λ same. no_such (sym (same_place_refl at) ∙ (ap (same_place at) same ∙ is))) k f' m' nests c below

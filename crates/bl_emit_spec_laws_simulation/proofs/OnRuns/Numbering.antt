@@ -25,11 +25,11 @@ use Rattle.bl_machine_pass.specs.Numbered.{position_where}
 use Rattle.bl_machine_pass.specs.Transitions.{Transition}
 use Rattle.bl_machine_pass_laws.specs.Turns.Laws.{StaysPlaced}
 use Rattle.bl_machine_pass_laws.specs.Keys.{NodesHaveKeys}
-use Rattle.bl_machine_transitions.specs.Callees.{number_in}
+use Rattle.bl_machine_transitions.specs.Callees.{node_number}
 use Rattle.bl_machine_transitions.specs.Listed.{layout_of}
 use Rattle.bl_machine_transitions_laws.proofs.Agreeing.{Agrees}
 use Rattle.bl_machine_transitions_laws.proofs.Standing.{nodes_stand}
-use Rattle.bl_emit_spec.specs.Activities.{Activity, is_flagged, rules_at, view_of}
+use Rattle.bl_emit_spec.specs.Activities.{Activity, activity_view, is_flagged, rules_at}
 use Rattle.bl_emit_spec.specs.Names.{callee_name}
 use Rattle.bl_emit_spec_laws.specs.Calls.Built.{Activities, activity_at, asks_flag, rank_by, run_by, unit_number}
 use Rattle.bl_emit_spec_laws.specs.Calls.Laws.{CompilationContext}
@@ -89,16 +89,16 @@ module _ (keys : NodesHaveKeys) (a : Activity) (unit : UnitDef) (one : InMachine
     permutes : IsPermutation (up_to (length nodes)) a.order
     permutes = subst (λ order. IsPermutation (up_to (length nodes)) order) (sym order_is) ordered.all
 
-    number_is : (p k : ℕ) (n : Node) → slice_get nodes p ≡ Some n → slice_get a.order k ≡ Some p → (view_of a).number n ≡ k
+    number_is : (p k : ℕ) (n : Node) → slice_get nodes p ≡ Some n → slice_get a.order k ≡ Some p → (activity_view a).number n ≡ k
     number_is p k n is at =
         let none : 0 + p ≡ p = omega arith in
-        ap (λ (u : UnitDef). number_in a.order (plain_body u.body) n) unit_is
-        ∙ agrees_at (number_in a.order (plain_body unit.body)) (layout_of a.order one.slots).number nodes 0 p n
+        ap (λ (u : UnitDef). node_number a.order (plain_body u.body) n) unit_is
+        ∙ agrees_at (node_number a.order (plain_body unit.body)) (layout_of a.order one.slots).number nodes 0 p n
         (nodes_stand keys unit.body a.order one.slots) is
         ∙ ap (λ q. position_where (nat_eq q) a.order) none
         ∙ found_at p a.order k at (λ j there. number_once (length nodes) a.order permutes p j k there at)
 
-    pub numbers_tell : (n m : Node) → Contains nodes n → Contains nodes m → (view_of a).number n ≡ (view_of a).number m → n ≡ m
+    pub numbers_tell : (n m : Node) → Contains nodes n → Contains nodes m → (activity_view a).number n ≡ (activity_view a).number m → n ≡ m
     numbers_tell n m first second same =
         let p = stands_at nodes n first in
         let q = stands_at nodes m second in
@@ -139,12 +139,12 @@ module _ (keys : NodesHaveKeys) (placed : StaysPlaced) (structs : List StructDef
 
     flag_asked : (rule : Transition) (p : ℕ) (l : Label) (at : Place) (arguments : Arguments) → slice_get (rules_at a) p ≡ Some rule →
         rule.node ≡ EnterAt l at arguments →
-        list_any (asks_flag (view_of a).number (rank_by w activities i (EnterAt l at arguments))) (rules_at a) ≡ true
+        list_any (asks_flag (activity_view a).number (rank_by w activities i (EnterAt l at arguments))) (rules_at a) ≡ true
     flag_asked rule p l at arguments found node =
-        any_at (asks_flag (view_of a).number (rank_by w activities i (EnterAt l at arguments))) (rules_at a) p rule found
-        (both (is_flagged rule.asked) (nat_eq (rank_by w activities i (EnterAt l at arguments)) ((view_of a).number rule.node))
+        any_at (asks_flag (activity_view a).number (rank_by w activities i (EnterAt l at arguments))) (rules_at a) p rule found
+        (both (is_flagged rule.condition) (nat_eq (rank_by w activities i (EnterAt l at arguments)) ((activity_view a).number rule.node))
         (enters_flagged a.slots (plain_body a.unit.body) rule (contains_at (rules_at a) p rule found) l at arguments node)
-        (eq-eqb (rank_by w activities i (EnterAt l at arguments)) ((view_of a).number rule.node) (ap (view_of a).number (sym node))))
+        (eq-eqb (rank_by w activities i (EnterAt l at arguments)) ((activity_view a).number rule.node) (ap (activity_view a).number (sym node))))
       where
         both : (b c : Bool) → b ≡ true → c ≡ true → (b && c) ≡ true
         both true c one other = other

@@ -10,7 +10,7 @@ use Rattle.bl_tree.specs.declared.value.Value.{Value}
 use Rattle.bl_tree.specs.Typing.{TypingContext, is_activity, var_at}
 use Rattle.bl_graph_nodes.specs.Nodes.{Arguments, EnterAt, nodes_in}
 use Rattle.bl_graph_nodes.specs.Plain.{Label, plain_body}
-use Rattle.bl_ctext_semantics.specs.Meaning.{Scope, further, start_of}
+use Rattle.bl_ctext_semantics.specs.Meaning.{Scope, further, named_location}
 use Rattle.bl_ctext_semantics.specs.Memory.{CValue, Location, Memory, Projection, member, set_at, value_at}
 use Rattle.bl_ctree.specs.Instances.{Setting, callee_of}
 use Rattle.bl_ctree.specs.Store.{Store}
@@ -81,11 +81,11 @@ none_of false = refl
 
 module _ (scope : Scope) where
   -- a local has nothing in common with what was there before the function began
-  pub local_older : (name : Text) (place : Location) → is_older scope.depth place.root ≡ true → are_apart (start_of scope false name) place ≡ true
+  pub local_older : (name : Text) (place : Location) → is_older scope.depth place.root ≡ true → are_apart (named_location scope false name) place ≡ true
   local_older name place older = ap (λ same. not same || ways_part [] place.parts) (older_differs scope.depth name place.root older)
 
   -- nor with a local of another name
-  pub local_local : (name other : Text) → bytes_eq name other ≡ false → are_apart (start_of scope false name) (start_of scope false other) ≡ true
+  pub local_local : (name other : Text) → bytes_eq name other ≡ false → are_apart (named_location scope false name) (named_location scope false other) ≡ true
   local_local name other differ =
       ap (λ same. not ((scope.depth == scope.depth) && same) || ways_part [] []) differ
       ∙ ap (λ same. not same || ways_part [] []) (none_of (scope.depth == scope.depth))
@@ -110,26 +110,26 @@ module _ (site : TypingContext) (unit : UnitDef) (remembers : Bool) (scope : Sco
       pub copy : (k : ℕ) → bytes_eq name (copy_name k) ≡ false
 
     module _ (name : Text) (other : OtherName name) where
-      local_register : (x : Register) → are_apart (start_of scope false name) (register_at scope x) ≡ true
+      local_register : (x : Register) → are_apart (named_location scope false name) (register_at scope x) ≡ true
       local_register (Counter k) = local_older scope name (register_at scope (Counter k)) places.frame.frame_older
       local_register (Before k) = local_local scope name (rested_name k) (other.rested k)
       local_register (Flag k) = local_local scope name (flag_name k) (other.flag k)
       local_register (Mark k) = local_local scope name (mark_name k) (other.mark k)
       local_register Over = local_older scope name (register_at scope Over) places.frame.over_older
 
-      local_variable : (k : ℕ) (var : Var) → var_at site k ≡ Some var → are_apart (start_of scope false name) (location_in scope site k []) ≡ true
+      local_variable : (k : ℕ) (var : Var) → var_at site k ≡ Some var → are_apart (named_location scope false name) (location_in scope site k []) ≡ true
       local_variable k var there = by (is_activity site.kind) (home_at site k) refl refl
         where
           by : (activity : Bool) (x : Home) → is_activity site.kind ≡ activity → home_at site k ≡ x →
-              are_apart (start_of scope false name) (place_of activity x k) ≡ true
+              are_apart (named_location scope false name) (place_of activity x k) ≡ true
           by false Held kind is = absurd (no_such (sym kind ∙ active))
           by true Held kind is = local_older scope name (place_of true Held k) (places.pointers.held_older k var there is active)
           by activity Given kind is =
-              last_further (start_of scope false name) (start_of scope false (variable_name k)) (lead_in Given k ++ [])
+              last_further (named_location scope false name) (named_location scope false (variable_name k)) (lead_in Given k ++ [])
               (local_local scope name (variable_name k) (other.variable k))
           by activity Lent kind is = local_older scope name (place_of activity Lent k) (places.pointers.lent_older k var there is)
 
-      pub local_beside : Beside site unit scope (start_of scope false name)
+      pub local_beside : Beside site unit scope (named_location scope false name)
       local_beside = record {
         registers = local_register;
         variables = local_variable;
@@ -146,10 +146,10 @@ module _ (site : TypingContext) (unit : UnitDef) (remembers : Bool) (scope : Sco
       inside : (q : Location) → are_apart (frame_at scope) q ≡ true → are_apart place q ≡ true
       inside q apart = first_further (frame_at scope) q (member (callee_name n) ∷ []) apart
 
-      older_local : (name : Text) → are_apart place (start_of scope false name) ≡ true
+      older_local : (name : Text) → are_apart place (named_location scope false name) ≡ true
       older_local name =
-          inside (start_of scope false name)
-          (apart_flip (start_of scope false name) (frame_at scope) (local_older scope name (frame_at scope) places.frame.frame_older))
+          inside (named_location scope false name)
+          (apart_flip (named_location scope false name) (frame_at scope) (local_older scope name (frame_at scope) places.frame.frame_older))
 
       frame_variable : (k : ℕ) (var : Var) → var_at site k ≡ Some var → are_apart place (location_in scope site k []) ≡ true
       frame_variable k var there = by (is_activity site.kind) (home_at site k) refl refl
@@ -160,10 +160,10 @@ module _ (site : TypingContext) (unit : UnitDef) (remembers : Bool) (scope : Sco
               last_further place (remembered_at scope) (lead_in Held k ++ [])
               (inside (remembered_at scope) (places.frame_apart.remembered k var there is active))
           by activity Given kind is =
-              last_further place (start_of scope false (variable_name k)) (lead_in Given k ++ []) (older_local (variable_name k))
+              last_further place (named_location scope false (variable_name k)) (lead_in Given k ++ []) (older_local (variable_name k))
           by activity Lent kind is =
-              last_further place (start_of scope true (variable_name k)) (lead_in Lent k ++ [])
-              (inside (start_of scope true (variable_name k)) (places.frame_apart.lent k var there is))
+              last_further place (named_location scope true (variable_name k)) (lead_in Lent k ++ [])
+              (inside (named_location scope true (variable_name k)) (places.frame_apart.lent k var there is))
 
       pub frame_beside : Beside site unit scope place
       frame_beside = record {

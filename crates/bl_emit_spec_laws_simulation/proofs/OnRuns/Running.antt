@@ -137,21 +137,21 @@ module _ (orderly : AcceptedIsOrderly) (callers : InstancesHaveCallers) (structs
 
     -- `run`s of one place call one unit
     same_units : (s t : Call) → Among s (calls_in body) → Among t (calls_in body) → s.place ≡ t.place → s.unit ≡ t.unit
-    same_units = calls_share structs units entry compiled.keeps k unit there
+    same_units = calls_share structs units entry compiled.well_typed k unit there
 
     module _ (j : ℕ) (s : Call) (within : Among s (calls_in body)) (begins : callee_of w i s.place ≡ Some j) where
       -- a `run` of the body that began the instance
       by_run : (instance : Instance) (run : Run) → slice_get w.instances j ≡ Some instance → Among run (joined (map runs_in unit.body)) →
           instance.unit ≡ run.unit → s.place ≡ run.place → CallsUnit w activities i unit s j
       by_run instance run at among is_unit place =
-          let typed = typed_at structs [] units k unit compiled.keeps.units_stand there in
+          let typed = typed_at structs [] units k unit compiled.well_typed.units_stand there in
           let runs = all_among (RunsUnit (take k units)) (joined (map runs_in unit.body)) run
           (body_runs (site_of structs (take k units) unit) unit.body typed) among in
           let callee_there = taken units k run.unit runs.callee runs.there in
           let less = taken_before units k run.unit runs.callee runs.there in
           let found : unit_at w j ≡ Some runs.callee =
           ap (option_and_then (unit_of w)) at ∙ ap (slice_get units) is_unit ∙ callee_there in
-          let active = ((orderly structs units entry compiled.keeps compiled.passes).each j runs.callee found).activity in
+          let active = ((orderly structs units entry compiled.well_typed compiled.passes).each j runs.callee found).activity in
           let number : unit_number w j ≡ run.unit = number_is w j instance at ∙ is_unit in
           let image = image_of (calls_in body) run
           (subst (λ rs. Among run rs) (sym (body_few (site_of structs (take k units) unit) unit.body typed).are) among) in

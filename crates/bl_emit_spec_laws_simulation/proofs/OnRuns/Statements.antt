@@ -11,8 +11,8 @@ use Rattle.bl_tree.specs.declared.text.Text.{Text}
 use Rattle.bl_tree.specs.Numbers.{is_one, number_of}
 use Rattle.bl_ctext_semantics.specs.Course.{End, Outcome, breaks, following_end, goes_on, going, returns, traps}
 use Rattle.bl_ctext_semantics.specs.Meaning.{Counted, Scope, block_c, call_c, call_end, call_outcome, each_of, executed, further, given, location_c, next, runs_c}
-use Rattle.bl_ctext_semantics.specs.Meaning.{start_of, value_c, way_of}
-use Rattle.bl_ctext_semantics.specs.Memory.{CValue, Location, Memory, Projection, number_in, scalar, set_at, value_at, zeros}
+use Rattle.bl_ctext_semantics.specs.Meaning.{named_location, value_c, way_of}
+use Rattle.bl_ctext_semantics.specs.Memory.{CValue, Location, Memory, Projection, scalar, scalar_number, set_at, value_at, zeros}
 use Rattle.bl_emit_acts.specs.Acts.{c_calling, c_clear, c_set}
 use Rattle.bl_emit_acts.specs.Trees.{c_read, c_step, nowhere}
 use Rattle.bl_emit_functions.specs.Trees.{c_truth}
@@ -110,15 +110,15 @@ module _ (scope : Scope) (here : Memory) where
   pub frame_answer : (n : ℕ) → (location_c (callee_frame n) scope here).answer ≡ Some (inner (frame_at scope) n)
   frame_answer n =
       ap (λ (c : Counted Location). c.answer) (place-location scope here true (codes "f") (c_step (callee_name n) ∷ []))
-      ∙ ap (stepped (start_of scope true (codes "f"))) (step-way scope here (callee_name n))
+      ∙ ap (stepped (named_location scope true (codes "f"))) (step-way scope here (callee_name n))
 
   -- the callee hasn't ended
   pub ended_ends : (n : ℕ) → Ends (runs_c (c_set (ended_place n) (c_truth false)) scope here)
-      (Some (set_at here (start_of scope false (ended_name n)) (scalar (pos 0))))
+      (Some (set_at here (named_location scope false (ended_name n)) (scalar (pos 0))))
   ended_ends n =
       let place = ended_place n in
       let o = runs_c (c_set place (c_truth false)) scope here in
-      let at : (location_c place scope here).answer ≡ Some (start_of scope false (ended_name n)) = local_answer scope here (ended_name n) in
+      let at : (location_c place scope here).answer ≡ Some (named_location scope false (ended_name n)) = local_answer scope here (ended_name n) in
       let value : (value_c (c_truth false) scope here).answer ≡ Some (scalar (pos 0)) =
       ap (λ (c : Counted CValue). c.answer) (literal-value scope here OfBool (pos 0)) in
       subst (λ (at : Option Location). Ends o (set_after scope here at (Some (scalar (pos 0))))) at
@@ -126,18 +126,18 @@ module _ (scope : Scope) (here : Memory) where
       (set_ends scope here place (c_truth false)))
 
   -- what is told of its end
-  pub ended_value : (n : ℕ) → (value_c (c_read (ended_place n)) scope here).answer ≡ Some (value_at here (start_of scope false (ended_name n)))
-  ended_value n = read_answer scope here (ended_place n) (start_of scope false (ended_name n)) (local_answer scope here (ended_name n))
+  pub ended_value : (n : ℕ) → (value_c (c_read (ended_place n)) scope here).answer ≡ Some (value_at here (named_location scope false (ended_name n)))
+  ended_value n = read_answer scope here (ended_place n) (named_location scope false (ended_name n)) (local_answer scope here (ended_name n))
 
   is_bit : (b : Bool) → is_one (number_of b) ≡ b
   is_bit true = refl
   is_bit false = refl
 
-  pub ended_truth : (n : ℕ) (over : Bool) → number_in (value_at here (start_of scope false (ended_name n))) ≡ number_of over →
+  pub ended_truth : (n : ℕ) (over : Bool) → scalar_number (value_at here (named_location scope false (ended_name n))) ≡ number_of over →
       truth_c scope (c_read (ended_place n)) here ≡ Some over
   ended_truth n over is =
-      ap (option_map (λ v. is_one (number_in v))) (ended_value n) ∙ ap Some (ap is_one is ∙ is_bit over)
+      ap (option_map (λ v. is_one (scalar_number v))) (ended_value n) ∙ ap Some (ap is_one is ∙ is_bit over)
 
   -- its result
-  pub given_value : (n : ℕ) → (value_c (c_read (given_place n)) scope here).answer ≡ Some (value_at here (start_of scope false (given_name n)))
-  given_value n = read_answer scope here (given_place n) (start_of scope false (given_name n)) (local_answer scope here (given_name n))
+  pub given_value : (n : ℕ) → (value_c (c_read (given_place n)) scope here).answer ≡ Some (value_at here (named_location scope false (given_name n)))
+  given_value n = read_answer scope here (given_place n) (named_location scope false (given_name n)) (local_answer scope here (given_name n))

@@ -24,8 +24,8 @@ use Rattle.bl_eval.specs.Values.{value_fits}
 use Rattle.bl_eval.proofs.ActFits.{same_found}
 use Rattle.bl_eval.proofs.PartFits.{Fits}
 use Rattle.bl_eval.proofs.PassLemmas.{and_left, and_right, pass_at}
-use Rattle.bl_ctext_semantics.specs.Meaning.{Scope, location_c, runs_c, start_of}
-use Rattle.bl_ctext_semantics.specs.Memory.{CValue, Location, Memory, number_in, set_at, value_at}
+use Rattle.bl_ctext_semantics.specs.Meaning.{Scope, location_c, named_location, runs_c}
+use Rattle.bl_ctext_semantics.specs.Memory.{CValue, Location, Memory, scalar_number, set_at, value_at}
 use Rattle.bl_ctree.specs.Actions.{Gives, result_at}
 use Rattle.bl_ctree.specs.Instances.{Setting, setting_of, unit_at}
 use Rattle.bl_ctree.specs.Store.{Frame, Store, number_or_zero, view_at}
@@ -39,10 +39,10 @@ use Rattle.bl_ctree_laws_typing.proofs.OnViews.Paths.{path_typed}
 use Rattle.bl_emit_acts.specs.Acts.{c_set, is_copied}
 use Rattle.bl_emit_acts.specs.Expressions.{stands}
 use Rattle.bl_emit_acts.specs.Trees.{c_read}
-use Rattle.bl_emit_acts_laws_simulation.specs.Encodes.{Encodes, VariablesEncoded, location_in, number_at, type_after, way_to}
+use Rattle.bl_emit_acts_laws_simulation.specs.Encodes.{Encodes, VariablesEncoded, location_in, number_within, type_after, way_to}
 use Rattle.bl_emit_acts_laws_simulation.specs.Laws.{FramesApart, PlacesSimulate, WritesEncode}
 use Rattle.bl_emit_acts_laws_simulation.specs.Simulation.{PlaceSimulates}
-use Rattle.bl_emit_spec.specs.Activities.{copies_of, remembers_any, view_of}
+use Rattle.bl_emit_spec.specs.Activities.{activity_view, copies_of, remembers_any}
 use Rattle.bl_emit_spec.specs.Names.{given_name, given_place}
 use Rattle.bl_emit_spec_laws.specs.Registers.Laws.{RegistersKeepApart}
 use Rattle.bl_machine.specs.declared.machine.Activity.{Activity as InMachine}
@@ -119,11 +119,11 @@ module _ (structs : List StructDef) (stand : structs_stand_from 0 structs ≡ tr
       by (inr (c, is, leads)) = absurd (let no : None ≡ Some c = sym (no_part s k ks) ∙ is in cc)
 
   -- a cell with the number of a value holds it
-  pub number_holds : (s : ScalarType) (value : Value) (held : CValue) → Fits structs (scalar s) value → number_in held ≡ number_or_zero value →
+  pub number_holds : (s : ScalarType) (value : Value) (held : CValue) → Fits structs (scalar s) value → scalar_number held ≡ number_or_zero value →
       Encodes structs (scalar s) value held
   number_holds s value held fit same = record { each = by }
     where
-      by : (ks : List ℕ) (n : ℤ) → number_at ks value ≡ Some n → held (way_to structs ks (Some (scalar s))) ≡ n
+      by : (ks : List ℕ) (n : ℤ) → number_within ks value ≡ Some n → held (way_to structs ks (Some (scalar s))) ≡ n
       by [] n is = same ∙ ap (λ o. unwrap_or o (pos 0)) is
       by (k ∷ ks) n is =
           absurd (let no : None ≡ Some n = sym (ap (option_and_then values.number_in) (no_value s k ks value fit)) ∙ is in cc)
@@ -139,7 +139,7 @@ module _ (frames_apart : FramesApart) (keep : RegistersKeepApart) (structs : Lis
     (l : Label) (at : Place) (arguments : Arguments) (j : ℕ) (other : UnitDef)
     (run : RunOf (setting_of structs units entry) activities i unit l at arguments j other) (n : ℕ)
     (told : (value : Value) → is_some other.result ≡ true → result_at store j ≡ Some value →
-    number_in (value_at here (start_of scope false (given_name n))) ≡ number_or_zero value)
+    scalar_number (value_at here (named_location scope false (given_name n))) ≡ number_or_zero value)
   where
     abbrev w : Setting
     w = setting_of structs units entry
@@ -163,18 +163,18 @@ module _ (frames_apart : FramesApart) (keep : RegistersKeepApart) (structs : Lis
     sight = record { now = now; before = copies }
 
     keeps : IsWellTyped structs units entry
-    keeps = midway.compiled.keeps
+    keeps = midway.compiled.well_typed
 
     site_same : site_at w activities i ≡ site
     site_same = site_is frames_apart structs units entry views machine activities i unit scope frames store copies r here midway
 
     abbrev held : CValue
-    held = value_at here (start_of scope false (given_name n))
+    held = value_at here (named_location scope false (given_name n))
 
     -- what is left once the target is set
     pub record TargetSet (path : Path) (left : Store) : Type 0 where
       pub after : Memory
-      pub ends : Ends (runs_c (c_set (stands (view_of (activity_at w activities i)).site path).place (c_read (given_place n))) scope here)
+      pub ends : Ends (runs_c (c_set (stands (activity_view (activity_at w activities i)).site path).place (c_read (given_place n))) scope here)
           (Some after)
       pub stands : PassRepresents w activities i unit scope frames left copies r after
       pub kept : PassKeepsFrame (site_at w activities i) unit (remembers_any (activity_at w activities i)) scope here after

@@ -114,12 +114,13 @@ use Rattle.bl_emit_functions_laws_wellformed.proofs.OnFiles.Shapes.{not-calls, o
 use Rattle.bl_emit_functions_laws_wellformed.proofs.OnFiles.Shapes.{value-calls}
 use Rattle.bl_emit_functions_laws_wellformed.proofs.OnFiles.Statements.{Few, first_few, none_few, one_few, set_few, then_few}
 use Rattle.bl_emit_functions_laws_wellformed.proofs.OnFiles.Under.{Under, append-under, back-under, both-under, front-under, head-under, none-under, tail-under}
-use Rattle.bl_machine_pass.specs.Transitions.{Age, Asked, Change, Needed, Transition, rules}
+use Rattle.bl_machine_pass.specs.Transitions.{Age, Change, Condition, Needed, Transition, rules}
 use Rattle.bl_machine_pass.specs.Transitions.{ClearsBoth, ClearsCounter, Ended, EndsWhen, Finishes, Flagged, IsAny, IsNew, IsOld, Rested, RestedIn, SetsCounter, SetsFlag, SetsMark}
 use Rattle.bl_machine_transitions.specs.Callees.{callees_in}
 use Rattle.bl_emit_spec.specs.Activities.{
   Activity,
   activity_code,
+  activity_view,
   blocks_code,
   blocks_in_order,
   body_of,
@@ -130,7 +131,6 @@ use Rattle.bl_emit_spec.specs.Activities.{
   rested_code,
   rules_at,
   turns_in_source,
-  view_of,
 }
 use Rattle.bl_emit_spec.specs.Blocks.{
   is_greatest,
@@ -174,9 +174,9 @@ use Rattle.bl_emit_spec.specs.Blocks.{
   target_code,
   choice_code,
   spelled_truth,
-  tested,
+  test_code,
   turn_code,
-  turn_of,
+  node_turn,
   turns_of,
 }
 use Rattle.bl_emit_spec.specs.Names.{
@@ -366,7 +366,7 @@ module _ (weight : Text → ℕ) (prelude : (word : Text) (s : ScalarType) → w
       (not-calls (c_read (mark_place (view.number m)))) (mark_few view m)) all
   aged_few view IsAny ends all = all
 
-  guard_few : (view : ActivityView) (m : Node) (asked : Asked) → ExprFew (guard_of view m asked)
+  guard_few : (view : ActivityView) (m : Node) (condition : Condition) → ExprFew (guard_of view m condition)
   guard_few view m Flagged = reads_few (flag_place (view.number m)) (local_few (flag_name (view.number m)))
   guard_few view m (Rested slot) = rested_few view slot
   guard_few view m (RestedIn slots) = in_few view slots
@@ -534,17 +534,17 @@ module _ (weight : Text → ℕ) (prelude : (word : Text) (s : ScalarType) → w
     acted_few s few =
         acted_by s (out-StmtKind (out-Stmt s).what) (subst (λ names. Under by n names) (calls_at s (out-StmtKind (out-Stmt s).what) refl) few) refl
 
-    tested_few : (e : Expr) (rule : Transition) → Under by n (calls_in_expr e) → CodeFew (tested view (code_made view.site e) rule)
+    tested_few : (e : Expr) (rule : Transition) → Under by n (calls_in_expr e) → CodeFew (test_code view (code_made view.site e) rule)
     tested_few e rule few = chosen (spelled_truth (code_made view.site e))
       where
         chosen : (truth : Option Bool) →
-            CodeFew (choice_code (code_made view.site e) truth (changes_code view rule.so) (changes_code view rule.otherwise))
+            CodeFew (choice_code (code_made view.site e) truth (changes_code view rule.on_true) (changes_code view rule.on_false))
         chosen None =
-            one_few weight prelude n (c_if (code_made view.site e) (changes_code view rule.so) (else_code (changes_code view rule.otherwise)))
-            (if_few (code_made view.site e) (changes_code view rule.so) (else_code (changes_code view rule.otherwise)) (code_few e few)
-            (changes_few view rule.so) (else_few (changes_code view rule.otherwise) (changes_few view rule.otherwise)))
-        chosen (Some true) = changes_few view rule.so
-        chosen (Some false) = changes_few view rule.otherwise
+            one_few weight prelude n (c_if (code_made view.site e) (changes_code view rule.on_true) (else_code (changes_code view rule.on_false)))
+            (if_few (code_made view.site e) (changes_code view rule.on_true) (else_code (changes_code view rule.on_false)) (code_few e few)
+            (changes_few view rule.on_true) (else_few (changes_code view rule.on_false) (changes_few view rule.on_false)))
+        chosen (Some true) = changes_few view rule.on_true
+        chosen (Some false) = changes_few view rule.on_false
 
     -- ---- runs
 
@@ -599,48 +599,48 @@ module _ (weight : Text → ℕ) (prelude : (word : Text) (s : ScalarType) → w
         CodeFew (begun_code view k a arguments rule)
     begun_few k a arguments rule few =
         let clear = c_clear (callee_frame k) (frame_name (name_in (slice_get view.site.earlier a))) in
-        first_few weight prelude n clear (run_code view k a arguments ++ changes_code view rule.so)
+        first_few weight prelude n clear (run_code view k a arguments ++ changes_code view rule.on_true)
         (same-light weight prelude n (calls_in_stmt clear) (calls_in_place (callee_frame k))
         (clear-calls (callee_frame k) (frame_name (name_in (slice_get view.site.earlier a)))) (member_few (codes "f") (callee_name k)))
-        (then_few weight prelude n (run_code view k a arguments) (changes_code view rule.so) (run_few k a arguments few) (changes_few view rule.so))
+        (then_few weight prelude n (run_code view k a arguments) (changes_code view rule.on_true) (run_few k a arguments few) (changes_few view rule.on_true))
 
     resumed_few : (k a : ℕ) (arguments : Arguments) (rule : Transition) →
         Under by n (a ∷ (target_calls arguments.target ++ argument_calls arguments.inputs arguments.outputs)) →
         CodeFew (resumed_code view k a arguments rule)
     resumed_few k a arguments rule few =
         let rest = tail-under by n a (target_calls arguments.target ++ argument_calls arguments.inputs arguments.outputs) few in
-        let block = target_code view k arguments.target ++ changes_code view rule.so in
+        let block = target_code view k arguments.target ++ changes_code view rule.on_true in
         then_few weight prelude n (run_code view k a arguments) (c_if (c_read (ended_place k)) block None ∷ []) (run_few k a arguments few)
         (one_few weight prelude n (c_if (c_read (ended_place k)) block None)
         (if_few (c_read (ended_place k)) block None (reads_few (ended_place k) (local_few (ended_name k)))
-        (then_few weight prelude n (target_code view k arguments.target) (changes_code view rule.so)
+        (then_few weight prelude n (target_code view k arguments.target) (changes_code view rule.on_true)
         (target_few k arguments.target
         (front-under by n (target_calls arguments.target) (argument_calls arguments.inputs arguments.outputs) rest))
-        (changes_few view rule.so)) (none-under weight n)))
+        (changes_few view rule.on_true)) (none-under weight n)))
 
     -- ---- blocks
 
     node_few : (a : ℕ) (rule : Transition) (m : Node) → Under by n (node_calls a m) → CodeFew (node_code view a rule m)
-    node_few a rule (ActAt l s) few = then_few weight prelude n (acted view s) (changes_code view rule.so) (acted_few s few) (changes_few view rule.so)
+    node_few a rule (ActAt l s) few = then_few weight prelude n (acted view s) (changes_code view rule.on_true) (acted_few s few) (changes_few view rule.on_true)
     node_few a rule (TestAt l at e) few = tested_few e rule few
     node_few a rule (CheckAt l at e) few = tested_few e rule few
     node_few a rule (EnterAt l at arguments) few = begun_few (view.run at) a arguments rule few
     node_few a rule (ResumeAt l at arguments) few = resumed_few (view.run at) a arguments rule few
-    node_few a rule (PauseAt l at) few = changes_few view rule.so
-    node_few a rule (HeadAt l at) few = changes_few view rule.so
-    node_few a rule (StartAt l at) few = changes_few view rule.so
-    node_few a rule (SurfaceEndAt l at) few = changes_few view rule.so
-    node_few a rule (DepthEndAt l at) few = changes_few view rule.so
-    node_few a rule (ForkAt l at) few = changes_few view rule.so
-    node_few a rule (SurfaceJoinAt l at) few = changes_few view rule.so
-    node_few a rule (DepthJoinAt l at) few = changes_few view rule.so
+    node_few a rule (PauseAt l at) few = changes_few view rule.on_true
+    node_few a rule (HeadAt l at) few = changes_few view rule.on_true
+    node_few a rule (StartAt l at) few = changes_few view rule.on_true
+    node_few a rule (SurfaceEndAt l at) few = changes_few view rule.on_true
+    node_few a rule (DepthEndAt l at) few = changes_few view rule.on_true
+    node_few a rule (ForkAt l at) few = changes_few view rule.on_true
+    node_few a rule (SurfaceJoinAt l at) few = changes_few view rule.on_true
+    node_few a rule (DepthJoinAt l at) few = changes_few view rule.on_true
 
     -- what a turn asks and does
     abbrev TurnFew : NodeCode → Type 0
     TurnFew turn = ExprFew turn.test × CodeFew turn.code
 
-    turn_few : (a : ℕ) (rule : Transition) → Under by n (node_calls a rule.node) → TurnFew (turn_of view a rule)
-    turn_few a rule few = (guard_few view rule.node rule.asked, node_few a rule rule.node few)
+    turn_few : (a : ℕ) (rule : Transition) → Under by n (node_calls a rule.node) → TurnFew (node_turn view a rule)
+    turn_few a rule few = (guard_few view rule.node rule.condition, node_few a rule rule.node few)
 
     -- each of some turns
     abbrev EachFew : List NodeCode → Type 0
@@ -716,11 +716,11 @@ pub activity_few : (weight : Text → ℕ) (prelude : (word : Text) (s : ScalarT
     AllUnder by n (callees_in (body_of a)) (map (λ (rule : Transition). rule.node) (rules_at a)) → Few weight prelude n (activity_code a)
 activity_few weight prelude n a by callees all =
     then_few weight prelude n (map rested_code (counters_read a))
-    (entry_code (view_of a) (body_of a) ++ (map (c_copied (view_of a).site) (copied_in a) ++ blocks_in_order a))
-    (resteds_few weight prelude n (view_of a) by callees (counters_read a))
-    (then_few weight prelude n (entry_code (view_of a) (body_of a)) (map (c_copied (view_of a).site) (copied_in a) ++ blocks_in_order a)
-    (entry_few weight prelude n (view_of a) by callees (body_of a))
-    (then_few weight prelude n (map (c_copied (view_of a).site) (copied_in a)) (blocks_in_order a)
-    (copies_few weight prelude n (view_of a) by callees (copied_in a))
-    (blocks_few weight prelude n (view_of a) by callees (turns_in_source a) a.blocks
-    (each_few weight prelude n (view_of a) by callees (callees_in (body_of a)) (rules_at a) all))))
+    (entry_code (activity_view a) (body_of a) ++ (map (c_copied (activity_view a).site) (copied_in a) ++ blocks_in_order a))
+    (resteds_few weight prelude n (activity_view a) by callees (counters_read a))
+    (then_few weight prelude n (entry_code (activity_view a) (body_of a)) (map (c_copied (activity_view a).site) (copied_in a) ++ blocks_in_order a)
+    (entry_few weight prelude n (activity_view a) by callees (body_of a))
+    (then_few weight prelude n (map (c_copied (activity_view a).site) (copied_in a)) (blocks_in_order a)
+    (copies_few weight prelude n (activity_view a) by callees (copied_in a))
+    (blocks_few weight prelude n (activity_view a) by callees (turns_in_source a) a.blocks
+    (each_few weight prelude n (activity_view a) by callees (callees_in (body_of a)) (rules_at a) all))))

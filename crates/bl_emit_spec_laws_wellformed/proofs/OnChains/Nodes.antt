@@ -63,7 +63,7 @@ use Rattle.bl_graph_nodes.specs.Nodes.{
 use Rattle.bl_graph_nodes.specs.Plain.{Act, Arm as PlainArm, Await, Block, Bodies, Branch as PlainBranch, Cobegin, Done, If}
 use Rattle.bl_graph_nodes.specs.Plain.{Label, Plain, Position, Repeat, Run, Then, Until, When}
 use Rattle.bl_graph_nodes.specs.Plain.{While, arm_plain, block_at, block_from, bodies_from, branch_plain, else_at, if_with}
-use Rattle.bl_graph_nodes.specs.Plain.{inside, kind_plain, label_at, never, passed_one, place_of_test, plain, plain_body, stmt_plain}
+use Rattle.bl_graph_nodes.specs.Plain.{inside, kind_plain, label_at, never, passed_one, place_of_test, plain_body, plain_stmt, stmt_plain}
 use Rattle.bl_machine_transitions.specs.Callees.{callees_in, callees_in_each, callees_of, zero_where}
 use Rattle.bl_emit_functions_laws_wellformed.proofs.OnFiles.Under.{Under, back-under, cons-under, front-under, head-under, none-under}
 
@@ -112,14 +112,14 @@ module _ (by : ℕ → ℕ) (n : ℕ) where
   none = none-under by n
 
   abbrev S : Stmt → Type 0
-  S s = Under by n (named_in s) → Under by n (runs_in s) → (at : Position) → PlainUnder (plain s at)
+  S s = Under by n (named_in s) → Under by n (runs_in s) → (at : Position) → PlainUnder (plain_stmt s at)
 
   blocks_under : (body : List Stmt) → Each S body → Under by n (joined (map named_in body)) → Under by n (joined (map runs_in body)) → (k : ℕ)
-      (at : Position) → BlockUnder (block_from (map plain body) k at)
+      (at : Position) → BlockUnder (block_from (map plain_stmt body) k at)
   blocks_under [] each calls runs k at = tt
   blocks_under (s ∷ body) each calls runs k at =
-      append_all (callees_of (plain s (at ++ k ∷ []))) (callees_in (block_from (map plain body) (suc k) at)) (nodes_of (plain s (at ++ k ∷ [])))
-      (nodes_in (block_from (map plain body) (suc k) at))
+      append_all (callees_of (plain_stmt s (at ++ k ∷ []))) (callees_in (block_from (map plain_stmt body) (suc k) at)) (nodes_of (plain_stmt s (at ++ k ∷ [])))
+      (nodes_in (block_from (map plain_stmt body) (suc k) at))
       (All-head S s body each (front-under by n (named_in s) (joined (map named_in body)) calls)
       (front-under by n (runs_in s) (joined (map runs_in body)) runs) (at ++ k ∷ []))
       (blocks_under body (All-tail S s body each) (back-under by n (named_in s) (joined (map named_in body)) calls)
@@ -239,51 +239,51 @@ module _ (by : ℕ → ℕ) (n : ℕ) where
   as_under s p is all = subst PlainUnder (sym is) all
 
   module _ (place : Place) where
-    declare_plain : (k : ℕ) (initial : Option Expr) (at : Position) → plain (stmt place (StmtKind-F.Declare k initial)) at
+    declare_plain : (k : ℕ) (initial : Option Expr) (at : Position) → plain_stmt (stmt place (StmtKind-F.Declare k initial)) at
         ≡ Act (label_at at) (stmt place (StmtKind-F.Declare k initial))
     declare_plain k initial at = rw (fold-roll-Stmt, fold-roll-StmtKind) refl
 
-    assign_plain : (path : Path) (e : Expr) (at : Position) → plain (stmt place (StmtKind-F.Assign path e)) at
+    assign_plain : (path : Path) (e : Expr) (at : Position) → plain_stmt (stmt place (StmtKind-F.Assign path e)) at
         ≡ Act (label_at at) (stmt place (StmtKind-F.Assign path e))
     assign_plain path e at = rw (fold-roll-Stmt, fold-roll-StmtKind) refl
 
-    call_plain : (f : ℕ) (inputs : List Expr) (outputs : List Path) (at : Position) → plain (stmt place (StmtKind-F.Call f inputs outputs)) at
+    call_plain : (f : ℕ) (inputs : List Expr) (outputs : List Path) (at : Position) → plain_stmt (stmt place (StmtKind-F.Call f inputs outputs)) at
         ≡ Act (label_at at) (stmt place (StmtKind-F.Call f inputs outputs))
     call_plain f inputs outputs at = rw (fold-roll-Stmt, fold-roll-StmtKind) refl
 
     return_plain : (e : Option Expr) (at : Position) →
-        plain (stmt place (StmtKind-F.Return e)) at ≡ Act (label_at at) (stmt place (StmtKind-F.Return e))
+        plain_stmt (stmt place (StmtKind-F.Return e)) at ≡ Act (label_at at) (stmt place (StmtKind-F.Return e))
     return_plain e at = rw (fold-roll-Stmt, fold-roll-StmtKind) refl
 
-    await_plain : (e : Expr) (at : Position) → plain (stmt place (StmtKind-F.Await e)) at ≡ Await (label_at at) place e
+    await_plain : (e : Expr) (at : Position) → plain_stmt (stmt place (StmtKind-F.Await e)) at ≡ Await (label_at at) place e
     await_plain e at = rw (fold-roll-Stmt, fold-roll-StmtKind) refl
 
     run_plain : (target : Option Path) (a : ℕ) (inputs : List Expr) (outputs : List Path) (at : Position) →
-        plain (stmt place (StmtKind-F.Run target a inputs outputs)) at ≡ Run (label_at at) place target a inputs outputs
+        plain_stmt (stmt place (StmtKind-F.Run target a inputs outputs)) at ≡ Run (label_at at) place target a inputs outputs
     run_plain target a inputs outputs at = rw (fold-roll-Stmt, fold-roll-StmtKind) refl
 
-    if_plain : (arms : List Arm) (other : List Stmt) (at : Position) → plain (stmt place (StmtKind-F.If arms other)) at
-        ≡ if_with (label_at at) place (map plain_arm arms) (block_at (map plain other))
+    if_plain : (arms : List Arm) (other : List Stmt) (at : Position) → plain_stmt (stmt place (StmtKind-F.If arms other)) at
+        ≡ if_with (label_at at) place (map plain_arm arms) (block_at (map plain_stmt other))
     if_plain arms other at = rw (fold-roll-Stmt, fold-roll-StmtKind) refl
 
-    cobegin_plain : (branches : List Branch) (at : Position) → plain (stmt place (StmtKind-F.Cobegin branches)) at
+    cobegin_plain : (branches : List Branch) (at : Position) → plain_stmt (stmt place (StmtKind-F.Cobegin branches)) at
         ≡ Cobegin (label_at at) place (bodies_from (map plain_branch branches) 0 (label_at at))
     cobegin_plain branches at = rw (fold-roll-Stmt, fold-roll-StmtKind) refl
 
-    when_plain : (guard : Guard) (e : Expr) (body : List Stmt) (at : Position) → plain (stmt place (StmtKind-F.When guard e body)) at
-        ≡ When (label_at at) place guard e (block_at (map plain body) (inside (label_at at) 0))
+    when_plain : (guard : Guard) (e : Expr) (body : List Stmt) (at : Position) → plain_stmt (stmt place (StmtKind-F.When guard e body)) at
+        ≡ When (label_at at) place guard e (block_at (map plain_stmt body) (inside (label_at at) 0))
     when_plain guard e body at = rw (fold-roll-Stmt, fold-roll-StmtKind) refl
 
-    repeat_plain : (body : List Stmt) (at : Position) → plain (stmt place (StmtKind-F.Repeat body)) at
-        ≡ Repeat (label_at at) place (block_at (map plain body) (inside (label_at at) 0))
+    repeat_plain : (body : List Stmt) (at : Position) → plain_stmt (stmt place (StmtKind-F.Repeat body)) at
+        ≡ Repeat (label_at at) place (block_at (map plain_stmt body) (inside (label_at at) 0))
     repeat_plain body at = rw (fold-roll-Stmt, fold-roll-StmtKind) refl
 
-    until_plain : (body : List Stmt) (e : Expr) (at : Position) → plain (stmt place (StmtKind-F.Until body e)) at
-        ≡ Until (label_at at) place (block_at (map plain body) (inside (label_at at) 0)) e
+    until_plain : (body : List Stmt) (e : Expr) (at : Position) → plain_stmt (stmt place (StmtKind-F.Until body e)) at
+        ≡ Until (label_at at) place (block_at (map plain_stmt body) (inside (label_at at) 0)) e
     until_plain body e at = rw (fold-roll-Stmt, fold-roll-StmtKind) refl
 
-    while_plain : (e : Expr) (body : List Stmt) (at : Position) → plain (stmt place (StmtKind-F.While e body)) at
-        ≡ While (label_at at) place e (block_at (map plain body) (inside (label_at at) 0))
+    while_plain : (e : Expr) (body : List Stmt) (at : Position) → plain_stmt (stmt place (StmtKind-F.While e body)) at
+        ≡ While (label_at at) place e (block_at (map plain_stmt body) (inside (label_at at) 0))
     while_plain e body at = rw (fold-roll-Stmt, fold-roll-StmtKind) refl
 
     branching_case : (arms : List Arm) (other : List Stmt) → EachArm S arms → Each S other → S (stmt place (StmtKind-F.If arms other))
@@ -292,7 +292,7 @@ module _ (by : ℕ → ℕ) (n : ℕ) where
         rw (fold-roll-Stmt, fold-roll-StmtKind) at calls in
         let run : Under by n (joined (map runs_in_arm arms) ++ joined (map runs_in other)) = rw (fold-roll-Stmt, fold-roll-StmtKind) at runs in
         as_under _ _ (if_plain arms other at)
-        (with_under (label_at at) place (map plain_arm arms) (block_at (map plain other))
+        (with_under (label_at at) place (map plain_arm arms) (block_at (map plain_stmt other))
         (arms_under arms each (front-under by n (joined (map calls_in_arm arms)) (joined (map named_in other)) called)
         (front-under by n (joined (map runs_in_arm arms)) (joined (map runs_in other)) run))
         (λ at. blocks_under other others (back-under by n (joined (map calls_in_arm arms)) (joined (map named_in other)) called)
@@ -317,7 +317,7 @@ module _ (by : ℕ → ℕ) (n : ℕ) where
         let called : Under by n (calls_in_expr e ++ joined (map named_in body)) = rw (fold-roll-Stmt, fold-roll-StmtKind) at calls in
         let run : Under by n (joined (map runs_in body)) = rw (fold-roll-Stmt, fold-roll-StmtKind) at runs in
         let l : Label = label_at at in
-        let inner : Block = block_at (map plain body) (inside l 0) in
+        let inner : Block = block_at (map plain_stmt body) (inside l 0) in
         as_under _ _ (when_plain guard e body at) (
           none,
           append_all (zero_where (are_instant inner)) (0 ∷ 0 ∷ callees_in inner) (where_so (are_instant inner) (SurfaceEndAt l place))

@@ -35,7 +35,7 @@ use Rattle.bl_graph_nodes.specs.Nodes.{are_instant, is_instant}
 use Rattle.bl_graph_nodes.specs.Plain.{Act, Arm as PlainArm, Await, Block, Bodies, Body as BodyOf, Branch as PlainBranch, Cobegin, Done, If, Last}
 use Rattle.bl_graph_nodes.specs.Plain.{Label, Plain, Position, Repeat, Run, Then, Until, When}
 use Rattle.bl_graph_nodes.specs.Plain.{While, arm_plain, block_at, block_from, bodies_from, branch_plain, else_at, if_with}
-use Rattle.bl_graph_nodes.specs.Plain.{inside, kind_plain, label_at, never, passed_one, place_of_test, plain, plain_body, stmt_plain}
+use Rattle.bl_graph_nodes.specs.Plain.{inside, kind_plain, label_at, never, passed_one, place_of_test, plain_body, plain_stmt, stmt_plain}
 use Rattle.bl_machine.specs.Layout.{width_in, width_in_each, width_of}
 use Rattle.bl_machine.specs.Uses.{Slots}
 use Rattle.bl_machine_pass.specs.Transitions.{
@@ -164,15 +164,15 @@ module _ (site : TypingContext) (slots : Slots) where
   CheapBlock n runs body = (next : Change) → Unmarked next → Cheap n (width_in body) (extras (rules_in slots body next)) (length runs)
 
   abbrev S : Stmt → Type 0
-  S s = fits site s ≡ true → (at : Position) → CheapPlain (cell_statements_in s) (runs_in s) (plain s at)
+  S s = fits site s ≡ true → (at : Position) → CheapPlain (cell_statements_in s) (runs_in s) (plain_stmt s at)
 
   blocks_cheap : (body : List Stmt) → Each S body → all_of (map (fits site) body) ≡ true → (k : ℕ) (at : Position) →
-      CheapBlock (cell_statements_in_block body) (joined (map runs_in body)) (block_from (map plain body) k at)
+      CheapBlock (cell_statements_in_block body) (joined (map runs_in body)) (block_from (map plain_stmt body) k at)
   blocks_cheap [] each fitted k at next ok = free
   blocks_cheap (s ∷ body) each fitted k at next ok =
-      let rest = block_from (map plain body) (suc k) at in
-      append_cheap (cell_statements_in s) (cell_statements_in_block body) (width_of (plain s (at ++ k ∷ []))) (width_in rest)
-      (rules_of slots (plain s (at ++ k ∷ [])) (enter rest next)) (rules_in slots rest next) (runs_in s) (joined (map runs_in body))
+      let rest = block_from (map plain_stmt body) (suc k) at in
+      append_cheap (cell_statements_in s) (cell_statements_in_block body) (width_of (plain_stmt s (at ++ k ∷ []))) (width_in rest)
+      (rules_of slots (plain_stmt s (at ++ k ∷ [])) (enter rest next)) (rules_in slots rest next) (runs_in s) (joined (map runs_in body))
       (All-head S s body each (and_left (fits site s) (all_of (map (fits site) body)) fitted) (at ++ k ∷ []) (enter rest next) (entered rest next ok))
       (blocks_cheap body (All-tail S s body each) (and_right (fits site s) (all_of (map (fits site) body)) fitted) (suc k) at next ok)
 
@@ -297,7 +297,7 @@ module _ (site : TypingContext) (slots : Slots) where
       (sym (fold_out-Branch (Place → Position → Plain) PlainArm PlainBranch (Position → Plain) kind_plain arm_plain branch_plain stmt_plain
       branch))
       (λ at next ok.
-      let inner = block_from (map plain body) 0 at in
+      let inner = block_from (map plain_stmt body) 0 at in
       branch_more (cell_statements_in_block body) (width_in inner) (extras (rules_in slots inner next)) (length (joined (map runs_in body)))
       (blocks_cheap body each fits_so 0 at next ok))))
 
@@ -346,51 +346,51 @@ module _ (site : TypingContext) (slots : Slots) where
   some_there f g (x ∷ xs) h = refl
 
   module _ (place : Place) where
-    declare_plain : (k : ℕ) (initial : Option Expr) (at : Position) → plain (stmt place (StmtKind-F.Declare k initial)) at
+    declare_plain : (k : ℕ) (initial : Option Expr) (at : Position) → plain_stmt (stmt place (StmtKind-F.Declare k initial)) at
         ≡ Act (label_at at) (stmt place (StmtKind-F.Declare k initial))
     declare_plain k initial at = rw (fold-roll-Stmt, fold-roll-StmtKind) refl
 
-    assign_plain : (path : Path) (e : Expr) (at : Position) → plain (stmt place (StmtKind-F.Assign path e)) at
+    assign_plain : (path : Path) (e : Expr) (at : Position) → plain_stmt (stmt place (StmtKind-F.Assign path e)) at
         ≡ Act (label_at at) (stmt place (StmtKind-F.Assign path e))
     assign_plain path e at = rw (fold-roll-Stmt, fold-roll-StmtKind) refl
 
-    call_plain : (f : ℕ) (inputs : List Expr) (outputs : List Path) (at : Position) → plain (stmt place (StmtKind-F.Call f inputs outputs)) at
+    call_plain : (f : ℕ) (inputs : List Expr) (outputs : List Path) (at : Position) → plain_stmt (stmt place (StmtKind-F.Call f inputs outputs)) at
         ≡ Act (label_at at) (stmt place (StmtKind-F.Call f inputs outputs))
     call_plain f inputs outputs at = rw (fold-roll-Stmt, fold-roll-StmtKind) refl
 
     return_plain : (e : Option Expr) (at : Position) →
-        plain (stmt place (StmtKind-F.Return e)) at ≡ Act (label_at at) (stmt place (StmtKind-F.Return e))
+        plain_stmt (stmt place (StmtKind-F.Return e)) at ≡ Act (label_at at) (stmt place (StmtKind-F.Return e))
     return_plain e at = rw (fold-roll-Stmt, fold-roll-StmtKind) refl
 
-    await_plain : (e : Expr) (at : Position) → plain (stmt place (StmtKind-F.Await e)) at ≡ Await (label_at at) place e
+    await_plain : (e : Expr) (at : Position) → plain_stmt (stmt place (StmtKind-F.Await e)) at ≡ Await (label_at at) place e
     await_plain e at = rw (fold-roll-Stmt, fold-roll-StmtKind) refl
 
     run_plain : (target : Option Path) (a : ℕ) (inputs : List Expr) (outputs : List Path) (at : Position) →
-        plain (stmt place (StmtKind-F.Run target a inputs outputs)) at ≡ Run (label_at at) place target a inputs outputs
+        plain_stmt (stmt place (StmtKind-F.Run target a inputs outputs)) at ≡ Run (label_at at) place target a inputs outputs
     run_plain target a inputs outputs at = rw (fold-roll-Stmt, fold-roll-StmtKind) refl
 
-    if_plain : (arms : List Arm) (other : List Stmt) (at : Position) → plain (stmt place (StmtKind-F.If arms other)) at
-        ≡ if_with (label_at at) place (map plain_arm arms) (block_at (map plain other))
+    if_plain : (arms : List Arm) (other : List Stmt) (at : Position) → plain_stmt (stmt place (StmtKind-F.If arms other)) at
+        ≡ if_with (label_at at) place (map plain_arm arms) (block_at (map plain_stmt other))
     if_plain arms other at = rw (fold-roll-Stmt, fold-roll-StmtKind) refl
 
-    cobegin_plain : (branches : List Branch) (at : Position) → plain (stmt place (StmtKind-F.Cobegin branches)) at
+    cobegin_plain : (branches : List Branch) (at : Position) → plain_stmt (stmt place (StmtKind-F.Cobegin branches)) at
         ≡ Cobegin (label_at at) place (bodies_from (map plain_branch branches) 0 (label_at at))
     cobegin_plain branches at = rw (fold-roll-Stmt, fold-roll-StmtKind) refl
 
-    when_plain : (guard : Guard) (e : Expr) (body : List Stmt) (at : Position) → plain (stmt place (StmtKind-F.When guard e body)) at
-        ≡ When (label_at at) place guard e (block_at (map plain body) (inside (label_at at) 0))
+    when_plain : (guard : Guard) (e : Expr) (body : List Stmt) (at : Position) → plain_stmt (stmt place (StmtKind-F.When guard e body)) at
+        ≡ When (label_at at) place guard e (block_at (map plain_stmt body) (inside (label_at at) 0))
     when_plain guard e body at = rw (fold-roll-Stmt, fold-roll-StmtKind) refl
 
-    repeat_plain : (body : List Stmt) (at : Position) → plain (stmt place (StmtKind-F.Repeat body)) at
-        ≡ Repeat (label_at at) place (block_at (map plain body) (inside (label_at at) 0))
+    repeat_plain : (body : List Stmt) (at : Position) → plain_stmt (stmt place (StmtKind-F.Repeat body)) at
+        ≡ Repeat (label_at at) place (block_at (map plain_stmt body) (inside (label_at at) 0))
     repeat_plain body at = rw (fold-roll-Stmt, fold-roll-StmtKind) refl
 
-    until_plain : (body : List Stmt) (e : Expr) (at : Position) → plain (stmt place (StmtKind-F.Until body e)) at
-        ≡ Until (label_at at) place (block_at (map plain body) (inside (label_at at) 0)) e
+    until_plain : (body : List Stmt) (e : Expr) (at : Position) → plain_stmt (stmt place (StmtKind-F.Until body e)) at
+        ≡ Until (label_at at) place (block_at (map plain_stmt body) (inside (label_at at) 0)) e
     until_plain body e at = rw (fold-roll-Stmt, fold-roll-StmtKind) refl
 
-    while_plain : (e : Expr) (body : List Stmt) (at : Position) → plain (stmt place (StmtKind-F.While e body)) at
-        ≡ While (label_at at) place e (block_at (map plain body) (inside (label_at at) 0))
+    while_plain : (e : Expr) (body : List Stmt) (at : Position) → plain_stmt (stmt place (StmtKind-F.While e body)) at
+        ≡ While (label_at at) place e (block_at (map plain_stmt body) (inside (label_at at) 0))
     while_plain e body at = rw (fold-roll-Stmt, fold-roll-StmtKind) refl
 
     as_cheap : (n m : ℕ) (us bs : List ℕ) (s p : Plain) → n ≡ m → us ≡ bs → s ≡ p → CheapPlain m bs p → CheapPlain n us s
@@ -477,7 +477,7 @@ module _ (site : TypingContext) (slots : Slots) where
         let more = and_right (is_inhabited (map arm_fitted arms)) (all_of (map arm_fitted arms) && all_of (map (fits site) other)) parts in
         as_cheap _ _ _ _ _ _ (if_count arms other) (if_runs arms other) (if_plain arms other at)
         (with_cheap (label_at at) place (map cell_statements_in_arm arms) (map runs_in_arm arms) (cell_statements_in_block other) (joined (map runs_in other))
-        (map plain_arm arms) (block_at (map plain other)) (some_there arm_fitted plain_arm arms some)
+        (map plain_arm arms) (block_at (map plain_stmt other)) (some_there arm_fitted plain_arm arms some)
         (arms_cheap arms each (and_left (all_of (map arm_fitted arms)) (all_of (map (fits site) other)) more))
         (λ at. blocks_cheap other others (and_right (all_of (map arm_fitted arms)) (all_of (map (fits site) other)) more) 0 at))
 
@@ -515,7 +515,7 @@ module _ (site : TypingContext) (slots : Slots) where
         let parts = and_right (is_activity site.kind) (is_truth (type_of site e) && all_of (map (fits site) body))
         (rw (fold-roll-Stmt, fold-roll-StmtKind) at fitted) in
         let l : Label = label_at at in
-        let inner : Block = block_at (map plain body) (inside l 0) in
+        let inner : Block = block_at (map plain_stmt body) (inside l 0) in
         let instant : Bool = are_instant inner in
         as_cheap _ _ _ _ _ _ (when_count guard e body) (when_runs guard e body) (when_plain guard e body at)
         (λ next ok.
@@ -523,9 +523,9 @@ module _ (site : TypingContext) (slots : Slots) where
         let surface = flagged (SurfaceEndAt l place) (next ∷ []) in
         let check : Transition = record {
           node = CheckAt l place e;
-          asked = RestedIn (rests_in slots inner);
-          so = map ClearsBoth (once (counters_in slots inner)) ++ fires guard l place inner next ∷ [];
-          otherwise = [];
+          condition = RestedIn (rests_in slots inner);
+          on_true = map ClearsBoth (once (counters_in slots inner)) ++ fires guard l place inner next ∷ [];
+          on_false = [];
         } in
         let depth = flagged (DepthEndAt l place) (next ∷ []) in
         let fired : marks_in (map ClearsBoth (once (counters_in slots inner)) ++ fires guard l place inner next ∷ []) ≡ 0 =
@@ -543,7 +543,7 @@ module _ (site : TypingContext) (slots : Slots) where
     repeat_case : (body : List Stmt) → Each S body → S (stmt place (StmtKind-F.Repeat body))
     repeat_case body each fitted at =
         let l : Label = label_at at in
-        let inner : Block = block_at (map plain body) (inside l 0) in
+        let inner : Block = block_at (map plain_stmt body) (inside l 0) in
         as_cheap _ _ _ _ _ _ (repeat_count body) (repeat_runs body) (repeat_plain body at)
         (λ next ok.
         let again = SetsFlag (HeadAt l place) in
@@ -556,7 +556,7 @@ module _ (site : TypingContext) (slots : Slots) where
     until_case body e each fitted at =
         let parts = rw (fold-roll-Stmt, fold-roll-StmtKind) at fitted in
         let l : Label = label_at at in
-        let inner : Block = block_at (map plain body) (inside l 0) in
+        let inner : Block = block_at (map plain_stmt body) (inside l 0) in
         as_cheap _ _ _ _ _ _ (until_count body e) (until_runs body e) (until_plain body e at)
         (λ next ok.
         let test = SetsFlag (TestAt l place e) in
@@ -569,7 +569,7 @@ module _ (site : TypingContext) (slots : Slots) where
     while_case e body each fitted at =
         let parts = rw (fold-roll-Stmt, fold-roll-StmtKind) at fitted in
         let l : Label = label_at at in
-        let inner : Block = block_at (map plain body) (inside l 0) in
+        let inner : Block = block_at (map plain_stmt body) (inside l 0) in
         as_cheap _ _ _ _ _ _ (while_count e body) (while_runs e body) (while_plain e body at)
         (λ next ok.
         let test = SetsFlag (TestAt l place e) in

@@ -23,8 +23,8 @@ use Rattle.bl_graph_nodes.specs.Nodes.{are_instant, is_instant, nodes_in, nodes_
 use Rattle.bl_graph_nodes.specs.Plain.{Act, Arm as PlainArm, Await, Block, Bodies, Branch as PlainBranch, Cobegin, Done, If}
 use Rattle.bl_graph_nodes.specs.Plain.{Label, Plain, Position, Repeat, Run, Then, Until, When}
 use Rattle.bl_graph_nodes.specs.Plain.{While, arm_plain, block_at, block_from, bodies_from, branch_plain, else_at, if_with}
-use Rattle.bl_graph_nodes.specs.Plain.{inside, kind_plain, label_at, passed_one, place_of_test, plain, plain_body, stmt_plain}
-use Rattle.bl_machine.specs.Layout.{places_in, places_in_each, places_of}
+use Rattle.bl_graph_nodes.specs.Plain.{inside, kind_plain, label_at, passed_one, place_of_test, plain_body, plain_stmt, stmt_plain}
+use Rattle.bl_machine.specs.Layout.{places_in, places_in_each, resting_places}
 
 -- for this many statements there are so few nodes and resting places
 pub record Few (n nodes places : ℕ) : Type 0 where
@@ -32,7 +32,7 @@ pub record Few (n nodes places : ℕ) : Type 0 where
   pub rests : places ≤ n
 
 abbrev Small : ℕ → Plain → Type 0
-Small n s = Few n (length (nodes_of s)) (places_of s)
+Small n s = Few n (length (nodes_of s)) (resting_places s)
 
 abbrev pub SmallIn : ℕ → Block → Type 0
 SmallIn n body = Few n (length (nodes_in body)) (places_in body)
@@ -79,15 +79,15 @@ plain_branch = fold-Branch (Place → Position → Plain) PlainArm PlainBranch (
 
 module _ (site : TypingContext) where
   abbrev S : Stmt → Type 0
-  S s = fits site s ≡ true → (at : Position) → Small (cell_statements_in s) (plain s at)
+  S s = fits site s ≡ true → (at : Position) → Small (cell_statements_in s) (plain_stmt s at)
 
   blocks_few : (body : List Stmt) → Each S body → all_of (map (fits site) body) ≡ true → (k : ℕ) (at : Position) →
-      SmallIn (cell_statements_in_block body) (block_from (map plain body) k at)
+      SmallIn (cell_statements_in_block body) (block_from (map plain_stmt body) k at)
   blocks_few [] each fitted k at = nothing
   blocks_few (s ∷ body) each fitted k at =
-      append_few (cell_statements_in s) (cell_statements_in_block body) (places_of (plain s (at ++ k ∷ [])))
-      (places_in (block_from (map plain body) (suc k) at)) (nodes_of (plain s (at ++ k ∷ [])))
-      (nodes_in (block_from (map plain body) (suc k) at))
+      append_few (cell_statements_in s) (cell_statements_in_block body) (resting_places (plain_stmt s (at ++ k ∷ [])))
+      (places_in (block_from (map plain_stmt body) (suc k) at)) (nodes_of (plain_stmt s (at ++ k ∷ [])))
+      (nodes_in (block_from (map plain_stmt body) (suc k) at))
       (All-head S s body each (and_left (fits site s) (all_of (map (fits site) body)) fitted) (at ++ k ∷ []))
       (blocks_few body (All-tail S s body each) (and_right (fits site s) (all_of (map (fits site) body)) fitted) (suc k) at)
 
@@ -134,7 +134,7 @@ module _ (site : TypingContext) where
       (append_few n m (places_in body) (places_in other) (nodes_in body) (nodes_in other) one two)
 
   single : (n : ℕ) (s : Plain) → Small n s → SmallIn (n + 0) (Then s Done)
-  single n s few = append_few n 0 (places_of s) 0 (nodes_of s) [] few nothing
+  single n s few = append_few n 0 (resting_places s) 0 (nodes_of s) [] few nothing
 
   else_few : (l : Label) (ns : List ℕ) (m : ℕ) (arms : List PlainArm) (other : Position → Block) → FewArms ns arms →
       ((at : Position) → SmallIn m (other at)) → SmallIn (length ns + total ns + m) (else_at l arms other)
@@ -192,8 +192,8 @@ module _ (site : TypingContext) where
       (sym (fold_out-Branch (Place → Position → Plain) PlainArm PlainBranch (Position → Plain) kind_plain arm_plain branch_plain stmt_plain
       branch))
       (λ at. branch_more (cell_statements_in_block (out-Branch branch).body)
-      (length (nodes_in (block_from (map plain (out-Branch branch).body) 0 at)))
-      (places_in (block_from (map plain (out-Branch branch).body) 0 at)) (blocks_few (out-Branch branch).body each fits_so 0 at)))
+      (length (nodes_in (block_from (map plain_stmt (out-Branch branch).body) 0 at)))
+      (places_in (block_from (map plain_stmt (out-Branch branch).body) 0 at)) (blocks_few (out-Branch branch).body each fits_so 0 at)))
 
   abbrev FewBranches : List ℕ → List PlainBranch → Type 0
   FewBranches [] [] = Unit {0}
@@ -227,51 +227,51 @@ module _ (site : TypingContext) where
   some_there f g (x ∷ xs) h = refl
 
   module _ (place : Place) where
-    declare_plain : (k : ℕ) (initial : Option Expr) (at : Position) → plain (stmt place (StmtKind-F.Declare k initial)) at
+    declare_plain : (k : ℕ) (initial : Option Expr) (at : Position) → plain_stmt (stmt place (StmtKind-F.Declare k initial)) at
         ≡ Act (label_at at) (stmt place (StmtKind-F.Declare k initial))
     declare_plain k initial at = rw (fold-roll-Stmt, fold-roll-StmtKind) refl
 
-    assign_plain : (path : Path) (e : Expr) (at : Position) → plain (stmt place (StmtKind-F.Assign path e)) at
+    assign_plain : (path : Path) (e : Expr) (at : Position) → plain_stmt (stmt place (StmtKind-F.Assign path e)) at
         ≡ Act (label_at at) (stmt place (StmtKind-F.Assign path e))
     assign_plain path e at = rw (fold-roll-Stmt, fold-roll-StmtKind) refl
 
-    call_plain : (f : ℕ) (inputs : List Expr) (outputs : List Path) (at : Position) → plain (stmt place (StmtKind-F.Call f inputs outputs)) at
+    call_plain : (f : ℕ) (inputs : List Expr) (outputs : List Path) (at : Position) → plain_stmt (stmt place (StmtKind-F.Call f inputs outputs)) at
         ≡ Act (label_at at) (stmt place (StmtKind-F.Call f inputs outputs))
     call_plain f inputs outputs at = rw (fold-roll-Stmt, fold-roll-StmtKind) refl
 
     return_plain : (e : Option Expr) (at : Position) →
-        plain (stmt place (StmtKind-F.Return e)) at ≡ Act (label_at at) (stmt place (StmtKind-F.Return e))
+        plain_stmt (stmt place (StmtKind-F.Return e)) at ≡ Act (label_at at) (stmt place (StmtKind-F.Return e))
     return_plain e at = rw (fold-roll-Stmt, fold-roll-StmtKind) refl
 
-    await_plain : (e : Expr) (at : Position) → plain (stmt place (StmtKind-F.Await e)) at ≡ Await (label_at at) place e
+    await_plain : (e : Expr) (at : Position) → plain_stmt (stmt place (StmtKind-F.Await e)) at ≡ Await (label_at at) place e
     await_plain e at = rw (fold-roll-Stmt, fold-roll-StmtKind) refl
 
     run_plain : (target : Option Path) (a : ℕ) (inputs : List Expr) (outputs : List Path) (at : Position) →
-        plain (stmt place (StmtKind-F.Run target a inputs outputs)) at ≡ Run (label_at at) place target a inputs outputs
+        plain_stmt (stmt place (StmtKind-F.Run target a inputs outputs)) at ≡ Run (label_at at) place target a inputs outputs
     run_plain target a inputs outputs at = rw (fold-roll-Stmt, fold-roll-StmtKind) refl
 
-    if_plain : (arms : List Arm) (other : List Stmt) (at : Position) → plain (stmt place (StmtKind-F.If arms other)) at
-        ≡ if_with (label_at at) place (map plain_arm arms) (block_at (map plain other))
+    if_plain : (arms : List Arm) (other : List Stmt) (at : Position) → plain_stmt (stmt place (StmtKind-F.If arms other)) at
+        ≡ if_with (label_at at) place (map plain_arm arms) (block_at (map plain_stmt other))
     if_plain arms other at = rw (fold-roll-Stmt, fold-roll-StmtKind) refl
 
-    cobegin_plain : (branches : List Branch) (at : Position) → plain (stmt place (StmtKind-F.Cobegin branches)) at
+    cobegin_plain : (branches : List Branch) (at : Position) → plain_stmt (stmt place (StmtKind-F.Cobegin branches)) at
         ≡ Cobegin (label_at at) place (bodies_from (map plain_branch branches) 0 (label_at at))
     cobegin_plain branches at = rw (fold-roll-Stmt, fold-roll-StmtKind) refl
 
-    when_plain : (guard : Guard) (e : Expr) (body : List Stmt) (at : Position) → plain (stmt place (StmtKind-F.When guard e body)) at
-        ≡ When (label_at at) place guard e (block_at (map plain body) (inside (label_at at) 0))
+    when_plain : (guard : Guard) (e : Expr) (body : List Stmt) (at : Position) → plain_stmt (stmt place (StmtKind-F.When guard e body)) at
+        ≡ When (label_at at) place guard e (block_at (map plain_stmt body) (inside (label_at at) 0))
     when_plain guard e body at = rw (fold-roll-Stmt, fold-roll-StmtKind) refl
 
-    repeat_plain : (body : List Stmt) (at : Position) → plain (stmt place (StmtKind-F.Repeat body)) at
-        ≡ Repeat (label_at at) place (block_at (map plain body) (inside (label_at at) 0))
+    repeat_plain : (body : List Stmt) (at : Position) → plain_stmt (stmt place (StmtKind-F.Repeat body)) at
+        ≡ Repeat (label_at at) place (block_at (map plain_stmt body) (inside (label_at at) 0))
     repeat_plain body at = rw (fold-roll-Stmt, fold-roll-StmtKind) refl
 
-    until_plain : (body : List Stmt) (e : Expr) (at : Position) → plain (stmt place (StmtKind-F.Until body e)) at
-        ≡ Until (label_at at) place (block_at (map plain body) (inside (label_at at) 0)) e
+    until_plain : (body : List Stmt) (e : Expr) (at : Position) → plain_stmt (stmt place (StmtKind-F.Until body e)) at
+        ≡ Until (label_at at) place (block_at (map plain_stmt body) (inside (label_at at) 0)) e
     until_plain body e at = rw (fold-roll-Stmt, fold-roll-StmtKind) refl
 
-    while_plain : (e : Expr) (body : List Stmt) (at : Position) → plain (stmt place (StmtKind-F.While e body)) at
-        ≡ While (label_at at) place e (block_at (map plain body) (inside (label_at at) 0))
+    while_plain : (e : Expr) (body : List Stmt) (at : Position) → plain_stmt (stmt place (StmtKind-F.While e body)) at
+        ≡ While (label_at at) place e (block_at (map plain_stmt body) (inside (label_at at) 0))
     while_plain e body at = rw (fold-roll-Stmt, fold-roll-StmtKind) refl
 
     loop_few : (n nodes places : ℕ) → Few n nodes places → Few (1 + n) (suc nodes) places
@@ -339,7 +339,7 @@ module _ (site : TypingContext) where
         let some = and_left (is_inhabited (map arm_fitted arms)) (all_of (map arm_fitted arms) && all_of (map (fits site) other)) parts in
         let more = and_right (is_inhabited (map arm_fitted arms)) (all_of (map arm_fitted arms) && all_of (map (fits site) other)) parts in
         as_many _ _ _ _ (if_count arms other) (if_plain arms other at)
-        (with_few (label_at at) place (map cell_statements_in_arm arms) (cell_statements_in_block other) (map plain_arm arms) (block_at (map plain other))
+        (with_few (label_at at) place (map cell_statements_in_arm arms) (cell_statements_in_block other) (map plain_arm arms) (block_at (map plain_stmt other))
         (some_there arm_fitted plain_arm arms some)
         (arms_few arms each (and_left (all_of (map arm_fitted arms)) (all_of (map (fits site) other)) more))
         (λ at. blocks_few other others (and_right (all_of (map arm_fitted arms)) (all_of (map (fits site) other)) more) 0 at))
@@ -363,7 +363,7 @@ module _ (site : TypingContext) where
         let parts = and_right (is_activity site.kind) (is_truth (type_of site e) && all_of (map (fits site) body))
         (rw (fold-roll-Stmt, fold-roll-StmtKind) at fitted) in
         let l : Label = label_at at in
-        let inner : Block = block_at (map plain body) (inside l 0) in
+        let inner : Block = block_at (map plain_stmt body) (inside l 0) in
         as_many _ _ _ _ (when_count guard e body) (when_plain guard e body at)
         (subst (λ k. Few (1 + cell_statements_in_block body) (suc k) (places_in inner))
         (sym (length-append (where_so (are_instant inner) (SurfaceEndAt l place)) (CheckAt l place e ∷ DepthEndAt l place ∷ nodes_in inner)))
@@ -373,7 +373,7 @@ module _ (site : TypingContext) where
 
     repeat_case : (body : List Stmt) → Each S body → S (stmt place (StmtKind-F.Repeat body))
     repeat_case body each fitted at =
-        let inner : Block = block_at (map plain body) (inside (label_at at) 0) in
+        let inner : Block = block_at (map plain_stmt body) (inside (label_at at) 0) in
         as_many _ _ _ _ (repeat_count body) (repeat_plain body at)
         (loop_few (cell_statements_in_block body) (length (nodes_in inner)) (places_in inner)
         (blocks_few body each (rw (fold-roll-Stmt, fold-roll-StmtKind) at fitted) 0 (inside (label_at at) 0)))
@@ -381,7 +381,7 @@ module _ (site : TypingContext) where
     until_case : (body : List Stmt) (e : Expr) → Each S body → S (stmt place (StmtKind-F.Until body e))
     until_case body e each fitted at =
         let parts = rw (fold-roll-Stmt, fold-roll-StmtKind) at fitted in
-        let inner : Block = block_at (map plain body) (inside (label_at at) 0) in
+        let inner : Block = block_at (map plain_stmt body) (inside (label_at at) 0) in
         as_many _ _ _ _ (until_count body e) (until_plain body e at)
         (test_few (cell_statements_in_block body) (length (nodes_in inner)) (places_in inner)
         (blocks_few body each (and_left (all_of (map (fits site) body)) (is_truth (type_of site e)) parts) 0 (inside (label_at at) 0)))
@@ -389,7 +389,7 @@ module _ (site : TypingContext) where
     while_case : (e : Expr) (body : List Stmt) → Each S body → S (stmt place (StmtKind-F.While e body))
     while_case e body each fitted at =
         let parts = rw (fold-roll-Stmt, fold-roll-StmtKind) at fitted in
-        let inner : Block = block_at (map plain body) (inside (label_at at) 0) in
+        let inner : Block = block_at (map plain_stmt body) (inside (label_at at) 0) in
         as_many _ _ _ _ (while_count e body) (while_plain e body at)
         (loop_few (cell_statements_in_block body) (length (nodes_in inner)) (places_in inner)
         (blocks_few body each (and_right (is_truth (type_of site e)) (all_of (map (fits site) body)) parts) 0 (inside (label_at at) 0)))

@@ -6,8 +6,8 @@ use Rattle.bl_tree.specs.Reduce.{greatest}
 use Rattle.bl_machine.specs.declared.slots.Slot.{Slot}
 use Rattle.bl_machine.specs.Blocks.{up_to}
 use Rattle.bl_machine.specs.Layout.{counters_in, counters_in_each, counters_of, places_in, places_in_each}
-use Rattle.bl_machine.specs.Layout.{places_of, width_in, width_in_each, width_of}
-use Rattle.bl_machine.specs.Slots.{counters_at, numbered, numbered_after, times}
+use Rattle.bl_machine.specs.Layout.{resting_places, width_in, width_in_each, width_of}
+use Rattle.bl_machine.specs.Slots.{counters_at, numbered_after, numbered_slots, times}
 use Rattle.bl_graph_nodes.specs.Plain.{Act, Again, Await, Block, Bodies, Body as BodyOf, Cobegin, Done, If, Last, Plain}
 use Rattle.bl_graph_nodes.specs.Plain.{Repeat, Run as RunOf, Then, Until, When, While}
 use Rattle.bl_machine_pass.specs.Numbered.{sizes_for, sizes_of}
@@ -89,7 +89,7 @@ branch_less : (a b p q : ℕ) → a ≤ p → b ≤ q → max 1 a + b ≤ suc p 
 branch_less a b p q one two = omega (arith, one, two)
 
 mutual
-  width_less : (s : Plain) → width_of s ≤ places_of s
+  width_less : (s : Plain) → width_of s ≤ resting_places s
   width_less (Act l s) = omega arith
   width_less (Await l at e) = omega arith
   width_less (RunOf l at target a inputs outputs) = omega arith
@@ -104,7 +104,7 @@ mutual
 
   block_less : (body : Block) → width_in body ≤ places_in body
   block_less Done = omega arith
-  block_less (Then s rest) = either_less (width_of s) (width_in rest) (places_of s) (places_in rest) (width_less s) (block_less rest)
+  block_less (Then s rest) = either_less (width_of s) (width_in rest) (resting_places s) (places_in rest) (width_less s) (block_less rest)
 
   bodies_less : (bodies : Bodies) → width_in_each bodies ≤ places_in_each bodies
   bodies_less Last = omega arith
@@ -141,7 +141,7 @@ sizes_below n (c ∷ counters) below =
     let some : 0 < n = omega (arith, first) in
     let low : greatest (c ∷ counters) < n = greatest_below n (c ∷ counters) some below in omega (arith, many, low)
 
-pub sizes_few : (body : Block) (slots : List Slot) → slots ≡ numbered (counters_in body 0) → length (sizes_of slots) ≤ places_in body
+pub sizes_few : (body : Block) (slots : List Slot) → slots ≡ numbered_slots (counters_in body 0) → length (sizes_of slots) ≤ places_in body
 sizes_few body slots is =
     let counters : counters_at slots ≡ counters_in body 0 = ap counters_at is ∙ of_numbered [] (counters_in body 0) in
     let few : length (sizes_for (counters_in body 0)) ≤ width_in body =

@@ -34,6 +34,7 @@ use Rattle.bl_emit_spec.specs.Activities.{
   RunAt,
   activity_locals,
   activity_params,
+  activity_view,
   copied_in,
   copies_of,
   copy_local,
@@ -58,7 +59,6 @@ use Rattle.bl_emit_spec.specs.Activities.{
   runs_in_body,
   scalar_local,
   struct_member,
-  view_of,
 }
 use Rattle.bl_emit_spec.specs.Blocks.{Sizes, name_in}
 use Rattle.bl_emit_spec.specs.Names.{callee_name, flag_name}
@@ -105,7 +105,7 @@ flag_names number (rule ∷ rules) =
     ∙ (λ i. one i ++ flag_names number rules i) ∙ sym (family_append 103 (flag_number number rule) (joined (map (flag_number number) rules)))
   where
     one : local_names (flag_local number rule) ≡ family 103 (flag_number number rule)
-    one = by (is_flagged rule.asked) (scalar_local OfBool (flag_name (number rule.node))) refl
+    one = by (is_flagged rule.condition) (scalar_local OfBool (flag_name (number rule.node))) refl
       where
         by : (b : Bool) (l : CLocal) → l.name ≡ 103 ∷ decimal (number rule.node) →
             local_names (if b then l ∷ [] else []) ≡ family 103 (if b then number rule.node ∷ [] else [])
@@ -134,7 +134,7 @@ mark_names : (number : Node → ℕ) (rules : List Transition) →
 mark_names number [] = refl
 mark_names number (rule ∷ rules) =
     locals_append (mark_locals number rule) (joined (map (mark_locals number) rules))
-    ∙ (λ i. changes_names number rule.so i ++ mark_names number rules i)
+    ∙ (λ i. changes_names number rule.on_true i ++ mark_names number rules i)
     ∙ sym (family_append 117 (mark_numbers number rule) (joined (map (mark_numbers number) rules)))
 
 -- ---- the locals of `run`s
@@ -265,7 +265,7 @@ module _ (a : Activity) where
 
   module _ (differ : NumbersDiffer a) where
     abbrev number : Node → ℕ
-    number = (view_of a).number
+    number = (activity_view a).number
 
     abbrev flags : List ℕ
     flags = joined (map (flag_number number) (rules_at a))
@@ -304,7 +304,7 @@ module _ (a : Activity) where
     copies_numbers = filtered-numbers (is_copied (copies_of a.unit)) (length a.unit.vars) differ.variables
 
     read_numbers : are_numbers (counters_read a) ≡ true
-    read_numbers = filtered-numbers (view_of a).is_read (length a.sizes) differ.counters
+    read_numbers = filtered-numbers (activity_view a).is_read (length a.sizes) differ.counters
 
     -- a letter that begins no name of a local
     none_begins : (b : ℕ) → nat_eq b 119 ≡ false → nat_eq b 103 ≡ false → nat_eq b 117 ≡ false → nat_eq b 112 ≡ false →
@@ -486,13 +486,13 @@ module _ (a : Activity) where
         by false = refl
 
     memory_names : (runs : List RunAt) → member_names (joined (map (memory_member a) runs))
-        ≡ family 120 (chosen (λ (run : RunAt). (view_of a).remembers run.unit) (λ (run : RunAt). run.number) runs)
+        ≡ family 120 (chosen (λ (run : RunAt). (activity_view a).remembers run.unit) (λ (run : RunAt). run.number) runs)
     memory_names [] = refl
     memory_names (run ∷ runs) =
         members_append (memory_member a run) (joined (map (memory_member a) runs))
-        ∙ (λ i. by ((view_of a).remembers run.unit) i ++ memory_names runs i)
-        ∙ sym (family_append 120 (if (view_of a).remembers run.unit then run.number ∷ [] else [])
-        (chosen (λ (run : RunAt). (view_of a).remembers run.unit) (λ (run : RunAt). run.number) runs))
+        ∙ (λ i. by ((activity_view a).remembers run.unit) i ++ memory_names runs i)
+        ∙ sym (family_append 120 (if (activity_view a).remembers run.unit then run.number ∷ [] else [])
+        (chosen (λ (run : RunAt). (activity_view a).remembers run.unit) (λ (run : RunAt). run.number) runs))
       where
         by : (b : Bool) → member_names (if b then struct_member (callee_name run.number)
             (memory_name (name_in (slice_get a.earlier run.unit))) ∷ [] else [])
@@ -509,9 +509,9 @@ module _ (a : Activity) where
         (members_append (members_of a.structs a.earlier a.unit) (joined (map (memory_member a) runs))
         ∙ (λ i. held_names (site_of a.structs a.earlier a.unit) 0 a.unit.vars i ++ memory_names runs i))
         ∙ families_distinct 118 120 (positions (λ (v : Var). is_held (home_of (site_of a.structs a.earlier a.unit) (Some v))) 0 a.unit.vars)
-        (chosen (λ (run : RunAt). (view_of a).remembers run.unit) (λ (run : RunAt). run.number) runs) refl
+        (chosen (λ (run : RunAt). (activity_view a).remembers run.unit) (λ (run : RunAt). run.number) runs) refl
         (position-numbers (λ (v : Var). is_held (home_of (site_of a.structs a.earlier a.unit) (Some v))) 0 a.unit.vars room)
-        (chosen-numbers (λ (run : RunAt). (view_of a).remembers run.unit) (λ (run : RunAt). run.number) runs differ.runs)
+        (chosen-numbers (λ (run : RunAt). (activity_view a).remembers run.unit) (λ (run : RunAt). run.number) runs differ.runs)
 
 pub locals : LocalsDiffer
 locals a differ = all_distinct a differ

@@ -26,7 +26,7 @@ use Rattle.bl_graph_nodes.specs.Nodes.{nodes_in, nodes_in_each, nodes_of, where_
 use Rattle.bl_graph_nodes.specs.Plain.{Act, Arm as PlainArm, Await, Block, Bodies, Branch as PlainBranch, Cobegin, Done, If}
 use Rattle.bl_graph_nodes.specs.Plain.{Label, Plain, Position, Repeat, Run, Then, Until, When}
 use Rattle.bl_graph_nodes.specs.Plain.{While, arm_plain, block_at, block_from, bodies_from, branch_plain, else_at, if_with}
-use Rattle.bl_graph_nodes.specs.Plain.{inside, kind_plain, label_at, passed_one, place_of_test, plain, plain_body, stmt_plain}
+use Rattle.bl_graph_nodes.specs.Plain.{inside, kind_plain, label_at, passed_one, place_of_test, plain_body, plain_stmt, stmt_plain}
 use Rattle.bl_machine_transitions.specs.Callees.{callees_in, callees_in_each, callees_of, zero_where}
 use Rattle.bl_emit_spec_laws_wellformed.specs.Spelled.{node_fits, run_stands}
 use Rattle.bl_emit_spec_laws_wellformed.specs.Nodes.{nodes_fit}
@@ -85,18 +85,18 @@ deep_branch = fold-Branch Depth Depth Depth Depth stmt_kind_depth arm_depth bran
 
 module _ (site : TypingContext) where
   abbrev S : Stmt → Type 0
-  S s = fits site s ≡ true → (depth_of s).exprs ≤ 200 → (at : Position) → Fine site (plain s at)
+  S s = fits site s ≡ true → (depth_of s).exprs ≤ 200 → (at : Position) → Fine site (plain_stmt s at)
 
   blocks_fine : (body : List Stmt) → Each S body → all_of (map (fits site) body) ≡ true → (of_all (map depth_of body)).exprs ≤ 200 →
       (k : ℕ)
-      (at : Position) → FineBlock site (block_from (map plain body) k at)
+      (at : Position) → FineBlock site (block_from (map plain_stmt body) k at)
   blocks_fine [] each fitted deep k at = nothing site
   blocks_fine (s ∷ body) each fitted deep k at =
       let here : (depth_of s).exprs ≤ 200 = omega (arith, deep) in
       let later : (of_all (map depth_of body)).exprs ≤ 200 = omega (arith, deep) in
-      append_fit site (callees_of (plain s (at ++ k ∷ []))) (callees_in (block_from (map plain body) (suc k) at))
-      (nodes_of (plain s (at ++ k ∷ [])))
-      (nodes_in (block_from (map plain body) (suc k) at))
+      append_fit site (callees_of (plain_stmt s (at ++ k ∷ []))) (callees_in (block_from (map plain_stmt body) (suc k) at))
+      (nodes_of (plain_stmt s (at ++ k ∷ [])))
+      (nodes_in (block_from (map plain_stmt body) (suc k) at))
       (All-head S s body each (and_left (fits site s) (all_of (map (fits site) body)) fitted) here (at ++ k ∷ []))
       (blocks_fine body (All-tail S s body each) (and_right (fits site s) (all_of (map (fits site) body)) fitted) later (suc k) at)
 
@@ -237,51 +237,51 @@ module _ (site : TypingContext) where
   some_there f g (x ∷ xs) h = refl
 
   module _ (place : Place) where
-    declare_plain : (k : ℕ) (initial : Option Expr) (at : Position) → plain (stmt place (StmtKind-F.Declare k initial)) at
+    declare_plain : (k : ℕ) (initial : Option Expr) (at : Position) → plain_stmt (stmt place (StmtKind-F.Declare k initial)) at
         ≡ Act (label_at at) (stmt place (StmtKind-F.Declare k initial))
     declare_plain k initial at = rw (fold-roll-Stmt, fold-roll-StmtKind) refl
 
-    assign_plain : (path : Path) (e : Expr) (at : Position) → plain (stmt place (StmtKind-F.Assign path e)) at
+    assign_plain : (path : Path) (e : Expr) (at : Position) → plain_stmt (stmt place (StmtKind-F.Assign path e)) at
         ≡ Act (label_at at) (stmt place (StmtKind-F.Assign path e))
     assign_plain path e at = rw (fold-roll-Stmt, fold-roll-StmtKind) refl
 
-    call_plain : (f : ℕ) (inputs : List Expr) (outputs : List Path) (at : Position) → plain (stmt place (StmtKind-F.Call f inputs outputs)) at
+    call_plain : (f : ℕ) (inputs : List Expr) (outputs : List Path) (at : Position) → plain_stmt (stmt place (StmtKind-F.Call f inputs outputs)) at
         ≡ Act (label_at at) (stmt place (StmtKind-F.Call f inputs outputs))
     call_plain f inputs outputs at = rw (fold-roll-Stmt, fold-roll-StmtKind) refl
 
     return_plain : (e : Option Expr) (at : Position) →
-        plain (stmt place (StmtKind-F.Return e)) at ≡ Act (label_at at) (stmt place (StmtKind-F.Return e))
+        plain_stmt (stmt place (StmtKind-F.Return e)) at ≡ Act (label_at at) (stmt place (StmtKind-F.Return e))
     return_plain e at = rw (fold-roll-Stmt, fold-roll-StmtKind) refl
 
-    await_plain : (e : Expr) (at : Position) → plain (stmt place (StmtKind-F.Await e)) at ≡ Await (label_at at) place e
+    await_plain : (e : Expr) (at : Position) → plain_stmt (stmt place (StmtKind-F.Await e)) at ≡ Await (label_at at) place e
     await_plain e at = rw (fold-roll-Stmt, fold-roll-StmtKind) refl
 
     run_plain : (target : Option Path) (a : ℕ) (inputs : List Expr) (outputs : List Path) (at : Position) →
-        plain (stmt place (StmtKind-F.Run target a inputs outputs)) at ≡ Run (label_at at) place target a inputs outputs
+        plain_stmt (stmt place (StmtKind-F.Run target a inputs outputs)) at ≡ Run (label_at at) place target a inputs outputs
     run_plain target a inputs outputs at = rw (fold-roll-Stmt, fold-roll-StmtKind) refl
 
-    if_plain : (arms : List Arm) (other : List Stmt) (at : Position) → plain (stmt place (StmtKind-F.If arms other)) at
-        ≡ if_with (label_at at) place (map plain_arm arms) (block_at (map plain other))
+    if_plain : (arms : List Arm) (other : List Stmt) (at : Position) → plain_stmt (stmt place (StmtKind-F.If arms other)) at
+        ≡ if_with (label_at at) place (map plain_arm arms) (block_at (map plain_stmt other))
     if_plain arms other at = rw (fold-roll-Stmt, fold-roll-StmtKind) refl
 
-    cobegin_plain : (branches : List Branch) (at : Position) → plain (stmt place (StmtKind-F.Cobegin branches)) at
+    cobegin_plain : (branches : List Branch) (at : Position) → plain_stmt (stmt place (StmtKind-F.Cobegin branches)) at
         ≡ Cobegin (label_at at) place (bodies_from (map plain_branch branches) 0 (label_at at))
     cobegin_plain branches at = rw (fold-roll-Stmt, fold-roll-StmtKind) refl
 
-    when_plain : (guard : Guard) (e : Expr) (body : List Stmt) (at : Position) → plain (stmt place (StmtKind-F.When guard e body)) at
-        ≡ When (label_at at) place guard e (block_at (map plain body) (inside (label_at at) 0))
+    when_plain : (guard : Guard) (e : Expr) (body : List Stmt) (at : Position) → plain_stmt (stmt place (StmtKind-F.When guard e body)) at
+        ≡ When (label_at at) place guard e (block_at (map plain_stmt body) (inside (label_at at) 0))
     when_plain guard e body at = rw (fold-roll-Stmt, fold-roll-StmtKind) refl
 
-    repeat_plain : (body : List Stmt) (at : Position) → plain (stmt place (StmtKind-F.Repeat body)) at
-        ≡ Repeat (label_at at) place (block_at (map plain body) (inside (label_at at) 0))
+    repeat_plain : (body : List Stmt) (at : Position) → plain_stmt (stmt place (StmtKind-F.Repeat body)) at
+        ≡ Repeat (label_at at) place (block_at (map plain_stmt body) (inside (label_at at) 0))
     repeat_plain body at = rw (fold-roll-Stmt, fold-roll-StmtKind) refl
 
-    until_plain : (body : List Stmt) (e : Expr) (at : Position) → plain (stmt place (StmtKind-F.Until body e)) at
-        ≡ Until (label_at at) place (block_at (map plain body) (inside (label_at at) 0)) e
+    until_plain : (body : List Stmt) (e : Expr) (at : Position) → plain_stmt (stmt place (StmtKind-F.Until body e)) at
+        ≡ Until (label_at at) place (block_at (map plain_stmt body) (inside (label_at at) 0)) e
     until_plain body e at = rw (fold-roll-Stmt, fold-roll-StmtKind) refl
 
-    while_plain : (e : Expr) (body : List Stmt) (at : Position) → plain (stmt place (StmtKind-F.While e body)) at
-        ≡ While (label_at at) place e (block_at (map plain body) (inside (label_at at) 0))
+    while_plain : (e : Expr) (body : List Stmt) (at : Position) → plain_stmt (stmt place (StmtKind-F.While e body)) at
+        ≡ While (label_at at) place e (block_at (map plain_stmt body) (inside (label_at at) 0))
     while_plain e body at = rw (fold-roll-Stmt, fold-roll-StmtKind) refl
 
     await_case : (e : Expr) → S (stmt place (StmtKind-F.Await e))
@@ -314,7 +314,7 @@ module _ (site : TypingContext) where
         let in_arms : (of_all (map deep_arm arms)).exprs ≤ 200 = omega (arith, within) in
         let in_other : (of_all (map depth_of other)).exprs ≤ 200 = omega (arith, within) in
         as_fine _ _ (if_plain arms other at)
-        (with_fine (label_at at) place (map plain_arm arms) (block_at (map plain other)) (some_there arm_fitted plain_arm arms some)
+        (with_fine (label_at at) place (map plain_arm arms) (block_at (map plain_stmt other)) (some_there arm_fitted plain_arm arms some)
         (arms_fine arms each (and_left (all_of (map arm_fitted arms)) (all_of (map (fits site) other)) more) in_arms)
         (λ at. blocks_fine other others (and_right (all_of (map arm_fitted arms)) (all_of (map (fits site) other)) more) in_other 0 at))
 
@@ -343,7 +343,7 @@ module _ (site : TypingContext) where
         let one : expr_depth e ≤ 200 = omega (arith, within) in
         let other : (of_all (map depth_of body)).exprs ≤ 200 = omega (arith, within) in
         let l : Label = label_at at in
-        let inner : Block = block_at (map plain body) (inside l 0) in
+        let inner : Block = block_at (map plain_stmt body) (inside l 0) in
         as_fine _ _ (when_plain guard e body at)
         (one_more site 0 (StartAt l place) (zero_where (are_instant inner) ++ 0 ∷ 0 ∷ callees_in inner)
         (where_so (are_instant inner) (SurfaceEndAt l place) ++ CheckAt l place e ∷ DepthEndAt l place ∷ nodes_in inner) refl
@@ -359,7 +359,7 @@ module _ (site : TypingContext) where
         let within : max 0 (of_all (map depth_of body)).exprs ≤ 200 = rw (fold-roll-Stmt, fold-roll-StmtKind) at deep in
         let other : (of_all (map depth_of body)).exprs ≤ 200 = omega (arith, within) in
         let l : Label = label_at at in
-        let inner : Block = block_at (map plain body) (inside l 0) in
+        let inner : Block = block_at (map plain_stmt body) (inside l 0) in
         as_fine _ _ (repeat_plain body at)
         (one_more site 0 (HeadAt l place) (callees_in inner) (nodes_in inner) refl
         (blocks_fine body each (rw (fold-roll-Stmt, fold-roll-StmtKind) at fitted) other 0 (inside l 0)))
@@ -371,7 +371,7 @@ module _ (site : TypingContext) where
         let one : expr_depth e ≤ 200 = omega (arith, within) in
         let other : (of_all (map depth_of body)).exprs ≤ 200 = omega (arith, within) in
         let l : Label = label_at at in
-        let inner : Block = block_at (map plain body) (inside l 0) in
+        let inner : Block = block_at (map plain_stmt body) (inside l 0) in
         as_fine _ _ (until_plain body e at)
         (one_more site 0 (HeadAt l place) (0 ∷ callees_in inner) (TestAt l place e ∷ nodes_in inner) refl
         (one_more site 0 (TestAt l place e) (callees_in inner) (nodes_in inner)
@@ -385,7 +385,7 @@ module _ (site : TypingContext) where
         let one : expr_depth e ≤ 200 = omega (arith, within) in
         let other : (of_all (map depth_of body)).exprs ≤ 200 = omega (arith, within) in
         let l : Label = label_at at in
-        let inner : Block = block_at (map plain body) (inside l 0) in
+        let inner : Block = block_at (map plain_stmt body) (inside l 0) in
         as_fine _ _ (while_plain e body at)
         (one_more site 0 (TestAt l place e) (callees_in inner) (nodes_in inner)
         (test_fine e (and_left (is_truth (type_of site e)) (all_of (map (fits site) body)) parts) one)

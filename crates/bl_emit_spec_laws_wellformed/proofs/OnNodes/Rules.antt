@@ -43,9 +43,9 @@ surface_end l at next = flagged (SurfaceEndAt l at) (next ∷ [])
 abbrev pub check_rule : Slots → Label → Place → Guard → Expr → Block → Change → Transition
 check_rule slots l at guard e body next = record {
   node = CheckAt l at e;
-  asked = RestedIn (rests_in slots body);
-  so = map ClearsBoth (once (counters_in slots body)) ++ fires guard l at body next ∷ [];
-  otherwise = [];
+  condition = RestedIn (rests_in slots body);
+  on_true = map ClearsBoth (once (counters_in slots body)) ++ fires guard l at body next ∷ [];
+  on_false = [];
 }
 
 abbrev pub depth_end : Label → Place → Change → Transition

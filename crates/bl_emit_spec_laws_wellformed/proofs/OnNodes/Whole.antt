@@ -20,7 +20,7 @@ use Rattle.bl_eval.proofs.PassLemmas.{and_left, and_right, both}
 use Rattle.bl_graph_nodes.specs.Nodes.{nodes_in}
 use Rattle.bl_machine_pass.specs.Transitions.{Finishes}
 use Rattle.bl_emit_acts_laws_wellformed.proofs.OnFormed.Units.{body_stands, unit_at}
-use Rattle.bl_emit_spec.specs.Activities.{body_of, callees_in, rules_at, view_of}
+use Rattle.bl_emit_spec.specs.Activities.{activity_view, body_of, callees_in, rules_at}
 use Rattle.bl_emit_spec_laws_wellformed.specs.Nodes.{NodesStand, RulesFit, nodes_fit}
 use Rattle.bl_emit_spec_laws_wellformed.proofs.OnNodes.Nodes.{body-fine}
 use Rattle.bl_emit_spec_laws_wellformed.proofs.OnNodes.Rules.{both-fit, of_block}
@@ -51,8 +51,8 @@ stand structs units entry k unit keeps there =
 
 pub fit : (structs : List StructDef) (units : List UnitDef) (entry : ℕ) → NodesStand structs units entry → RulesFit structs units entry
 fit structs units entry stands k a keeps same earlier there rules =
-    both-fit a.sizes (view_of a).site (callees_in (body_of a)) (rules_at a) rules
-    (subst (λ nodes. nodes_fit (view_of a).site (callees_in (body_of a)) nodes ≡ true) (sym (of_block a.slots (body_of a) Finishes))
+    both-fit a.sizes (activity_view a).site (callees_in (body_of a)) (rules_at a) rules
+    (subst (λ nodes. nodes_fit (activity_view a).site (callees_in (body_of a)) nodes ≡ true) (sym (of_block a.slots (body_of a) Finishes))
     (subst (λ (structs : List StructDef). nodes_fit (site_of structs a.earlier a.unit) (callees_in (body_of a)) (nodes_in (body_of a)) ≡ true)
     (sym same)
     (subst (λ (earlier : List UnitDef). nodes_fit (site_of structs earlier a.unit) (callees_in (body_of a)) (nodes_in (body_of a)) ≡ true)

@@ -82,7 +82,7 @@ module _ (number : Node → ℕ) where
   fires_plain Reset l at body next plain = enter_plain body (body_ends l at body) (ends_plain l at body)
 
   -- a rule whose changes may begin with the mark of its node
-  marked_own : (rule : Transition) (instant : Bool) (rest : List Change) → rule.so ≡ marked instant rule.node rest → marks_in rest ≡ [] →
+  marked_own : (rule : Transition) (instant : Bool) (rest : List Change) → rule.on_true ≡ marked instant rule.node rest → marks_in rest ≡ [] →
       Owns rule
   marked_own rule true rest is none = Own_set (ap marks_in is ∙ ap (λ ns. number rule.node ∷ ns) none)
   marked_own rule false rest is none = None_set (ap marks_in is ∙ none)

@@ -9,7 +9,7 @@ use Rattle.bl_graph_nodes.specs.Nodes.{ActAt, CheckAt, DepthEndAt, DepthJoinAt, 
 use Rattle.bl_graph_nodes.specs.Nodes.{StartAt, SurfaceEndAt, SurfaceJoinAt, TestAt}
 use Rattle.bl_machine_pass.specs.Transitions.{Finishes, Transition}
 use Rattle.bl_tree.specs.Rules.{same_place}
-use Rattle.bl_emit_spec.specs.Activities.{RunAt, body_of, callees_in, is_flagged, one_a_place, rules_at, run_at, runs_at, view_of}
+use Rattle.bl_emit_spec.specs.Activities.{RunAt, activity_view, body_of, callees_in, is_flagged, one_a_place, rules_at, run_at, runs_at}
 use Rattle.bl_emit_spec_laws_wellformed.specs.Names.{are_numbers, flag_number, mark_numbers}
 use Rattle.bl_emit_spec_laws_wellformed.proofs.OnNodes.Rules.{of_block as nodes_of_block}
 use Rattle.bl_emit_spec_laws_wellformed.specs.Numbers.{NumbersFollow}
@@ -90,7 +90,7 @@ module _ (number : Node → ℕ) where
   numbers_of rules = map (λ (rule : Transition). number rule.node) rules
 
   flag_few : (rule : Transition) → Few (number rule.node) (flag_number number rule)
-  flag_few rule = by (is_flagged rule.asked)
+  flag_few rule = by (is_flagged rule.condition)
     where
       by : (b : Bool) → Few (number rule.node) (if b then number rule.node ∷ [] else [])
       by true = Just_own refl
@@ -164,15 +164,15 @@ module _ (number : Node → ℕ) where
 
 pub follow : NumbersFollow
 follow a variables counters differ =
-    let number : Node → ℕ = (view_of a).number in
-    let all : are_numbers (numbers_of (view_of a).number (rules_at a)) ≡ true =
-    ap are_numbers (by_nodes (view_of a).number (rules_at a) ∙ ap (map (view_of a).number) (nodes_of_block a.slots (body_of a) Finishes))
+    let number : Node → ℕ = (activity_view a).number in
+    let all : are_numbers (numbers_of (activity_view a).number (rules_at a)) ≡ true =
+    ap are_numbers (by_nodes (activity_view a).number (rules_at a) ∙ ap (map (activity_view a).number) (nodes_of_block a.slots (body_of a) Finishes))
     ∙ differ in
     record {
       variables = variables;
       counters = counters;
-      flags = (flags_some (view_of a).number (rules_at a)).numbers all;
-      marks = (marks_some (view_of a).number (rules_at a) (of_block (view_of a).number a.slots (body_of a) Finishes refl)).numbers all;
-      runs = (once_some (view_of a).number (runs_at (view_of a).number (callees_in (body_of a)) (rules_at a))).numbers
-          ((runs_some (view_of a).number (callees_in (body_of a)) (rules_at a)).numbers all);
+      flags = (flags_some (activity_view a).number (rules_at a)).numbers all;
+      marks = (marks_some (activity_view a).number (rules_at a) (of_block (activity_view a).number a.slots (body_of a) Finishes refl)).numbers all;
+      runs = (once_some (activity_view a).number (runs_at (activity_view a).number (callees_in (body_of a)) (rules_at a))).numbers
+          ((runs_some (activity_view a).number (callees_in (body_of a)) (rules_at a)).numbers all);
     }

@@ -15,7 +15,7 @@ use Rattle.bl_tree.specs.Scalar.{in_range}
 use Rattle.bl_eval.proofs.PassLemmas.{both, get_front, get_seam}
 use Rattle.bl_machine.specs.declared.slots.Slot.{Slot}
 use Rattle.bl_machine.specs.Blocks.{up_to}
-use Rattle.bl_machine.specs.Slots.{counters_at, numbered, numbered_after, times}
+use Rattle.bl_machine.specs.Slots.{counters_at, numbered_after, numbered_slots, times}
 use Rattle.bl_machine_pass.specs.Numbered.{sizes_for, sizes_of}
 use Rattle.bl_emit_spec.specs.Blocks.{counter_type, type_for}
 use Rattle.bl_emit_spec_laws_wellformed.specs.Spelled.{slot_fits}
@@ -115,14 +115,14 @@ typed n v below small = by (nat_le n 255) (nat_le n 65535) refl refl
         both (int_le (pos 0) (pos v)) (int_le (pos v) (pos 4294967295)) least (le_test v 4294967295 (omega (arith, below, small)))
 
 -- each number in the list fits
-pub number_fits : (list : List Slot) → list ≡ numbered (counters_at list) → length list < 2 ^ 32 → length (sizes_of list) ≤ 2 ^ 64 →
+pub number_fits : (list : List Slot) → list ≡ numbered_slots (counters_at list) → length list < 2 ^ 32 → length (sizes_of list) ≤ 2 ^ 64 →
     (i : ℕ) (x : Slot) → slice_get list i ≡ Some x → slot_fits (sizes_of list) x ≡ true
 number_fits list values small few i x is =
     let counters : List ℕ = counters_at list in
     let counter : slice_get counters i ≡ Some x.counter =
     slice_get-map (λ (slot : Slot). slot.counter) list i ∙ ap (option_map (λ (slot : Slot). slot.counter)) is in
     let size : slice_get (sizes_of list) x.counter ≡ Some (times x.counter counters) = size_at counters i x.counter counter in
-    let there : slice_get (numbered counters) i ≡ Some x = ap (λ (all : List Slot). slice_get all i) (sym values) ∙ is in
+    let there : slice_get (numbered_slots counters) i ≡ Some x = ap (λ (all : List Slot). slice_get all i) (sym values) ∙ is in
     let low : x.value ≤ times x.counter [] + times x.counter counters = values_low [] counters i x there in
     let many : times x.counter counters ≤ length counters = count_by-le-length (λ other. nat_eq other x.counter) counters in
     let same : length counters ≡ length list = map_length list in

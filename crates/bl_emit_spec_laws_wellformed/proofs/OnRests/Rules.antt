@@ -23,7 +23,7 @@ use Rattle.bl_machine_pass.specs.Transitions.{body_ends, counters_in, counters_i
 use Rattle.bl_machine_pass.specs.Transitions.{joins, marked, needed, once, once_but, rests_in, rests_in_first, rests_of, rule_where, rules_in}
 use Rattle.bl_machine_pass.specs.Transitions.{Flagged, Rested, RestedIn, rules_in_each, rules_of, strong_endings}
 use Rattle.bl_emit_spec.specs.Blocks.{Sizes, counter_type}
-use Rattle.bl_emit_spec_laws_wellformed.specs.Spelled.{asked_fits, change_fits, rule_fits, slot_fits, slots_fit}
+use Rattle.bl_emit_spec_laws_wellformed.specs.Spelled.{change_fits, condition_fits, rule_fits, slot_fits, slots_fit}
 
 le_test : (n m : ℕ) → n ≤ m → nat_le n m ≡ true
 le_test n m h = grind (arith, nat_tests)
@@ -287,7 +287,7 @@ module _ (slots : Slots) (sizes : Sizes) where
       }
 
   ended_fits : (age : Age) (all : Bool) (ends : List Slot) (spots : List Spot) → EndsFit ends spots → length spots ≤ 2 ^ 64 →
-      asked_fits sizes (Ended age (record { all = all; slots = ends })) ≡ true
+      condition_fits sizes (Ended age (record { all = all; slots = ends })) ≡ true
   ended_fits age all ends spots fit few =
       both (list_all (slot_fits sizes) ends) (nat_le (length ends) (2 ^ 64)) fit.fit
       (le_test (length ends) (2 ^ 64) (at_most (length ends) (length spots) (2 ^ 64) fit.few few))
@@ -296,11 +296,11 @@ module _ (slots : Slots) (sizes : Sizes) where
       at_most n m k one other = omega (arith, one, other)
 
   needed_fits : (age : Age) (l : Label) (bodies : Bodies) → Good ok (spots_in_each l 0 bodies) →
-      asked_fits sizes (Ended age (needed slots l bodies)) ≡ true
+      condition_fits sizes (Ended age (needed slots l bodies)) ≡ true
   needed_fits age l bodies good = by (some_strong bodies)
     where
       by : (b : Bool) →
-          asked_fits sizes (Ended age (if b
+          condition_fits sizes (Ended age (if b
           then record { all = true; slots = strong_endings slots l 0 bodies }
           else record { all = false; slots = endings slots l 0 bodies }))
           ≡ true
@@ -343,11 +343,11 @@ module _ (slots : Slots) (sizes : Sizes) where
 
   -- ---- rules
 
-  made : (rule : Transition) → asked_fits sizes rule.asked ≡ true → list_all (change_fits sizes) rule.so ≡ true →
-      list_all (change_fits sizes) rule.otherwise ≡ true → rule_fits sizes rule ≡ true
-  made rule asked so otherwise =
-      both (asked_fits sizes rule.asked) (list_all (change_fits sizes) rule.so && list_all (change_fits sizes) rule.otherwise) asked
-      (both (list_all (change_fits sizes) rule.so) (list_all (change_fits sizes) rule.otherwise) so otherwise)
+  made : (rule : Transition) → condition_fits sizes rule.condition ≡ true → list_all (change_fits sizes) rule.on_true ≡ true →
+      list_all (change_fits sizes) rule.on_false ≡ true → rule_fits sizes rule ≡ true
+  made rule condition on_true on_false =
+      both (condition_fits sizes rule.condition) (list_all (change_fits sizes) rule.on_true && list_all (change_fits sizes) rule.on_false) condition
+      (both (list_all (change_fits sizes) rule.on_true) (list_all (change_fits sizes) rule.on_false) on_true on_false)
 
   one : (change : Change) → change_fits sizes change ≡ true → list_all (change_fits sizes) (change ∷ []) ≡ true
   one change h = both (change_fits sizes change) true h refl
@@ -356,8 +356,8 @@ module _ (slots : Slots) (sizes : Sizes) where
   where_fits true rule h = both (rule_fits sizes rule) true h refl
   where_fits false rule h = refl
 
-  flagged_fits : (n : Node) (so : List Change) → list_all (change_fits sizes) so ≡ true → rule_fits sizes (flagged n so) ≡ true
-  flagged_fits n so h = made (flagged n so) refl h refl
+  flagged_fits : (n : Node) (on_true : List Change) → list_all (change_fits sizes) on_true ≡ true → rule_fits sizes (flagged n on_true) ≡ true
+  flagged_fits n on_true h = made (flagged n on_true) refl h refl
 
   joins_fit : (l : Label) (bodies : Bodies) (age : Age) (n : Node) (next : Change) → Good ok (spots_in_each l 0 bodies) →
       change_fits sizes next ≡ true → rule_fits sizes (joins slots l bodies age n next) ≡ true
@@ -377,9 +377,9 @@ module _ (slots : Slots) (sizes : Sizes) where
   abbrev check_rule : Label → Place → Guard → Expr → Block → Change → Transition
   check_rule l at guard e body next = record {
     node = CheckAt l at e;
-    asked = RestedIn (rests_in slots body);
-    so = map ClearsBoth (once (counters_in slots body)) ++ fires guard l at body next ∷ [];
-    otherwise = [];
+    condition = RestedIn (rests_in slots body);
+    on_true = map ClearsBoth (once (counters_in slots body)) ++ fires guard l at body next ∷ [];
+    on_false = [];
   }
 
   check_fits : (k : ℕ) (l : Label) (at : Place) (guard : Guard) (e : Expr) (body : Block) (next : Change) →
@@ -394,7 +394,7 @@ module _ (slots : Slots) (sizes : Sizes) where
 
   -- a rest that is over
   abbrev rested_rule : Label → Node → Change → Transition
-  rested_rule l n next = record { node = n; asked = Rested (slots.rest l); so = ClearsCounter (slots.rest l).counter ∷ next ∷ []; otherwise = [] }
+  rested_rule l n next = record { node = n; condition = Rested (slots.rest l); on_true = ClearsCounter (slots.rest l).counter ∷ next ∷ []; on_false = [] }
 
   rested_fits : (l : Label) (n : Node) (next : Change) → slot_fits sizes (slots.rest l) ≡ true → change_fits sizes next ≡ true →
       rule_fits sizes (rested_rule l n next)
@@ -403,21 +403,21 @@ module _ (slots : Slots) (sizes : Sizes) where
       made (rested_rule l n next) fit
       (both (low (slots.rest l).counter) (list_all (change_fits sizes) (next ∷ [])) (counter_low (slots.rest l) fit) (one next h)) refl
 
-  tested_fits : (n : Node) (so otherwise : Change) → change_fits sizes so ≡ true → change_fits sizes otherwise ≡ true →
-      rule_fits sizes (record { node = n; asked = Flagged; so = so ∷ []; otherwise = otherwise ∷ [] }) ≡ true
-  tested_fits n so otherwise h g =
-      made (record { node = n; asked = Flagged; so = so ∷ []; otherwise = otherwise ∷ [] }) refl (one so h) (one otherwise g)
+  tested_fits : (n : Node) (on_true on_false : Change) → change_fits sizes on_true ≡ true → change_fits sizes on_false ≡ true →
+      rule_fits sizes (record { node = n; condition = Flagged; on_true = on_true ∷ []; on_false = on_false ∷ [] }) ≡ true
+  tested_fits n on_true on_false h g =
+      made (record { node = n; condition = Flagged; on_true = on_true ∷ []; on_false = on_false ∷ [] }) refl (one on_true h) (one on_false g)
 
   again_fits : (l : Label) (at : Place) (body : Block) (e : Expr) (next : Change) → change_fits sizes next ≡ true →
       list_all (rule_fits sizes) (rules_in slots body (SetsFlag (TestAt l at e))) ≡ true →
       list_all (rule_fits sizes) (rules_of slots (Until l at body e) next) ≡ true
   again_fits l at body e next h inner =
       all_with (rule_fits sizes) (flagged (HeadAt l at) (enter body (SetsFlag (TestAt l at e)) ∷ []))
-      (record { node = TestAt l at e; asked = Flagged; so = next ∷ []; otherwise = SetsFlag (HeadAt l at) ∷ [] }
+      (record { node = TestAt l at e; condition = Flagged; on_true = next ∷ []; on_false = SetsFlag (HeadAt l at) ∷ [] }
       ∷ rules_in slots body (SetsFlag (TestAt l at e)))
       (flagged_fits (HeadAt l at) (enter body (SetsFlag (TestAt l at e)) ∷ [])
       (one (enter body (SetsFlag (TestAt l at e))) (enter_fits body (SetsFlag (TestAt l at e)) refl)))
-      (all_with (rule_fits sizes) (record { node = TestAt l at e; asked = Flagged; so = next ∷ []; otherwise = SetsFlag (HeadAt l at) ∷ [] })
+      (all_with (rule_fits sizes) (record { node = TestAt l at e; condition = Flagged; on_true = next ∷ []; on_false = SetsFlag (HeadAt l at) ∷ [] })
       (rules_in slots body (SetsFlag (TestAt l at e)))
       (tested_fits (TestAt l at e) next (SetsFlag (HeadAt l at)) h refl)
       inner)
@@ -441,7 +441,7 @@ module _ (slots : Slots) (sizes : Sizes) where
         (rested_fits l (ResumeAt l at (arguments_of target inputs outputs)) next fit h) refl)
     stmt_fits k (If l at e body other) next good laid h =
         all_with (rule_fits sizes)
-        (record { node = TestAt l at e; asked = Flagged; so = enter body next ∷ []; otherwise = enter other next ∷ [] })
+        (record { node = TestAt l at e; condition = Flagged; on_true = enter body next ∷ []; on_false = enter other next ∷ [] })
         (rules_in slots body next ++ rules_in slots other next)
         (tested_fits (TestAt l at e) (enter body next) (enter other next) (enter_fits body next h) (enter_fits other next h))
         (all_both (rule_fits sizes) (rules_in slots body next) (rules_in slots other next)
@@ -486,7 +486,7 @@ module _ (slots : Slots) (sizes : Sizes) where
     stmt_fits k (Until l at body e) next good laid h = again_fits l at body e next h (block_fits k body (SetsFlag (TestAt l at e)) good laid refl)
     stmt_fits k (While l at e body) next good laid h =
         all_with (rule_fits sizes)
-        (record { node = TestAt l at e; asked = Flagged; so = enter body (SetsFlag (TestAt l at e)) ∷ []; otherwise = next ∷ [] })
+        (record { node = TestAt l at e; condition = Flagged; on_true = enter body (SetsFlag (TestAt l at e)) ∷ []; on_false = next ∷ [] })
         (rules_in slots body (SetsFlag (TestAt l at e)))
         (tested_fits (TestAt l at e) (enter body (SetsFlag (TestAt l at e))) next (enter_fits body (SetsFlag (TestAt l at e)) refl) h)
         (block_fits k body (SetsFlag (TestAt l at e)) good laid refl)

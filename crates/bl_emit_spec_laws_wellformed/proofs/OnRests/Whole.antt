@@ -5,7 +5,7 @@ use Rattle.bl_tree.specs.declared.tree.StructDef.{StructDef}
 use Rattle.bl_tree.specs.declared.tree.Unit.{Unit as UnitDef}
 use Rattle.bl_graph_nodes.specs.Plain.{Act, Again, Await, Block, Bodies, Body as BodyOf, Cobegin, Done, If, Label, Last, Plain}
 use Rattle.bl_graph_nodes.specs.Plain.{Repeat, Run as RunOf, Then, Until, When, While, plain_body}
-use Rattle.bl_machine.specs.Layout.{places_in, places_in_each, places_of}
+use Rattle.bl_machine.specs.Layout.{places_in, places_in_each, resting_places}
 use Rattle.bl_machine_pass.specs.SlotLayout.{SlotsAreDistinct, spots_in, spots_in_each, spots_of}
 use Rattle.bl_machine_pass.specs.Numbered.{sizes_of, slots_of}
 use Rattle.bl_machine_pass.specs.Transitions.{Finishes}
@@ -18,7 +18,7 @@ use Rattle.bl_emit_spec_laws_wellformed.proofs.OnRests.Spots.{all_fit}
 
 -- each part has as many resting places as places
 mutual
-  spots_many : (s : Plain) → length (spots_of s) ≡ places_of s
+  spots_many : (s : Plain) → length (spots_of s) ≡ resting_places s
   spots_many (Act l s) = refl
   spots_many (Await l at e) = refl
   spots_many (RunOf l at target a inputs outputs) = refl

@@ -21,7 +21,7 @@ use Rattle.bl_ctext.specs.inner.Fits.{expr_fits, place_fits, step_fits, stmt_fit
 use Rattle.bl_ctext.proofs.Fitting.{expr_fits-more, literal-fits, place-fits, read-fits, set-fits, step-fits, two-fits}
 use Rattle.bl_graph_nodes.specs.Nodes.{Node}
 use Rattle.bl_machine.specs.declared.slots.Slot.{Slot}
-use Rattle.bl_machine_pass.specs.Transitions.{Age, Asked, Change, Needed}
+use Rattle.bl_machine_pass.specs.Transitions.{Age, Change, Condition, Needed}
 use Rattle.bl_machine_pass.specs.Transitions.{ClearsBoth, ClearsCounter, Ended, EndsWhen, Finishes, Flagged, IsAny, IsNew, IsOld, Rested, RestedIn, SetsCounter, SetsFlag, SetsMark}
 use Rattle.bl_emit_acts.specs.Acts.{c_set}
 use Rattle.bl_emit_acts.specs.Expressions.{c_both, c_compare}
@@ -66,7 +66,7 @@ use Rattle.bl_emit_spec.specs.Blocks.{
 }
 use Rattle.bl_emit_spec.specs.Names.{counter_name, counter_place, ended_name, ended_place, flag_name, flag_place, given_name, given_place}
 use Rattle.bl_emit_spec.specs.Names.{mark_name, mark_place, over_place, rested_name, rested_place, result_place}
-use Rattle.bl_emit_spec_laws_wellformed.specs.Spelled.{asked_fits, change_fits, slot_fits, slots_fit}
+use Rattle.bl_emit_spec_laws_wellformed.specs.Spelled.{change_fits, condition_fits, slot_fits, slots_fit}
 
 -- ---- names
 
@@ -336,7 +336,7 @@ module _ (view : ActivityView) (numbers : (n : Node) → view.number n < 2 ^ 64)
   aged-fits IsAny ends fit = expr_fits-more 67 68 ends (omega arith) fit
 
   -- what is asked before a node acts
-  pub guard-fits : (n : Node) (asked : Asked) → asked_fits view.sizes asked ≡ true → expr_fits 68 (guard_of view n asked) ≡ true
+  pub guard-fits : (n : Node) (condition : Condition) → condition_fits view.sizes condition ≡ true → expr_fits 68 (guard_of view n condition) ≡ true
   guard-fits n Flagged h = read-fits 68 nowhere (flag_place (view.number n)) (flag-fits 68 (view.number n) (omega arith) (numbers n))
   guard-fits n (Rested slot) h = expr_fits-more 3 68 (rested_at view slot) (omega arith) (slot-rested view slot h)
   guard-fits n (RestedIn slots) h = expr_fits-more 5 68 (rested_in view slots) (omega arith) (in-fits view slots h)

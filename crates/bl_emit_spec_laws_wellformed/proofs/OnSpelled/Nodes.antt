@@ -66,13 +66,13 @@ use Rattle.bl_emit_spec.specs.Blocks.{
   target_code,
   choice_code,
   spelled_truth,
-  tested,
+  test_code,
   turn_code,
-  turn_of,
+  node_turn,
   turns_of,
 }
 use Rattle.bl_emit_spec.specs.Names.{callee_frame, callee_memory, callee_name, ended_place, frame_name, given_place, result_place}
-use Rattle.bl_emit_spec_laws_wellformed.specs.Spelled.{all_fit, asked_fits, change_fits, node_fits, rule_fits, run_stands}
+use Rattle.bl_emit_spec_laws_wellformed.specs.Spelled.{all_fit, change_fits, condition_fits, node_fits, rule_fits, run_stands}
 use Rattle.bl_emit_spec_laws_wellformed.proofs.OnSpelled.Guards.{changes-fit, ended-fits, frame-letter, given-fits, guard-fits, result-fits, truth-fits}
 
 -- what a turn asks and does fits inside its `if`
@@ -304,55 +304,55 @@ module _ (view : ActivityView) (few : length view.site.vars ≤ 2 ^ 64)
   acted_by s (StmtKind-F.While e body) is h = stmts_fit-more 403 404 (act_code view.site view.copies s) (omega arith) (act_is s h)
 
   -- the changes of a rule
-  so-fits : (rule : Transition) → rule_fits view.sizes rule ≡ true → stmts_fit 3 (changes_code view rule.so) ≡ true
-  so-fits rule h =
-      changes-fit view numbers rule.so
-      (and_left (list_all (change_fits view.sizes) rule.so) (list_all (change_fits view.sizes) rule.otherwise)
-      (and_right (asked_fits view.sizes rule.asked) _ h))
+  on_true-fits : (rule : Transition) → rule_fits view.sizes rule ≡ true → stmts_fit 3 (changes_code view rule.on_true) ≡ true
+  on_true-fits rule h =
+      changes-fit view numbers rule.on_true
+      (and_left (list_all (change_fits view.sizes) rule.on_true) (list_all (change_fits view.sizes) rule.on_false)
+      (and_right (condition_fits view.sizes rule.condition) _ h))
 
-  otherwise-fits : (rule : Transition) → rule_fits view.sizes rule ≡ true → stmts_fit 3 (changes_code view rule.otherwise) ≡ true
-  otherwise-fits rule h =
-      changes-fit view numbers rule.otherwise
-      (and_right (list_all (change_fits view.sizes) rule.so) (list_all (change_fits view.sizes) rule.otherwise)
-      (and_right (asked_fits view.sizes rule.asked) _ h))
+  on_false-fits : (rule : Transition) → rule_fits view.sizes rule ≡ true → stmts_fit 3 (changes_code view rule.on_false) ≡ true
+  on_false-fits rule h =
+      changes-fit view numbers rule.on_false
+      (and_right (list_all (change_fits view.sizes) rule.on_true) (list_all (change_fits view.sizes) rule.on_false)
+      (and_right (condition_fits view.sizes rule.condition) _ h))
 
-  tested-by : (test : CExpr) (so other : List CStmt) → expr_fits 402 test ≡ true → stmts_fit 402 so ≡ true →
+  tested-by : (test : CExpr) (on_true other : List CStmt) → expr_fits 402 test ≡ true → stmts_fit 402 on_true ≡ true →
       stmts_fit 402 other ≡ true →
-      stmts_fit 404 (c_if test so (else_code other) ∷ []) ≡ true
-  tested-by test so [] one two three =
-      stmts_fit-more 403 404 (c_if test so None ∷ []) (omega arith)
-      (one-fits 403 (c_if test so None) (if-fits 402 403 nowhere test so (omega arith) one two))
-  tested-by test so (s ∷ rest) one two three =
-      stmts_fit-more 403 404 (c_if test so (Some (s ∷ rest)) ∷ []) (omega arith)
-      (one-fits 403 (c_if test so (Some (s ∷ rest))) (else-fits 402 403 test so (s ∷ rest) (omega arith) one two three))
+      stmts_fit 404 (c_if test on_true (else_code other) ∷ []) ≡ true
+  tested-by test on_true [] one two three =
+      stmts_fit-more 403 404 (c_if test on_true None ∷ []) (omega arith)
+      (one-fits 403 (c_if test on_true None) (if-fits 402 403 nowhere test on_true (omega arith) one two))
+  tested-by test on_true (s ∷ rest) one two three =
+      stmts_fit-more 403 404 (c_if test on_true (Some (s ∷ rest)) ∷ []) (omega arith)
+      (one-fits 403 (c_if test on_true (Some (s ∷ rest))) (else-fits 402 403 test on_true (s ∷ rest) (omega arith) one two three))
 
   tested-fits : (e : Expr) (rule : Transition) → rule_fits view.sizes rule ≡ true → expr_fits 402 (code_made view.site e) ≡ true →
-      stmts_fit 404 (tested view (code_made view.site e) rule) ≡ true
+      stmts_fit 404 (test_code view (code_made view.site e) rule) ≡ true
   tested-fits e rule h fit = by (spelled_truth (code_made view.site e))
     where
       by : (truth : Option Bool) →
-          stmts_fit 404 (choice_code (code_made view.site e) truth (changes_code view rule.so) (changes_code view rule.otherwise)) ≡ true
+          stmts_fit 404 (choice_code (code_made view.site e) truth (changes_code view rule.on_true) (changes_code view rule.on_false)) ≡ true
       by None =
-          tested-by (code_made view.site e) (changes_code view rule.so) (changes_code view rule.otherwise) fit
-          (stmts_fit-more 3 402 (changes_code view rule.so) (omega arith) (so-fits rule h))
-          (stmts_fit-more 3 402 (changes_code view rule.otherwise) (omega arith) (otherwise-fits rule h))
-      by (Some true) = stmts_fit-more 3 404 (changes_code view rule.so) (omega arith) (so-fits rule h)
-      by (Some false) = stmts_fit-more 3 404 (changes_code view rule.otherwise) (omega arith) (otherwise-fits rule h)
+          tested-by (code_made view.site e) (changes_code view rule.on_true) (changes_code view rule.on_false) fit
+          (stmts_fit-more 3 402 (changes_code view rule.on_true) (omega arith) (on_true-fits rule h))
+          (stmts_fit-more 3 402 (changes_code view rule.on_false) (omega arith) (on_false-fits rule h))
+      by (Some true) = stmts_fit-more 3 404 (changes_code view rule.on_true) (omega arith) (on_true-fits rule h)
+      by (Some false) = stmts_fit-more 3 404 (changes_code view rule.on_false) (omega arith) (on_false-fits rule h)
 
   behind : (code : List CStmt) (rule : Transition) → rule_fits view.sizes rule ≡ true → stmts_fit 404 code ≡ true →
-      stmts_fit 404 (code ++ changes_code view rule.so) ≡ true
+      stmts_fit 404 (code ++ changes_code view rule.on_true) ≡ true
   behind code rule h fit =
-      all_append (stmt_fits 404) code (changes_code view rule.so) fit
-      (stmts_fit-more 3 404 (changes_code view rule.so) (omega arith) (so-fits rule h))
+      all_append (stmt_fits 404) code (changes_code view rule.on_true) fit
+      (stmts_fit-more 3 404 (changes_code view rule.on_true) (omega arith) (on_true-fits rule h))
 
-  only : (rule : Transition) → rule_fits view.sizes rule ≡ true → stmts_fit 404 (changes_code view rule.so) ≡ true
-  only rule h = stmts_fit-more 3 404 (changes_code view rule.so) (omega arith) (so-fits rule h)
+  only : (rule : Transition) → rule_fits view.sizes rule ≡ true → stmts_fit 404 (changes_code view rule.on_true) ≡ true
+  only rule h = stmts_fit-more 3 404 (changes_code view rule.on_true) (omega arith) (on_true-fits rule h)
 
   begun-fits : (k a : ℕ) (arguments : Arguments) (rule : Transition) → k < 2 ^ 64 → rule_fits view.sizes rule ≡ true →
       run_stands view.site a arguments ≡ true → stmts_fit 404 (begun_code view k a arguments rule) ≡ true
   begun-fits k a arguments rule small h stand =
       let name : Text = name_in (slice_get view.site.earlier a) in
-      both (stmt_fits 404 (c_clear (callee_frame k) (frame_name name))) (stmts_fit 404 (run_code view k a arguments ++ changes_code view rule.so))
+      both (stmt_fits 404 (c_clear (callee_frame k) (frame_name name))) (stmts_fit 404 (run_code view k a arguments ++ changes_code view rule.on_true))
       (clear-fits 404 (callee_frame k) (frame_name name) (omega arith)
       (name-struct (frame_name name) (frame-named name (name_known (slice_get view.site.earlier a) a refl (known a arguments stand))))
       (callee-frame-fits 404 k (omega arith) small))
@@ -362,14 +362,14 @@ module _ (view : ActivityView) (few : length view.site.vars ≤ 2 ^ 64)
   resumed-fits : (k a : ℕ) (arguments : Arguments) (rule : Transition) → k < 2 ^ 64 → rule_fits view.sizes rule ≡ true →
       run_stands view.site a arguments ≡ true → stmts_fit 404 (resumed_code view k a arguments rule) ≡ true
   resumed-fits k a arguments rule small h stand =
-      let code : List CStmt = target_code view k arguments.target ++ changes_code view rule.so in
+      let code : List CStmt = target_code view k arguments.target ++ changes_code view rule.on_true in
       all_append (stmt_fits 404) (run_code view k a arguments) (c_if (c_read (ended_place k)) code None ∷ [])
       (stmts_fit-more 403 404 (run_code view k a arguments) (omega arith) (call-is a arguments stand k small))
       (one-fits 404 (c_if (c_read (ended_place k)) code None)
       (if-fits 403 404 nowhere (c_read (ended_place k)) code (omega arith)
       (read-fits 403 nowhere (ended_place k) (ended-fits 403 k (omega arith) small))
-      (all_append (stmt_fits 403) (target_code view k arguments.target) (changes_code view rule.so) (target-is a arguments stand k small)
-      (stmts_fit-more 3 403 (changes_code view rule.so) (omega arith) (so-fits rule h)))))
+      (all_append (stmt_fits 403) (target_code view k arguments.target) (changes_code view rule.on_true) (target-is a arguments stand k small)
+      (stmts_fit-more 3 403 (changes_code view rule.on_true) (omega arith) (on_true-fits rule h)))))
 
   node-is : (a : ℕ) (rule : Transition) (n : Node) → rule_fits view.sizes rule ≡ true → node_fits view.site a n ≡ true →
       stmts_fit 404 (node_code view a rule n) ≡ true
@@ -390,11 +390,11 @@ module _ (view : ActivityView) (few : length view.site.vars ≤ 2 ^ 64)
   node-is a rule (DepthJoinAt l at) h fit = only rule h
 
   turn-is : (a : ℕ) (rule : Transition) → rule_fits view.sizes rule ≡ true → node_fits view.site a rule.node ≡ true →
-      turn_fits (turn_of view a rule) ≡ true
+      turn_fits (node_turn view a rule) ≡ true
   turn-is a rule h fit =
-      both (expr_fits 404 (guard_of view rule.node rule.asked)) (stmts_fit 404 (node_code view a rule rule.node))
-      (expr_fits-more 68 404 (guard_of view rule.node rule.asked) (omega arith)
-      (guard-fits view numbers rule.node rule.asked (and_left (asked_fits view.sizes rule.asked) _ h)))
+      both (expr_fits 404 (guard_of view rule.node rule.condition)) (stmts_fit 404 (node_code view a rule rule.node))
+      (expr_fits-more 68 404 (guard_of view rule.node rule.condition) (omega arith)
+      (guard-fits view numbers rule.node rule.condition (and_left (condition_fits view.sizes rule.condition) _ h)))
       (node-is a rule rule.node h fit)
 
   -- the turns of all nodes fit
@@ -404,7 +404,7 @@ module _ (view : ActivityView) (few : length view.site.vars ≤ 2 ^ 64)
   turns-fit (a ∷ callees) [] all = refl
   turns-fit (a ∷ callees) (rule ∷ rules) all =
       let own = and_left (rule_fits view.sizes rule && node_fits view.site a rule.node) (all_fit view.sizes view.site callees rules) all in
-      both (turn_fits (turn_of view a rule)) (list_all turn_fits (turns_of view callees rules))
+      both (turn_fits (node_turn view a rule)) (list_all turn_fits (turns_of view callees rules))
       (turn-is a rule (and_left (rule_fits view.sizes rule) (node_fits view.site a rule.node) own)
       (and_right (rule_fits view.sizes rule) (node_fits view.site a rule.node) own))
       (turns-fit callees rules

@@ -61,6 +61,7 @@ use Rattle.bl_emit_spec.specs.Activities.{
   activity_function,
   activity_locals,
   activity_params,
+  activity_view,
   blocks_code,
   blocks_in_order,
   body_of,
@@ -98,7 +99,6 @@ use Rattle.bl_emit_spec.specs.Activities.{
   scalar_local,
   struct_member,
   turns_in_source,
-  view_of,
 }
 use Rattle.bl_emit_spec.specs.Blocks.{NodeCode, counter_value, merged_code, name_in}
 use Rattle.bl_emit_spec.specs.Names.{callee_name, counter_name, counter_place, ended_name, flag_name, flag_place, frame_name, given_name}
@@ -171,13 +171,13 @@ blocks-fit turns (block ∷ blocks) all =
 
 module _ (units : List UnitDef) (entry k : ℕ) (a : Activity) (keeps : IsWellTyped a.structs units entry) (there : slice_get units k ≡ Some a.unit)
     (earlier : a.earlier ≡ take k units) (few : length a.unit.vars ≤ 2 ^ 64) (short : length a.sizes ≤ 2 ^ 64)
-    (numbers : (n : Node) → (view_of a).number n < 2 ^ 64)
-    (fitted : all_fit a.sizes (view_of a).site (callees_in (body_of a)) (rules_at a) ≡ true) where
+    (numbers : (n : Node) → (activity_view a).number n < 2 ^ 64)
+    (fitted : all_fit a.sizes (activity_view a).site (callees_in (body_of a)) (rules_at a) ≡ true) where
   abbrev site : TypingContext
   site = site_of a.structs a.earlier a.unit
 
   abbrev number : Node → ℕ
-  number = (view_of a).number
+  number = (activity_view a).number
 
   unit_names : list_all words.is_name (map (λ (unit : UnitDef). unit.name) units) ≡ true
   unit_names =
@@ -317,7 +317,7 @@ module _ (units : List UnitDef) (entry k : ℕ) (a : Activity) (keeps : IsWellTy
       (name-struct (frame_name a.unit.name) (frame-named a.unit.name own_name)) some frame_members
 
   memory_is : (run : RunAt) → run_ok run ≡ true → list_all spells_member (memory_member a run) ≡ true
-  memory_is run ok = by ((view_of a).remembers run.unit)
+  memory_is run ok = by ((activity_view a).remembers run.unit)
     where
       by : (b : Bool) → list_all spells_member
           (if b then struct_member (callee_name run.number) (memory_name (name_in (slice_get a.earlier run.unit))) ∷ [] else []) ≡ true
@@ -373,7 +373,7 @@ module _ (units : List UnitDef) (entry k : ℕ) (a : Activity) (keeps : IsWellTy
   local_is s name one other = both (is_c_scalar s) (is_name name) one other
 
   flag_is : (rule : Transition) → list_all spells_local (flag_local number rule) ≡ true
-  flag_is rule = by (is_flagged rule.asked)
+  flag_is rule = by (is_flagged rule.condition)
     where
       by : (b : Bool) → list_all spells_local (if b then scalar_local OfBool (flag_name (number rule.node)) ∷ [] else []) ≡ true
       by true =
@@ -412,11 +412,11 @@ module _ (units : List UnitDef) (entry k : ℕ) (a : Activity) (keeps : IsWellTy
       let of_flags : List CLocal = joined (map (flag_local number) (rules_at a)) in
       all_append spells_local (map (rested_local a.sizes) (counters_read a)) (of_flags ++ (of_marks ++ (of_copies ++ of_runs)))
       (all_mapped spells_local (rested_local a.sizes) (counters_read a)
-      (all_filtered (λ j. spells_local (rested_local a.sizes j)) (view_of a).is_read (up_to (length a.sizes))
+      (all_filtered (λ j. spells_local (rested_local a.sizes j)) (activity_view a).is_read (up_to (length a.sizes))
       (all_below (λ j. spells_local (rested_local a.sizes j)) (length a.sizes) rested_is)))
       (all_append spells_local of_flags (of_marks ++ (of_copies ++ of_runs)) (joined_each spells_local (flag_local number) flag_is (rules_at a))
       (all_append spells_local of_marks (of_copies ++ of_runs)
-      (joined_each spells_local (mark_locals number) (λ rule. joined_each spells_local (mark_local number) mark_is rule.so) (rules_at a))
+      (joined_each spells_local (mark_locals number) (λ rule. joined_each spells_local (mark_local number) mark_is rule.on_true) (rules_at a))
       (all_append spells_local of_copies of_runs
       (all_mapped spells_local (copy_local a) (copied_in a)
       (all_filtered (λ j. spells_local (copy_local a j)) _ (up_to (length a.unit.vars))
@@ -439,7 +439,7 @@ module _ (units : List UnitDef) (entry k : ℕ) (a : Activity) (keeps : IsWellTy
   module _ (exprs : (e : Expr) (ty : Ty) → type_of site e ≡ Some ty → expr_fits (room (expr_depth e)) (code_made site e) ≡ true)
       (paths : (path : Path) (ty : Ty) → type_of_path site path ≡ Some ty →
       place_fits (room (path_depth path)) (stands site path).place ≡ true)
-      (acts : (s : Stmt) → fits site s ≡ true → stmts_fit (2 * (depth_of s).exprs + 3) (act_code site (view_of a).copies s) ≡ true) where
+      (acts : (s : Stmt) → fits site s ≡ true → stmts_fit (2 * (depth_of s).exprs + 3) (act_code site (activity_view a).copies s) ≡ true) where
     names : list_all words.is_name (map (λ (def : StructDef). def.name) a.structs) ≡ true
     names = struct_names a.structs units entry keeps
 
@@ -459,7 +459,7 @@ module _ (units : List UnitDef) (entry k : ℕ) (a : Activity) (keeps : IsWellTy
         (place-fits 406 false (copy_name j) [] (omega arith) (copy-name j small) refl)
         (read-fits 406 nowhere (place_in site j []) (own-fits site few names named typed_here exprs paths 406 j (omega arith) small))
 
-    entry_is : (body : Block) → stmts_fit 406 (entry_code (view_of a) body) ≡ true
+    entry_is : (body : Block) → stmts_fit 406 (entry_code (activity_view a) body) ≡ true
     entry_is Done = refl
     entry_is (Then s rest) =
         let first : 0 < 2 ^ 64 = omega arith in
@@ -473,17 +473,18 @@ module _ (units : List UnitDef) (entry k : ℕ) (a : Activity) (keeps : IsWellTy
     code_is =
         let blocks : List CStmt = blocks_in_order a in
         let copies : List CStmt = map (c_copied site) (copied_in a) in
-        all_append (stmt_fits 406) (map rested_code (counters_read a)) (entry_code (view_of a) (body_of a) ++ (copies ++ blocks))
+        all_append (stmt_fits 406) (map rested_code (counters_read a)) (entry_code (activity_view a) (body_of a) ++ (copies ++ blocks))
         (all_mapped (stmt_fits 406) rested_code (counters_read a)
-        (all_filtered (λ j. stmt_fits 406 (rested_code j)) (view_of a).is_read (up_to (length a.sizes))
+        (all_filtered (λ j. stmt_fits 406 (rested_code j)) (activity_view a).is_read (up_to (length a.sizes))
         (all_below (λ j. stmt_fits 406 (rested_code j)) (length a.sizes) rested_is)))
-        (all_append (stmt_fits 406) (entry_code (view_of a) (body_of a)) (copies ++ blocks) (entry_is (body_of a))
+        (all_append (stmt_fits 406) (entry_code (activity_view a) (body_of a)) (copies ++ blocks) (entry_is (body_of a))
         (all_append (stmt_fits 406) copies blocks
         (all_mapped (stmt_fits 406) (c_copied site) (copied_in a)
         (all_filtered (λ j. stmt_fits 406 (c_copied site j)) _ (up_to (length a.unit.vars))
         (all_below (λ j. stmt_fits 406 (c_copied site j)) (length a.unit.vars) copied_is)))
         (blocks-fit (turns_in_source a) a.blocks
-        (turns-fit (view_of a) few numbers (place_small (rules_at a)) names named typed_here exprs paths acts (callees_in (body_of a)) (rules_at a) fitted))))
+        (turns-fit (activity_view a) few numbers (place_small (rules_at a)) names named typed_here exprs paths acts (callees_in (body_of a))
+        (rules_at a) fitted))))
 
     pub activity-fits : func_fits 2000 (activity_function a) ≡ true
     activity-fits =
@@ -516,8 +517,8 @@ activities structs units entry fit fit_places fit_acts k a keeps can =
     place_fits (room (path_depth path)) (stands (site_of a.structs earlier a.unit) path).place ≡ true) before
     (λ path ty typed. paths k a.unit path ty own can.there can.variables typed))
     (subst (λ (earlier : List UnitDef). (s : Stmt) → fits (site_of a.structs earlier a.unit) s ≡ true →
-    stmts_fit (2 * (depth_of s).exprs + 3) (act_code (site_of a.structs earlier a.unit) (view_of a).copies s) ≡ true) before
-    (λ s fitted. acts k a.unit (view_of a).copies s own can.there can.variables fitted))
+    stmts_fit (2 * (depth_of s).exprs + 3) (act_code (site_of a.structs earlier a.unit) (activity_view a).copies s) ≡ true) before
+    (λ s fitted. acts k a.unit (activity_view a).copies s own can.there can.variables fitted))
 
 pub frames : (structs : List StructDef) (units : List UnitDef) (entry : ℕ) → FramesSpelled structs units entry
 frames structs units entry k a keeps can some =

@@ -47,7 +47,7 @@ use Rattle.bl_emit_acts_laws_wellformed.proofs.OnFormed.Parts.{c_scalar_type}
 use Rattle.bl_emit_acts_laws_wellformed.proofs.OnFormed.Prelude.{type_same, unit_named}
 use Rattle.bl_emit_acts_laws_wellformed.proofs.OnFormed.Typed.{PathIs, inputs_suit, made_typed, place_typed}
 use Rattle.bl_graph_nodes.specs.Nodes.{Arguments}
-use Rattle.bl_emit_spec.specs.Activities.{Activity, RunAt, runs_in_body, view_of}
+use Rattle.bl_emit_spec.specs.Activities.{Activity, RunAt, activity_view, runs_in_body}
 use Rattle.bl_emit_spec.specs.Blocks.{arg_where, has_result, name_in, run_args, run_code, target_code}
 use Rattle.bl_emit_spec.specs.Names.{callee_frame, callee_memory, ended_place, frame_name, given_place}
 use Rattle.bl_emit_spec_laws_wellformed_bodies.specs.Bodies.{memory_given, result_given, signature_of_activity}
@@ -136,7 +136,7 @@ module _ (units : List UnitDef) (entry k : ℕ) (a : Activity) (table : Table (T
   path_is : (path : Path) (ty : Ty) → is_plain path ≡ true → type_of_path my_site path ≡ Some ty →
       PathIs here my_site ty (out-Path path).root (stands my_site path)
   path_is path ty plain typed =
-      place_typed my_site mine here (declared_here units entry k a table known h) h.keeps.structs_stand
+      place_typed my_site mine here (declared_here units entry k a table known h) h.well_typed.structs_stand
       (earlier_here units entry k a table known h).inputs path (λ active. outlet_named mine path plain) ty typed
 
   output_pointer : (role : Role) (rest : Bool) → is_output role ≡ true → (is_output role || rest) ≡ true
@@ -192,8 +192,8 @@ module _ (units : List UnitDef) (entry k : ℕ) (a : Activity) (table : Table (T
       let others = and_right (types_match (map (type_of my_site) inputs) (inputs_of callee)) _ shape in
       let stand = earlier_here units entry k a table known h in
       let one : Suit here (params_for (inputs_of callee)) (map arg_of (map (made_of my_site) inputs)) =
-      inputs_suit my_site mine here (declared_here units entry k a table known h) h.keeps.structs_stand stand.inputs inputs nowhere
-      (λ j d within. made_typed my_site mine here (declared_here units entry k a table known h) h.keeps.structs_stand stand.inputs _)
+      inputs_suit my_site mine here (declared_here units entry k a table known h) h.well_typed.structs_stand stand.inputs inputs nowhere
+      (λ j d within. made_typed my_site mine here (declared_here units entry k a table known h) h.well_typed.structs_stand stand.inputs _)
       (λ active. named) (inputs_of callee) matched (stand.inputs f callee there) in
       let other : Suit here (params_for (outputs_of callee)) (map (output_arg my_site) outputs) =
       outputs-suit outputs (outputs_of callee) (and_left _ _ others)
@@ -208,7 +208,7 @@ module _ (units : List UnitDef) (entry k : ℕ) (a : Activity) (table : Table (T
     abbrev run : RunAt
     run = record { place = at; number = n; unit = u }
 
-    memory-suits : (callee : UnitDef) → slice_get a.earlier u ≡ Some callee → (b : Bool) → (view_of a).remembers u ≡ b →
+    memory-suits : (callee : UnitDef) → slice_get a.earlier u ≡ Some callee → (b : Bool) → (activity_view a).remembers u ≡ b →
         Suit here (memory_given callee b) (arg_where b (Address (callee_memory n)))
     memory-suits callee there true on =
         suit-address here true (OfStruct (memory_name callee.name)) (callee_memory n)
@@ -226,7 +226,7 @@ module _ (units : List UnitDef) (entry k : ℕ) (a : Activity) (table : Table (T
     abbrev args_of : Option UnitDef → List CArg
     args_of o =
         Address (callee_frame n)
-        ∷ (arg_where ((view_of a).remembers u) (Address (callee_memory n))
+        ∷ (arg_where ((activity_view a).remembers u) (Address (callee_memory n))
         ++ (call_args my_site arguments.inputs arguments.outputs
         ++ (arg_where (has_result o) (Address (given_place n)) ++ Address (ended_place n) ∷ [])))
 
@@ -238,7 +238,7 @@ module _ (units : List UnitDef) (entry k : ℕ) (a : Activity) (table : Table (T
         and_right (is_activity my_site.kind) (is_activity callee.kind) (and_left (is_activity my_site.kind && is_activity callee.kind) _ fits) in
         let shape : arguments_fit my_site arguments.inputs arguments.outputs callee ≡ true =
         and_right (target_fits my_site callee.result arguments.target) _ (and_right (is_activity my_site.kind && is_activity callee.kind) _ fits) in
-        let remembers : Bool = (view_of a).remembers u in
+        let remembers : Bool = (activity_view a).remembers u in
         let behind : List Variable = result_given callee.result ++ variable_of true bool_type ∷ [] in
         let last : List CArg = arg_where (is_some callee.result) (Address (given_place n)) ++ Address (ended_place n) ∷ [] in
         let suits : Suit here (signature_of_activity a.structs callee remembers).params (args_of (Some callee)) =
@@ -260,23 +260,23 @@ module _ (units : List UnitDef) (entry k : ℕ) (a : Activity) (table : Table (T
 
     -- the call, before which the activity hasn't ended
     pub call-is : run_fits my_site arguments.target arguments.inputs arguments.outputs (slice_get a.earlier u) ≡ true →
-        all_of (map (copied_in mine) arguments.inputs) ≡ true → BlockIs here (run_code (view_of a) n u arguments)
+        all_of (map (copied_in mine) arguments.inputs) ≡ true → BlockIs here (run_code (activity_view a) n u arguments)
     call-is fits named =
-        let call = c_calling (c_call (name_of_callee (slice_get a.earlier u)) (run_args (view_of a) n u arguments)) in
+        let call = c_calling (c_call (name_of_callee (slice_get a.earlier u)) (run_args (activity_view a) n u arguments)) in
         block_cons here (c_set (ended_place n) (c_truth false)) (call ∷ [])
         (put-is units entry k a table known h false bool_type (ended_place n) (c_truth false) (ended-is units entry k a table known h run has)
         (literal-is here _ _))
         (block_one here call (call-by (slice_get a.earlier u) refl fits named))
 
     target-by : (o : Option UnitDef) (target : Option Path) → slice_get a.earlier u ≡ o →
-        run_fits my_site target arguments.inputs arguments.outputs o ≡ true → BlockIs here (target_code (view_of a) n target)
+        run_fits my_site target arguments.inputs arguments.outputs o ≡ true → BlockIs here (target_code (activity_view a) n target)
     target-by o None there fits = block_nil here
     target-by None (Some path) there fits = absurd (cc)
     target-by (Some callee) (Some path) there fits =
         by callee.result refl (and_left (target_fits my_site callee.result (Some path)) _ (and_right (is_activity my_site.kind && is_activity
         callee.kind) _ fits))
       where
-        by : (r : Option ScalarType) → callee.result ≡ r → target_fits my_site r (Some path) ≡ true → BlockIs here (target_code (view_of a)
+        by : (r : Option ScalarType) → callee.result ≡ r → target_fits my_site r (Some path) ≡ true → BlockIs here (target_code (activity_view a)
             n (Some path))
         by None is fits = absurd (cc)
         by (Some s) is fits =
@@ -292,5 +292,5 @@ module _ (units : List UnitDef) (entry k : ℕ) (a : Activity) (table : Table (T
 
     -- the target gets the result
     pub target-is : run_fits my_site arguments.target arguments.inputs arguments.outputs (slice_get a.earlier u) ≡ true →
-        BlockIs here (target_code (view_of a) n arguments.target)
+        BlockIs here (target_code (activity_view a) n arguments.target)
     target-is fits = target-by (slice_get a.earlier u) arguments.target refl fits

@@ -19,7 +19,7 @@ use Rattle.bl_ctext_semantics.specs.Faults.{Context, Signature, bool_type, takes
 use Rattle.bl_ctext_semantics.specs.Tables.{Table}
 use Rattle.bl_graph_nodes.specs.Nodes.{Node}
 use Rattle.bl_machine.specs.declared.slots.Slot.{Slot}
-use Rattle.bl_machine_pass.specs.Transitions.{Asked, Change, Needed}
+use Rattle.bl_machine_pass.specs.Transitions.{Change, Condition, Needed}
 use Rattle.bl_machine_pass.specs.Transitions.{ClearsBoth, ClearsCounter, Ended, EndsWhen, Finishes, Flagged, IsAny, IsNew, IsOld, Rested, RestedIn, SetsCounter, SetsFlag, SetsMark}
 use Rattle.bl_emit_acts.specs.Acts.{c_set}
 use Rattle.bl_emit_acts.specs.Expressions.{c_compare}
@@ -32,7 +32,7 @@ use Rattle.bl_emit_acts_laws_wellformed.proofs.OnFormed.Judged.{literal-is, not-
 use Rattle.bl_emit_acts_laws_wellformed.proofs.OnFormed.Operators.{both_is}
 use Rattle.bl_emit_acts_laws_wellformed.proofs.OnFormed.Prelude.{type_same}
 use Rattle.bl_emit_functions_laws_wellformed.proofs.OnFormed.Shapes.{if-is}
-use Rattle.bl_emit_spec.specs.Activities.{Activity, view_of}
+use Rattle.bl_emit_spec.specs.Activities.{Activity, activity_view}
 use Rattle.bl_emit_spec.specs.Blocks.{ActivityView, all_tests, at_slot, change_code, changes_code, counter_type, counter_value, ends_test, flagged_now}
 use Rattle.bl_emit_spec.specs.Blocks.{forgotten, freed, guard_of, in_pairs, in_tree, is_greatest, last_value, rested_at, rested_by, rested_from}
 use Rattle.bl_emit_spec.specs.Blocks.{rested_in, rested_since, rested_to, rested_within, some_test, type_for}
@@ -79,7 +79,7 @@ module _ (units : List UnitDef) (entry k : ℕ) (a : Activity) (table : Table (T
   here = context units entry k a table known h
 
   abbrev view : ActivityView
-  view = view_of a
+  view = activity_view a
 
   -- the type of a counter
   abbrev kind : ℕ → CType
@@ -186,7 +186,7 @@ module _ (units : List UnitDef) (entry k : ℕ) (a : Activity) (table : Table (T
   read-mark n on = read-is here false bool_type (mark_place n) (mark-is units entry k a table known h n on)
 
   -- what is asked before a node acts
-  pub guard-is : (n : Node) (asked : Asked) → asks_its_own view (registered a) n asked ≡ true → ExprIs here bool_type (guard_of view n asked)
+  pub guard-is : (n : Node) (condition : Condition) → asks_its_own view (registered a) n condition ≡ true → ExprIs here bool_type (guard_of view n condition)
   guard-is n Flagged on =
       read-is here false bool_type (flag_place (view.number n)) (flag-is units entry k a table known h (view.number n) on)
   guard-is n (Rested slot) on = slot-rested slot on

@@ -42,7 +42,7 @@ use Rattle.bl_emit_acts_laws_wellformed.proofs.OnFormed.Judged.{read-is}
 use Rattle.bl_emit_acts_laws_wellformed.proofs.OnFormed.Parts.{c_scalar_type}
 use Rattle.bl_emit_acts_laws_wellformed.proofs.OnFormed.SiteActs.{code_typed}
 use Rattle.bl_emit_functions_laws_wellformed.proofs.OnFormed.Shapes.{OtherIn, if-is}
-use Rattle.bl_emit_spec.specs.Activities.{Activity, RunAt, blocks_code, copies_of, picked, rules_at, runs_in_body, view_of}
+use Rattle.bl_emit_spec.specs.Activities.{Activity, RunAt, activity_view, blocks_code, copies_of, picked, rules_at, runs_in_body}
 use Rattle.bl_emit_spec.specs.Blocks.{
   ActivityView,
   NodeCode,
@@ -58,9 +58,9 @@ use Rattle.bl_emit_spec.specs.Blocks.{
   target_code,
   choice_code,
   spelled_truth,
-  tested,
+  test_code,
   turn_code,
-  turn_of,
+  node_turn,
   turns_of,
 }
 use Rattle.bl_emit_spec.specs.Names.{callee_frame, ended_place, frame_name, result_place}
@@ -155,21 +155,21 @@ module _ (here : Context) where
 
 module _ (units : List UnitDef) (entry k : ℕ) (a : Activity) (table : Table (Table CMember)) (known : Table Signature)
     (h : Here units entry k a table known)
-    (acts : (s : Stmt) → is_act (out-StmtKind (out-Stmt s).what) ≡ true → fits (view_of a).site s ≡ true →
-    InActivity (view_of a).site (copied_in_layer (copied units entry k a table known h) (out-StmtKind (out-Stmt s).what)) →
-    BlockIs (context units entry k a table known h) (act_code (view_of a).site (copies_of a.unit) s)) where
+    (acts : (s : Stmt) → is_act (out-StmtKind (out-Stmt s).what) ≡ true → fits (activity_view a).site s ≡ true →
+    InActivity (activity_view a).site (copied_in_layer (copied units entry k a table known h) (out-StmtKind (out-Stmt s).what)) →
+    BlockIs (context units entry k a table known h) (act_code (activity_view a).site (copies_of a.unit) s)) where
   abbrev here : Context
   here = context units entry k a table known h
 
   abbrev view : ActivityView
-  view = view_of a
+  view = activity_view a
 
   abbrev mine : ℕ → Bool
   mine = copied units entry k a table known h
 
   code-is : (e : Expr) (ty : Ty) → copied_in mine e ≡ true → type_of view.site e ≡ Some ty → ExprIs here (c_type a.structs ty) (code_made view.site e)
   code-is e ty named typed =
-      code_typed view.site mine here (declared_here units entry k a table known h) h.keeps.structs_stand (earlier_here units entry k a table known h)
+      code_typed view.site mine here (declared_here units entry k a table known h) h.well_typed.structs_stand (earlier_here units entry k a table known h)
       (typed_here units entry k a table known h) (plain_here units entry k a table known h) e ty (λ active. named) typed
 
   test-is : (e : Expr) → is_truth (type_of view.site e) ≡ true → copied_in mine e ≡ true → ExprIs here bool_type (code_made view.site e)
@@ -223,24 +223,24 @@ module _ (units : List UnitDef) (entry k : ℕ) (a : Activity) (table : Table (T
   -- ---- nodes
 
   module _ (rule : Transition) (has : Contains (rules_at a) rule) where
-    so-is : BlockIs here (changes_code view rule.so)
-    so-is = changes-are units entry k a table known h rule.so (h.owns.so rule has)
+    on_true-is : BlockIs here (changes_code view rule.on_true)
+    on_true-is = changes-are units entry k a table known h rule.on_true (h.owns.on_true rule has)
 
-    tested-is : (test : CExpr) → ExprIs here bool_type test → BlockIs here (tested view test rule)
+    tested-is : (test : CExpr) → ExprIs here bool_type test → BlockIs here (test_code view test rule)
     tested-is test is =
         by (spelled_truth test)
       where
         others : List CStmt
-        others = changes_code view rule.otherwise
+        others = changes_code view rule.on_false
 
         other : BlockIs here others
-        other = changes-are units entry k a table known h rule.otherwise (h.owns.otherwise rule has)
+        other = changes-are units entry k a table known h rule.on_false (h.owns.on_false rule has)
 
-        by : (truth : Option Bool) → BlockIs here (choice_code test truth (changes_code view rule.so) others)
+        by : (truth : Option Bool) → BlockIs here (choice_code test truth (changes_code view rule.on_true) others)
         by None =
-            block_one here (c_if test (changes_code view rule.so) (else_code others))
-            (if-is here test (changes_code view rule.so) (else_code others) is so-is (other-is here others other))
-        by (Some true) = so-is
+            block_one here (c_if test (changes_code view rule.on_true) (else_code others))
+            (if-is here test (changes_code view rule.on_true) (else_code others) is on_true-is (other-is here others other))
+        by (Some true) = on_true-is
         by (Some false) = other
 
     begun-is : (at : Place) (n u : ℕ) (arguments : Arguments) → Contains (runs_in_body a) (record { place = at; number = n; unit = u }) →
@@ -249,12 +249,12 @@ module _ (units : List UnitDef) (entry k : ℕ) (a : Activity) (table : Table (T
     begun-is at n u arguments runs stand named =
         let run : RunAt = record { place = at; number = n; unit = u } in
         let code : List CStmt = run_code view n u arguments in
-        block_cons here (c_clear (callee_frame n) (frame_name (name_in (slice_get a.earlier u)))) (code ++ changes_code view rule.so)
+        block_cons here (c_clear (callee_frame n) (frame_name (name_in (slice_get a.earlier u)))) (code ++ changes_code view rule.on_true)
         (clear-is here true (callee_frame n) (frame_name (name_in (slice_get a.earlier u))) (frame_at-is units entry k a table known h run runs)
         (h.stands.frames run runs) refl)
-        (block_append here code (changes_code view rule.so)
+        (block_append here code (changes_code view rule.on_true)
         (call-is units entry k a table known h at n u runs arguments
-        (and_left (run_fits view.site arguments.target arguments.inputs arguments.outputs (slice_get a.earlier u)) _ stand) named) so-is)
+        (and_left (run_fits view.site arguments.target arguments.inputs arguments.outputs (slice_get a.earlier u)) _ stand) named) on_true-is)
 
     resumed-is : (at : Place) (n u : ℕ) (arguments : Arguments) → Contains (runs_in_body a) (record { place = at; number = n; unit = u }) →
         run_stands view.site u arguments ≡ true → all_of (map (copied_in mine) arguments.inputs) ≡ true →
@@ -263,39 +263,39 @@ module _ (units : List UnitDef) (entry k : ℕ) (a : Activity) (table : Table (T
         let run : RunAt = record { place = at; number = n; unit = u } in
         let fitted : run_fits view.site arguments.target arguments.inputs arguments.outputs (slice_get a.earlier u) ≡ true =
         and_left (run_fits view.site arguments.target arguments.inputs arguments.outputs (slice_get a.earlier u)) _ stand in
-        let code : List CStmt = target_code view n arguments.target ++ changes_code view rule.so in
+        let code : List CStmt = target_code view n arguments.target ++ changes_code view rule.on_true in
         block_append here (run_code view n u arguments) (c_if (c_read (ended_place n)) code None ∷ [])
         (call-is units entry k a table known h at n u runs arguments fitted named)
         (block_one here (c_if (c_read (ended_place n)) code None)
         (if-is here (c_read (ended_place n)) code None
         (read-is here false bool_type (ended_place n) (ended-is units entry k a table known h run runs))
-        (block_append here (target_code view n arguments.target) (changes_code view rule.so)
-        (target-is units entry k a table known h at n u runs arguments fitted) so-is) (λ looped. refl)))
+        (block_append here (target_code view n arguments.target) (changes_code view rule.on_true)
+        (target-is units entry k a table known h at n u runs arguments fitted) on_true-is) (λ looped. refl)))
 
     node-is : (u : ℕ) (n : Node) → node_fits view.site u n ≡ true → named_there mine n ≡ true → HasRun view.run (runs_in_body a) u n →
         BlockIs here (node_code view u rule n)
     node-is u (ActAt l s) fit named runs =
-        block_append here (acted view s) (changes_code view rule.so)
-        (acted-by s (out-StmtKind (out-Stmt s).what) refl (and_left (fits view.site s) _ fit) named) so-is
+        block_append here (acted view s) (changes_code view rule.on_true)
+        (acted-by s (out-StmtKind (out-Stmt s).what) refl (and_left (fits view.site s) _ fit) named) on_true-is
     node-is u (TestAt l at e) fit named runs =
         tested-is (code_made view.site e) (test-is e (and_left (is_truth (type_of view.site e)) _ fit) named)
     node-is u (CheckAt l at e) fit named runs =
         tested-is (code_made view.site e) (test-is e (and_left (is_truth (type_of view.site e)) _ fit) named)
     node-is u (EnterAt l at arguments) fit named runs = begun-is at (view.run at) u arguments runs fit named
     node-is u (ResumeAt l at arguments) fit named runs = resumed-is at (view.run at) u arguments runs fit named
-    node-is u (PauseAt l at) fit named runs = so-is
-    node-is u (HeadAt l at) fit named runs = so-is
-    node-is u (StartAt l at) fit named runs = so-is
-    node-is u (SurfaceEndAt l at) fit named runs = so-is
-    node-is u (DepthEndAt l at) fit named runs = so-is
-    node-is u (ForkAt l at) fit named runs = so-is
-    node-is u (SurfaceJoinAt l at) fit named runs = so-is
-    node-is u (DepthJoinAt l at) fit named runs = so-is
+    node-is u (PauseAt l at) fit named runs = on_true-is
+    node-is u (HeadAt l at) fit named runs = on_true-is
+    node-is u (StartAt l at) fit named runs = on_true-is
+    node-is u (SurfaceEndAt l at) fit named runs = on_true-is
+    node-is u (DepthEndAt l at) fit named runs = on_true-is
+    node-is u (ForkAt l at) fit named runs = on_true-is
+    node-is u (SurfaceJoinAt l at) fit named runs = on_true-is
+    node-is u (DepthJoinAt l at) fit named runs = on_true-is
 
     turn-is : (u : ℕ) → node_fits view.site u rule.node ≡ true → HasRun view.run (runs_in_body a) u rule.node →
-        TurnIs here (turn_of view u rule)
+        TurnIs here (node_turn view u rule)
     turn-is u fit runs =
-        (guard-is units entry k a table known h rule.node rule.asked (h.owns.asks rule has), node-is u rule.node fit (h.copies.named rule has) runs)
+        (guard-is units entry k a table known h rule.node rule.condition (h.owns.asks rule has), node-is u rule.node fit (h.copies.named rule has) runs)
 
   -- nothing fails in each turn
   pub turns-in-source-are : (callees : List ℕ) (rules : List Transition) → all_fit a.sizes view.site callees rules ≡ true →

@@ -24,7 +24,7 @@ use Rattle.bl_graph_nodes.specs.Plain.{
 use Rattle.bl_machine.specs.Uses.{Slots}
 use Rattle.bl_machine_pass.specs.Transitions.{Change, Flagged, Transition, rules, rules_of}
 use Rattle.bl_machine_transitions.specs.Callees.{callees_in}
-use Rattle.bl_emit_spec.specs.Activities.{Activity, RunAt, body_of, rules_at, runs_in_body, view_of}
+use Rattle.bl_emit_spec.specs.Activities.{Activity, RunAt, activity_view, body_of, rules_at, runs_in_body}
 use Rattle.bl_emit_spec_laws.proofs.OnOwn.Members.{further, here}
 use Rattle.bl_emit_spec_laws.proofs.OnPlaced.Lists.{mapped_at}
 use Rattle.bl_emit_spec_laws.proofs.OnRunPlaces.Sharing.{resumed_kept, run_kept}
@@ -57,7 +57,7 @@ module _ (nodes : (slots : Slots) (body : Block) → map (λ (rule : Transition)
     (structs : List StructDef) (units : List UnitDef) (entry : ℕ) (keeps : IsWellTyped structs units entry) (k : ℕ)
     (there : slice_get units k ≡ Some a.unit) where
   has-run : (p u : ℕ) (n : Node) → slice_get (nodes_in (body_of a)) p ≡ Some n → slice_get (callees_in (body_of a)) p ≡ Some u →
-      HasRun (view_of a).run (runs_in_body a) u n
+      HasRun (activity_view a).run (runs_in_body a) u n
   has-run p u (EnterAt l at arguments) node callee = run_kept nodes a structs units entry keeps k there p u l at arguments node callee
   has-run p u (ResumeAt l at arguments) node callee = resumed_kept nodes a structs units entry keeps k there p u l at arguments node callee
   has-run p u (ActAt l s) node callee = tt
@@ -73,9 +73,9 @@ module _ (nodes : (slots : Slots) (body : Block) → map (λ (rule : Transition)
   has-run p u (DepthJoinAt l at) node callee = tt
 
   -- the rules of a body, each with the activity that its node calls
-  pub body-runs : Pairs (RuleRuns (view_of a).run (runs_in_body a)) (callees_in (body_of a)) (rules_at a)
+  pub body-runs : Pairs (RuleRuns (activity_view a).run (runs_in_body a)) (callees_in (body_of a)) (rules_at a)
   body-runs =
-      pairs-at (RuleRuns (view_of a).run (runs_in_body a)) (callees_in (body_of a)) (rules_at a)
+      pairs-at (RuleRuns (activity_view a).run (runs_in_body a)) (callees_in (body_of a)) (rules_at a)
       (λ p u rule callee is.
       has-run p u rule.node
       (ap (λ (ns : List Node). slice_get ns p) (sym (nodes a.slots (body_of a))) ∙ mapped_at (λ (rule : Transition). rule.node) (rules_at a) p rule is)
@@ -88,16 +88,16 @@ pub record Begins (slots : Slots) (s : Plain) (rules : List Transition) : Type 0
   pub rule : Transition
   pub there : Contains rules rule
   pub node : rule.node ≡ entry s
-  pub asked : rule.asked ≡ Flagged
+  pub condition : rule.condition ≡ Flagged
 
-begins-first : (slots : Slots) (s : Plain) (rule : Transition) (rest : List Transition) → rule.node ≡ entry s → rule.asked ≡ Flagged → Begins slots s
+begins-first : (slots : Slots) (s : Plain) (rule : Transition) (rest : List Transition) → rule.node ≡ entry s → rule.condition ≡ Flagged → Begins slots s
     (rule ∷ rest)
-begins-first slots s rule rest node asked = record { rule = rule; there = here rule rest; node = node; asked = asked }
+begins-first slots s rule rest node asked = record { rule = rule; there = here rule rest; node = node; condition = asked }
 
-begins-second : (slots : Slots) (s : Plain) (first rule : Transition) (rest : List Transition) → rule.node ≡ entry s → rule.asked ≡ Flagged →
+begins-second : (slots : Slots) (s : Plain) (first rule : Transition) (rest : List Transition) → rule.node ≡ entry s → rule.condition ≡ Flagged →
     Begins slots s (first ∷ rule ∷ rest)
 begins-second slots s first rule rest node asked =
-    record { rule = rule; there = further first (rule ∷ rest) rule (here rule rest); node = node; asked = asked }
+    record { rule = rule; there = further first (rule ∷ rest) rule (here rule rest); node = node; condition = asked }
 
 pub entry-flagged : (slots : Slots) (s : Plain) (next : Change) → Begins slots s (rules_of slots s next)
 entry-flagged slots (Act l s) next = begins-first slots (Act l s) _ _ refl refl

@@ -27,7 +27,7 @@ use Rattle.bl_tree.specs.Types.{scalar_in, type_stands}
 use Rattle.bl_tree.specs.Typing.{TypingContext, inputs_of, is_activity, is_fixed, is_variable, outputs_of, var_at}
 use Rattle.bl_tree.specs.Words.{are_distinct}
 use Rattle.bl_eval.proofs.PassLemmas.{all_at, and_left, and_right, get_take}
-use Rattle.bl_ctext_semantics.specs.Faults.{Context, Judged, Signature, bool_type, context_in, judge_root, local_variable, member_of, param_variable, variables_of}
+use Rattle.bl_ctext_semantics.specs.Faults.{Context, Judged, Signature, bool_type, context_in, judge_root, local_variable, member_of, param_variable, parameters_and_locals}
 use Rattle.bl_ctext_semantics.specs.Tables.{Table, found}
 use Rattle.bl_machine.specs.Blocks.{up_to}
 use Rattle.bl_graph_nodes.specs.Nodes.{Node}
@@ -54,7 +54,7 @@ use Rattle.bl_emit_acts_laws_wellformed.proofs.OnFormed.Units.{roles_at, taken_t
 use Rattle.bl_emit_spec.specs.Activities.{Activity, RunAt, activity_function, activity_locals, activity_params, copied_in, copies_of, copy_local}
 use Rattle.bl_emit_spec.specs.Activities.{counter_member, counters_read, flag_local, frame_member, frame_struct, given_local, is_flagged, mark_local}
 use Rattle.bl_emit_spec.specs.Activities.{mark_locals, memory_member, memory_params, over_param, pointer_param, remembered, remembers_any}
-use Rattle.bl_emit_spec.specs.Activities.{rested_local, result_params, rules_at, run_locals, runs_in_body, scalar_local, struct_member, view_of}
+use Rattle.bl_emit_spec.specs.Activities.{activity_view, rested_local, result_params, rules_at, run_locals, runs_in_body, scalar_local, struct_member}
 use Rattle.bl_emit_spec.specs.Blocks.{counter_type, name_in}
 use Rattle.bl_emit_spec.specs.Names.{callee_frame, callee_memory, callee_name, counter_name, counter_place, ended_name, ended_place, flag_name, flag_place}
 use Rattle.bl_emit_spec.specs.Names.{frame_name, given_name, given_place, mark_name, mark_place, over_place, rested_name, rested_place, result_place}
@@ -68,12 +68,12 @@ use Rattle.bl_emit_spec_laws_wellformed_bodies.proofs.OnBodies.Lists.{filter-has
 
 -- what is known where the C function of an activity stands
 pub record Here (units : List UnitDef) (entry k : ℕ) (a : Activity) (table : Table (Table CMember)) (known : Table Signature) : Type 0 where
-  pub keeps : IsWellTyped a.structs units entry
+  pub well_typed : IsWellTyped a.structs units entry
   pub there : slice_get units k ≡ Some a.unit
   pub earlier : a.earlier ≡ take k units
   pub active : is_activity a.unit.kind ≡ true
   pub few : length a.unit.vars ≤ 2 ^ 64
-  pub fitted : all_fit a.sizes (view_of a).site (callees_in (body_of a)) (rules_at a) ≡ true
+  pub fitted : all_fit a.sizes (activity_view a).site (callees_in (body_of a)) (rules_at a) ≡ true
   pub differ : NumbersDiffer a
   pub locals : LocalsDiffer
   pub members : FrameDiffers
@@ -167,10 +167,10 @@ module _ (context : Context) where
 module _ (units : List UnitDef) (entry k : ℕ) (a : Activity) (table : Table (Table CMember)) (known : Table Signature)
     (h : Here units entry k a table known) where
   abbrev pub site : TypingContext
-  site = (view_of a).site
+  site = (activity_view a).site
 
   abbrev pub number : Node → ℕ
-  number = (view_of a).number
+  number = (activity_view a).number
 
   abbrev pub copied : ℕ → Bool
   copied = is_copied (copies_of a.unit)
@@ -186,18 +186,18 @@ module _ (units : List UnitDef) (entry k : ℕ) (a : Activity) (table : Table (T
   names_are [] (l ∷ locals) = ap (λ rest. l.name ∷ rest) (names_are [] locals)
   names_are (p ∷ params) locals = ap (λ rest. p.name ∷ rest) (names_are params locals)
 
-  entries_differ : are_distinct (names_of_entries (variables_of (activity_function a))) ≡ true
+  entries_differ : are_distinct (names_of_entries (parameters_and_locals (activity_function a))) ≡ true
   entries_differ = ap are_distinct (names_are (activity_params a) (activity_locals a)) ∙ h.locals a h.differ
 
   pub param-there : (p : CParam) → Contains (activity_params a) p → context.variables p.name ≡ Some (variable_of p.pointer p.ty)
   param-there p has =
-      found-one (variables_of (activity_function a)) (param_variable p) entries_differ
+      found-one (parameters_and_locals (activity_function a)) (param_variable p) entries_differ
       (Contains-append_left (map param_variable (activity_params a)) (map local_variable (activity_locals a)) (param_variable p)
       (contains_mapped param_variable (activity_params a) p has))
 
   pub local-there : (l : CLocal) → Contains (activity_locals a) l → context.variables l.name ≡ Some (variable_of false l.ty)
   local-there l has =
-      found-one (variables_of (activity_function a)) (local_variable l) entries_differ
+      found-one (parameters_and_locals (activity_function a)) (local_variable l) entries_differ
       (Contains-append_right (map param_variable (activity_params a)) (map local_variable (activity_locals a)) (local_variable l)
       (contains_mapped local_variable (activity_locals a) l has))
 
@@ -300,12 +300,12 @@ module _ (units : List UnitDef) (entry k : ℕ) (a : Activity) (table : Table (T
   abbrev of_rested : List CLocal
   of_rested = map (rested_local a.sizes) (counters_read a)
 
-  pub rested-is : (c : ℕ) → (view_of a).is_read c ≡ true → PlaceIs context false (OfScalar (counter_type a.sizes c)) (rested_place c)
+  pub rested-is : (c : ℕ) → (activity_view a).is_read c ≡ true → PlaceIs context false (OfScalar (counter_type a.sizes c)) (rested_place c)
   rested-is c on =
       local-place (counter_type a.sizes c) (rested_name c)
       (Contains-append_left of_rested (of_flags ++ (of_marks ++ (of_copies ++ of_runs))) (rested_local a.sizes c)
       (contains_mapped (rested_local a.sizes) (counters_read a) c
-      (filter-has (view_of a).is_read (up_to (length a.sizes)) c (up-has (length a.sizes) c (h.owns.read c on)) on)))
+      (filter-has (activity_view a).is_read (up_to (length a.sizes)) c (up-has (length a.sizes) c (h.owns.read c on)) on)))
 
   both_ends : (x y : Bool) → (x && y) ≡ true → (x ≡ true) × (y ≡ true)
   both_ends true true is = (refl, refl)
@@ -315,14 +315,14 @@ module _ (units : List UnitDef) (entry k : ℕ) (a : Activity) (table : Table (T
   pub flag-is : (n : ℕ) → (registered a).flags n ≡ true → PlaceIs context false bool_type (flag_place n)
   flag-is n on =
       let one = any_found (asks_flag number n) (rules_at a) on in
-      let tests = both_ends (is_flagged one.one.asked) (nat_eq n (number one.one.node)) one.on in
+      let tests = both_ends (is_flagged one.one.condition) (nat_eq n (number one.one.node)) one.on in
       let same : n ≡ number one.one.node = eqb-true n (number one.one.node) tests.1 in
       local-place OfBool (flag_name n)
       (Contains-append_right of_rested (of_flags ++ (of_marks ++ (of_copies ++ of_runs))) (scalar_local OfBool (flag_name n))
       (Contains-append_left of_flags (of_marks ++ (of_copies ++ of_runs)) (scalar_local OfBool (flag_name n))
       (joined-has (flag_local number) (rules_at a) one.one (scalar_local OfBool (flag_name n)) one.there
       (subst (λ m. Contains (flag_local number one.one) (scalar_local OfBool (flag_name m))) (sym same)
-      (by one.one (is_flagged one.one.asked) tests.0)))))
+      (by one.one (is_flagged one.one.condition) tests.0)))))
     where
       by : (rule : Transition) (b : Bool) → b ≡ true → Contains (if b then scalar_local OfBool (flag_name (number rule.node)) ∷ [] else [])
           (scalar_local OfBool (flag_name (number rule.node)))
@@ -342,14 +342,14 @@ module _ (units : List UnitDef) (entry k : ℕ) (a : Activity) (table : Table (T
 
   pub mark-is : (n : ℕ) → (registered a).marks n ≡ true → PlaceIs context false bool_type (mark_place n)
   mark-is n on =
-      let one = any_found (λ (rule : Transition). list_any (sets_mark number n) rule.so) (rules_at a) on in
-      let change = any_found (sets_mark number n) one.one.so one.on in
+      let one = any_found (λ (rule : Transition). list_any (sets_mark number n) rule.on_true) (rules_at a) on in
+      let change = any_found (sets_mark number n) one.one.on_true one.on in
       local-place OfBool (mark_name n)
       (Contains-append_right of_rested (of_flags ++ (of_marks ++ (of_copies ++ of_runs))) (scalar_local OfBool (mark_name n))
       (Contains-append_right of_flags (of_marks ++ (of_copies ++ of_runs)) (scalar_local OfBool (mark_name n))
       (Contains-append_left of_marks (of_copies ++ of_runs) (scalar_local OfBool (mark_name n))
       (joined-has (mark_locals number) (rules_at a) one.one (scalar_local OfBool (mark_name n)) one.there
-      (joined-has (mark_local number) one.one.so change.one (scalar_local OfBool (mark_name n)) change.there (marks_there n change.one change.on))))))
+      (joined-has (mark_local number) one.one.on_true change.one (scalar_local OfBool (mark_name n)) change.there (marks_there n change.one change.on))))))
 
   pub over-is : PlaceIs context true bool_type over_place
   over-is =
@@ -397,13 +397,13 @@ module _ (units : List UnitDef) (entry k : ℕ) (a : Activity) (table : Table (T
       (Contains-append_right (map (counter_member a.sizes) (up_to (length a.sizes))) (map (frame_member a) (runs_in_body a)) (frame_member a run)
       (contains_mapped (frame_member a) (runs_in_body a) run has))
 
-  pub memory_at-is : (run : RunAt) → Contains (runs_in_body a) run → (view_of a).remembers run.unit ≡ true →
+  pub memory_at-is : (run : RunAt) → Contains (runs_in_body a) run → (activity_view a).remembers run.unit ≡ true →
       PlaceIs context true (OfStruct (memory_name (name_in (slice_get a.earlier run.unit)))) (callee_memory run.number)
   memory_at-is run has on =
       let m : CMember = struct_member (callee_name run.number) (memory_name (name_in (slice_get a.earlier run.unit))) in
       let inside : Contains (remembered a) m =
       Contains-append_right (members_of a.structs a.earlier a.unit) (joined (map (memory_member a) (runs_in_body a))) m
-      (joined-has (memory_member a) (runs_in_body a) run m has (by ((view_of a).remembers run.unit) on)) in
+      (joined-has (memory_member a) (runs_in_body a) run m has (by ((activity_view a).remembers run.unit) on)) in
       member_place context (codes "m") (memory_name a.unit.name) (callee_name run.number) (OfStruct (memory_name (name_in (slice_get a.earlier run.unit))))
       (memory_variable m inside) (memory_member_of m inside)
     where
@@ -416,7 +416,7 @@ module _ (units : List UnitDef) (entry k : ℕ) (a : Activity) (table : Table (T
   -- ---- variables
 
   roles : roles_stand a.unit ≡ true
-  roles = roles_at a.structs units entry h.keeps k a.unit h.there
+  roles = roles_at a.structs units entry h.well_typed k a.unit h.there
 
   -- whether a parameter is one by pointer
   abbrev pointer_of : Var → Bool
@@ -517,7 +517,7 @@ module _ (units : List UnitDef) (entry k : ℕ) (a : Activity) (table : Table (T
   }
 
   -- nothing is kept from being changed through a pointer
-  pub plain_here : context.keeps ≡ true → (j : ℕ) (var : Var) → var_at site j ≡ Some var → leads_through site j ≡ false
+  pub plain_here : context.is_read_only ≡ true → (j : ℕ) (var : Var) → var_at site j ≡ Some var → leads_through site j ≡ false
   plain_here keeps_now j var in_vars = absurd (let no : false ≡ true = keeps_now in cc)
 
   earlier_is : (f : ℕ) (callee : UnitDef) → slice_get a.earlier f ≡ Some callee → slice_get units f ≡ Some callee
@@ -526,11 +526,11 @@ module _ (units : List UnitDef) (entry k : ℕ) (a : Activity) (table : Table (T
 
   pub earlier_here : EarlierStand site
   earlier_here = record {
-    inputs = λ f callee earlier. and_left _ _ (and_right _ _ (roles_at a.structs units entry h.keeps f callee (earlier_is f callee earlier)));
+    inputs = λ f callee earlier. and_left _ _ (and_right _ _ (roles_at a.structs units entry h.well_typed f callee (earlier_is f callee earlier)));
     outputs = λ f callee earlier.
-        and_left _ _ (and_right _ _ (and_right _ _ (roles_at a.structs units entry h.keeps f callee (earlier_is f callee earlier))));
+        and_left _ _ (and_right _ _ (and_right _ _ (roles_at a.structs units entry h.well_typed f callee (earlier_is f callee earlier))));
   }
 
   pub typed_here : (j : ℕ) (var : Var) → var_at site j ≡ Some var → type_stands (length a.structs) var.ty ≡ true
   typed_here j var in_vars =
-      all_at (λ (var : Var). type_stands (length a.structs) var.ty) a.unit.vars j var (vars_stand a.structs units entry h.keeps k a.unit h.there) in_vars
+      all_at (λ (var : Var). type_stands (length a.structs) var.ty) a.unit.vars j var (vars_stand a.structs units entry h.well_typed k a.unit h.there) in_vars

@@ -36,6 +36,7 @@ use Rattle.bl_emit_acts_laws_wellformed.proofs.OnFormed.Typed.{variable_place}
 use Rattle.bl_emit_spec.specs.Activities.{
   Activity,
   activity_code,
+  activity_view,
   blocks_in_order,
   body_of,
   callees_in,
@@ -47,7 +48,6 @@ use Rattle.bl_emit_spec.specs.Activities.{
   rested_code,
   rules_at,
   turns_in_source,
-  view_of,
 }
 use Rattle.bl_emit_spec.specs.Blocks.{ActivityView, counter_type, counter_value}
 use Rattle.bl_emit_spec.specs.Names.{counter_place, flag_place, rested_place}
@@ -88,14 +88,14 @@ filtered here test make (x ∷ xs) each =
 
 module _ (units : List UnitDef) (entry k : ℕ) (a : Activity) (table : Table (Table CMember)) (known : Table Signature)
     (h : Here units entry k a table known)
-    (acts : (s : Stmt) → is_act (out-StmtKind (out-Stmt s).what) ≡ true → fits (view_of a).site s ≡ true →
-    InActivity (view_of a).site (copied_in_layer (copied units entry k a table known h) (out-StmtKind (out-Stmt s).what)) →
-    BlockIs (context units entry k a table known h) (act_code (view_of a).site (copies_of a.unit) s)) where
+    (acts : (s : Stmt) → is_act (out-StmtKind (out-Stmt s).what) ≡ true → fits (activity_view a).site s ≡ true →
+    InActivity (activity_view a).site (copied_in_layer (copied units entry k a table known h) (out-StmtKind (out-Stmt s).what)) →
+    BlockIs (context units entry k a table known h) (act_code (activity_view a).site (copies_of a.unit) s)) where
   abbrev here : Context
   here = context units entry k a table known h
 
   abbrev view : ActivityView
-  view = view_of a
+  view = activity_view a
 
   abbrev mine : ℕ → Bool
   mine = copied units entry k a table known h
@@ -118,14 +118,14 @@ module _ (units : List UnitDef) (entry k : ℕ) (a : Activity) (table : Table (T
       put-is units entry k a table known h false (c_type a.structs var.ty) (c_place false (copy_name j) []) (c_read (place_in view.site j []))
       (variable_place here (copy_name j) (c_type a.structs var.ty) (declared.copies j var on found.1))
       (read-is here (leads_through view.site j) (c_type a.structs var.ty) (place_in view.site j [])
-      (own_place view.site mine here declared h.keeps.structs_stand (earlier_here units entry k a table known h) (typed_here units entry k a table known h)
+      (own_place view.site mine here declared h.well_typed.structs_stand (earlier_here units entry k a table known h) (typed_here units entry k a table known h)
       (plain_here units entry k a table known h) j var found.1))
 
-  flag_there : (rule : Transition) (n : Node) → Contains (rules_at a) rule → is_flagged rule.asked ≡ true → rule.node ≡ n →
+  flag_there : (rule : Transition) (n : Node) → Contains (rules_at a) rule → is_flagged rule.condition ≡ true → rule.node ≡ n →
       (registered a).flags (view.number n) ≡ true
   flag_there rule n there flagged same =
       any_true (asks_flag view.number (view.number n)) (rules_at a) rule there
-      (both_true (is_flagged rule.asked) (nat_eq (view.number n) (view.number rule.node)) flagged
+      (both_true (is_flagged rule.condition) (nat_eq (view.number n) (view.number rule.node)) flagged
       (eq-eqb (view.number n) (view.number rule.node) (ap view.number (sym same))))
 
   entry-is : (body : Block) → body_of a ≡ body → BlockIs here (entry_code view body)
@@ -136,7 +136,7 @@ module _ (units : List UnitDef) (entry k : ℕ) (a : Activity) (table : Table (T
       subst (λ body. Contains (rules a.slots body) begins.rule) (sym is)
       (Contains-append_left (rules_of a.slots s (enter rest Finishes)) (rules_in a.slots rest Finishes) begins.rule begins.there) in
       let flag : (registered a).flags (view.number (entry_of s)) ≡ true =
-      flag_there begins.rule (entry_of s) there (ap is_flagged begins.asked) begins.node in
+      flag_there begins.rule (entry_of s) there (ap is_flagged begins.condition) begins.node in
       let set : CStmt = c_set (flag_place (view.number (entry_of s))) (c_two Eq (c_read (counter_place 0)) (counter_value a.sizes 0 0)) in
       block_one here set
       (put-is units entry k a table known h false bool_type (flag_place (view.number (entry_of s)))
@@ -147,7 +147,7 @@ module _ (units : List UnitDef) (entry k : ℕ) (a : Activity) (table : Table (T
   turns : Each here (turns_in_source a)
   turns =
       turns-in-source-are units entry k a table known h acts (callees_in (body_of a)) (rules_at a) h.fitted
-      (body-runs (λ slots body. of_block slots body Finishes) a a.structs units entry h.keeps k h.there) (λ rule there. there)
+      (body-runs (λ slots body. of_block slots body Finishes) a a.structs units entry h.well_typed k h.there) (λ rule there. there)
 
   -- nothing fails in the statements
   pub code-is : BlockIs here (activity_code a)
@@ -180,7 +180,7 @@ module _ (units : List UnitDef) (entry k : ℕ) (a : Activity) (table : Table (T
   after : ActsAfter a.earlier
   after =
       subst ActsAfter (sym h.earlier)
-      (λ declared plain s act fitted named. acts k a.unit s (copies_of a.unit) around h.keeps h.there declared plain act fitted named)
+      (λ declared plain s act fitted named. acts k a.unit s (copies_of a.unit) around h.well_typed h.there declared plain act fitted named)
 
   pub whole : BlockIs around (activity_code a)
   whole = code-is units entry k a table known h (after (declared_here units entry k a table known h) (plain_here units entry k a table known h))
@@ -190,7 +190,7 @@ pub bodies : (structs : List StructDef) (units : List UnitDef) (entry : ℕ) →
 bodies structs units entry acts locals members memories k a table known keeps can active differ stands owns copies =
     whole units entry k a table known
     (record {
-      keeps = subst (λ structs. IsWellTyped structs units entry) (sym can.structures) keeps;
+      well_typed = subst (λ structs. IsWellTyped structs units entry) (sym can.structures) keeps;
       there = can.there;
       earlier = can.earlier;
       active = active;

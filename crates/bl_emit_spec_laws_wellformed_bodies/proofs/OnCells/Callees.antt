@@ -10,7 +10,7 @@ use Rattle.bl_tree.specs.Reduce.{greatest, joined, total}
 use Rattle.bl_ctext_semantics.specs.Sizes.{Sizes, size_of_member}
 use Rattle.bl_ctext_semantics.specs.Tables.{entry_or}
 use Rattle.bl_emit_functions.specs.Functions.{memory_name}
-use Rattle.bl_emit_spec.specs.Activities.{Activity, RunAt, frame_member, memory_member, struct_member, view_of}
+use Rattle.bl_emit_spec.specs.Activities.{Activity, RunAt, activity_view, frame_member, memory_member, struct_member}
 use Rattle.bl_emit_spec.specs.Blocks.{name_in}
 use Rattle.bl_emit_spec.specs.Names.{callee_name, frame_name}
 use Rattle.bl_emit_spec_laws_wellformed_bodies.proofs.OnCells.Locals.{total-append}
@@ -93,7 +93,7 @@ module _ (known : Sizes) (a : Activity) where
   memories-less (run ∷ runs) =
       let split = ap total (map-append (size_of_member known) (memory_member a run) (joined (map (memory_member a) runs)))
       ∙ total-append (map (size_of_member known) (memory_member a run)) (map (size_of_member known) (joined (map (memory_member a) runs))) in
-      let one = memory-one ((view_of a).remembers run.unit) run in
+      let one = memory-one ((activity_view a).remembers run.unit) run in
       let rest = memories-less runs in
       omega (arith, split, one, rest)
 
@@ -105,6 +105,6 @@ module _ (known : Sizes) (a : Activity) where
   memories-few [] = omega arith
   memories-few (run ∷ runs) =
       let split = length-append (memory_member a run) (joined (map (memory_member a) runs)) in
-      let one = few-one ((view_of a).remembers run.unit) run in
+      let one = few-one ((activity_view a).remembers run.unit) run in
       let rest = memories-few runs in
       omega (arith, split, one, rest)

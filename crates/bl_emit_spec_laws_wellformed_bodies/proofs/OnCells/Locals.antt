@@ -19,6 +19,7 @@ use Rattle.bl_emit_spec.specs.Activities.{
   RunAt,
   activity_locals,
   activity_params,
+  activity_view,
   copied_in,
   copies_of,
   copy_local,
@@ -37,7 +38,6 @@ use Rattle.bl_emit_spec.specs.Activities.{
   rules_at,
   run_locals,
   runs_in_body,
-  view_of,
 }
 use Rattle.bl_emit_acts.specs.Acts.{is_copied}
 use Rattle.bl_emit_spec_laws_wellformed.specs.Costs.{extras, marks_in}
@@ -78,8 +78,8 @@ module _ (known : Sizes) where
       by true rest = let first = one k in omega (arith, first, rest)
       by false rest = omega (arith, rest)
 
-  flag-one : (number : Node → ℕ) (rule : Transition) → cells (flag_local number rule) ≡ one_where (is_flagged rule.asked)
-  flag-one number rule = by (is_flagged rule.asked) _ refl
+  flag-one : (number : Node → ℕ) (rule : Transition) → cells (flag_local number rule) ≡ one_where (is_flagged rule.condition)
+  flag-one number rule = by (is_flagged rule.condition) _ refl
     where
       by : (b : Bool) (l : CLocal) → size_of_type known l.ty ≡ 1 → cells (if b then l ∷ [] else []) ≡ one_where b
       by true l one = omega (arith, one)
@@ -102,7 +102,7 @@ module _ (known : Sizes) where
       let flags = cells-append (flag_local number rule) (joined (map (flag_local number) listed)) in
       let marks = cells-append (mark_locals number rule) (joined (map (mark_locals number) listed)) in
       let flag = flag-one number rule in
-      let mark = marks-many number rule.so in
+      let mark = marks-many number rule.on_true in
       let rest = extras-many number listed in
       omega (arith, flags, marks, flag, mark, rest)
 
@@ -121,7 +121,7 @@ module _ (known : Sizes) where
   pub locals-few : (a : Activity) →
       cells (activity_locals a) ≤ length a.sizes + extras (rules_at a) + length a.unit.vars + 2 * length (runs_in_body a)
   locals-few a =
-      let number = (view_of a).number in
+      let number = (activity_view a).number in
       let rested = map (rested_local a.sizes) (counters_read a) in
       let flags = joined (map (flag_local number) (rules_at a)) in
       let marks = joined (map (mark_locals number) (rules_at a)) in
@@ -131,7 +131,7 @@ module _ (known : Sizes) where
       let second = cells-append flags (marks ++ (copies ++ runs)) in
       let third = cells-append marks (copies ++ runs) in
       let fourth = cells-append copies runs in
-      let held = some-few (rested_local a.sizes) (λ k. refl) (view_of a).is_read (up_to (length a.sizes)) in
+      let held = some-few (rested_local a.sizes) (λ k. refl) (activity_view a).is_read (up_to (length a.sizes)) in
       let counters = up-length (length a.sizes) in
       let extra = extras-many number (rules_at a) in
       let copied = some-few (copy_local a) (λ k. refl) (is_copied (copies_of a.unit)) (up_to (length a.unit.vars)) in

@@ -13,7 +13,7 @@ use Rattle.bl_graph_nodes.specs.Plain.{Block}
 use Rattle.bl_machine.specs.Uses.{Slots}
 use Rattle.bl_machine_pass.specs.Transitions.{Transition, rules}
 use Rattle.bl_machine_transitions.specs.Callees.{callees_in}
-use Rattle.bl_emit_spec.specs.Activities.{RunAt, body_of, one_a_place, rules_at, runs_at, runs_in_body, view_of}
+use Rattle.bl_emit_spec.specs.Activities.{RunAt, activity_view, body_of, one_a_place, rules_at, runs_at, runs_in_body}
 use Rattle.bl_emit_spec_laws.proofs.OnRunPlaces.Sharing.{runs_made}
 use Rattle.bl_emit_spec_laws_wellformed_bodies.specs.Cells.{BodiesRun}
 
@@ -49,7 +49,7 @@ units_placed (run ∷ rest) = ap (λ units. run.unit ∷ units) (units_placed re
 pub bodies : ((slots : Slots) (body : Block) → map (λ (rule : Transition). rule.node) (rules slots body) ≡ nodes_in body) →
     (structs : List StructDef) (units : List UnitDef) (entry : ℕ) → BodiesRun structs units entry
 bodies nodes structs units entry k unit a keeps of =
-    let every : List RunAt = runs_at (view_of a).number (callees_in (body_of a)) (rules_at a) in
+    let every : List RunAt = runs_at (activity_view a).number (callees_in (body_of a)) (rules_at a) in
     subst (λ (u : UnitDef). map (λ (run : RunAt). run.unit) (runs_in_body a) ≡ activities_by_place u) of.is
     (units_placed (runs_in_body a)
     ∙ ap placed.units_of (once_placed every

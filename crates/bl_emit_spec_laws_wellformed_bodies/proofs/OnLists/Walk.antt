@@ -43,7 +43,7 @@ use Rattle.bl_emit_functions_laws_wellformed.proofs.OnFiles.Growing.{distinct_be
 use Rattle.bl_emit_functions_laws_wellformed.proofs.OnFiles.Under.{Under, back-under, front-under}
 use Rattle.bl_emit_functions_laws_wellformed.proofs.OnFiles.Walk.{drop_next, take_next}
 use Rattle.bl_emit_spec_laws.proofs.OnRunPlaces.Sharing.{once_in}
-use Rattle.bl_emit_spec.specs.Activities.{Activity, RunAt, activity_function, frame_struct, remembered_struct, remembers_any, rules_at, runs_at, runs_in_body, view_of}
+use Rattle.bl_emit_spec.specs.Activities.{Activity, RunAt, activity_function, activity_view, frame_struct, remembered_struct, remembers_any, rules_at, runs_at, runs_in_body}
 use Rattle.bl_emit_spec.specs.Blocks.{name_in}
 use Rattle.bl_emit_spec.specs.Names.{frame_name}
 use Rattle.bl_emit_spec.specs.Programs.{
@@ -363,8 +363,8 @@ module _ (structs : List StructDef) (units : List UnitDef) (entry : ℕ) (given 
             (callee : UnitDef) → slice_get (take k units) run.unit ≡ Some callee → is_activity callee.kind ≡ true →
             is_some (table (frame_name (name_in (slice_get (take k units) run.unit)))) ≡ true
         frames_stand frames run has callee found active =
-            let need_it = run_needed unit (view_of a).number (callees_in (plain_body unit.body)) (rules_at a) runs_under run
-            (once_in (runs_at (view_of a).number (callees_in (plain_body unit.body)) (rules_at a)) run has) in
+            let need_it = run_needed unit (activity_view a).number (callees_in (plain_body unit.body)) (rules_at a) runs_under run
+            (once_in (runs_at (activity_view a).number (callees_in (plain_body unit.body)) (rules_at a)) run has) in
             let it = stands-before run.unit need_it in
             let at = taken units k run.unit callee found in
             subst (λ o. is_some (table (frame_name (name_in o))) ≡ true) (sym found)
@@ -393,8 +393,8 @@ module _ (structs : List StructDef) (units : List UnitDef) (entry : ℕ) (given 
         activity-fine depths chains active frames declared =
             let callees : (run : RunAt) → Contains (runs_in_body a) run →
             (callee : UnitDef) × ((slice_get (take k units) run.unit ≡ Some callee) × (is_activity callee.kind ≡ true)) =
-            (λ run has. run_called a.sizes (view_of a).site (view_of a).number (callees_in (plain_body unit.body)) (rules_at a)
-            forms.can.rules run (once_in (runs_at (view_of a).number (callees_in (plain_body unit.body)) (rules_at a)) run has)) in
+            (λ run has. run_called a.sizes (activity_view a).site (activity_view a).number (callees_in (plain_body unit.body)) (rules_at a)
+            forms.can.rules run (once_in (runs_at (activity_view a).number (callees_in (plain_body unit.body)) (rules_at a)) run has)) in
             let short : depth_of_function depths (activity_function a) ≤ 100 = given.low structs units entry k unit a depths passes of_unit chains in
             same (activity_function a) depths refl
             (given.few a heavy by_position 0 (prelude-light structs units needed remember differ k unit functions knows stands-before)

@@ -57,6 +57,7 @@ use Rattle.bl_emit_spec.specs.Activities.{
   activity_function,
   activity_locals,
   activity_params,
+  activity_view,
   copied_in,
   copy_local,
   counters_read,
@@ -76,7 +77,6 @@ use Rattle.bl_emit_spec.specs.Activities.{
   run_locals,
   runs_in_body,
   scalar_local,
-  view_of,
 }
 use Rattle.bl_emit_spec.specs.Names.{flag_name, frame_name}
 use Rattle.bl_emit_spec_laws_wellformed.specs.Names.{LocalsDiffer, NumbersDiffer}
@@ -162,7 +162,7 @@ module _ (table : Table (Table CMember)) where
   fine l = is_declared table l.ty
 
   flag_fine : (number : Node → ℕ) (rule : Transition) → list_all fine (flag_local number rule) ≡ true
-  flag_fine number rule = by (is_flagged rule.asked) (flag_name (number rule.node))
+  flag_fine number rule = by (is_flagged rule.condition) (flag_name (number rule.node))
     where
       by : (b : Bool) (name : Text) → list_all fine (if b then scalar_local OfBool name ∷ [] else []) ≡ true
       by true name = refl
@@ -186,7 +186,7 @@ module _ (table : Table (Table CMember)) where
 
   locals-fine : (a : Activity) → list_all fine (activity_locals a) ≡ true
   locals-fine a =
-      let number : Node → ℕ = (view_of a).number in
+      let number : Node → ℕ = (activity_view a).number in
       let of_runs : List CLocal = joined (map (run_locals a) (runs_in_body a)) in
       let of_copies : List CLocal = map (copy_local a) (copied_in a) in
       let of_marks : List CLocal = joined (map (mark_locals number) (rules_at a)) in
@@ -195,7 +195,7 @@ module _ (table : Table (Table CMember)) where
       (all_mapped fine (rested_local a.sizes) (counters_read a) (λ c. refl))
       (all_append fine of_flags (of_marks ++ (of_copies ++ of_runs)) (all_joined fine (flag_local number) (rules_at a) (flag_fine number))
       (all_append fine of_marks (of_copies ++ of_runs)
-      (all_joined fine (mark_locals number) (rules_at a) (λ rule. all_joined fine (mark_local number) rule.so (mark_fine number)))
+      (all_joined fine (mark_locals number) (rules_at a) (λ rule. all_joined fine (mark_local number) rule.on_true (mark_fine number)))
       (all_append fine of_copies of_runs (all_mapped fine (copy_local a) (copied_in a) (λ j. refl))
       (all_joined fine (run_locals a) (runs_in_body a) (run_fine a)))))
 

@@ -36,6 +36,7 @@ use Rattle.bl_machine_pass.specs.Transitions.{ClearsBoth, ClearsCounter, EndsWhe
 use Rattle.bl_emit_spec.specs.Activities.{
   Activity,
   activity_code,
+  activity_view,
   blocks_code,
   blocks_in_order,
   body_of,
@@ -47,10 +48,9 @@ use Rattle.bl_emit_spec.specs.Activities.{
   rested_code,
   rules_at,
   turns_in_source,
-  view_of,
 }
 use Rattle.bl_emit_spec.specs.Blocks.{ActivityView, NodeCode, acted, change_code, changes_code, flagged_now, forgotten, layer_acted, merged_code, node_code}
-use Rattle.bl_emit_spec.specs.Blocks.{choice_code, run_code, spelled_truth, target_code, tested, turn_code, turns_of}
+use Rattle.bl_emit_spec.specs.Blocks.{choice_code, run_code, spelled_truth, target_code, test_code, turn_code, turns_of}
 use Rattle.bl_emit_spec_laws_wellformed_bodies.specs.Signed.{NoneLoops}
 
 abbrev what : CStmtKind-F CStmtKind CStmt → CStmt
@@ -206,41 +206,41 @@ module _ (view : ActivityView) where
   target-quiet n None = nothing
   target-quiet n (Some path) = set-quiet _ _
 
-  tested-quiet : (test : CExpr) (rule : Transition) → Quiet (tested view test rule)
+  tested-quiet : (test : CExpr) (rule : Transition) → Quiet (test_code view test rule)
   tested-quiet test rule = by (spelled_truth test)
     where
-      by : (truth : Option Bool) → Quiet (choice_code test truth (changes_code view rule.so) (changes_code view rule.otherwise))
+      by : (truth : Option Bool) → Quiet (choice_code test truth (changes_code view rule.on_true) (changes_code view rule.on_false))
       by None =
-          one-quiet (c_if test (changes_code view rule.so) (else_code (changes_code view rule.otherwise)))
-          (if-still test (changes_code view rule.so) (else_code (changes_code view rule.otherwise)) (changes-quiet rule.so)
-          (else-quiet (changes_code view rule.otherwise) (changes-quiet rule.otherwise)))
-      by (Some true) = changes-quiet rule.so
-      by (Some false) = changes-quiet rule.otherwise
+          one-quiet (c_if test (changes_code view rule.on_true) (else_code (changes_code view rule.on_false)))
+          (if-still test (changes_code view rule.on_true) (else_code (changes_code view rule.on_false)) (changes-quiet rule.on_true)
+          (else-quiet (changes_code view rule.on_false) (changes-quiet rule.on_false)))
+      by (Some true) = changes-quiet rule.on_true
+      by (Some false) = changes-quiet rule.on_false
 
   node-quiet : (u : ℕ) (rule : Transition) (n : Node) → Quiet (node_code view u rule n)
   node-quiet u rule (ActAt l s) =
-      append-quiet (acted view s) (changes_code view rule.so) (acted-by s (out-StmtKind (out-Stmt s).what)) (changes-quiet rule.so)
+      append-quiet (acted view s) (changes_code view rule.on_true) (acted-by s (out-StmtKind (out-Stmt s).what)) (changes-quiet rule.on_true)
   node-quiet u rule (TestAt l at e) = tested-quiet _ rule
   node-quiet u rule (CheckAt l at e) = tested-quiet _ rule
   node-quiet u rule (EnterAt l at arguments) =
       let n : ℕ = view.run at in
-      cons-quiet _ (run_code view n u arguments ++ changes_code view rule.so) (clear-still _ _)
-      (append-quiet (run_code view n u arguments) (changes_code view rule.so) (run-quiet n u arguments) (changes-quiet rule.so))
+      cons-quiet _ (run_code view n u arguments ++ changes_code view rule.on_true) (clear-still _ _)
+      (append-quiet (run_code view n u arguments) (changes_code view rule.on_true) (run-quiet n u arguments) (changes-quiet rule.on_true))
   node-quiet u rule (ResumeAt l at arguments) =
       let n : ℕ = view.run at in
-      let code : List CStmt = target_code view n arguments.target ++ changes_code view rule.so in
+      let code : List CStmt = target_code view n arguments.target ++ changes_code view rule.on_true in
       append-quiet (run_code view n u arguments) (c_if _ code None ∷ []) (run-quiet n u arguments)
       (one-quiet (c_if _ code None)
       (if-still _ code None
-      (append-quiet (target_code view n arguments.target) (changes_code view rule.so) (target-quiet n arguments.target) (changes-quiet rule.so)) refl))
-  node-quiet u rule (PauseAt l at) = changes-quiet rule.so
-  node-quiet u rule (HeadAt l at) = changes-quiet rule.so
-  node-quiet u rule (StartAt l at) = changes-quiet rule.so
-  node-quiet u rule (SurfaceEndAt l at) = changes-quiet rule.so
-  node-quiet u rule (DepthEndAt l at) = changes-quiet rule.so
-  node-quiet u rule (ForkAt l at) = changes-quiet rule.so
-  node-quiet u rule (SurfaceJoinAt l at) = changes-quiet rule.so
-  node-quiet u rule (DepthJoinAt l at) = changes-quiet rule.so
+      (append-quiet (target_code view n arguments.target) (changes_code view rule.on_true) (target-quiet n arguments.target) (changes-quiet rule.on_true)) refl))
+  node-quiet u rule (PauseAt l at) = changes-quiet rule.on_true
+  node-quiet u rule (HeadAt l at) = changes-quiet rule.on_true
+  node-quiet u rule (StartAt l at) = changes-quiet rule.on_true
+  node-quiet u rule (SurfaceEndAt l at) = changes-quiet rule.on_true
+  node-quiet u rule (DepthEndAt l at) = changes-quiet rule.on_true
+  node-quiet u rule (ForkAt l at) = changes-quiet rule.on_true
+  node-quiet u rule (SurfaceJoinAt l at) = changes-quiet rule.on_true
+  node-quiet u rule (DepthJoinAt l at) = changes-quiet rule.on_true
 
   -- no loops in what each turn does
   abbrev Each : List NodeCode → Type 0
@@ -292,13 +292,13 @@ module _ (view : ActivityView) where
 
 whole : (a : Activity) → Quiet (activity_code a)
 whole a =
-    let copies : List CStmt = map (c_copied (view_of a).site) (copied_in a) in
+    let copies : List CStmt = map (c_copied (activity_view a).site) (copied_in a) in
     let last : List CStmt = blocks_in_order a in
-    append-quiet (map rested_code (counters_read a)) (entry_code (view_of a) (body_of a) ++ (copies ++ last))
+    append-quiet (map rested_code (counters_read a)) (entry_code (activity_view a) (body_of a) ++ (copies ++ last))
     (mapped rested_code (counters_read a) (λ c. set-still _ _))
-    (append-quiet (entry_code (view_of a) (body_of a)) (copies ++ last) (entry-quiet (view_of a) (body_of a))
-    (append-quiet copies last (mapped (c_copied (view_of a).site) (copied_in a) (λ j. set-still _ _))
-    (blocks-quiet (view_of a) (turns_in_source a) a.blocks (turns-quiet (view_of a) (callees_in (body_of a)) (rules_at a)))))
+    (append-quiet (entry_code (activity_view a) (body_of a)) (copies ++ last) (entry-quiet (activity_view a) (body_of a))
+    (append-quiet copies last (mapped (c_copied (activity_view a).site) (copied_in a) (λ j. set-still _ _))
+    (blocks-quiet (activity_view a) (turns_in_source a) a.blocks (turns-quiet (activity_view a) (callees_in (body_of a)) (rules_at a)))))
 
 pub quiet : NoneLoops
 quiet a = (whole a).none

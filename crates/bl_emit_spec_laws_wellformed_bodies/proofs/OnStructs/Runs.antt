@@ -29,7 +29,7 @@ use Rattle.bl_machine_pass.specs.Transitions.{Transition, rules}
 use Rattle.bl_machine_transitions.specs.Callees.{callees_in}
 use Rattle.bl_emit_functions_laws_wellformed.proofs.OnFiles.Under.{Under, cons-under, head-under, none-under}
 use Rattle.bl_emit_spec_laws.proofs.OnRunPlaces.Sharing.{once_in}
-use Rattle.bl_emit_spec.specs.Activities.{Activity, RunAt, body_of, rules_at, run_at, runs_at, runs_in_body, view_of}
+use Rattle.bl_emit_spec.specs.Activities.{Activity, RunAt, activity_view, body_of, rules_at, run_at, runs_at, runs_in_body}
 use Rattle.bl_emit_spec.specs.Blocks.{Sizes}
 use Rattle.bl_emit_spec.specs.Programs.{needs_of}
 use Rattle.bl_emit_spec_laws_wellformed.proofs.OnChains.Nodes.{AllUnder, body_under, node_calls}
@@ -175,8 +175,8 @@ runs_fit nodes structs units entry k a keeps closed can r has =
     let low : AllUnder (by a.unit) 0 (callees_in (body_of a)) (map (λ (rule : Transition). rule.node) (rules_at a)) =
     subst (AllUnder (by a.unit) 0 (callees_in (body_of a))) (sym (nodes a.slots (body_of a)))
     (body_under (by a.unit) 0 a.unit (few_calls a.unit) (few_runs a.unit)) in
-    let called = each_called a.unit (view_of a).site (view_of a).number a.sizes (callees_in (body_of a)) (rules_at a) low can.rules r
-    (once_in (runs_at (view_of a).number (callees_in (body_of a)) (rules_at a)) r has) in
+    let called = each_called a.unit (activity_view a).site (activity_view a).number a.sizes (callees_in (body_of a)) (rules_at a) low can.rules r
+    (once_in (runs_at (activity_view a).number (callees_in (body_of a)) (rules_at a)) r has) in
     let own : slice_get (take k units) r.unit ≡ Some called.callee =
     subst (λ (earlier : List UnitDef). slice_get earlier r.unit ≡ Some called.callee) can.earlier called.own in
     let taken = get_taken k units r.unit called.callee own in

@@ -31,6 +31,7 @@ use Rattle.bl_emit_functions_laws_wellformed.specs.Formed.{MemoriesHold}
 use Rattle.bl_emit_spec.specs.Activities.{
   Activity,
   RunAt,
+  activity_view,
   counter_member,
   frame_member,
   frame_struct,
@@ -39,7 +40,6 @@ use Rattle.bl_emit_spec.specs.Activities.{
   remembered_struct,
   remembers_any,
   runs_in_body,
-  view_of,
 }
 use Rattle.bl_emit_spec.specs.Blocks.{name_in}
 use Rattle.bl_emit_spec.specs.Names.{callee_name, frame_name}
@@ -271,10 +271,10 @@ module _ (structs : List StructDef) (units : List UnitDef) (entry : ℕ) (types 
       memory_member_is m has =
           ⊎_elim (λ variable. inl (own_variables k unit there small m variable))
           (λ run. let found = from_joined (memory_member a) (runs_in_body a) m run in
-          inr (by found.0 found.1 ((view_of a).remembers found.0.unit) refl found.2))
+          inr (by found.0 found.1 ((activity_view a).remembers found.0.unit) refl found.2))
           (Contains-append_cases (members_of structs (take k units) unit) _ m has)
         where
-          by : (r : RunAt) → Contains (runs_in_body a) r → (b : Bool) → (view_of a).remembers r.unit ≡ b →
+          by : (r : RunAt) → Contains (runs_in_body a) r → (b : Bool) → (activity_view a).remembers r.unit ≡ b →
               Contains (if b then record {
                 ty = OfStruct (memory_name (name_in (slice_get (take k units) r.unit)));
                 name = callee_name r.number;

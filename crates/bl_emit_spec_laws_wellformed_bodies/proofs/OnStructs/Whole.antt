@@ -43,7 +43,7 @@ use Rattle.bl_emit_functions.specs.Functions.{memory_name}
 use Rattle.bl_emit_functions_laws_wellformed.proofs.OnFiles.Growing.{distinct_behind}
 use Rattle.bl_emit_spec.specs.Names.{frame_name}
 use Rattle.bl_emit_spec.specs.Programs.{ProgramParts, file_at, interface_structs, port_struct, state_struct}
-use Rattle.bl_emit_spec_laws_wellformed_bodies.specs.Structs.Laws.{FileStructs, FilesDeclare, PartsAreSound, PartsStand, parts_of}
+use Rattle.bl_emit_spec_laws_wellformed_bodies.specs.Structs.Laws.{FileStructs, FilesDeclare, PartsAreSound, PartsStand, program_parts}
 use Rattle.bl_emit_spec_laws_wellformed_bodies.specs.Structs.Parts.{IsPart}
 use Rattle.bl_emit_spec_laws_wellformed_bodies.proofs.OnStructs.Heights.{
   Height,
@@ -486,7 +486,7 @@ pub files_declare : (program : Program) → NamesDiffer program.structs program.
 files_declare program names members earlier apart at sound machine unit keeps limits agrees there =
     let structs : List StructDef = program.structs in
     let units : List UnitDef = program.units in
-    let parts : ProgramParts = parts_of structs units program.entry machine in
+    let parts : ProgramParts = program_parts structs units program.entry machine in
     let stands = unit_at structs units program.entry keeps program.entry unit there in
     let named : list_all is_name (tree.names_of unit.vars) ≡ true = and_left _ _ (and_right _ _ (and_left _ _ stands)) in
     let distinct : are_distinct (tree.names_of (parameters_of unit)) ≡ true = and_right _ _ (and_right _ _ (and_left _ _ stands)) in

@@ -22,8 +22,8 @@ use Rattle.bl_emit_spec.specs.Programs.{ProgramParts, interface_structs, needed_
 use Rattle.bl_emit_spec_laws_wellformed_bodies.specs.Structs.Parts.{IsPart}
 
 -- what is written of a program's units with a machine
-abbrev pub parts_of : List StructDef → List UnitDef → ℕ → List InMachine → ProgramParts
-parts_of structs units entry machine = parts_from structs [] [] units (needed_units units entry) machine
+abbrev pub program_parts : List StructDef → List UnitDef → ℕ → List InMachine → ProgramParts
+program_parts structs units entry machine = parts_from structs [] [] units (needed_units units entry) machine
 
 -- the names of the structs of a program's types
 abbrev pub type_names : List StructDef → List UnitDef → List Text
@@ -47,7 +47,7 @@ pub record PartsStand (structs : List StructDef) (units : List UnitDef) (entry :
 abbrev pub PartsAreSound : List StructDef → List UnitDef → ℕ → Type 0
 PartsAreSound structs units entry =
     (machine : List InMachine) → IsWellTyped structs units entry → Passes structs units entry → AreActivitiesOf units machine →
-    PartsStand structs units entry (parts_of structs units entry machine)
+    PartsStand structs units entry (program_parts structs units entry machine)
 
 -- ---- the whole file
 
@@ -66,6 +66,6 @@ FilesDeclare program =
     (machine : List InMachine) (unit : UnitDef) → IsWellTyped program.structs program.units program.entry →
     Passes program.structs program.units program.entry → AreActivitiesOf program.units machine →
     slice_get program.units program.entry ≡ Some unit →
-    let parts = parts_of program.structs program.units program.entry machine in
+    let parts = program_parts program.structs program.units program.entry machine in
     FileStructs program.structs program.units (written program machine).structs parts.structs
     (interface_structs program.structs unit (unwrap_or (slice_get parts.remember program.entry) false))

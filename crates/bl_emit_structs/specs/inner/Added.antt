@@ -20,6 +20,6 @@ added collected s =
     else record { structs = collected.structs ++ s ∷ []; taken = collected.taken ++ s.name ∷ [] }
 
 -- the structs with further ones added, one after another
-abbrev pub after : Collected → List CStruct → Collected
-after collected [] = collected
-after collected (s ∷ rest) = after (added collected s) rest
+abbrev pub all_added : Collected → List CStruct → Collected
+all_added collected [] = collected
+all_added collected (s ∷ rest) = all_added (added collected s) rest

@@ -37,8 +37,8 @@ use Rattle.bl_graph_nodes.specs.Plain.{
   else_at,
   inside,
   is_empty,
-  plain,
   plain_block,
+  plain_stmt,
 }
 use Rattle.bl_graph.specs.declared.flow.Flow.{Flow}
 use Rattle.bl_graph.specs.declared.flow.Span.{Span}
@@ -62,7 +62,7 @@ use Rattle.bl_graph.specs.Listed.{
 }
 use Rattle.bl_graph.specs.Marks.{Marked, part_in, part_of, parts_of}
 use Rattle.bl_graph.specs.inner.Flows.{FlowsAdded}
-use Rattle.bl_graph.specs.inner.Parts.{beside, shifted}
+use Rattle.bl_graph.specs.inner.Parts.{shifted, side_by_side}
 
 -- ---- names of numbers
 
@@ -169,8 +169,8 @@ pub record Makes (naming : Naming) (whole : Whole) (made : Made) (before after :
 
 -- a statement was made, whose nodes are numbered from the first on
 abbrev pub StatementMade : Stmt → ℕ → Made → Links → Links → Type 0
-StatementMade s first made before after = (at : Position) (naming : Naming) → Names naming first (nodes_of (plain s at))
-    → Makes naming (whole_of (plain s at)) made before after
+StatementMade s first made before after = (at : Position) (naming : Naming) → Names naming first (nodes_of (plain_stmt s at))
+    → Makes naming (whole_of (plain_stmt s at)) made before after
 
 -- a block was made, whose nodes are numbered from the first on
 abbrev pub BlockMade : List Stmt → ℕ → Made → Links → Links → Type 0
@@ -185,7 +185,7 @@ TurnMade body begins first last made before after = (at : Position) (naming : Na
 -- part of a whole was made; making the rest of its block, numbered from here on, completes it
 pub record Open (naming : Naming) (whole : Whole) (rest : Block) (next : ℕ) (made : Made) (before after : Links) : Type 0 where
   pub names : Names naming next (nodes_in rest)
-  pub closes : (more : Made) (last : Links) → Makes naming (whole_in rest) more after last → Makes naming whole (beside made more) before last
+  pub closes : (more : Made) (last : Links) → Makes naming (whole_in rest) more after last → Makes naming whole (side_by_side made more) before last
 
 -- the condition of an `if` and its block were made
 abbrev pub ChoiceMade : Place → List Static → List Stmt → Bool → ℕ → Made → Links → Links → Type 0

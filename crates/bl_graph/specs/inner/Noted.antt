@@ -51,12 +51,12 @@ numbers_met ns path = numbers_at path (with_fronts ns) ++ numbers_to ns path (le
 -- ---- as they are kept
 
 -- what a table has at a path
-abbrev pub kept : List (Static × List ℕ) → Static → List ℕ
-kept table path = unwrap_or (lookup (is_at (static_cmp path)) table) []
+abbrev pub noted_at : List (Static × List ℕ) → Static → List ℕ
+noted_at table path = unwrap_or (lookup (is_at (static_cmp path)) table) []
 
 -- the table has at each path the numbers of the notes
 abbrev pub HasNotes : List (Static × List ℕ) → List Note → Type 0
-HasNotes table ns = (path : Static) → kept table path ≡ numbers_at path ns
+HasNotes table ns = (path : Static) → noted_at table path ≡ numbers_at path ns
 
 -- one table has the notes at their paths, the other at all fronts of their paths
 pub record HasNotesAndFronts (notes : Notes) (ns : List Note) : Type 0 where

@@ -128,8 +128,8 @@ abbrev pub nothing : Part
 nothing = record { flows = []; outs = []; resumes = [] }
 
 -- two parts beside each other
-abbrev pub beside : Part → Part → Part
-beside a b = record { flows = a.flows ++ b.flows; outs = a.outs ++ b.outs; resumes = a.resumes ++ b.resumes }
+abbrev pub side_by_side : Part → Part → Part
+side_by_side a b = record { flows = a.flows ++ b.flows; outs = a.outs ++ b.outs; resumes = a.resumes ++ b.resumes }
 
 -- whether nothing was made
 abbrev pub is_nothing : List Flow → Bool

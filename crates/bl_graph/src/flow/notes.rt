@@ -5,7 +5,7 @@ ghost use Rattle.std.specs.Map.{lookup};
 ghost use Rattle.std.specs.Prelude.{◌≡◌, ◌≤◌, ◌++◌, ◌∷◌, [], List as Elements, None, Some, cond, length, IfOk, OnOk};
 ghost use Rattle.bl_tree.specs.Order.{static_cmp};
 ghost use Rattle.bl_graph.specs.inner.Found.{notes_of};
-ghost use Rattle.bl_graph.specs.inner.Noted.{HasNotes, HasNotesAndFronts, Note, front, fronts_to, kept, note};
+ghost use Rattle.bl_graph.specs.inner.Noted.{HasNotes, HasNotesAndFronts, Note, front, fronts_to, note, noted_at};
 
 use bl_tree::static_path::copy_of;
 use bl_tree::{List, NoMemory, Static};
@@ -38,7 +38,7 @@ impl ByPath {
     }
 
     fn take(&mut self, alloc: Global, path: &Static) -> List<u32>
-        ensures taken { result ≡ kept self.old path.now }
+        ensures taken { result ≡ noted_at self.old path.now }
         ensures others { (q : _) → lookup (is_at (static_cmp q)) self.new
             ≡ cond (is_at (static_cmp path.now) q) None (lookup (is_at (static_cmp q)) self.old) }
     {
@@ -69,7 +69,7 @@ impl ByPath {
 
     /// The nodes that were noted with exactly this path.
     pub fn at(&self, path: &Static) -> &[u32]
-        ensures { result.now ≡ kept self.now path.now }
+        ensures { result.now ≡ noted_at self.now path.now }
     {
         match self.by_path.get(path) {
             Some(nodes) => nodes.as_slice(),

@@ -40,9 +40,9 @@ either_laid some others = record {
 }
 
 -- the layout of an `if`. No `if` of a program is without an arm, which would do its `else` part
-abbrev pub chosen : List Laid → List Laid → List Laid
-chosen [] other = other
-chosen (arm ∷ rest) other = arm ∷ rest
+abbrev pub arms_laid : List Laid → List Laid → List Laid
+arms_laid [] other = other
+arms_laid (arm ∷ rest) other = arm ∷ rest
 
 -- the counters of branches, each with its end, behind those of the branches before it
 abbrev pub branch_counters : List Laid → ℕ → List ℕ
@@ -56,7 +56,7 @@ kind_laid (StmtKind-F.Assign path e) = none_laid
 kind_laid (StmtKind-F.Call f inputs outputs) = none_laid
 kind_laid (StmtKind-F.Await e) = one_laid
 kind_laid (StmtKind-F.Run target a inputs outputs) = one_laid
-kind_laid (StmtKind-F.If arms other) = either_laid (chosen arms other) other
+kind_laid (StmtKind-F.If arms other) = either_laid (arms_laid arms other) other
 kind_laid (StmtKind-F.Cobegin branches) = record { width = total (widths branches); counters = branch_counters branches }
 kind_laid (StmtKind-F.When guard e body) = block_laid body
 kind_laid (StmtKind-F.Repeat body) = block_laid body

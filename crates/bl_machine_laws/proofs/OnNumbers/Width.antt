@@ -69,9 +69,9 @@ use Rattle.bl_graph_nodes.specs.Plain.{
   inside,
   label_at,
   passed_one,
-  plain,
   plain_block,
   plain_body,
+  plain_stmt,
 }
 use Rattle.bl_machine.specs.Layout.{counters_in, counters_in_each, counters_of, width_in, width_in_each, width_of}
 use Rattle.bl_machine_laws.specs.Numbers.Width.{TakesItsWidth}
@@ -79,7 +79,7 @@ use Rattle.bl_machine_laws.specs.Numbers.Width.{TakesItsWidth}
 -- ---- the width of a body is that of its plain statements
 
 abbrev Same : Stmt → Type 0
-Same s = (at : Position) → width_of (plain s at) ≡ stmt_width s
+Same s = (at : Position) → width_of (plain_stmt s at) ≡ stmt_width s
 
 max_none : (n : ℕ) → max n 0 ≡ n
 max_none n = omega arith
@@ -94,10 +94,10 @@ max_self : (n : ℕ) → max n n ≡ max 0 n
 max_self n = omega arith
 
 block_same : (body : List Stmt) (k : ℕ) (block : Position) → Each Same body →
-    width_in (block_from (map plain body) k block) ≡ greatest (map stmt_width body)
+    width_in (block_from (map plain_stmt body) k block) ≡ greatest (map stmt_width body)
 block_same [] k block each = refl
 block_same (s ∷ rest) k block each =
-    ap (λ first. max first (width_in (block_from (map plain rest) (suc k) block))) (All-head Same s rest each (block ++ k ∷ []))
+    ap (λ first. max first (width_in (block_from (map plain_stmt rest) (suc k) block))) (All-head Same s rest each (block ++ k ∷ []))
     ∙ ap (λ others. max (stmt_width s) others) (block_same rest (suc k) block (All-tail Same s rest each))
 
 abbrev body_width : Arm → ℕ

@@ -30,8 +30,8 @@ use Rattle.bl_effects.specs.Rules.{
 }
 use Rattle.bl_graph_nodes.specs.Plain.{Arm as PlainArm, Await, Block, Branch as PlainBranch, Cobegin, Label, Plain, Position, Repeat, Run}
 use Rattle.bl_graph_nodes.specs.Plain.{Until, When, arm_plain, block_at, block_from, bodies_from, branch_plain, else_at, if_with, inside, kind_plain}
-use Rattle.bl_graph_nodes.specs.Plain.{label_at, passed_one, plain, plain_body, stmt_plain}
-use Rattle.bl_machine.specs.Layout.{places_in, places_in_each, places_of}
+use Rattle.bl_graph_nodes.specs.Plain.{label_at, passed_one, plain_body, plain_stmt, stmt_plain}
+use Rattle.bl_machine.specs.Layout.{places_in, places_in_each, resting_places}
 
 -- ---- answers
 
@@ -81,7 +81,7 @@ ends_of_branch = fold-Branch Bool Bool BranchInstant Bool kind_instant arm_insta
 
 module _ (agree : (s : Stmt) → (loops_in s).instant ≡ instant s) (site : TypingContext) where
   abbrev S : Stmt → Type 0
-  S s = fits site s ≡ true → (loops_in s).places ≡ [] → instant s ≡ false → (at : Position) → 0 < places_of (plain s at)
+  S s = fits site s ≡ true → (loops_in s).places ≡ [] → instant s ≡ false → (at : Position) → 0 < resting_places (plain_stmt s at)
 
   -- blocks
   abbrev Fitted : List Stmt → Type 0
@@ -98,12 +98,12 @@ module _ (agree : (s : Stmt) → (loops_in s).instant ≡ instant s) (site : Typ
   block_agrees (s ∷ body) = λ i. agree s i && block_agrees body i
 
   blocks_rest : (body : List Stmt) → Each S body → Fitted body → Paced body → all_of (map instant body) ≡ false → (k : ℕ) (at : Position) →
-      Rests (block_from (map plain body) k at)
+      Rests (block_from (map plain_stmt body) k at)
   blocks_rest [] each fitted paced ends k at = absurd (cc)
   blocks_rest (s ∷ body) each fitted paced ends k at =
       let none = none_in_both (loops_in s).places (block_loops (map loops_in body)) paced in
-      let first : ℕ = places_of (plain s (at ++ k ∷ [])) in
-      let others : ℕ = places_in (block_from (map plain body) (suc k) at) in
+      let first : ℕ = resting_places (plain_stmt s (at ++ k ∷ [])) in
+      let others : ℕ = places_in (block_from (map plain_stmt body) (suc k) at) in
       by (instant s) refl ends first others
       (λ here. All-head S s body each (and_left (fits site s) (all_of (map (fits site) body)) fitted) none.0 here (at ++ k ∷ []))
       (λ here.
@@ -142,7 +142,7 @@ module _ (agree : (s : Stmt) → (loops_in s).instant ≡ instant s) (site : Typ
 
   with_rests : (l : Label) (place : Place) (arms : List Arm) (other : Position → Block) → EachArm S arms →
       is_inhabited (map arm_fitted arms) ≡ true → all_of (map arm_fitted arms) ≡ true → block_loops (map loops_of_arm arms) ≡ [] →
-      any_of (map instant_of_arm arms) ≡ false → 0 < places_of (if_with l place (map plain_arm arms) other)
+      any_of (map instant_of_arm arms) ≡ false → 0 < resting_places (if_with l place (map plain_arm arms) other)
   with_rests l place [] other each some fitted paced ends = absurd (cc)
   with_rests l place (arm ∷ arms) other each some fitted paced ends =
       let none = none_in_both (loops_of_arm arm).places (block_loops (map loops_of_arm arms)) paced in
@@ -161,8 +161,8 @@ module _ (agree : (s : Stmt) → (loops_in s).instant ≡ instant s) (site : Typ
 
   -- ---- all statements
 
-  as_rests : (s p : Plain) → s ≡ p → 0 < places_of p → 0 < places_of s
-  as_rests s p is rests = subst (λ p. 0 < places_of p) (sym is) rests
+  as_rests : (s p : Plain) → s ≡ p → 0 < resting_places p → 0 < resting_places s
+  as_rests s p is rests = subst (λ p. 0 < resting_places p) (sym is) rests
 
   -- a statement that may end at once is none that is asked for
   no_case : (s : Stmt) → instant s ≡ true → S s
@@ -172,31 +172,31 @@ module _ (agree : (s : Stmt) → (loops_in s).instant ≡ instant s) (site : Typ
       by h = absurd (cc)
 
   module _ (place : Place) where
-    await_plain : (e : Expr) (at : Position) → plain (stmt place (StmtKind-F.Await e)) at ≡ Await (label_at at) place e
+    await_plain : (e : Expr) (at : Position) → plain_stmt (stmt place (StmtKind-F.Await e)) at ≡ Await (label_at at) place e
     await_plain e at = rw (fold-roll-Stmt, fold-roll-StmtKind) refl
 
     run_plain : (target : Option Path) (a : ℕ) (inputs : List Expr) (outputs : List Path) (at : Position) →
-        plain (stmt place (StmtKind-F.Run target a inputs outputs)) at ≡ Run (label_at at) place target a inputs outputs
+        plain_stmt (stmt place (StmtKind-F.Run target a inputs outputs)) at ≡ Run (label_at at) place target a inputs outputs
     run_plain target a inputs outputs at = rw (fold-roll-Stmt, fold-roll-StmtKind) refl
 
-    if_plain : (arms : List Arm) (other : List Stmt) (at : Position) → plain (stmt place (StmtKind-F.If arms other)) at
-        ≡ if_with (label_at at) place (map plain_arm arms) (block_at (map plain other))
+    if_plain : (arms : List Arm) (other : List Stmt) (at : Position) → plain_stmt (stmt place (StmtKind-F.If arms other)) at
+        ≡ if_with (label_at at) place (map plain_arm arms) (block_at (map plain_stmt other))
     if_plain arms other at = rw (fold-roll-Stmt, fold-roll-StmtKind) refl
 
-    cobegin_plain : (branches : List Branch) (at : Position) → plain (stmt place (StmtKind-F.Cobegin branches)) at
+    cobegin_plain : (branches : List Branch) (at : Position) → plain_stmt (stmt place (StmtKind-F.Cobegin branches)) at
         ≡ Cobegin (label_at at) place (bodies_from (map plain_branch branches) 0 (label_at at))
     cobegin_plain branches at = rw (fold-roll-Stmt, fold-roll-StmtKind) refl
 
-    when_plain : (guard : Guard) (e : Expr) (body : List Stmt) (at : Position) → plain (stmt place (StmtKind-F.When guard e body)) at
-        ≡ When (label_at at) place guard e (block_at (map plain body) (inside (label_at at) 0))
+    when_plain : (guard : Guard) (e : Expr) (body : List Stmt) (at : Position) → plain_stmt (stmt place (StmtKind-F.When guard e body)) at
+        ≡ When (label_at at) place guard e (block_at (map plain_stmt body) (inside (label_at at) 0))
     when_plain guard e body at = rw (fold-roll-Stmt, fold-roll-StmtKind) refl
 
-    repeat_plain : (body : List Stmt) (at : Position) → plain (stmt place (StmtKind-F.Repeat body)) at
-        ≡ Repeat (label_at at) place (block_at (map plain body) (inside (label_at at) 0))
+    repeat_plain : (body : List Stmt) (at : Position) → plain_stmt (stmt place (StmtKind-F.Repeat body)) at
+        ≡ Repeat (label_at at) place (block_at (map plain_stmt body) (inside (label_at at) 0))
     repeat_plain body at = rw (fold-roll-Stmt, fold-roll-StmtKind) refl
 
-    until_plain : (body : List Stmt) (e : Expr) (at : Position) → plain (stmt place (StmtKind-F.Until body e)) at
-        ≡ Until (label_at at) place (block_at (map plain body) (inside (label_at at) 0)) e
+    until_plain : (body : List Stmt) (e : Expr) (at : Position) → plain_stmt (stmt place (StmtKind-F.Until body e)) at
+        ≡ Until (label_at at) place (block_at (map plain_stmt body) (inside (label_at at) 0)) e
     until_plain body e at = rw (fold-roll-Stmt, fold-roll-StmtKind) refl
 
     one_place : 0 < 1
@@ -219,7 +219,7 @@ module _ (agree : (s : Stmt) → (loops_in s).instant ≡ instant s) (site : Typ
         let no : (any_of (map instant_of_arm arms) || all_of (map instant other)) ≡ false =
         rw (fold-roll-Stmt, fold-roll-StmtKind) at ends in
         as_rests _ _ (if_plain arms other at)
-        (with_rests (label_at at) place arms (block_at (map plain other)) each some
+        (with_rests (label_at at) place arms (block_at (map plain_stmt other)) each some
         (and_left (all_of (map arm_fitted arms)) (all_of (map (fits site) other)) more)
         (none_in_both (block_loops (map loops_of_arm arms)) (block_loops (map loops_in other)) loops).0
         (both_false (any_of (map instant_of_arm arms)) (all_of (map instant other)) no).0)

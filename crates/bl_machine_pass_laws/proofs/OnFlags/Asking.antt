@@ -53,7 +53,7 @@ use Rattle.bl_machine_pass_laws.specs.Flags.{FlagsAreAsked}
 
 -- the rule asks for a flag, or its node is a join or a resume node of the part, or an edge leads there from what is neither an act nor a head
 pub data Waits (E : Node → Node → Type 0) (R : Node → Type 0) (rule : Transition) : Type 0 where
-  by_flag : rule.asked ≡ Flagged → Waits E R rule
+  by_flag : rule.condition ≡ Flagged → Waits E R rule
   at_join : is_join rule.node ≡ true → Waits E R rule
   resumes : R rule.node → Waits E R rule
   led : (k : Node) → goes_straight k ≡ false → E k rule.node → Waits E R rule
@@ -112,9 +112,9 @@ module _ (slots : Slots) where
           (rule_where (are_instant body) (flagged (SurfaceEndAt l at) (next ∷ [])))
           (record {
             node = CheckAt l at e;
-            asked = RestedIn (rests_in slots body);
-            so = map ClearsBoth (once (counters_in slots body)) ++ fires guard l at body next ∷ [];
-            otherwise = [];
+            condition = RestedIn (rests_in slots body);
+            on_true = map ClearsBoth (once (counters_in slots body)) ++ fires guard l at body next ∷ [];
+            on_false = [];
           }
           ∷ flagged (DepthEndAt l at) (next ∷ [])
           ∷ rules_in slots body (body_ends l at body))
@@ -188,10 +188,10 @@ pub flags_asked : FlagsAreAsked
 flags_asked slots body n m rule follow there is =
     by (rule_waits (EdgeAll body) (ResumeAll body) (rules slots body) rule (wait_block slots body Finishes) there)
   where
-    differ : true ≡ false → rule.asked ≡ Flagged
+    differ : true ≡ false → rule.condition ≡ Flagged
     differ h = absurd (cc)
 
-    by : Waits (EdgeAll body) (ResumeAll body) rule → rule.asked ≡ Flagged
+    by : Waits (EdgeAll body) (ResumeAll body) rule → rule.condition ≡ Flagged
     by (by_flag asked) = asked
     by (at_join join) = differ (sym join ∙ ap is_join is ∙ follow.no_join)
     by (resumes resume) = absurd (follow.no_resume (subst (ResumeAll body) is resume))

@@ -33,8 +33,8 @@ AllChanges P (change ∷ rest) = P change × AllChanges P rest
 
 -- of those of a rule
 pub record RuleLed (E : Node → Node → Type 0) (O : Node → Type 0) (next : Change) (rule : Transition) : Type 0 where
-  pub so : AllChanges (λ change. (m : Node) → MayFlag change m → Led E O next rule.node m) rule.so
-  pub otherwise : AllChanges (λ change. (m : Node) → MayFlag change m → Led E O next rule.node m) rule.otherwise
+  pub on_true : AllChanges (λ change. (m : Node) → MayFlag change m → Led E O next rule.node m) rule.on_true
+  pub on_false : AllChanges (λ change. (m : Node) → MayFlag change m → Led E O next rule.node m) rule.on_false
 
 -- and of all these rules
 abbrev pub AllLed : (Node → Node → Type 0) → (Node → Type 0) → Change → List Transition → Type 0
@@ -70,7 +70,7 @@ module _ (E : Node → Node → Type 0) (O : Node → Type 0) (next : Change) (E
   all_wider : (rules : List Transition) → AllLed E O next rules → AllLed E' O' next' rules
   all_wider [] all = tt
   all_wider (rule ∷ rest) all = (
-    record { so = changes_wider rule.node rule.so all.0.so; otherwise = changes_wider rule.node rule.otherwise all.0.otherwise },
+    record { on_true = changes_wider rule.node rule.on_true all.0.on_true; on_false = changes_wider rule.node rule.on_false all.0.on_false },
     all_wider rest all.1,
   )
 
@@ -138,19 +138,19 @@ module _ (slots : Slots) where
 
   mutual
     pub of_plain : (s : Plain) (next : Change) → AllLed (Edge s) (Out s) next (rules_of slots s next)
-    of_plain (Act l s) next = (record { so = (λ m flags. by_out _ m refl flags, tt); otherwise = tt }, tt)
+    of_plain (Act l s) next = (record { on_true = (λ m flags. by_out _ m refl flags, tt); on_false = tt }, tt)
     of_plain (Await l at e) next = (
-      record { so = (λ m flags. absurd flags, tt); otherwise = tt },
-      (record { so = (λ m flags. absurd flags, (λ m flags. by_out _ m refl flags, tt)); otherwise = tt }, tt),
+      record { on_true = (λ m flags. absurd flags, tt); on_false = tt },
+      (record { on_true = (λ m flags. absurd flags, (λ m flags. by_out _ m refl flags, tt)); on_false = tt }, tt),
     )
     of_plain (RunOf l at target a inputs outputs) next = (
-      record { so = (λ m flags. absurd flags, tt); otherwise = tt },
-      (record { so = (λ m flags. absurd flags, (λ m flags. by_out _ m refl flags, tt)); otherwise = tt }, tt),
+      record { on_true = (λ m flags. absurd flags, tt); on_false = tt },
+      (record { on_true = (λ m flags. absurd flags, (λ m flags. by_out _ m refl flags, tt)); on_false = tt }, tt),
     )
     of_plain (If l at e body other) next = (
       record {
-        so = (λ m flags. some m (entered body next m flags), tt);
-        otherwise = (λ m flags. others m (entered other next m flags), tt);
+        on_true = (λ m flags. some m (entered body next m flags), tt);
+        on_false = (λ m flags. others m (entered other next m flags), tt);
       },
       both_led (Edge (If l at e body other)) (Out (If l at e body other)) next (rules_in slots body next) (rules_in slots other next)
           (all_wider (EdgeAll body) (OutAll body) next (Edge (If l at e body other)) (Out (If l at e body other)) next in_body
@@ -176,23 +176,23 @@ module _ (slots : Slots) where
         in_other k m (inr out) = inr (inr (inl out.0), out.1)
     of_plain (Cobegin l at bodies) next = (
       record {
-        so = marked_led (FlagsLed (Edge (Cobegin l at bodies)) (Out (Cobegin l at bodies)) next (ForkAt l at))
+        on_true = marked_led (FlagsLed (Edge (Cobegin l at bodies)) (Out (Cobegin l at bodies)) next (ForkAt l at))
             (is_instant (Cobegin l at bodies)) (ForkAt l at) (enter_each slots l 0 bodies) (λ m flags. absurd flags)
             (forks (Edge (Cobegin l at bodies)) (Out (Cobegin l at bodies)) next l at (is_instant (Cobegin l at bodies)) 0 bodies (λ m edge. edge));
-        otherwise = tt;
+        on_false = tt;
       },
       both_led (Edge (Cobegin l at bodies)) (Out (Cobegin l at bodies)) next _ _
           (where_led (Edge (Cobegin l at bodies)) (Out (Cobegin l at bodies)) next (is_instant (Cobegin l at bodies)) _ (λ is. record {
-            so = freed_led (FlagsLed (Edge (Cobegin l at bodies)) (Out (Cobegin l at bodies)) next (SurfaceJoinAt l at))
+            on_true = freed_led (FlagsLed (Edge (Cobegin l at bodies)) (Out (Cobegin l at bodies)) next (SurfaceJoinAt l at))
                 (λ k m flags. absurd flags) (once (counters_in_each slots l 0 bodies)) next
                 (λ m flags. by_out (SurfaceJoinAt l at) m (inl (is, refl)) flags);
-            otherwise = tt;
+            on_false = tt;
           })) (
             record {
-              so = freed_led (FlagsLed (Edge (Cobegin l at bodies)) (Out (Cobegin l at bodies)) next _) (λ k m flags. absurd flags)
+              on_true = freed_led (FlagsLed (Edge (Cobegin l at bodies)) (Out (Cobegin l at bodies)) next _) (λ k m flags. absurd flags)
                   (once (counters_in_each slots l 0 bodies)) next
                   (λ m flags. by_out _ m (inr refl) flags);
-              otherwise = tt;
+              on_false = tt;
             },
             all_wider (EdgeEach bodies l at (is_instant (Cobegin l at bodies))) NoOut Finishes (Edge (Cobegin l at bodies)) (Out (Cobegin l at bodies)) next
                 (λ k m. in_branches (EdgeEach bodies l at (is_instant (Cobegin l at bodies))) (Out (Cobegin l at bodies)) next k m)
@@ -201,24 +201,24 @@ module _ (slots : Slots) where
     )
     of_plain (When l at guard e body) next = (
       record {
-        so = marked_led (FlagsLed (Edge (When l at guard e body)) (Out (When l at guard e body)) next (StartAt l at))
+        on_true = marked_led (FlagsLed (Edge (When l at guard e body)) (Out (When l at guard e body)) next (StartAt l at))
             (are_instant body) (StartAt l at) (enter body (body_ends l at body) ∷ [])
             (λ m flags. absurd flags) (λ m flags. by_edge (StartAt l at) m (inr (inl (refl, into m flags))), tt);
-        otherwise = tt;
+        on_false = tt;
       },
       both_led (Edge (When l at guard e body)) (Out (When l at guard e body)) next _ _
           (where_led (Edge (When l at guard e body)) (Out (When l at guard e body)) next (are_instant body) _ (λ is. record {
-            so = (λ m flags. by_out (SurfaceEndAt l at) m (inl (is, refl)) flags, tt);
-            otherwise = tt;
+            on_true = (λ m flags. by_out (SurfaceEndAt l at) m (inl (is, refl)) flags, tt);
+            on_false = tt;
           })) (
             record {
-              so = forgotten_led (FlagsLed (Edge (When l at guard e body)) (Out (When l at guard e body)) next (CheckAt l at e))
+              on_true = forgotten_led (FlagsLed (Edge (When l at guard e body)) (Out (When l at guard e body)) next (CheckAt l at e))
                   (λ k m flags. absurd flags) (once (counters_in slots body))
                   (fires guard l at body next) (fired guard refl);
-              otherwise = tt;
+              on_false = tt;
             },
             (
-              record { so = (λ m flags. by_out (DepthEndAt l at) m (inr refl) flags, tt); otherwise = tt },
+              record { on_true = (λ m flags. by_out (DepthEndAt l at) m (inr refl) flags, tt); on_false = tt },
               all_wider (EdgeAll body) (OutAll body) (body_ends l at body) (Edge (When l at guard e body)) (Out (When l at guard e body)) next
                   inside (rules_in slots body (body_ends l at body))
                   (of_block body (body_ends l at body)),
@@ -241,7 +241,7 @@ module _ (slots : Slots) where
         inside k m (inl edge) = inl (inl edge)
         inside k m (inr out) = inl (inr (inr (inr (inr (out.0, ended l at body m out.1)))))
     of_plain (Repeat l at body) next = (
-      record { so = (λ m flags. by_edge (HeadAt l at) m (inr (inl (refl, entered body (SetsFlag (HeadAt l at)) m flags))), tt); otherwise = tt },
+      record { on_true = (λ m flags. by_edge (HeadAt l at) m (inr (inl (refl, entered body (SetsFlag (HeadAt l at)) m flags))), tt); on_false = tt },
       all_wider (EdgeAll body) (OutAll body) (SetsFlag (HeadAt l at)) (Edge (Repeat l at body)) (Out (Repeat l at body)) next inside
           (rules_in slots body (SetsFlag (HeadAt l at))) (of_block body (SetsFlag (HeadAt l at))),
     )
@@ -250,11 +250,11 @@ module _ (slots : Slots) where
         inside k m (inl edge) = inl (inl edge)
         inside k m (inr out) = inl (inr (inr out))
     of_plain (Until l at body e) next = (
-      record { so = (λ m flags. by_edge (HeadAt l at) m (inr (inl (inl (refl, entered body (SetsFlag (TestAt l at e)) m flags)))), tt); otherwise = tt },
+      record { on_true = (λ m flags. by_edge (HeadAt l at) m (inr (inl (inl (refl, entered body (SetsFlag (TestAt l at e)) m flags)))), tt); on_false = tt },
       (
         record {
-          so = (λ m flags. by_out (TestAt l at e) m refl flags, tt);
-          otherwise = (λ m flags. by_edge (TestAt l at e) m (inr (inr (refl, flags))), tt);
+          on_true = (λ m flags. by_out (TestAt l at e) m refl flags, tt);
+          on_false = (λ m flags. by_edge (TestAt l at e) m (inr (inr (refl, flags))), tt);
         },
         all_wider (EdgeAll body) (OutAll body) (SetsFlag (TestAt l at e)) (Edge (Until l at body e)) (Out (Until l at body e)) next inside
             (rules_in slots body (SetsFlag (TestAt l at e))) (of_block body (SetsFlag (TestAt l at e))),
@@ -266,8 +266,8 @@ module _ (slots : Slots) where
         inside k m (inr out) = inl (inr (inl (inr out)))
     of_plain (While l at e body) next = (
       record {
-        so = (λ m flags. by_edge (TestAt l at e) m (inr (inl (refl, entered body (SetsFlag (TestAt l at e)) m flags))), tt);
-        otherwise = (λ m flags. by_out (TestAt l at e) m refl flags, tt);
+        on_true = (λ m flags. by_edge (TestAt l at e) m (inr (inl (refl, entered body (SetsFlag (TestAt l at e)) m flags))), tt);
+        on_false = (λ m flags. by_out (TestAt l at e) m refl flags, tt);
       },
       all_wider (EdgeAll body) (OutAll body) (SetsFlag (TestAt l at e)) (Edge (While l at e body)) (Out (While l at e body)) next inside
           (rules_in slots body (SetsFlag (TestAt l at e))) (of_block body (SetsFlag (TestAt l at e))),
@@ -277,11 +277,11 @@ module _ (slots : Slots) where
         inside k m (inl edge) = inl (inl edge)
         inside k m (inr out) = inl (inr (inr out))
     of_plain (Again l at body e) next = (
-      record { so = (λ m flags. by_edge (HeadAt l at) m (inr (inl (inl (refl, entered body (SetsFlag (TestAt l at e)) m flags)))), tt); otherwise = tt },
+      record { on_true = (λ m flags. by_edge (HeadAt l at) m (inr (inl (inl (refl, entered body (SetsFlag (TestAt l at e)) m flags)))), tt); on_false = tt },
       (
         record {
-          so = (λ m flags. by_out (TestAt l at e) m refl flags, tt);
-          otherwise = (λ m flags. by_edge (TestAt l at e) m (inr (inr (refl, flags))), tt);
+          on_true = (λ m flags. by_out (TestAt l at e) m refl flags, tt);
+          on_false = (λ m flags. by_edge (TestAt l at e) m (inr (inr (refl, flags))), tt);
         },
         all_wider (EdgeAll body) (OutAll body) (SetsFlag (TestAt l at e)) (Edge (Again l at body e)) (Out (Again l at body e)) next inside
             (rules_in slots body (SetsFlag (TestAt l at e))) (of_block body (SetsFlag (TestAt l at e))),

@@ -38,16 +38,16 @@ module _ (slots : Slots) (body : Block) (n m : Node) (rule : Transition) (follow
           differ h = cc
       by (inr out) own = absurd out.1
 
-  pub only_before : (change : Change) → Contains (rules slots body) rule → Contains rule.so change ⊎ Contains rule.otherwise change →
+  pub only_before : (change : Change) → Contains (rules slots body) rule → Contains rule.on_true change ⊎ Contains rule.on_false change →
       MayFlag change m → rule.node ≡ n
   only_before change there among flags = by among
     where
       led : RuleLed (EdgeAll body) (OutAll body) Finishes rule
       led = rule_at (EdgeAll body) (OutAll body) Finishes (rules slots body) rule (of_block slots body Finishes) there
 
-      by : Contains rule.so change ⊎ Contains rule.otherwise change → rule.node ≡ n
-      by (inl so) = by_led (change_at P rule.so change led.so so m flags)
-      by (inr otherwise) = by_led (change_at P rule.otherwise change led.otherwise otherwise m flags)
+      by : Contains rule.on_true change ⊎ Contains rule.on_false change → rule.node ≡ n
+      by (inl on_true) = by_led (change_at P rule.on_true change led.on_true on_true m flags)
+      by (inr on_false) = by_led (change_at P rule.on_false change led.on_false on_false m flags)
 
 pub flags_before : FlagsComeFromBefore
 flags_before slots body n m rule change follow there among flags = only_before slots body n m rule follow change there among flags
@@ -65,10 +65,10 @@ flags_reached slots body m rule change there among flags = by among
     of_rule : RuleLed (EdgeAll body) (OutAll body) Finishes rule
     of_rule = rule_at (EdgeAll body) (OutAll body) Finishes (rules slots body) rule (of_block slots body Finishes) there
 
-    by : Contains rule.so change ⊎ Contains rule.otherwise change → (via : Node) × EdgeAll body via m
-    by (inl so) =
-        found (change_at (λ c. (m : Node) → MayFlag c m → Led (EdgeAll body) (OutAll body) Finishes rule.node m) rule.so change of_rule.so so m flags)
-    by (inr otherwise) =
+    by : Contains rule.on_true change ⊎ Contains rule.on_false change → (via : Node) × EdgeAll body via m
+    by (inl on_true) =
+        found (change_at (λ c. (m : Node) → MayFlag c m → Led (EdgeAll body) (OutAll body) Finishes rule.node m) rule.on_true change of_rule.on_true on_true m flags)
+    by (inr on_false) =
         found
         (change_at (λ c. (m : Node) → MayFlag c m → Led (EdgeAll body) (OutAll body) Finishes rule.node m)
-        rule.otherwise change of_rule.otherwise otherwise m flags)
+        rule.on_false change of_rule.on_false on_false m flags)

@@ -115,7 +115,7 @@ use Rattle.bl_machine_pass_laws.proofs.OnNumbers.Parts.{
 
 -- what a rule changes where its node has acted with this answer
 abbrev pub changes_of : Transition → Bool → List Change
-changes_of rule answer = if answer then rule.so else rule.otherwise
+changes_of rule answer = if answer then rule.on_true else rule.on_false
 
 -- one of these rules is that of the node, and leads from the tree to what it becomes
 pub record Acts (slots : Slots) (all : List Transition) (number : Node → ℕ) (used : ℕ → Bool) (c : Tree) (next : Next) (last : Bool) (n : Node)
@@ -145,14 +145,14 @@ module _ (slots : Slots) (all : List Transition) (number : Node → ℕ) where
   -- the rules of tests: of an `if`, of a loop's end and of its beginning
   abbrev if_rule : Label → Source → Expr → Block → Block → Change → Transition
   if_rule l at e body other change =
-      record { node = TestAt l at e; asked = Flagged; so = enter body change ∷ []; otherwise = enter other change ∷ [] }
+      record { node = TestAt l at e; condition = Flagged; on_true = enter body change ∷ []; on_false = enter other change ∷ [] }
 
   abbrev again_rule : Label → Source → Expr → Change → Transition
-  again_rule l at e change = record { node = TestAt l at e; asked = Flagged; so = change ∷ []; otherwise = SetsFlag (HeadAt l at) ∷ [] }
+  again_rule l at e change = record { node = TestAt l at e; condition = Flagged; on_true = change ∷ []; on_false = SetsFlag (HeadAt l at) ∷ [] }
 
   abbrev while_rule : Label → Source → Expr → Block → Change → Transition
   while_rule l at e body change =
-      record { node = TestAt l at e; asked = Flagged; so = enter body (SetsFlag (TestAt l at e)) ∷ []; otherwise = change ∷ [] }
+      record { node = TestAt l at e; condition = Flagged; on_true = enter body (SetsFlag (TestAt l at e)) ∷ []; on_false = change ∷ [] }
 
   -- all rules of a statement
   rules_there : (s : Plain) (change : Change) → RulesAreAmong all (rules_of slots s change) → Each all (rules_of slots s change)
@@ -283,9 +283,9 @@ module _ (slots : Slots) (all : List Transition) (number : Node → ℕ) where
     point_acts g low (turns.goes_on {s = s}) live sits lies within = record {
       rule = record {
         node = TestAt s.label s.place s.test;
-        asked = Rested (slots.rest s.label);
-        so = ClearsCounter (slots.rest s.label).counter ∷ change ∷ [];
-        otherwise = [];
+        condition = Rested (slots.rest s.label);
+        on_true = ClearsCounter (slots.rest s.label).counter ∷ change ∷ [];
+        on_false = [];
       };
       there = (rules_there (Await s.label s.place s.test) change sits).1.0;
       of_node = refl;
@@ -295,9 +295,9 @@ module _ (slots : Slots) (all : List Transition) (number : Node → ℕ) where
     point_acts g low (turns.waits {s = s}) live sits lies within = record {
       rule = record {
         node = TestAt s.label s.place s.test;
-        asked = Rested (slots.rest s.label);
-        so = ClearsCounter (slots.rest s.label).counter ∷ change ∷ [];
-        otherwise = [];
+        condition = Rested (slots.rest s.label);
+        on_true = ClearsCounter (slots.rest s.label).counter ∷ change ∷ [];
+        on_false = [];
       };
       there = (rules_there (Await s.label s.place s.test) change sits).1.0;
       of_node = refl;
@@ -345,9 +345,9 @@ module _ (slots : Slots) (all : List Transition) (number : Node → ℕ) where
   returns_acts used change next last goes s callee true c is among within = record {
     rule = record {
       node = ResumeAt s.label s.place s.arguments;
-      asked = Rested (slots.rest s.label);
-      so = ClearsCounter (slots.rest s.label).counter ∷ change ∷ [];
-      otherwise = [];
+      condition = Rested (slots.rest s.label);
+      on_true = ClearsCounter (slots.rest s.label).counter ∷ change ∷ [];
+      on_false = [];
     };
     there = (rules_there (call_stmt s) change among).1.0;
     of_node = refl;
@@ -363,9 +363,9 @@ module _ (slots : Slots) (all : List Transition) (number : Node → ℕ) where
   resumes_acts used change next last s callee true c c' is among = record {
     rule = record {
       node = ResumeAt s.label s.place s.arguments;
-      asked = Rested (slots.rest s.label);
-      so = ClearsCounter (slots.rest s.label).counter ∷ change ∷ [];
-      otherwise = [];
+      condition = Rested (slots.rest s.label);
+      on_true = ClearsCounter (slots.rest s.label).counter ∷ change ∷ [];
+      on_false = [];
     };
     there = (rules_there (call_stmt s) change among).1.0;
     of_node = refl;

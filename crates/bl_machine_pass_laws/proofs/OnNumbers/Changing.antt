@@ -53,7 +53,7 @@ use Rattle.bl_machine_pass_laws.proofs.OnNumbers.Bools.{either, if_false, if_sam
 -- that aren't used, and it ends the body exactly where `last` is true
 pub record Goes (number : Node → ℕ) (used : ℕ → Bool) (change : Change) (next : Next) (last : Bool) : Type 0 where
   pub sets : (r : Registers) (j : ℕ) → r.counters j ≡ 0 → (changed number change r).counters j ≡ at_next next j
-  pub keeps : (r : Registers) (j : ℕ) → used j ≡ false → (changed number change r).counters j ≡ r.counters j
+  pub keeps_unused : (r : Registers) (j : ℕ) → used j ≡ false → (changed number change r).counters j ≡ r.counters j
   pub ends : (r : Registers) → r.over ≡ false → (changed number change r).over ≡ last
 
 -- whether the end of the block is that of the body
@@ -75,21 +75,21 @@ module _ (number : Node → ℕ) (used : ℕ → Bool) where
   pub flags_go : (n : Node) (next : Next) → ((j : ℕ) → at_next next j ≡ 0) → Goes number used (SetsFlag n) next false
   flags_go n next none = record {
     sets = λ r j e. e ∙ sym (none j);
-    keeps = λ r j off. refl;
+    keeps_unused = λ r j off. refl;
     ends = λ r e. e;
   }
 
   pub holds_go : (slot : Slot) → used slot.counter ≡ true → Goes number used (SetsCounter slot) (Rests slot) false
   holds_go slot there = record {
     sets = λ r j e. ap (λ x. if nat_eq j slot.counter then slot.value else x) e;
-    keeps = λ r j off. set_keeps used slot.counter slot.value r.counters j there off;
+    keeps_unused = λ r j off. set_keeps used slot.counter slot.value r.counters j there off;
     ends = λ r e. e;
   }
 
   pub finishes_go : Goes number used Finishes Over true
   finishes_go = record {
     sets = λ r j e. e;
-    keeps = λ r j off. refl;
+    keeps_unused = λ r j off. refl;
     ends = λ r e. refl;
   }
 
@@ -105,7 +105,7 @@ module _ (number : Node → ℕ) (used : ℕ → Bool) where
   ends_go : (start surface depth : Node) → Goes number used (EndsWhen start surface depth) Over false
   ends_go start surface depth = record {
     sets = λ r j e. flag_counters (r.marks (number start)) (number surface) (number depth) r j ∙ e;
-    keeps = λ r j off. flag_counters (r.marks (number start)) (number surface) (number depth) r j;
+    keeps_unused = λ r j off. flag_counters (r.marks (number start)) (number surface) (number depth) r j;
     ends = λ r e. flag_over (r.marks (number start)) (number surface) (number depth) r ∙ e;
   }
 

@@ -33,7 +33,7 @@ pub record Leads (slots : Slots) (number : Node → ℕ) (used : ℕ → Bool) (
     Type 0 where
   pub numbers : (r : Registers) (j : ℕ) → r.counters j ≡ numbers_of slots c next j →
       (all_changed number changes r).counters j ≡ numbers_of slots c' next j
-  pub keeps : (r : Registers) (j : ℕ) → used j ≡ false → (all_changed number changes r).counters j ≡ r.counters j
+  pub keeps_unused : (r : Registers) (j : ℕ) → used j ≡ false → (all_changed number changes r).counters j ≡ r.counters j
   pub ends : (r : Registers) → r.over ≡ false → (all_changed number changes r).over ≡ (if is_nil c' then last else false)
 
 -- the same of branches, which never end the body
@@ -41,13 +41,13 @@ pub record LeadsEach (slots : Slots) (number : Node → ℕ) (l : Label) (k : �
     Type 0 where
   pub numbers : (r : Registers) (j : ℕ) → r.counters j ≡ numbers_in slots l k bodies branches j →
       (all_changed number changes r).counters j ≡ numbers_in slots l k bodies branches' j
-  pub keeps : (r : Registers) (j : ℕ) → uses_in_each slots l k bodies j ≡ false → (all_changed number changes r).counters j ≡ r.counters j
+  pub keeps_unused : (r : Registers) (j : ℕ) → uses_in_each slots l k bodies j ≡ false → (all_changed number changes r).counters j ≡ r.counters j
   pub goes_on : (r : Registers) → r.over ≡ false → (all_changed number changes r).over ≡ false
 
 -- the changes leave nothing of the tree's numbers
 pub record Clears (slots : Slots) (number : Node → ℕ) (used : ℕ → Bool) (c : Tree) (next : Next) (changes : List Change) : Type 0 where
   pub none : (r : Registers) (j : ℕ) → r.counters j ≡ numbers_of slots c next j → (all_changed number changes r).counters j ≡ 0
-  pub keeps : (r : Registers) (j : ℕ) → used j ≡ false → (all_changed number changes r).counters j ≡ r.counters j
+  pub keeps_unused : (r : Registers) (j : ℕ) → used j ≡ false → (all_changed number changes r).counters j ≡ r.counters j
   pub goes_on : (r : Registers) → (all_changed number changes r).over ≡ r.over
 
 -- a value that is shown at one counter, and is put out there
@@ -59,13 +59,13 @@ module _ (slots : Slots) (number : Node → ℕ) where
   -- ---- what is cleared first
 
   pub clears_nothing : (used : ℕ → Bool) (c : Tree) (next : Next) → ((j : ℕ) → numbers_of slots c next j ≡ 0) → Clears slots number used c next []
-  clears_nothing used c next none = record { none = λ r j e. e ∙ none j; keeps = λ r j off. refl; goes_on = λ r. refl }
+  clears_nothing used c next none = record { none = λ r j e. e ∙ none j; keeps_unused = λ r j off. refl; goes_on = λ r. refl }
 
   pub clears_rest : (used : ℕ → Bool) (c : Tree) (next : Next) (slot : Slot) → used slot.counter ≡ true →
       ((j : ℕ) → numbers_of slots c next j ≡ value_at_counter slot j) → Clears slots number used c next (ClearsCounter slot.counter ∷ [])
   clears_rest used c next slot there is = record {
     none = λ r j e. put_out (is_of slot j) slot.value (r.counters j) (e ∙ is j);
-    keeps = λ r j off. set_keeps used slot.counter 0 r.counters j there off;
+    keeps_unused = λ r j off. set_keeps used slot.counter 0 r.counters j there off;
     goes_on = λ r. refl;
   }
 
@@ -77,7 +77,7 @@ module _ (slots : Slots) (number : Node → ℕ) where
     none = λ r j e. frees_each number slots l bodies r j ∙ either (uses_in_each slots l 0 bodies j)
         (λ on. if_true (uses_in_each slots l 0 bodies j) 0 (r.counters j) on)
         (λ off. if_false (uses_in_each slots l 0 bodies j) 0 (r.counters j) off ∙ e ∙ none j off);
-    keeps = λ r j off. frees_each number slots l bodies r j
+    keeps_unused = λ r j off. frees_each number slots l bodies r j
         ∙ if_false (uses_in_each slots l 0 bodies j) 0 (r.counters j) (unless (uses_in_each slots l 0 bodies j) (used j) (within j) off);
     goes_on = λ r. frees_over number (once (counters_in_each slots l 0 bodies)) r;
   }
@@ -89,7 +89,7 @@ module _ (slots : Slots) (number : Node → ℕ) where
     none = λ r j e. forgets_in number slots body r j ∙ either (uses_in slots body j)
         (λ on. if_true (uses_in slots body j) 0 (r.counters j) on)
         (λ off. if_false (uses_in slots body j) 0 (r.counters j) off ∙ e ∙ none j off);
-    keeps = λ r j off. forgets_in number slots body r j
+    keeps_unused = λ r j off. forgets_in number slots body r j
         ∙ if_false (uses_in slots body j) 0 (r.counters j) (unless (uses_in slots body j) (used j) (within j) off);
     goes_on = λ r. forgets_over number (once (counters_in slots body)) r;
   }
@@ -102,8 +102,8 @@ module _ (slots : Slots) (number : Node → ℕ) where
   block_leads used c next last clear body change clears goes = record {
     numbers = λ r j e. ap (λ (x : Registers). x.counters j) (changed_append number clear (enter body change ∷ []) r)
         ∙ enters.sets (all_changed number clear r) j (clears.none r j e) ∙ sym (block_numbers slots body next j);
-    keeps = λ r j off. ap (λ (x : Registers). x.counters j) (changed_append number clear (enter body change ∷ []) r)
-        ∙ enters.keeps (all_changed number clear r) j off ∙ clears.keeps r j off;
+    keeps_unused = λ r j off. ap (λ (x : Registers). x.counters j) (changed_append number clear (enter body change ∷ []) r)
+        ∙ enters.keeps_unused (all_changed number clear r) j off ∙ clears.keeps_unused r j off;
     ends = λ r e. ap (λ (x : Registers). x.over) (changed_append number clear (enter body change ∷ []) r)
         ∙ enters.ends (all_changed number clear r) (clears.goes_on r ∙ e) ∙ block_nil body last;
   }
@@ -129,7 +129,7 @@ module _ (slots : Slots) (number : Node → ℕ) where
       Leads slots number used c next last c' (SetsCounter slot ∷ [])
   rests_lead used c next last c' slot there none rests unended = record {
     numbers = λ r j e. holds.sets r j (e ∙ none j) ∙ sym (rests j);
-    keeps = λ r j off. holds.keeps r j off;
+    keeps_unused = λ r j off. holds.keeps_unused r j off;
     ends = λ r e. e ∙ sym (if_false (is_nil c') last false unended);
   }
     where
@@ -141,7 +141,7 @@ module _ (slots : Slots) (number : Node → ℕ) where
       ((j : ℕ) → numbers_of slots c next j ≡ numbers_of slots c' next j) → is_nil c' ≡ false → Leads slots number used c next last c' []
   stays_lead used c next last c' same unended = record {
     numbers = λ r j e. e ∙ same j;
-    keeps = λ r j off. refl;
+    keeps_unused = λ r j off. refl;
     ends = λ r e. e ∙ sym (if_false (is_nil c') last false unended);
   }
 
@@ -150,7 +150,7 @@ module _ (slots : Slots) (number : Node → ℕ) where
       Leads slots number used c next last c' changes → Leads slots number used c next last c' (marked instant n changes)
   marked_lead used c next last c' true n changes leads = record {
     numbers = λ r j e. leads.numbers (changed number (SetsMark n) r) j e;
-    keeps = λ r j off. leads.keeps (changed number (SetsMark n) r) j off;
+    keeps_unused = λ r j off. leads.keeps_unused (changed number (SetsMark n) r) j off;
     ends = λ r e. leads.ends (changed number (SetsMark n) r) e;
   }
   marked_lead used c next last c' false n changes leads = leads
@@ -162,7 +162,7 @@ module _ (slots : Slots) (number : Node → ℕ) where
       Leads slots number used (Seq c (Then s rest)) next last (seq c' (Then s rest)) changes
   seq_leads used c s rest next last c' changes leads = record {
     numbers = λ r j e. leads.numbers r j e ∙ sym (seq_numbers slots c' s rest next j);
-    keeps = leads.keeps;
+    keeps_unused = leads.keeps_unused;
     ends = λ r e. leads.ends r e ∙ if_same (is_nil c') false ∙ sym (if_false (is_nil (seq c' (Then s rest))) last false (seq_open c' s rest));
   }
 
@@ -173,7 +173,7 @@ module _ (slots : Slots) (number : Node → ℕ) where
       Leads slots number used whole next last (Guard s phase stood c') changes
   guard_leads used whole c next last s phase stood c' changes within is leads = record {
     numbers = λ r j e. leads.numbers r j (e ∙ is j);
-    keeps = λ r j off. leads.keeps r j (unless (uses_in slots s.body j) (used j) (within j) off);
+    keeps_unused = λ r j off. leads.keeps_unused r j (unless (uses_in slots s.body j) (used j) (within j) off);
     ends = λ r e. leads.ends r e ∙ if_same (is_nil c') false;
   }
 
@@ -195,7 +195,7 @@ module _ (slots : Slots) (number : Node → ℕ) where
     begun_keeps k (BodyOf weak body rest) r j off =
         begun_keeps (suc k) rest (changed number (enter body (SetsCounter (slots.ending l k))) r) j
         (neither_second (uses_in_branch slots l k body j) (uses_in_each slots l (suc k) rest j) off)
-        ∙ (enters_in k body).keeps r j (neither_first (uses_in_branch slots l k body j) (uses_in_each slots l (suc k) rest j) off)
+        ∙ (enters_in k body).keeps_unused r j (neither_first (uses_in_branch slots l k body j) (uses_in_each slots l (suc k) rest j) off)
 
     begun_numbers : (k : ℕ) (bodies : Bodies) → BranchesRestAt slots l k bodies → (r : Registers) (j : ℕ) → r.counters j ≡ 0 →
         (all_changed number (enter_each slots l k bodies) r).counters j ≡ numbers_in slots l k bodies (trees_begun bodies) j
@@ -207,7 +207,7 @@ module _ (slots : Slots) (number : Node → ℕ) where
         ∙ sym (if_true (uses_in_branch slots l k body j) (numbers_of slots (do_block body) (Rests (slots.ending l k)) j)
         (numbers_in slots l (suc k) rest (trees_begun rest) j) on))
         (λ off. begun_numbers (suc k) rest laid.2 (changed number (enter body (SetsCounter (slots.ending l k))) r) j
-        ((enters_in k body).keeps r j off ∙ e)
+        ((enters_in k body).keeps_unused r j off ∙ e)
         ∙ sym (if_false (uses_in_branch slots l k body j) (numbers_of slots (do_block body) (Rests (slots.ending l k)) j)
         (numbers_in slots l (suc k) rest (trees_begun rest) j) off))
 
@@ -224,9 +224,9 @@ module _ (slots : Slots) (number : Node → ℕ) where
       numbers = λ r j e. either (uses_in_branch slots l k body j)
           (λ on. leads.numbers r j (e ∙ if_true (uses_in_branch slots l k body j) (held c j) (others j) on)
           ∙ sym (if_true (uses_in_branch slots l k body j) (held c' j) (others j) on))
-          (λ off. leads.keeps r j off ∙ e ∙ if_false (uses_in_branch slots l k body j) (held c j) (others j) off
+          (λ off. leads.keeps_unused r j off ∙ e ∙ if_false (uses_in_branch slots l k body j) (held c j) (others j) off
           ∙ sym (if_false (uses_in_branch slots l k body j) (held c' j) (others j) off));
-      keeps = λ r j off. leads.keeps r j (neither_first (uses_in_branch slots l k body j) (uses_in_each slots l (suc k) rest j) off);
+      keeps_unused = λ r j off. leads.keeps_unused r j (neither_first (uses_in_branch slots l k body j) (uses_in_each slots l (suc k) rest j) off);
       goes_on = λ r e. leads.ends r e ∙ if_same (is_nil c') false;
     }
       where
@@ -242,11 +242,11 @@ module _ (slots : Slots) (number : Node → ℕ) where
         LeadsEach slots number l k (BodyOf weak body rest) (beside weak' c branches) (beside weak' c branches') changes
     later_leads k weak weak' body rest c branches branches' changes apart leads = record {
       numbers = λ r j e. either (uses_in_branch slots l k body j)
-          (λ on. leads.keeps r j (apart j on) ∙ e ∙ if_true (uses_in_branch slots l k body j) (held j) (others branches j) on
+          (λ on. leads.keeps_unused r j (apart j on) ∙ e ∙ if_true (uses_in_branch slots l k body j) (held j) (others branches j) on
           ∙ sym (if_true (uses_in_branch slots l k body j) (held j) (others branches' j) on))
           (λ off. leads.numbers r j (e ∙ if_false (uses_in_branch slots l k body j) (held j) (others branches j) off)
           ∙ sym (if_false (uses_in_branch slots l k body j) (held j) (others branches' j) off));
-      keeps = λ r j off. leads.keeps r j (neither_second (uses_in_branch slots l k body j) (uses_in_each slots l (suc k) rest j) off);
+      keeps_unused = λ r j off. leads.keeps_unused r j (neither_second (uses_in_branch slots l k body j) (uses_in_each slots l (suc k) rest j) off);
       goes_on = leads.goes_on;
     }
       where
@@ -263,7 +263,7 @@ module _ (slots : Slots) (number : Node → ℕ) where
       Leads slots number used c next last (Par s stood (trees_begun s.bodies)) (enter_each slots s.label 0 s.bodies)
   fork_leads used c next last s stood within laid none = record {
     numbers = λ r j e. begun_numbers s.label 0 s.bodies laid r j (e ∙ none j);
-    keeps = λ r j off. begun_keeps s.label 0 s.bodies r j (unless (uses_in_each slots s.label 0 s.bodies j) (used j) (within j) off);
+    keeps_unused = λ r j off. begun_keeps s.label 0 s.bodies r j (unless (uses_in_each slots s.label 0 s.bodies j) (used j) (within j) off);
     ends = λ r e. begun_over s.label 0 s.bodies r e;
   }
 
@@ -273,6 +273,6 @@ module _ (slots : Slots) (number : Node → ℕ) where
       Leads slots number used (Par s stood branches) next last (Par s stood branches') changes
   par_leads used next last s stood branches branches' changes within leads = record {
     numbers = leads.numbers;
-    keeps = λ r j off. leads.keeps r j (unless (uses_in_each slots s.label 0 s.bodies j) (used j) (within j) off);
+    keeps_unused = λ r j off. leads.keeps_unused r j (unless (uses_in_each slots s.label 0 s.bodies j) (used j) (within j) off);
     ends = leads.goes_on;
   }

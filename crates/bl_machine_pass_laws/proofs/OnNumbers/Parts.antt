@@ -45,9 +45,9 @@ surface_end l at body next = rule_where (are_instant body) (flagged (SurfaceEndA
 abbrev pub check : Slots → Label → Place → GuardKind → Expr → Block → Change → Transition
 check slots l at guard e body next = record {
   node = CheckAt l at e;
-  asked = RestedIn (rests_in slots body);
-  so = map ClearsBoth (once (counters_in slots body)) ++ fires guard l at body next ∷ [];
-  otherwise = [];
+  condition = RestedIn (rests_in slots body);
+  on_true = map ClearsBoth (once (counters_in slots body)) ++ fires guard l at body next ∷ [];
+  on_false = [];
 }
 
 -- that of its depth end, and all further ones

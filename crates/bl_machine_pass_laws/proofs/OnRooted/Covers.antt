@@ -135,12 +135,12 @@ module _ (slots : Slots) where
         (of_left (spots_in body) (spots_in_each l 1 rest) slot (all_rests_from body slot h))
 
   -- a rule that asks of no number
-  pub silent : (rule r : Transition) (slot : Slot) → rule ≡ r → (AsksOf r.asked slot → ⊥) → AsksOf rule.asked slot → ⊥
-  silent rule r slot is none asks = none (subst (λ x. AsksOf x.asked slot) is asks)
+  pub silent : (rule r : Transition) (slot : Slot) → rule ≡ r → (AsksOf r.condition slot → ⊥) → AsksOf rule.condition slot → ⊥
+  silent rule r slot is none asks = none (subst (λ x. AsksOf x.condition slot) is asks)
 
   mutual
     -- what a rule of a statement asks of is the number of a place of the statement
-    pub asks_from : (s : Plain) (next : Change) (rule : Transition) (slot : Slot) → In rule (rules_of slots s next) → AsksOf rule.asked slot →
+    pub asks_from : (s : Plain) (next : Change) (rule : Transition) (slot : Slot) → In rule (rules_of slots s next) → AsksOf rule.condition slot →
         FromSpot (spots_of s) slot
     asks_from (Act l s) next rule slot (inl is) asks = absurd (silent rule _ slot is (λ x. x) asks)
     asks_from (Act l s) next rule slot (inr other) asks = absurd other
@@ -167,7 +167,7 @@ module _ (slots : Slots) where
     asks_from (When l at guard e body) next rule slot (inr h) asks =
         elim (in_where (are_instant body) _ _ rule h) [
           | inl is ↦ absurd (silent rule _ slot is (λ x. x) asks)
-          | inr (inl is) ↦ all_rests_from body slot (contains_in slot (rests_in slots body) (subst (λ x. AsksOf x.asked slot) is asks))
+          | inr (inl is) ↦ all_rests_from body slot (contains_in slot (rests_in slots body) (subst (λ x. AsksOf x.condition slot) is asks))
           | inr (inr (inl is)) ↦ absurd (silent rule _ slot is (λ x. x) asks)
           | inr (inr (inr more)) ↦ all_ask_from body (body_ends l at body) rule slot more asks
         ]
@@ -182,7 +182,7 @@ module _ (slots : Slots) where
     asks_from (Again l at body e) next rule slot (inr (inl is)) asks = absurd (silent rule _ slot is (λ x. x) asks)
     asks_from (Again l at body e) next rule slot (inr (inr h)) asks = all_ask_from body _ rule slot h asks
 
-    pub all_ask_from : (body : Block) (next : Change) (rule : Transition) (slot : Slot) → In rule (rules_in slots body next) → AsksOf rule.asked slot →
+    pub all_ask_from : (body : Block) (next : Change) (rule : Transition) (slot : Slot) → In rule (rules_in slots body next) → AsksOf rule.condition slot →
         FromSpot (spots_in body) slot
     all_ask_from Done next rule slot h asks = absurd h
     all_ask_from (Then s rest) next rule slot h asks =
@@ -192,7 +192,7 @@ module _ (slots : Slots) where
         ]
 
     pub each_asks_from : (l : Label) (k : ℕ) (bodies : Bodies) (rule : Transition) (slot : Slot) → In rule (rules_in_each slots l k bodies) →
-        AsksOf rule.asked slot → FromSpot (spots_in_each l k bodies) slot
+        AsksOf rule.condition slot → FromSpot (spots_in_each l k bodies) slot
     each_asks_from l k Last rule slot h asks = absurd h
     each_asks_from l k (BodyOf weak body rest) rule slot h asks =
         of_more (EndOf l k) (spots_in body ++ spots_in_each l (suc k) rest) slot

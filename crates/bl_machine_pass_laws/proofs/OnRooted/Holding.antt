@@ -59,12 +59,12 @@ module _ (slots : Slots) (all : List Transition) (whole : List Spot)
 
   -- whatever asks of a number of these places is around them, or one of these rules
   abbrev Covers : Around → List Spot → List Transition → Type 0
-  Covers around spots rules = (rule : Transition) (p : Spot) → Contains all rule → Has spots p → AsksOf rule.asked (slot_at slots p) →
+  Covers around spots rules = (rule : Transition) (p : Spot) → Contains all rule → Has spots p → AsksOf rule.condition (slot_at slots p) →
       around.checks rule.node ⊎ In rule rules
 
   -- what these rules ask of are numbers of these places
   abbrev Within : List Transition → List Spot → Type 0
-  Within rules spots = (rule : Transition) (slot : Slot) → In rule rules → AsksOf rule.asked slot → FromSpot slots spots slot
+  Within rules spots = (rule : Transition) (slot : Slot) → In rule rules → AsksOf rule.condition slot → FromSpot slots spots slot
 
   -- these are places of the body
   abbrev Among : Around → List Spot → Type 0
@@ -101,7 +101,7 @@ module _ (slots : Slots) (all : List Transition) (whole : List Spot)
       ]
 
   -- a rule that asks of no number, before others
-  past_silent : (around : Around) (spots : List Spot) (r : Transition) (rules : List Transition) → ((slot : Slot) → AsksOf r.asked slot → ⊥) →
+  past_silent : (around : Around) (spots : List Spot) (r : Transition) (rules : List Transition) → ((slot : Slot) → AsksOf r.condition slot → ⊥) →
       Covers around spots (r ∷ rules) → Covers around spots rules
   past_silent around spots r rules none covers rule p here has asks =
       elim (covers rule p here has asks) [
@@ -112,14 +112,14 @@ module _ (slots : Slots) (all : List Transition) (whole : List Spot)
 
   -- the number of one place that no rule inside asks of
   one_held : (around : Around) (p : Spot) (spots : List Spot) (rules : List Transition) → Has spots p → Among around spots → around.home (slot_at slots p) →
-      ((rule : Transition) → In rule rules → AsksOf rule.asked (slot_at slots p) → ⊥) → Covers around spots rules → Held slots all around p
+      ((rule : Transition) → In rule rules → AsksOf rule.condition (slot_at slots p) → ⊥) → Covers around spots rules → Held slots all around p
   one_held around p spots rules has among home none covers = record {
     inside = among p has;
     home = home;
-    asked = λ rule here asks. elim (covers rule p here has asks) [ inl check ↦ check | inr more ↦ absurd (none rule more asks) ];
+    only_checks = λ rule here asks. elim (covers rule p here has asks) [ inl check ↦ check | inr more ↦ absurd (none rule more asks) ];
   }
 
-  in_none : (rule r : Transition) (slot : Slot) → rule ≡ r → (AsksOf r.asked slot → ⊥) → AsksOf rule.asked slot → ⊥
+  in_none : (rule r : Transition) (slot : Slot) → rule ≡ r → (AsksOf r.condition slot → ⊥) → AsksOf rule.condition slot → ⊥
   in_none rule r slot is none asks = silent slots rule r slot is none asks
 
   -- of the branches the first one rests where the `cobegin` does
@@ -140,7 +140,7 @@ module _ (slots : Slots) (all : List Transition) (whole : List Spot)
   head_rule l at body e = flagged (HeadAt l at) (enter body (SetsFlag (TestAt l at e)) ∷ [])
 
   abbrev again_rule : Label → Place → Expr → Change → Transition
-  again_rule l at e next = record { node = TestAt l at e; asked = Flagged; so = next ∷ []; otherwise = SetsFlag (HeadAt l at) ∷ [] }
+  again_rule l at e next = record { node = TestAt l at e; condition = Flagged; on_true = next ∷ []; on_false = SetsFlag (HeadAt l at) ∷ [] }
 
   mutual
     pub held_of : (around : Around) (s : Plain) (next : Change) → SpotsAreDistinct (spots_of s) → Inside (spots_of s) → Among around (spots_of s) →

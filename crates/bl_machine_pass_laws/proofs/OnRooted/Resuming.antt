@@ -69,7 +69,7 @@ use Rattle.bl_machine_laws.specs.Numbers.Waiting.{Sleeps, Waits}
 use Rattle.bl_machine_laws.specs.Waiting.Waking.{WokenRested}
 use Rattle.bl_machine_pass.specs.SlotLayout.{EndOf, RestOf, SlotsAreDistinct, Spot, slot_at, spots_in, spots_in_each, spots_of}
 use Rattle.bl_machine_pass.specs.Registers.{due_by, is_at, is_due, started}
-use Rattle.bl_machine_pass.specs.Transitions.{Asked, Change, ClearsCounter, Ended, Finishes, Flagged, Rested, RestedIn, SetsCounter, SetsFlag, Transition, body_ends, enter}
+use Rattle.bl_machine_pass.specs.Transitions.{Change, ClearsCounter, Condition, Ended, Finishes, Flagged, Rested, RestedIn, SetsCounter, SetsFlag, Transition, body_ends, enter}
 use Rattle.bl_machine_pass.specs.Transitions.{ClearsBoth, counters_in, fires, rests_in}
 use Rattle.bl_machine_pass.specs.Transitions.{once as each_once}
 use Rattle.bl_machine_pass.specs.Transitions.{IsNew, age_of, flagged, joins, rule_where, rules, rules_in, rules_in_each, rules_of}
@@ -107,11 +107,11 @@ module _ (slots : Slots) where
   rest_more : (x : Spot) (xs : List Spot) (slot : Slot) → FromRest xs slot → FromRest (x ∷ xs) slot
   rest_more x xs slot from = record { label = from.label; there = inr from.there; is = from.is }
 
-  other_asked : (rule r : Transition) (slot : Slot) → rule ≡ r → rule.asked ≡ Rested slot → r.asked ≡ Rested slot
-  other_asked rule r slot is asked = ap (λ x. x.asked) (sym is) ∙ asked
+  other_asked : (rule r : Transition) (slot : Slot) → rule ≡ r → rule.condition ≡ Rested slot → r.condition ≡ Rested slot
+  other_asked rule r slot is asked = ap (λ x. x.condition) (sym is) ∙ asked
 
   mutual
-    rest_from : (s : Plain) (next : Change) (rule : Transition) (slot : Slot) → In rule (rules_of slots s next) → rule.asked ≡ Rested slot →
+    rest_from : (s : Plain) (next : Change) (rule : Transition) (slot : Slot) → In rule (rules_of slots s next) → rule.condition ≡ Rested slot →
         FromRest (spots_of s) slot
     rest_from (Act l s) next rule slot (inl is) asked = absurd (cc (other_asked rule _ slot is asked))
     rest_from (Act l s) next rule slot (inr other) asked = absurd other
@@ -155,7 +155,7 @@ module _ (slots : Slots) where
     rest_from (Again l at body e) next rule slot (inr (inl is)) asked = absurd (cc (other_asked rule _ slot is asked))
     rest_from (Again l at body e) next rule slot (inr (inr h)) asked = all_rest_from body _ rule slot h asked
 
-    all_rest_from : (body : Block) (next : Change) (rule : Transition) (slot : Slot) → In rule (rules_in slots body next) → rule.asked ≡ Rested slot →
+    all_rest_from : (body : Block) (next : Change) (rule : Transition) (slot : Slot) → In rule (rules_in slots body next) → rule.condition ≡ Rested slot →
         FromRest (spots_in body) slot
     all_rest_from Done next rule slot h asked = absurd h
     all_rest_from (Then s rest) next rule slot h asked =
@@ -165,7 +165,7 @@ module _ (slots : Slots) where
         ]
 
     each_rest_from : (l : Label) (k : ℕ) (bodies : Bodies) (rule : Transition) (slot : Slot) → In rule (rules_in_each slots l k bodies) →
-        rule.asked ≡ Rested slot → FromRest (spots_in_each l k bodies) slot
+        rule.condition ≡ Rested slot → FromRest (spots_in_each l k bodies) slot
     each_rest_from l k Last rule slot h asked = absurd h
     each_rest_from l k (BodyOf weak body rest) rule slot h asked =
         rest_more (EndOf l k) (spots_in body ++ spots_in_each l (suc k) rest) slot
@@ -186,11 +186,11 @@ module _ (slots : Slots) where
         (inside (RestOf one.label) (has_left xs ys (RestOf one.label) one.there)) (two.is ∙ sym one.is)) two.there))
 
     abbrev One : List Transition → Type 0
-    One rules = (one two : Transition) (slot : Slot) → In one rules → In two rules → one.asked ≡ Rested slot → two.asked ≡ Rested slot → one ≡ two
+    One rules = (one two : Transition) (slot : Slot) → In one rules → In two rules → one.condition ≡ Rested slot → two.condition ≡ Rested slot → one ≡ two
 
     one_of_two : (xs ys : List Spot) (rs ts : List Transition) → SpotsAreDistinct (xs ++ ys) → Inside (xs ++ ys) →
-        ((rule : Transition) (slot : Slot) → In rule rs → rule.asked ≡ Rested slot → FromRest xs slot) →
-        ((rule : Transition) (slot : Slot) → In rule ts → rule.asked ≡ Rested slot → FromRest ys slot) → One rs → One ts → One (rs ++ ts)
+        ((rule : Transition) (slot : Slot) → In rule rs → rule.condition ≡ Rested slot → FromRest xs slot) →
+        ((rule : Transition) (slot : Slot) → In rule ts → rule.condition ≡ Rested slot → FromRest ys slot) → One rs → One ts → One (rs ++ ts)
     one_of_two xs ys rs ts differ inside first second left right one two slot a b asked asked' =
         elim (in_cases one rs ts a) [
           | inl a ↦ elim (in_cases two rs ts b) [
@@ -204,12 +204,12 @@ module _ (slots : Slots) where
         ]
 
     -- rules that ask for no number, before others
-    past_one : (r : Transition) (rules : List Transition) → ((slot : Slot) → r.asked ≡ Rested slot → ⊥) → One rules → One (r ∷ rules)
+    past_one : (r : Transition) (rules : List Transition) → ((slot : Slot) → r.condition ≡ Rested slot → ⊥) → One rules → One (r ∷ rules)
     past_one r rules none one a b slot (inl is) h asked asked' = absurd (none slot (other_asked a r slot is asked))
     past_one r rules none one a b slot (inr h) (inl is) asked asked' = absurd (none slot (other_asked b r slot is asked'))
     past_one r rules none one a b slot (inr h) (inr h') asked asked' = one a b slot h h' asked asked'
 
-    past_some : (test : Bool) (r : Transition) (rules : List Transition) → ((slot : Slot) → r.asked ≡ Rested slot → ⊥) → One rules →
+    past_some : (test : Bool) (r : Transition) (rules : List Transition) → ((slot : Slot) → r.condition ≡ Rested slot → ⊥) → One rules →
         One (rule_where test r ++ rules)
     past_some true r rules none one = past_one r rules none one
     past_some false r rules none one = one
@@ -229,17 +229,17 @@ module _ (slots : Slots) where
       one_of (Await l at e) next differ inside =
           let test : Transition = record {
             node = TestAt l at e;
-            asked = Rested (slots.rest l);
-            so = ClearsCounter (slots.rest l).counter ∷ next ∷ [];
-            otherwise = [];
+            condition = Rested (slots.rest l);
+            on_true = ClearsCounter (slots.rest l).counter ∷ next ∷ [];
+            on_false = [];
           } in
           past_one (flagged (PauseAt l at) (SetsCounter (slots.rest l) ∷ [])) (test ∷ []) (λ slot asked. cc) (only test)
       one_of (RunOf l at target a inputs outputs) next differ inside =
           let resume : Transition = record {
             node = ResumeAt l at (arguments_of target inputs outputs);
-            asked = Rested (slots.rest l);
-            so = ClearsCounter (slots.rest l).counter ∷ next ∷ [];
-            otherwise = [];
+            condition = Rested (slots.rest l);
+            on_true = ClearsCounter (slots.rest l).counter ∷ next ∷ [];
+            on_false = [];
           } in
           past_one (flagged (EnterAt l at (arguments_of target inputs outputs)) (SetsCounter (slots.rest l) ∷ [])) (resume ∷ []) (λ slot asked. cc)
           (only resume)
@@ -258,9 +258,9 @@ module _ (slots : Slots) where
       one_of (When l at guard e body) next differ inside =
           let check : Transition = record {
             node = CheckAt l at e;
-            asked = RestedIn (rests_in slots body);
-            so = map ClearsBoth (each_once (counters_in slots body)) ++ fires guard l at body next ∷ [];
-            otherwise = [];
+            condition = RestedIn (rests_in slots body);
+            on_true = map ClearsBoth (each_once (counters_in slots body)) ++ fires guard l at body next ∷ [];
+            on_false = [];
           } in
           let depth : Transition = flagged (DepthEndAt l at) (next ∷ []) in
           let inner : List Transition = rules_in slots body (body_ends l at body) in
@@ -271,18 +271,18 @@ module _ (slots : Slots) where
       one_of (Repeat l at body) next differ inside = past_one _ _ (λ slot asked. cc) (one_in body _ differ inside)
       one_of (Until l at body e) next differ inside =
           past_one (flagged (HeadAt l at) (enter body (SetsFlag (TestAt l at e)) ∷ []))
-          (record { node = TestAt l at e; asked = Flagged; so = next ∷ []; otherwise = SetsFlag (HeadAt l at) ∷ [] } ∷ rules_in slots body
+          (record { node = TestAt l at e; condition = Flagged; on_true = next ∷ []; on_false = SetsFlag (HeadAt l at) ∷ [] } ∷ rules_in slots body
           (SetsFlag (TestAt l at e)))
           (λ slot asked. cc)
-          (past_one (record { node = TestAt l at e; asked = Flagged; so = next ∷ []; otherwise = SetsFlag (HeadAt l at) ∷ [] })
+          (past_one (record { node = TestAt l at e; condition = Flagged; on_true = next ∷ []; on_false = SetsFlag (HeadAt l at) ∷ [] })
           (rules_in slots body (SetsFlag (TestAt l at e))) (λ slot asked. cc) (one_in body (SetsFlag (TestAt l at e)) differ inside))
       one_of (While l at e body) next differ inside = past_one _ _ (λ slot asked. cc) (one_in body _ differ inside)
       one_of (Again l at body e) next differ inside =
           past_one (flagged (HeadAt l at) (enter body (SetsFlag (TestAt l at e)) ∷ []))
-          (record { node = TestAt l at e; asked = Flagged; so = next ∷ []; otherwise = SetsFlag (HeadAt l at) ∷ [] } ∷ rules_in slots body
+          (record { node = TestAt l at e; condition = Flagged; on_true = next ∷ []; on_false = SetsFlag (HeadAt l at) ∷ [] } ∷ rules_in slots body
           (SetsFlag (TestAt l at e)))
           (λ slot asked. cc)
-          (past_one (record { node = TestAt l at e; asked = Flagged; so = next ∷ []; otherwise = SetsFlag (HeadAt l at) ∷ [] })
+          (past_one (record { node = TestAt l at e; condition = Flagged; on_true = next ∷ []; on_false = SetsFlag (HeadAt l at) ∷ [] })
           (rules_in slots body (SetsFlag (TestAt l at e))) (λ slot asked. cc) (one_in body (SetsFlag (TestAt l at e)) differ inside))
 
       pub one_in : (body : Block) (next : Change) → SpotsAreDistinct (spots_in body) → Inside (spots_in body) → One (rules_in slots body next)
@@ -463,19 +463,19 @@ module _ (rested : WokenRested) (waits : SleepersWait) (differ : SpotsDiffer) (o
       )
 
   -- only a node at which a later tick goes on
-  asks_resume : (asked : Asked) (slot : Slot) → AsksOf asked slot → IsResume asked
+  asks_resume : (asked : Condition) (slot : Slot) → AsksOf asked slot → IsResume asked
   asks_resume Flagged slot asks = asks
   asks_resume (Rested other) slot asks = tt
   asks_resume (RestedIn list) slot asks = tt
   asks_resume (Ended age needed) slot asks = asks
 
-  pub only_resumes : Waits (woken c) None rule.node → IsResume rule.asked
+  pub only_resumes : Waits (woken c) None rule.node → IsResume rule.condition
   only_resumes h = let found = sleeping h in elim found.0.asks [
-    | inl asks ↦ subst IsResume (sym asks ∙ ap (λ x. x.asked) found.1) tt
-    | inr asks ↦ subst IsResume (ap (λ x. x.asked) found.1) (asks_resume found.0.rule.asked (slot_at slots found.0.spot) asks)
+    | inl asks ↦ subst IsResume (sym asks ∙ ap (λ x. x.condition) found.1) tt
+    | inr asks ↦ subst IsResume (ap (λ x. x.condition) found.1) (asks_resume found.0.rule.condition (slot_at slots found.0.spot) asks)
   ]
 
-  by_rest : (slot : Slot) → rule.asked ≡ Rested slot → Exactly (is_at counters slot) (Waits (woken c) None rule.node)
+  by_rest : (slot : Slot) → rule.condition ≡ Rested slot → Exactly (is_at counters slot) (Waits (woken c) None rule.node)
   by_rest slot asked = (forth, back)
     where
       forth : is_at counters slot ≡ true → Waits (woken c) None rule.node
@@ -489,44 +489,44 @@ module _ (rested : WokenRested) (waits : SleepersWait) (differ : SpotsDiffer) (o
           let one = sleeper slots all c Finishes from.label placed.sits (subst (Has (resting c)) same some.1) settled in
           let is : one.rule ≡ rule =
           one_in slots (spots_in body) alone body Finishes (differ unit.body []) (λ p h. h) one.rule rule slot (contains_in one.rule all one.there) here
-          (one.asked ∙ ap Rested from.is) asked in
+          (one.condition ∙ ap Rested from.is) asked in
           wakes (subst (λ x. Sleeps (woken c) x.node) is one.sleeps)
 
       back : Waits (woken c) None rule.node → is_at counters slot ≡ true
       back h = let found = sleeping h in elim found.0.asks [
         | inl asks ↦
             let is : slot_at slots found.0.spot ≡ slot =
-            rested_is (slot_at slots found.0.spot) slot (sym asks ∙ ap (λ x. x.asked) found.1 ∙ asked) in
+            rested_is (slot_at slots found.0.spot) slot (sym asks ∙ ap (λ x. x.condition) found.1 ∙ asked) in
             ap (is_at counters) (sym is) ∙ rests_here found.0.spot found.0.rests
-        | inr asks ↦ absurd (subst (λ x. AsksOf x (slot_at slots found.0.spot)) (ap (λ x. x.asked) found.1 ∙ asked) asks)
+        | inr asks ↦ absurd (subst (λ x. AsksOf x (slot_at slots found.0.spot)) (ap (λ x. x.condition) found.1 ∙ asked) asks)
       ]
 
-  by_rests : (list : List Slot) → rule.asked ≡ RestedIn list → Exactly (list_any (is_at counters) list) (Waits (woken c) None rule.node)
+  by_rests : (list : List Slot) → rule.condition ≡ RestedIn list → Exactly (list_any (is_at counters) list) (Waits (woken c) None rule.node)
   by_rests list asked = (forth, back)
     where
       forth : list_any (is_at counters) list ≡ true → Waits (woken c) None rule.node
       forth due =
           let held = some_holds counters list due in
-          let asks : AsksOf rule.asked held.slot = subst (λ x. AsksOf x held.slot) (sym asked) (in_contains held.slot list held.there) in
+          let asks : AsksOf rule.condition held.slot = subst (λ x. AsksOf x held.slot) (sym asked) (in_contains held.slot list held.there) in
           let from = all_ask_from slots body Finishes rule held.slot here asks in
           let some = rests_there held.slot from.spot from.there from.is held.holds in
           elim (checked slots all c Finishes (in_none body) rule some.0 placed.sits rooted there some.1
-          (subst (AsksOf rule.asked) (sym some.2) asks)) [
+          (subst (AsksOf rule.condition) (sym some.2) asks)) [
             | inl outer ↦ absurd outer
             | inr sleeps ↦ wakes sleeps
           ]
 
       back : Waits (woken c) None rule.node → list_any (is_at counters) list ≡ true
       back h = let found = sleeping h in elim found.0.asks [
-        | inl asks ↦ absurd (cc (sym asks ∙ ap (λ x. x.asked) found.1 ∙ asked))
+        | inl asks ↦ absurd (cc (sym asks ∙ ap (λ x. x.condition) found.1 ∙ asked))
         | inr asks ↦
             holds_some counters list (slot_at slots found.0.spot)
             (contains_in (slot_at slots found.0.spot) list
-            (subst (λ x. AsksOf x (slot_at slots found.0.spot)) (ap (λ x. x.asked) found.1 ∙ asked) asks))
+            (subst (λ x. AsksOf x (slot_at slots found.0.spot)) (ap (λ x. x.condition) found.1 ∙ asked) asks))
             (rests_here found.0.spot found.0.rests)
       ]
 
-  by_asked : (asked : Asked) → rule.asked ≡ asked → IsResume asked →
+  by_asked : (asked : Condition) → rule.condition ≡ asked → IsResume asked →
       Exactly (due_by number (started counters flags) rule.node asked) (Waits (woken c) None rule.node)
   by_asked Flagged is resume = absurd resume
   by_asked (Rested slot) is resume = by_rest slot is
@@ -534,5 +534,5 @@ module _ (rested : WokenRested) (waits : SleepersWait) (differ : SpotsDiffer) (o
   by_asked (Ended age needed) is resume = absurd resume
 
   -- what is due is what waits
-  pub resumes : IsResume rule.asked → Exactly (is_due number rule (started counters flags)) (Waits (woken c) None rule.node)
-  resumes resume = by_asked rule.asked refl resume
+  pub resumes : IsResume rule.condition → Exactly (is_due number rule (started counters flags)) (Waits (woken c) None rule.node)
+  resumes resume = by_asked rule.condition refl resume

@@ -60,7 +60,7 @@ use Rattle.bl_ctree_laws_confluence.proofs.OnApart.Members.{In, in_contains}
 use Rattle.bl_machine.specs.Uses.{Slots}
 use Rattle.bl_machine_laws.specs.Numbers.Waiting.{Sleeps, SomeSleeps}
 use Rattle.bl_machine_pass.specs.SlotLayout.{BeginsAt, EndOf, RestOf, Spot, slot_at}
-use Rattle.bl_machine_pass.specs.Transitions.{Asked, Change, ClearsBoth, ClearsCounter, Rested, RestedIn, SetsCounter, Transition, body_ends, counters_in, enter, fires}
+use Rattle.bl_machine_pass.specs.Transitions.{Change, ClearsBoth, ClearsCounter, Condition, Rested, RestedIn, SetsCounter, Transition, body_ends, counters_in, enter, fires}
 use Rattle.bl_machine_pass.specs.Transitions.{flagged, once, rests_in, rule_where, rules_in, rules_of}
 use Rattle.bl_machine_pass_laws.specs.Turns.Rooted.{AllRooted, Around, AsksOf, HeldEach, Rooted, in_branch, in_when}
 use Rattle.bl_machine_pass_laws.specs.Turns.Sits.{LieEach, Lies, RulesAreAmong, SitEach, Sits}
@@ -102,38 +102,38 @@ module _ (slots : Slots) (all : List Transition) where
   pub record Sleeper (c : Tree) (l : Label) : Type 0 where
     pub rule : Transition
     pub there : Contains all rule
-    pub asked : rule.asked ≡ Rested (slots.rest l)
+    pub condition : rule.condition ≡ Rested (slots.rest l)
     pub sleeps : Sleeps (woken c) rule.node
 
   record SomeSleeper (branches : Trees) (l : Label) : Type 0 where
     rule : Transition
     there : Contains all rule
-    asked : rule.asked ≡ Rested (slots.rest l)
+    condition : rule.condition ≡ Rested (slots.rest l)
     sleeps : SomeSleeps (all_woken branches) rule.node
 
   -- the rules of an `await`, a `run` and a `when` in a later tick
   abbrev test_rule : Pause → Change → Transition
   test_rule s next = record {
     node = TestAt s.label s.place s.test;
-    asked = Rested (slots.rest s.label);
-    so = ClearsCounter (slots.rest s.label).counter ∷ next ∷ [];
-    otherwise = [];
+    condition = Rested (slots.rest s.label);
+    on_true = ClearsCounter (slots.rest s.label).counter ∷ next ∷ [];
+    on_false = [];
   }
 
   abbrev resume_rule : Call → Change → Transition
   resume_rule s next = record {
     node = ResumeAt s.label s.place s.arguments;
-    asked = Rested (slots.rest s.label);
-    so = ClearsCounter (slots.rest s.label).counter ∷ next ∷ [];
-    otherwise = [];
+    condition = Rested (slots.rest s.label);
+    on_true = ClearsCounter (slots.rest s.label).counter ∷ next ∷ [];
+    on_false = [];
   }
 
   abbrev check_rule : Watch → Change → Transition
   check_rule s next = record {
     node = CheckAt s.label s.place s.test;
-    asked = RestedIn (rests_in slots s.body);
-    so = map ClearsBoth (once (counters_in slots s.body)) ++ fires s.guard s.label s.place s.body next ∷ [];
-    otherwise = [];
+    condition = RestedIn (rests_in slots s.body);
+    on_true = map ClearsBoth (once (counters_in slots s.body)) ++ fires s.guard s.label s.place s.body next ∷ [];
+    on_false = [];
   }
 
   test_there : (s : Pause) (next : Change) → RulesAreAmong all (rules_of slots (Await s.label s.place s.test) next) → Contains all (test_rule s next)
@@ -164,7 +164,7 @@ module _ (slots : Slots) (all : List Transition) where
     sleeper (Wait s) next l sits (inl is) settled = record {
       rule = test_rule s next;
       there = test_there s next sits;
-      asked = ap (λ x. Rested (slots.rest x)) (sym (same_rest l s.label is));
+      condition = ap (λ x. Rested (slots.rest x)) (sym (same_rest l s.label is));
       sleeps = refl;
     }
     sleeper (Wait s) next l sits (inr other) settled = absurd other
@@ -173,17 +173,17 @@ module _ (slots : Slots) (all : List Transition) where
     sleeper (Do s) next l sits h settled = absurd h
     sleeper (Seq c rest) next l sits h settled =
         let one = sleeper c (enter rest next) l sits.0 h settled in
-        record { rule = one.rule; there = one.there; asked = one.asked; sleeps = one.sleeps }
+        record { rule = one.rule; there = one.there; condition = one.condition; sleeps = one.sleeps }
     sleeper (Par s stood branches) next l sits h settled =
         let one = some_sleeper s.label 0 s.bodies branches l sits.1 h (and_one (are_settled branches) (not (are_done branches)) settled) in
-        record { rule = one.rule; there = one.there; asked = one.asked; sleeps = one.sleeps }
+        record { rule = one.rule; there = one.there; condition = one.condition; sleeps = one.sleeps }
     sleeper (Guard s phase stood c) next l sits h settled =
         let one = sleeper c (body_ends s.label s.place s.body) l sits.1 h (phase_settled phase c settled) in
-        record { rule = one.rule; there = one.there; asked = one.asked; sleeps = inr one.sleeps }
+        record { rule = one.rule; there = one.there; condition = one.condition; sleeps = inr one.sleeps }
     sleeper (Run s callee phase stood c) next l sits (inl is) settled = record {
       rule = resume_rule s next;
       there = resume_there s next sits;
-      asked = ap (λ x. Rested (slots.rest x)) (sym (same_rest l s.label is));
+      condition = ap (λ x. Rested (slots.rest x)) (sym (same_rest l s.label is));
       sleeps = refl;
     }
     sleeper (Run s callee phase stood c) next l sits (inr other) settled = absurd other
@@ -198,10 +198,10 @@ module _ (slots : Slots) (all : List Transition) where
           | inr more ↦ elim (has_cases (resting c) (resting_each m (suc k) branches) (RestOf l) more) [
             | inl here ↦
                 let one = sleeper c (SetsCounter (slots.ending m k)) l sits.1 here (and_one (is_settled c) (are_settled branches) settled) in
-                record { rule = one.rule; there = one.there; asked = one.asked; sleeps = inl one.sleeps }
+                record { rule = one.rule; there = one.there; condition = one.condition; sleeps = inl one.sleeps }
             | inr later ↦
                 let one = some_sleeper m (suc k) rest branches l sits.2 later (and_two (is_settled c) (are_settled branches) settled) in
-                record { rule = one.rule; there = one.there; asked = one.asked; sleeps = inr one.sleeps }
+                record { rule = one.rule; there = one.there; condition = one.condition; sleeps = inr one.sleeps }
           ]
         ]
 
@@ -211,22 +211,22 @@ module _ (slots : Slots) (all : List Transition) where
   at_branch zero around n h = h
   at_branch (suc k) around n h = h
 
-  end_asks : (b : Bool) (l : Label) (k : ℕ) (p : Spot) (asked : Asked) → Has (ended_at b l k) p → AsksOf asked (slot_at slots p) →
-      AsksOf asked (slot_at slots (EndOf l k))
-  end_asks true l k p asked h asks = subst (λ q. AsksOf asked (slot_at slots q)) (only_one p (EndOf l k) h) asks
-  end_asks false l k p asked h asks = absurd h
+  end_asks : (b : Bool) (l : Label) (k : ℕ) (p : Spot) (condition : Condition) → Has (ended_at b l k) p → AsksOf condition (slot_at slots p) →
+      AsksOf condition (slot_at slots (EndOf l k))
+  end_asks true l k p condition h asks = subst (λ q. AsksOf condition (slot_at slots q)) (only_one p (EndOf l k) h) asks
+  end_asks false l k p condition h asks = absurd h
 
   mutual
     -- a rule that asks of its number is that of a `when` around it
     pub checked : (c : Tree) (next : Change) (around : Around) (rule : Transition) (p : Spot) → Sits slots all c next
         → Rooted slots all around c → Contains all rule → Has (resting c) p →
-        AsksOf rule.asked (slot_at slots p) → around.checks rule.node ⊎ Sleeps (woken c) rule.node
+        AsksOf rule.condition (slot_at slots p) → around.checks rule.node ⊎ Sleeps (woken c) rule.node
     checked Nil next around rule p sits rooted there h asks = absurd h
     checked (Wait s) next around rule p sits rooted there (inl is) asks =
-        inl (rooted.asked rule there (subst (λ q. AsksOf rule.asked (slot_at slots q)) is asks))
+        inl (rooted.only_checks rule there (subst (λ q. AsksOf rule.condition (slot_at slots q)) is asks))
     checked (Wait s) next around rule p sits rooted there (inr other) asks = absurd other
     checked (Test s) next around rule p sits rooted there (inl is) asks =
-        inl (rooted.asked rule there (subst (λ q. AsksOf rule.asked (slot_at slots q)) is asks))
+        inl (rooted.only_checks rule there (subst (λ q. AsksOf rule.condition (slot_at slots q)) is asks))
     checked (Test s) next around rule p sits rooted there (inr other) asks = absurd other
     checked (Idle body) next around rule p sits rooted there h asks = absurd h
     checked (Do s) next around rule p sits rooted there h asks = absurd h
@@ -241,18 +241,18 @@ module _ (slots : Slots) (all : List Transition) where
           | inr sleeps ↦ inr (inr sleeps)
         ]
     checked (Run s callee phase stood c) next around rule p sits rooted there (inl is) asks =
-        inl (rooted.asked rule there (subst (λ q. AsksOf rule.asked (slot_at slots q)) is asks))
+        inl (rooted.only_checks rule there (subst (λ q. AsksOf rule.condition (slot_at slots q)) is asks))
     checked (Run s callee phase stood c) next around rule p sits rooted there (inr other) asks = absurd other
 
     some_checked : (l : Label) (k : ℕ) (bodies : Bodies) (branches : Trees) (around : Around) (rule : Transition) (p : Spot) →
         SitEach slots all l k bodies branches → HeldEach slots all around l k bodies → AllRooted slots all around l k branches
         → Contains all rule → Has (resting_each l k branches) p →
-        AsksOf rule.asked (slot_at slots p) → around.checks rule.node ⊎ SomeSleeps (all_woken branches) rule.node
+        AsksOf rule.condition (slot_at slots p) → around.checks rule.node ⊎ SomeSleeps (all_woken branches) rule.node
     some_checked l k bodies no_tree around rule p sits held rooted there h asks = absurd h
     some_checked l k Last (beside weak c branches) around rule p sits held rooted there h asks = absurd sits
     some_checked l k (BodyOf weak body rest) (beside weak' c branches) around rule p sits held rooted there h asks =
         elim (has_cases (ended_at (is_nil c) l k) (resting c ++ resting_each l (suc k) branches) p h) [
-          | inl end ↦ inl (at_branch k around rule.node (held.0.asked rule there (end_asks (is_nil c) l k p rule.asked end asks)))
+          | inl end ↦ inl (at_branch k around rule.node (held.0.only_checks rule there (end_asks (is_nil c) l k p rule.condition end asks)))
           | inr more ↦ elim (has_cases (resting c) (resting_each l (suc k) branches) p more) [
             | inl here ↦ elim (checked c (SetsCounter (slots.ending l k)) (in_branch k around) rule p sits.1 rooted.0 there here asks) [
               | inl outer ↦ inl (at_branch k around rule.node outer)
@@ -279,7 +279,7 @@ module _ (slots : Slots) (all : List Transition) where
     pub of_node : rule.node ≡ n
     pub spot : Spot
     pub rests : Has (resting c) spot
-    pub asks : (rule.asked ≡ Rested (slot_at slots spot)) ⊎ AsksOf rule.asked (slot_at slots spot)
+    pub asks : (rule.condition ≡ Rested (slot_at slots spot)) ⊎ AsksOf rule.condition (slot_at slots spot)
 
   record SomeSlept (l : Label) (k : ℕ) (branches : Trees) (n : Node) : Type 0 where
     rule : Transition
@@ -287,7 +287,7 @@ module _ (slots : Slots) (all : List Transition) where
     of_node : rule.node ≡ n
     spot : Spot
     rests : Has (resting_each l k branches) spot
-    asks : (rule.asked ≡ Rested (slot_at slots spot)) ⊎ AsksOf rule.asked (slot_at slots spot)
+    asks : (rule.condition ≡ Rested (slot_at slots spot)) ⊎ AsksOf rule.condition (slot_at slots spot)
 
   -- where the first branch has ended, or rests
   first_home : (l : Label) (c : Tree) (branches : Trees) (around : Around) (b : Bool) → is_nil c ≡ b → around.home (slots.ending l 0) →

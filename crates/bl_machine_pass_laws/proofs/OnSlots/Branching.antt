@@ -22,7 +22,7 @@ use Rattle.bl_tree.specs.Typing.{TypingContext, fits, is_activity, is_inhabited,
 use Rattle.bl_tree.specs.Words.{are_distinct, is_name}
 use Rattle.bl_tree.proofs.StmtInduction.{Cases, Each, EachArm, EachBranch, induct, stmt}
 use Rattle.bl_graph_nodes.specs.Laws.{plain_arm, plain_branch}
-use Rattle.bl_graph_nodes.specs.Plain.{If, Label, Plain, Position, block_from, bodies_from, else_at, inside, label_at, never, passed_one, plain}
+use Rattle.bl_graph_nodes.specs.Plain.{If, Label, Plain, Position, block_from, bodies_from, else_at, inside, label_at, never, passed_one, plain_stmt}
 use Rattle.bl_graph_nodes.specs.Plain.{plain_block, plain_body}
 use Rattle.bl_graph_nodes.proofs.Equations.{plain_statements}
 use Rattle.bl_ctree_laws_confluence.proofs.OnApart.Told.{
@@ -53,10 +53,10 @@ and_second false b e = absurd cc
 module _ (site : TypingContext) where
   -- where the statement fits
   abbrev Branched : Stmt → Type 0
-  Branched s = fits site s ≡ true → (at : Position) → BranchesOf (plain s at)
+  Branched s = fits site s ≡ true → (at : Position) → BranchesOf (plain_stmt s at)
 
   block_branched : (body : List Stmt) (k : ℕ) (block : Position) → Each Branched body → Fit site body →
-      EachBranches (block_from (map plain body) k block)
+      EachBranches (block_from (map plain_stmt body) k block)
   block_branched [] k block each fit = tt
   block_branched (s ∷ rest) k block each fit = (
     All-head Branched s rest each (fit_first site s rest fit) (block ++ k ∷ []),
@@ -98,7 +98,7 @@ module _ (site : TypingContext) where
   has_branch [] k l some = absurd cc
   has_branch (b ∷ rest) k l some = tt
 
-  no_arms : (place : Place) (other : List Stmt) (at : Position) → plain (stmt place (StmtKind-F.If [] other)) at
+  no_arms : (place : Place) (other : List Stmt) (at : Position) → plain_stmt (stmt place (StmtKind-F.If [] other)) at
       ≡ If (label_at at) place (never place) (plain_block other (inside (label_at at) 0)) (plain_block other (inside (label_at at) 1))
   no_arms place other at = rw (fold-roll-Stmt, fold-roll-StmtKind) refl
 

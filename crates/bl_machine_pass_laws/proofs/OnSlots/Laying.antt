@@ -25,8 +25,8 @@ use Rattle.bl_graph_nodes.specs.Plain.{
 }
 use Rattle.bl_machine.specs.declared.slots.Slot.{Slot}
 use Rattle.bl_machine.specs.Counters.{AllRestAt, EachRests, RestsAt}
-use Rattle.bl_machine.specs.Layout.{places_in, places_in_each, places_of}
-use Rattle.bl_machine.specs.Slots.{Counters, counters_at, numbered}
+use Rattle.bl_machine.specs.Layout.{places_in, places_in_each, resting_places}
+use Rattle.bl_machine.specs.Slots.{Counters, counters_at, numbered_slots}
 use Rattle.bl_machine.specs.Uses.{Slots, is_of, uses, uses_in, uses_in_branch, uses_in_each}
 use Rattle.bl_machine_pass.specs.SlotLayout.{BlockRestsAt, BranchesRestAt, EndOf, RestOf, SlotsAreDistinct, Spot, StatementRestsAt, slot_at, spots_in, spots_in_each, spots_of}
 use Rattle.bl_machine_pass.specs.Numbered.{no_slot, slot_for, slots_of}
@@ -38,7 +38,7 @@ use Rattle.bl_machine_pass_laws.specs.Spots.{SpotsAreDistinct}
 -- ---- each part has as many resting places as places
 
 mutual
-  spots_many : (s : Plain) → length (spots_of s) ≡ places_of s
+  spots_many : (s : Plain) → length (spots_of s) ≡ resting_places s
   spots_many (Act l s) = refl
   spots_many (Await l at e) = refl
   spots_many (RunOf l at target a inputs outputs) = refl
@@ -140,7 +140,7 @@ module _ (list : List Slot) (all : List Spot) (differ : SpotsAreDistinct all) (s
         (window_right all first (suc first) (EndOf l k ∷ []) (spots_in body ++ spots_in_each l (suc k) rest) (omega arith) window)
 
     mutual
-      used_of : (first : ℕ) (s : Plain) (j : ℕ) → Window all first (spots_of s) → uses slots s j ≡ true → Used first (first + places_of s) j
+      used_of : (first : ℕ) (s : Plain) (j : ℕ) → Window all first (spots_of s) → uses slots s j ≡ true → Used first (first + resting_places s) j
       used_of first (Act l s) j window on = absurd cc
       used_of first (Await l at e) j window on = record {
         number = first;
@@ -176,12 +176,12 @@ module _ (list : List Slot) (all : List Spot) (differ : SpotsAreDistinct all) (s
       used_in first (Then s rest) j window on =
           let many = spots_many s in
           or_case (uses slots s j) (uses_in slots rest j) on
-          (λ e. used_more first (first + places_of s) first (first + (places_of s + places_in rest)) j (omega arith) (omega arith)
+          (λ e. used_more first (first + resting_places s) first (first + (resting_places s + places_in rest)) j (omega arith) (omega arith)
           (used_of first s j (window_left all first (spots_of s) (spots_in rest) window) e))
-          (λ e. used_more (first + places_of s) ((first + places_of s) + places_in rest) first (first + (places_of s + places_in rest)) j
+          (λ e. used_more (first + resting_places s) ((first + resting_places s) + places_in rest) first (first + (resting_places s + places_in rest)) j
           (omega arith) (omega arith)
-          (used_in (first + places_of s) rest j
-          (window_right all first (first + places_of s) (spots_of s) (spots_in rest) (omega arith) window) e))
+          (used_in (first + resting_places s) rest j
+          (window_right all first (first + resting_places s) (spots_of s) (spots_in rest) (omega arith) window) e))
 
       used_in_each : (first : ℕ) (l : Label) (k : ℕ) (bodies : Bodies) (j : ℕ) → Window all first (spots_in_each l k bodies) →
           uses_in_each slots l k bodies j ≡ true → Used first (first + places_in_each bodies) j
@@ -248,8 +248,8 @@ module _ (list : List Slot) (all : List Spot) (differ : SpotsAreDistinct all) (s
       laid_in low first (Then s rest) window has rests =
           let many = spots_many s in (
             laid_of low first s (window_left all first (spots_of s) (spots_in rest) window) has.0 rests.0,
-            laid_in low (first + places_of s) rest
-                (window_right all first (first + places_of s) (spots_of s) (spots_in rest) (omega arith) window) has.1 rests.1,
+            laid_in low (first + resting_places s) rest
+                (window_right all first (first + resting_places s) (spots_of s) (spots_in rest) (omega arith) window) has.1 rests.1,
           )
 
       laid_each : (first : ℕ) (l : Label) (k : ℕ) (bodies : Bodies) → Window all first (spots_in_each l k bodies) → BranchesInEach bodies →
@@ -287,7 +287,7 @@ module _ (body : Block) (list : List Slot) (differ : SpotsAreDistinct (spots_in 
       ∙ ap Some (sym (ap (λ found. unwrap_or found no_slot) (slice_get-get_or list i no_slot (omega arith)))
       ∙ sym (listed p ∙ number_at list (spots_in body) i p differ is))
 
-  numbers_there : (p : Spot) (h : Contains (spots_in body) p) → slice_get (numbered (counters_at list)) h.0 ≡ Some (slot_at slots p)
+  numbers_there : (p : Spot) (h : Contains (spots_in body) p) → slice_get (numbered_slots (counters_at list)) h.0 ≡ Some (slot_at slots p)
   numbers_there p h = ap (λ xs. slice_get xs h.0) (sym counters.values) ∙ within p h.0 (member_at (spots_in body) p h) h.1
 
   alone : (p q : Spot) → Contains (spots_in body) p → Contains (spots_in body) q → slot_at slots p ≡ slot_at slots q → p ≡ q

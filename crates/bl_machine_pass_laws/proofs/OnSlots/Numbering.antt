@@ -4,7 +4,7 @@ use Rattle.std.proofs.Common.{eq-eqb}
 use Rattle.std.specs.Prelude.{slice_get}
 use Rattle.std.proofs.lemmas.List.Sums.{sum_by_push}
 use Rattle.bl_machine.specs.declared.slots.Slot.{Slot}
-use Rattle.bl_machine.specs.Slots.{numbered, numbered_after, times}
+use Rattle.bl_machine.specs.Slots.{numbered_after, numbered_slots, times}
 
 -- ---- how often a counter stands among others
 
@@ -56,9 +56,9 @@ once_after before (counter ∷ rest) zero (suc j) x one two = absurd (later_diff
 once_after before (counter ∷ rest) (suc i) zero x one two = absurd (later_differs before rest counter i x (first_is _ x two) one)
 once_after before (counter ∷ rest) (suc i) (suc j) x one two = ap suc (once_after (before ++ counter ∷ []) rest i j x one two)
 
-pub numbered_once : (counters : List ℕ) (i j : ℕ) (x : Slot) → slice_get (numbered counters) i ≡ Some x → slice_get (numbered counters) j
+pub numbered_once : (counters : List ℕ) (i j : ℕ) (x : Slot) → slice_get (numbered_slots counters) i ≡ Some x → slice_get (numbered_slots counters) j
     ≡ Some x → i ≡ j
 numbered_once counters i j x one two = once_after [] counters i j x one two
 
-pub numbered_counted : (counters : List ℕ) (i : ℕ) (x : Slot) → slice_get (numbered counters) i ≡ Some x → x.value ≡ 0 → ⊥
+pub numbered_counted : (counters : List ℕ) (i : ℕ) (x : Slot) → slice_get (numbered_slots counters) i ≡ Some x → x.value ≡ 0 → ⊥
 numbered_counted counters i x is none = let more = high [] counters i x is in omega arith

@@ -23,24 +23,24 @@ use Rattle.bl_machine.specs.Uses.{Slots}
 use Rattle.bl_machine_laws.specs.Numbers.Numbers.{Over, numbers_of}
 use Rattle.bl_machine_laws.specs.Numbers.Waiting.{Waits}
 use Rattle.bl_machine_pass.specs.Registers.{Registers, is_due}
-use Rattle.bl_machine_pass.specs.Transitions.{Asked, Ended, Flagged, Rested, RestedIn, Transition, rules}
+use Rattle.bl_machine_pass.specs.Transitions.{Condition, Ended, Flagged, Rested, RestedIn, Transition, rules}
 
 -- whether a rule asks for the flag of its node
-abbrev pub IsFlagged : Asked → Type 0
+abbrev pub IsFlagged : Condition → Type 0
 IsFlagged Flagged = ⊤
 IsFlagged (Rested slot) = ⊥
 IsFlagged (RestedIn slots) = ⊥
 IsFlagged (Ended age needed) = ⊥
 
 -- whether the question is where the instance rested when the tick began
-abbrev pub IsResume : Asked → Type 0
+abbrev pub IsResume : Condition → Type 0
 IsResume Flagged = ⊥
 IsResume (Rested slot) = ⊤
 IsResume (RestedIn slots) = ⊤
 IsResume (Ended age needed) = ⊥
 
 -- whether the question is for the ends of branches
-abbrev pub IsJoin : Asked → Type 0
+abbrev pub IsJoin : Condition → Type 0
 IsJoin Flagged = ⊥
 IsJoin (Rested slot) = ⊥
 IsJoin (RestedIn slots) = ⊥
@@ -77,10 +77,10 @@ pub record PassInvariant (slots : Slots) (number : Node → ℕ) (body : Block) 
   -- what waits is still to have its turn
   pub ahead : (n : Node) → Waits c None n → k ≤ number n
   -- the flag of a node is set iff something waits at it
-  pub flags : (rule : Transition) → Contains (rules slots body) rule → IsFlagged rule.asked → k ≤ number rule.node →
+  pub flags : (rule : Transition) → Contains (rules slots body) rule → IsFlagged rule.condition → k ≤ number rule.node →
       Exactly (is_due number rule r) (Waits c None rule.node)
   -- a resume node is due iff what rested there still waits
-  pub resumes : (rule : Transition) → Contains (rules slots body) rule → IsResume rule.asked → k ≤ number rule.node →
+  pub resumes : (rule : Transition) → Contains (rules slots body) rule → IsResume rule.condition → k ≤ number rule.node →
       Exactly (is_due number rule r) (Waits c None rule.node)
   pub marks : Marked number r.marks c
   pub over : r.over ≡ is_nil c

@@ -48,7 +48,7 @@ use Rattle.bl_machine.specs.declared.slots.Slot.{Slot}
 use Rattle.bl_machine.specs.Uses.{Slots}
 use Rattle.bl_machine_laws.specs.Numbers.Turns.{AnsweredDeed, Turns}
 use Rattle.bl_machine_pass.specs.SlotLayout.{EndOf, RestOf, SlotsAreDistinct, Spot, slot_at, spots_in}
-use Rattle.bl_machine_pass.specs.Transitions.{Asked, Ended, Flagged, Rested, RestedIn, Transition, rests_in, rules}
+use Rattle.bl_machine_pass.specs.Transitions.{Condition, Ended, Flagged, Rested, RestedIn, Transition, rests_in, rules}
 
 -- the `when`s around a part of a body
 pub record Around : Type 1 where
@@ -77,7 +77,7 @@ in_branch zero around = around
 in_branch (suc k) around = record { spots = around.spots; checks = around.checks; home = λ slot. ⊤ }
 
 -- a rule asks whether the instance rested at one of some numbers, of which this is one
-abbrev pub AsksOf : Asked → Slot → Type 0
+abbrev pub AsksOf : Condition → Slot → Type 0
 AsksOf Flagged slot = ⊥
 AsksOf (Rested other) slot = ⊥
 AsksOf (RestedIn slots) slot = Contains slots slot
@@ -87,7 +87,7 @@ AsksOf (Ended age needed) slot = ⊥
 pub record Held (slots : Slots) (all : List Transition) (around : Around) (spot : Spot) : Type 0 where
   pub inside : around.spots spot
   pub home : around.home (slot_at slots spot)
-  pub asked : (rule : Transition) → Contains all rule → AsksOf rule.asked (slot_at slots spot) → around.checks rule.node
+  pub only_checks : (rule : Transition) → Contains all rule → AsksOf rule.condition (slot_at slots spot) → around.checks rule.node
 
 abbrev mutual
   -- each place of the statement is held: it is one of the body, and only the `when`s around it ask for its number

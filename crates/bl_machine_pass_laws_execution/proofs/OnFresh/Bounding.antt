@@ -102,9 +102,9 @@ use Rattle.bl_graph_nodes.specs.Plain.{
   inside,
   label_at,
   passed_one,
-  plain,
   plain_block,
   plain_body,
+  plain_stmt,
 }
 use Rattle.bl_graph_nodes.proofs.Equations.{plain_statements}
 use Rattle.bl_machine_prevs.specs.Declared.{declared_in, declared_kind}
@@ -280,10 +280,10 @@ module _ (w : Setting) (i : ℕ) (unit : UnitDef) (site : TypingContext) (units 
     ≡ Some other →
     slice_get units run.unit ≡ Some other) where
   abbrev S : Stmt → Type 0
-  S s = fits site s ≡ true → AllOf C (runs_in s) → (at : Position) → Bounded w i unit (plain s at)
+  S s = fits site s ≡ true → AllOf C (runs_in s) → (at : Position) → Bounded w i unit (plain_stmt s at)
 
   block_bounded : (body : List Stmt) (k : ℕ) (block : Position) → Each S body → all_of (map (fits site) body) ≡ true →
-      AllOf C (joined (map runs_in body)) → BoundedAll w i unit (block_from (map plain body) k block)
+      AllOf C (joined (map runs_in body)) → BoundedAll w i unit (block_from (map plain_stmt body) k block)
   block_bounded [] k block each fitted all = tt
   block_bounded (s ∷ rest) k block each fitted all = (
     All-head S s rest each (first_so (fits site s) (all_of (map (fits site) rest)) fitted)
@@ -360,7 +360,7 @@ module _ (w : Setting) (i : ℕ) (unit : UnitDef) (site : TypingContext) (units 
 
   by_parts : (place : Place) (layer : StmtKind-F StmtKind Arm Branch Stmt) →
       (kind_fits site (fit_parts layer) ≡ true → AllOf C (kind_runs (run_parts layer) place) → (at : Position) →
-      Bounded w i unit (plain (stmt place layer) at)) → S (stmt place layer)
+      Bounded w i unit (plain_stmt (stmt place layer) at)) → S (stmt place layer)
   by_parts place layer gives fitted all = gives (sym (fit_at place layer) ∙ fitted) (subst (AllOf C) (runs_at place layer) all)
 
   layer_at : (place : Place) (layer : StmtKind-F StmtKind Arm Branch Stmt) → out-StmtKind (out-Stmt (stmt place layer)).what ≡ layer

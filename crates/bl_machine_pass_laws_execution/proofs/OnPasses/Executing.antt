@@ -144,7 +144,7 @@ module _ (within : (body : Block) → StaysWithin body) (waiting : TurnsWait) (q
     there : HasRule slots i unit rule
     of_node : rule.node ≡ n
     due_now : is_due (rank i) rule r ≡ true
-    keeps : PassInvariant (slots i) (rank i) B (rank i n) c r
+    pass_invariant : PassInvariant (slots i) (rank i) B (rank i n) c r
 
   -- and it is due itself
   turn_at : (frames : Frames) (k : ℕ) (c : Tree) (n : Node) (r : Registers) → Standing w slots i unit stood frames c → FitsBody (slots i) B c →
@@ -159,7 +159,7 @@ module _ (within : (body : Block) → StaysWithin body) (waiting : TurnsWait) (q
         of_node = own.of_node;
         due_now = (due w rank i (slots i) unit stood (rank i n) c own.rule r given standing.lives stands own.there now le).1
             (subst (λ x. Waits c None x) (sym own.of_node) waits);
-        keeps = now;
+        pass_invariant = now;
       }
 
   rank_is : (n : Node) (rule : Transition) → rule.node ≡ n → rank i rule.node ≡ rank i n
@@ -192,7 +192,7 @@ module _ (within : (body : Block) → StaysWithin body) (waiting : TurnsWait) (q
       let one = perform.takes frames c store known copies n after store' standing senses takes in
       let own = turn_at frames k c n r standing stands keeps least first (waiting w rank i c one.done n after None one.turn) in
       let now = keep w rank i
-      (slots i) unit stood c one.done n after own.rule r one.turn given standing.lives stands own.there own.of_node own.keeps in
+      (slots i) unit stood c one.done n after own.rule r one.turn given standing.lives stands own.there own.of_node own.pass_invariant in
       let still = trees.turns w rank i (slots i) unit c one.done n after given.laid one.turn stands in
       let sensed : Senses w i unit one.known store' (recopied w i own.rule.node store' copies) after =
       subst (λ x. Senses w i unit one.known store' (recopied w i x store' copies) after) (sym own.of_node) one.senses in
@@ -237,7 +237,7 @@ module _ (within : (body : Block) → StaysWithin body) (waiting : TurnsWait) (q
       let one = perform.takes frames c store known copies n after store' standing senses takes in
       let own = turn_at frames k c n r standing stands keeps least first (waiting w rank i c one.done n after None one.turn) in
       let now = keep w rank i
-      (slots i) unit stood c one.done n after own.rule r one.turn given standing.lives stands own.there own.of_node own.keeps in
+      (slots i) unit stood c one.done n after own.rule r one.turn given standing.lives stands own.there own.of_node own.pass_invariant in
       let still = trees.turns w rank i (slots i) unit c one.done n after given.laid one.turn stands in
       let sensed : Senses w i unit one.known store' (recopied w i own.rule.node store' copies) after =
       subst (λ x. Senses w i unit one.known store' (recopied w i x store' copies) after) (sym own.of_node) one.senses in

@@ -130,7 +130,7 @@ module _ (runs_apart : AcceptedRunsApart) (nests : ProgramsNest) (begin_live : B
     record Ready (callee : ℕ) (unit : UnitDef) (stood : Bool) (frames : Frames) (c : Tree) (r : Registers) : Type 0 where
       is : unit_at W callee ≡ Some unit
       stands : FitsBody (slots callee) (plain_body unit.body) c
-      keeps : PassInvariant (slots callee) (rank callee) (plain_body unit.body) 0 c r
+      pass_invariant : PassInvariant (slots callee) (rank callee) (plain_body unit.body) 0 c r
       standing : Standing W slots callee unit stood frames c
 
     begun_ready : (frames : Frames) (callee : ℕ) (unit : UnitDef) → unit_at W callee ≡ Some unit →
@@ -138,7 +138,7 @@ module _ (runs_apart : AcceptedRunsApart) (nests : ProgramsNest) (begin_live : B
     begun_ready frames callee unit is = record {
       is = is;
       stands = trees.begins (slots callee) unit (given callee unit is).laid;
-      keeps = begin.begins W rank callee (slots callee) unit (λ k. 0) (given callee unit is)
+      pass_invariant = begin.begins W rank callee (slots callee) unit (λ k. 0) (given callee unit is)
           (body_open (plain_body unit.body) ((given callee unit is).paces callee unit is)) (λ j. refl);
       standing = record {
         lives = begin_live W callee unit callable is;
@@ -156,7 +156,7 @@ module _ (runs_apart : AcceptedRunsApart) (nests : ProgramsNest) (begin_live : B
       is = is;
       stands = subst (λ (t : Tree). FitsBody (slots callee) (plain_body unit.body) t) (sym own.wakes)
           (trees.wakes W callee old.stood (slots callee) unit own.before lives old.settled stands);
-      keeps = subst (λ (t : Tree). PassInvariant (slots callee) (rank callee) (plain_body unit.body) 0 t (resumed_registers frames callee)) (sym own.wakes)
+      pass_invariant = subst (λ (t : Tree). PassInvariant (slots callee) (rank callee) (plain_body unit.body) 0 t (resumed_registers frames callee)) (sym own.wakes)
           (begin.resumes W rank callee (slots callee) unit old.stood own.before (frames callee) (given callee unit is) lives stands old.settled
           old.unended (λ j. numbers j ∙ (ap (λ (t : Tree). numbers_of (slots callee) t Over j) own.wakes
           ∙ keep_numbers W callee old.stood (plain_body unit.body) (slots callee) own.before j lives)));
@@ -235,14 +235,14 @@ module _ (runs_apart : AcceptedRunsApart) (nests : ProgramsNest) (begin_live : B
         Executed W rank slots clear callee 0 unit stood frames store copies r c' left
     made callee unit stood frames c r store known copies c' left later ready senses follow =
         execute.follows W rank slots clear callee unit stood 0 frames c store known copies r c' left (given callee unit ready.is)
-        (further callee unit stood later ready.is) follow ready.stands ready.keeps ready.standing senses
+        (further callee unit stood later ready.is) follow ready.stands ready.pass_invariant ready.standing senses
 
     cut : (callee : ℕ) (unit : UnitDef) (stood : Bool) (frames : Frames) (c : Tree) (r : Registers) (store : Store) (known : List ℕ)
         (copies : List Value) → i < callee → Ready callee unit stood frames c r → Senses W callee unit known store copies c →
         Fails W rank callee 0 c store → executes.PassTraps W rank slots clear callee 0 frames store copies r
     cut callee unit stood frames c r store known copies later ready senses fail =
         execute.fails W rank slots clear callee unit stood 0 frames c store known copies r (given callee unit ready.is)
-        (further callee unit stood later ready.is) fail ready.stands ready.keeps ready.standing senses
+        (further callee unit stood later ready.is) fail ready.stands ready.pass_invariant ready.standing senses
 
     -- only what is inside the call has other frames
     call_changes : (Here : Source → Type 0) (place : Source) (callee : ℕ) (counters : ℕ → ℕ) (frames inner : Frames) → Here place →

@@ -95,8 +95,8 @@ use Rattle.bl_machine_pass.specs.Numbered.{sort}
 use Rattle.bl_machine_pass.specs.Registers.{Registers, are_ended, is_aged, is_at, is_due}
 use Rattle.bl_machine_pass.specs.Transitions.{
   Age,
-  Asked,
   Change,
+  Condition,
   Ended,
   Finishes,
   Flagged,
@@ -179,13 +179,13 @@ where_member true x rule (inl e) = (refl, e)
 where_member true x rule (inr h) = absurd h
 where_member false x rule h = absurd h
 
-not_join : {A : Type 0} (x rule : Transition) → rule ≡ x → (IsJoin x.asked → ⊥) → IsJoin rule.asked → A
-not_join x rule e none join = absurd (none (subst (λ (other : Transition). IsJoin other.asked) e join))
+not_join : {A : Type 0} (x rule : Transition) → rule ≡ x → (IsJoin x.condition → ⊥) → IsJoin rule.condition → A
+not_join x rule e none join = absurd (none (subst (λ (other : Transition). IsJoin other.condition) e join))
 
 mutual
   join_of : (slots : Slots) (Ruled : Transition → Type 0) (R : Spot → Type 0) (s : Plain) (next : Change) (rule : Transition) →
       ((x : Transition) → Member (rules_of slots s next) x → Ruled x) → ((p : Spot) → Member (spots_of s) p → R p) →
-      Member (rules_of slots s next) rule → IsJoin rule.asked → JoinOf slots Ruled R rule
+      Member (rules_of slots s next) rule → IsJoin rule.condition → JoinOf slots Ruled R rule
   join_of slots Ruled R (Act l s) next rule sub spots (inl e) join = not_join _ rule e (λ h. h) join
   join_of slots Ruled R (Act l s) next rule sub spots (inr h) join = absurd h
   join_of slots Ruled R (Await l at e) next rule sub spots (inl is) join = not_join _ rule is (λ h. h) join
@@ -263,7 +263,7 @@ mutual
 
   join_in : (slots : Slots) (Ruled : Transition → Type 0) (R : Spot → Type 0) (body : Block) (next : Change) (rule : Transition) →
       ((x : Transition) → Member (rules_in slots body next) x → Ruled x) → ((p : Spot) → Member (spots_in body) p → R p) →
-      Member (rules_in slots body next) rule → IsJoin rule.asked → JoinOf slots Ruled R rule
+      Member (rules_in slots body next) rule → IsJoin rule.condition → JoinOf slots Ruled R rule
   join_in slots Ruled R Done next rule sub spots h join = absurd h
   join_in slots Ruled R (Then s rest) next rule sub spots h join =
       ⊎_elim
@@ -277,7 +277,7 @@ mutual
 
   join_each : (slots : Slots) (Ruled : Transition → Type 0) (R : Spot → Type 0) (l : Label) (k : ℕ) (bodies : Bodies) (rule : Transition) →
       ((x : Transition) → Member (rules_in_each slots l k bodies) x → Ruled x) → ((p : Spot) → Member (spots_in_each l k bodies) p → R p) →
-      Member (rules_in_each slots l k bodies) rule → IsJoin rule.asked → JoinOf slots Ruled R rule
+      Member (rules_in_each slots l k bodies) rule → IsJoin rule.condition → JoinOf slots Ruled R rule
   join_each slots Ruled R l k Last rule sub spots h join = absurd h
   join_each slots Ruled R l k (BodyOf weak body rest) rule sub spots h join =
       ⊎_elim
@@ -437,13 +437,13 @@ module _ (slots : Slots) (R : Spot → Type 0) (l : Label) (at : Place) (counter
 
 -- ---- ages
 
-abbrev needed_of : Asked → Needed
+abbrev needed_of : Condition → Needed
 needed_of Flagged = record { all = true; slots = [] }
 needed_of (Rested slot) = record { all = true; slots = [] }
 needed_of (RestedIn slots) = record { all = true; slots = [] }
 needed_of (Ended age what) = what
 
-abbrev age_asked : Asked → Age
+abbrev age_asked : Condition → Age
 age_asked Flagged = IsAny
 age_asked (Rested slot) = IsAny
 age_asked (RestedIn slots) = IsAny
@@ -514,7 +514,7 @@ Join slots unit rule = JoinOf slots (Contains (rules slots (plain_body unit.body
 module _ (w : Setting) (rank : ℕ → Node → ℕ) (i : ℕ) (slots : Slots) (unit : UnitDef) (old : Bool) (c : Tree) (rule : Transition) (r : Registers)
     (placed : StaysPlaced) (turning : Turning w rank i slots unit old c rule.node rule) (stemmed : Stemmed (plain_body unit.body) c)
     (held : (j : ℕ) → r.counters j ≡ numbers_of slots c Over j) (marked : Marked (rank i) r.marks c) where
-  the_join : IsJoin rule.asked → Join slots unit rule
+  the_join : IsJoin rule.condition → Join slots unit rule
   the_join join =
       join_in slots (Contains (rules slots (body_of unit))) (Spots unit) (body_of unit) Finishes rule
       (λ x there. contained (rules slots (body_of unit)) x there)
@@ -559,13 +559,13 @@ module _ (w : Setting) (rank : ℕ → Node → ℕ) (i : ℕ) (slots : Slots) (
       instant_same : is_instant (Cobegin join.label join.place join.bodies) ≡ is_instant (fork_stmt s)
       instant_same =
           sym (old_instant (is_instant (Cobegin join.label join.place join.bodies)) (ForkAt join.label join.place))
-          ∙ ap (λ (x : Transition). is_old (age_asked x.asked)) one ∙ old_instant (is_instant (fork_stmt s)) (ForkAt s.label s.place)
+          ∙ ap (λ (x : Transition). is_old (age_asked x.condition)) one ∙ old_instant (is_instant (fork_stmt s)) (ForkAt s.label s.place)
 
       node_same : DepthJoinAt join.label join.place ≡ DepthJoinAt s.label s.place
       node_same = ap (λ (x : Transition). x.node) one
 
       ended_same : are_ended r.counters (needed slots join.label join.bodies) ≡ are_done branches
-      ended_same = ap (λ (x : Transition). are_ended r.counters (needed_of x.asked)) one ∙ ends_of stands
+      ended_same = ap (λ (x : Transition). are_ended r.counters (needed_of x.condition)) one ∙ ends_of stands
 
       mark : MarkOf (rank i) r.marks s stood
       mark = mark_fork (rank i) r.marks stands marked
@@ -581,7 +581,7 @@ module _ (w : Setting) (rank : ℕ → Node → ℕ) (i : ℕ) (slots : Slots) (
             sym ended_same ∙ and_second (is_aged (rank i) r.marks (age_of (is_instant (Cobegin join.label join.place join.bodies))
             (ForkAt join.label join.place))) (are_ended r.counters (needed slots join.label join.bodies)) due in
             let aged : is_aged (rank i) r.marks (age_of (is_instant (fork_stmt s)) (ForkAt s.label s.place)) ≡ true =
-            sym (ap (λ (x : Transition). is_aged (rank i) r.marks (age_asked x.asked)) one)
+            sym (ap (λ (x : Transition). is_aged (rank i) r.marks (age_asked x.condition)) one)
             ∙ and_first (is_aged (rank i) r.marks (age_of (is_instant (Cobegin join.label join.place join.bodies)) (ForkAt join.label join.place)))
             (are_ended r.counters (needed slots join.label join.bodies)) due in
             let has_stood : stood ≡ true =
@@ -590,7 +590,7 @@ module _ (w : Setting) (rank : ℕ → Node → ℕ) (i : ℕ) (slots : Slots) (
         λ there.
             both (is_aged (rank i) r.marks (age_of (is_instant (Cobegin join.label join.place join.bodies)) (ForkAt join.label join.place)))
             (are_ended r.counters (needed slots join.label join.bodies))
-            (ap (λ (x : Transition). is_aged (rank i) r.marks (age_asked x.asked)) one
+            (ap (λ (x : Transition). is_aged (rank i) r.marks (age_asked x.condition)) one
             ∙ stood_old (rank i) r.marks (ForkAt s.label s.place) (is_instant (fork_stmt s)) stood mark
             (deep_stood stood join.label s.label join.place s.place there.1))
             (ended_same ∙ there.0),
@@ -687,7 +687,7 @@ joins_wait w rank i slots unit stood c rule r placed turning stemmed held marked
     )
 
 -- whatever is asked it is one of the three
-by_sort : {A : Type 0} (asked : Asked) → (IsFlagged asked → A) → (IsResume asked → A) → (IsJoin asked → A) → A
+by_sort : {A : Type 0} (condition : Condition) → (IsFlagged condition → A) → (IsResume condition → A) → (IsJoin condition → A) → A
 by_sort Flagged one two three = one tt
 by_sort (Rested slot) one two three = two tt
 by_sort (RestedIn slots) one two three = two tt
@@ -695,5 +695,5 @@ by_sort (Ended age what) one two three = three tt
 
 pub rules_wait : RulesWait
 rules_wait w rank i slots unit stood k c rule r placed turning stemmed keeps ahead =
-    by_sort rule.asked (λ flag. keeps.flags rule turning.there flag ahead) (λ resume. keeps.resumes rule turning.there resume ahead)
+    by_sort rule.condition (λ flag. keeps.flags rule turning.there flag ahead) (λ resume. keeps.resumes rule turning.there resume ahead)
     (λ join. joins_wait w rank i slots unit stood c rule r placed turning stemmed keeps.counters keeps.marks join)

@@ -257,7 +257,7 @@ mutual
 
 -- the rule of a node, of those of a body: it leaves the marks of all other nodes, and no other rule is of the node
 record Acts (number : Node → ℕ) (All : Node → Type 0) (ruled : List Transition) (rule : Transition) (r : Registers) (n : Node) : Type 0 where
-  keeps : (answer : Bool) (m : Node) → All m → (m ≡ n → ⊥) → (after_rule number rule answer r).marks (number m) ≡ r.marks (number m)
+  keeps_others : (answer : Bool) (m : Node) → All m → (m ≡ n → ⊥) → (after_rule number rule answer r).marks (number m) ≡ r.marks (number m)
   sole : (other : Transition) → Contains ruled other → other.node ≡ n → other ≡ rule
 
 module _ (number : Node → ℕ) (All : Node → Type 0) (R : Spot → Type 0) (slots : Slots) (ruled : List Transition) (rule : Transition) (r : Registers) where
@@ -302,11 +302,11 @@ module _ (number : Node → ℕ) (All : Node → Type 0) (R : Spot → Type 0) (
   mark_point P next sub acts turns.waits own sits m = tt
   mark_point P next sub acts (turns.lets {s = s} {stood = stood} {c = c}) own sits m =
       let same : SameMarks number r.marks (after_rule number rule false r).marks P =
-      λ k there starts. acts.keeps false k (sub k there) (λ e. subst Starts e starts) in
+      λ k there starts. acts.keeps_others false k (sub k there) (λ e. subst Starts e starts) in
       same_marks number r.marks (after_rule number rule false r).marks R P (Guard s Body stood c) own same m
   mark_point P next sub acts (turns.aborts is) own sits m = tt
   mark_point P next sub acts (turns.resets {s = s} is) own sits m = (
-    λ instant. acts.keeps true (StartAt s.label s.place) (sub (StartAt s.label s.place) (own.0.nodes (StartAt s.label s.place) (inl refl)))
+    λ instant. acts.keeps_others true (StartAt s.label s.place) (sub (StartAt s.label s.place) (own.0.nodes (StartAt s.label s.place) (inl refl)))
         (λ e. subst Starts e tt) ∙ m.0 instant,
     marked_block number (after_rule number rule true r).marks s.body,
   )
@@ -325,7 +325,7 @@ module _ (number : Node → ℕ) (All : Node → Type 0) (R : Spot → Type 0) (
         marked_seq number (after_rule number rule (answer_of t) r).marks c' s rest
         (mark_turn P (enter (Then s rest) next) sub acts t own.0 sits.0 m)
     mark_turn {n = n} P next sub acts (turns.in_par {s = s} t) own sits m = (
-      λ instant. acts.keeps (one_answer_of t) (ForkAt s.label s.place)
+      λ instant. acts.keeps_others (one_answer_of t) (ForkAt s.label s.place)
           (sub (ForkAt s.label s.place) (own.0.nodes (ForkAt s.label s.place) (inl refl)))
           (λ e. fork_alone s.label s.place s.bodies own.0.differ n (one_within R s.bodies t own.1 (subst Starts e tt)) e)
           ∙ m.0 instant,
@@ -333,7 +333,7 @@ module _ (number : Node → ℕ) (All : Node → Type 0) (R : Spot → Type 0) (
           (fork_differ s.label s.place s.bodies own.0.differ).1 acts t own.1 sits.1 m.1,
     )
     mark_turn {n = n} P next sub acts (turns.in_guard {s = s} t) own sits m = (
-      λ instant. acts.keeps (answer_of t) (StartAt s.label s.place)
+      λ instant. acts.keeps_others (answer_of t) (StartAt s.label s.place)
           (sub (StartAt s.label s.place) (own.0.nodes (StartAt s.label s.place) (inl refl)))
           (λ e. watch_alone s.label s.place s.guard s.test s.body own.0.differ n
           (turn_within R (Member (nodes_in s.body)) t own.1 (subst Starts e tt)) e)
@@ -355,13 +355,13 @@ module _ (number : Node → ℕ) (All : Node → Type 0) (R : Spot → Type 0) (
       mark_turn (Member (nodes_in body)) (SetsCounter (slots.ending l k))
           (λ j there. sub j (within j (left (nodes_in body) (nodes_in_each rest) j there))) acts t own.0 sits.1 m.0,
       same_each number r.marks (after_rule number rule (answer_of t) r).marks R rest others own.1
-          (λ j there starts. acts.keeps (answer_of t) j (sub j (within j (right (nodes_in body) (nodes_in_each rest) j there)))
+          (λ j there starts. acts.keeps_others (answer_of t) j (sub j (within j (right (nodes_in body) (nodes_in_each rest) j there)))
           (λ e. differ_apart (nodes_in body) (nodes_in_each rest) differ n j
           (turn_within R (Member (nodes_in body)) t own.0 (subst Starts e starts)) there (itself n j (sym e)))) m.1,
     )
     mark_one {n = n} P l k (BodyOf weak body rest) within sub differ acts (turns.later {c = c} t) own sits m = (
       same_marks number r.marks (after_rule number rule (one_answer_of t) r).marks R (Member (nodes_in body)) c own.0
-          (λ j there starts. acts.keeps (one_answer_of t) j (sub j (within j (left (nodes_in body) (nodes_in_each rest) j there)))
+          (λ j there starts. acts.keeps_others (one_answer_of t) j (sub j (within j (left (nodes_in body) (nodes_in_each rest) j there)))
           (λ e. differ_apart (nodes_in body) (nodes_in_each rest) differ j n there
           (one_within R rest t own.1 (subst Starts e starts)) (itself j n e))) m.0,
       mark_one P l (suc k) rest (λ j there. within j (right (nodes_in body) (nodes_in_each rest) j there)) sub
@@ -375,7 +375,7 @@ acts_so : (w : Setting) (rank : ℕ → Node → ℕ) (i : ℕ) (slots : Slots) 
     StaysPlaced → Turning w rank i slots unit stood c n rule →
     Acts (rank i) (Contains (nodes_in (plain_body unit.body))) (rules slots (plain_body unit.body)) rule r n
 acts_so w rank i slots unit stood c n rule r placed turning = record {
-  keeps = λ answer m there apart.
+  keeps_others = λ answer m there apart.
       rule_keeps (rank i) rule answer r (rank i m) (tame_rule slots (plain_body unit.body) rule turning.there)
       (λ e. apart (turning.orders.apart i unit m rule.node turning.is there node_there e ∙ turning.of_node));
   sole = λ other there is.

@@ -130,8 +130,8 @@ AllAt n (change ∷ rest) = MarksAt n change × AllAt n rest
 
 -- the rule marks no other node than its own
 pub record Tame (rule : Transition) : Type 0 where
-  pub so : AllAt rule.node rule.so
-  pub otherwise : AllAt rule.node rule.otherwise
+  pub on_true : AllAt rule.node rule.on_true
+  pub on_false : AllAt rule.node rule.on_false
 
 abbrev AllTame : List Transition → Type 0
 AllTame [] = ⊤
@@ -188,29 +188,29 @@ tame_where : (b : Bool) (rule : Transition) → Tame rule → AllTame (rule_wher
 tame_where true rule h = (h, tt)
 tame_where false rule h = tt
 
-tame_flagged : (n : Node) (so : List Change) → AllAt n so → Tame (flagged n so)
-tame_flagged n so h = record { so = h; otherwise = tt }
+tame_flagged : (n : Node) (on_true : List Change) → AllAt n on_true → Tame (flagged n on_true)
+tame_flagged n on_true h = record { on_true = h; on_false = tt }
 
 tame_joins : (slots : Slots) (l : Label) (bodies : Bodies) (age : Age) (n : Node) (next : Change) → Unmarking next →
     Tame (joins slots l bodies age n next)
 tame_joins slots l bodies age n next h =
-    record { so = frees_at n (once (counters_in_each slots l 0 bodies)) (next ∷ []) (none_at n next h, tt); otherwise = tt }
+    record { on_true = frees_at n (once (counters_in_each slots l 0 bodies)) (next ∷ []) (none_at n next h, tt); on_false = tt }
 
 -- the rule of the check of a `when`
 abbrev pub check_rule : Slots → Label → Place → Guard → Expr → Block → Change → Transition
 check_rule slots l at guard e body next = record {
   node = CheckAt l at e;
-  asked = RestedIn (rests_in slots body);
-  so = map ClearsBoth (once (counters_in slots body)) ++ fires guard l at body next ∷ [];
-  otherwise = [];
+  condition = RestedIn (rests_in slots body);
+  on_true = map ClearsBoth (once (counters_in slots body)) ++ fires guard l at body next ∷ [];
+  on_false = [];
 }
 
 tame_check : (slots : Slots) (l : Label) (at : Place) (guard : Guard) (e : Expr) (body : Block) (next : Change) → Unmarking next →
     Tame (check_rule slots l at guard e body next)
 tame_check slots l at guard e body next h = record {
-  so = forgets_at (CheckAt l at e) (once (counters_in slots body)) (fires guard l at body next ∷ [])
+  on_true = forgets_at (CheckAt l at e) (once (counters_in slots body)) (fires guard l at body next ∷ [])
       (none_at (CheckAt l at e) (fires guard l at body next) (fires_unmarking guard l at body next h), tt);
-  otherwise = tt;
+  on_false = tt;
 }
 
 -- the rules of a `cobegin` after its fork, and of a `when` after its start
@@ -226,13 +226,13 @@ mutual
   tame_of : (slots : Slots) (s : Plain) (next : Change) → Unmarking next → AllTame (rules_of slots s next)
   tame_of slots (Act l s) next h = (tame_flagged (ActAt l s) (next ∷ []) (none_at (ActAt l s) next h, tt), tt)
   tame_of slots (Await l at e) next h =
-      (record { so = (tt, tt); otherwise = tt }, (record { so = (tt, (none_at (TestAt l at e) next h, tt)); otherwise = tt }, tt))
+      (record { on_true = (tt, tt); on_false = tt }, (record { on_true = (tt, (none_at (TestAt l at e) next h, tt)); on_false = tt }, tt))
   tame_of slots (RunOf l at target a inputs outputs) next h = (
-    record { so = (tt, tt); otherwise = tt },
-    (record { so = (tt, (none_at (ResumeAt l at (arguments_of target inputs outputs)) next h, tt)); otherwise = tt }, tt),
+    record { on_true = (tt, tt); on_false = tt },
+    (record { on_true = (tt, (none_at (ResumeAt l at (arguments_of target inputs outputs)) next h, tt)); on_false = tt }, tt),
   )
   tame_of slots (If l at e body other) next h = (
-    record { so = (enter_at (TestAt l at e) body next h, tt); otherwise = (enter_at (TestAt l at e) other next h, tt) },
+    record { on_true = (enter_at (TestAt l at e) body next h, tt); on_false = (enter_at (TestAt l at e) other next h, tt) },
     tame_append (rules_in slots body next) (rules_in slots other next) (tame_in slots body next h) (tame_in slots other next h),
   )
   tame_of slots (Cobegin l at bodies) next h = (
@@ -264,15 +264,15 @@ mutual
   )
   tame_of slots (Until l at body e) next h = (
     tame_flagged (HeadAt l at) (enter body (SetsFlag (TestAt l at e)) ∷ []) (enter_at (HeadAt l at) body (SetsFlag (TestAt l at e)) tt, tt),
-    (record { so = (none_at (TestAt l at e) next h, tt); otherwise = (tt, tt) }, tame_in slots body (SetsFlag (TestAt l at e)) tt),
+    (record { on_true = (none_at (TestAt l at e) next h, tt); on_false = (tt, tt) }, tame_in slots body (SetsFlag (TestAt l at e)) tt),
   )
   tame_of slots (While l at e body) next h = (
-    record { so = (enter_at (TestAt l at e) body (SetsFlag (TestAt l at e)) tt, tt); otherwise = (none_at (TestAt l at e) next h, tt) },
+    record { on_true = (enter_at (TestAt l at e) body (SetsFlag (TestAt l at e)) tt, tt); on_false = (none_at (TestAt l at e) next h, tt) },
     tame_in slots body (SetsFlag (TestAt l at e)) tt,
   )
   tame_of slots (Again l at body e) next h = (
     tame_flagged (HeadAt l at) (enter body (SetsFlag (TestAt l at e)) ∷ []) (enter_at (HeadAt l at) body (SetsFlag (TestAt l at e)) tt, tt),
-    (record { so = (none_at (TestAt l at e) next h, tt); otherwise = (tt, tt) }, tame_in slots body (SetsFlag (TestAt l at e)) tt),
+    (record { on_true = (none_at (TestAt l at e) next h, tt); on_false = (tt, tt) }, tame_in slots body (SetsFlag (TestAt l at e)) tt),
   )
 
   tame_in : (slots : Slots) (body : Block) (next : Change) → Unmarking next → AllTame (rules_in slots body next)
@@ -330,8 +330,8 @@ changes_keep number n (change ∷ rest) r k at apart =
 -- after a rule all other marks are as they were
 pub rule_keeps : (number : Node → ℕ) (rule : Transition) (answer : Bool) (r : Registers) (k : ℕ) → Tame rule → (k ≡ number rule.node → ⊥) →
     (after_rule number rule answer r).marks k ≡ r.marks k
-rule_keeps number rule true r k tame apart = changes_keep number rule.node rule.so r k tame.so apart
-rule_keeps number rule false r k tame apart = changes_keep number rule.node rule.otherwise r k tame.otherwise apart
+rule_keeps number rule true r k tame apart = changes_keep number rule.node rule.on_true r k tame.on_true apart
+rule_keeps number rule false r k tame apart = changes_keep number rule.node rule.on_false r k tame.on_false apart
 
 mark_stays : (b x : Bool) → x ≡ true → (if b then true else x) ≡ true
 mark_stays true x e = refl

@@ -157,11 +157,11 @@ pub data Stays (After Gone : Node → Type 0) (n y : Node) : Type 0 where
 
 -- a later tick would have gone on there, and all its counters are forgotten
 abbrev pub Dropped : List Transition → List Change → Node → Type 0
-Dropped all changes y = RuleAt all y (λ asked. IsResume asked × ((slot : Slot) → AsksFor asked slot → AllForget changes slot.counter))
+Dropped all changes y = RuleAt all y (λ condition. IsResume condition × ((slot : Slot) → AsksFor condition slot → AllForget changes slot.counter))
 
 -- none of the counters that the node asks for is forgotten
 abbrev pub Spared : List Transition → List Change → Node → Type 0
-Spared all changes y = RuleAt all y (λ asked. (slot : Slot) → AsksFor asked slot → AllForget changes slot.counter → ⊥)
+Spared all changes y = RuleAt all y (λ condition. (slot : Slot) → AsksFor condition slot → AllForget changes slot.counter → ⊥)
 
 pub record Acted (all : List Transition) (number : Node → ℕ) (marks used : ℕ → Bool) (n : Node) (answer : Bool)
     (Before After Sleeping : Node → Type 0) : Type 0 where
@@ -179,7 +179,7 @@ lift : {all : List Transition} {number : Node → ℕ} {marks used used' : ℕ �
     {Before After Sleeping Before' After' Sleeping' : Node → Type 0} → Acted all number marks used n answer Before After Sleeping →
     ((y : Node) → Before y → Before' y) → ((y : Node) → After y → After' y) → ((y : Node) → After' y → Comes Before' After y) →
     ((y : Node) → Before' y → Stays After' Before n y) → ((j : ℕ) → used j ≡ true → used' j ≡ true) →
-    ((y : Node) → Sleeping' y → Sleeping y ⊎ RuleAt all y (λ asked. (slot : Slot) → AsksFor asked slot → used slot.counter ≡ true → ⊥)) →
+    ((y : Node) → Sleeping' y → Sleeping y ⊎ RuleAt all y (λ condition. (slot : Slot) → AsksFor condition slot → used slot.counter ≡ true → ⊥)) →
     Acted all number marks used' n answer Before' After' Sleeping'
 lift {all} {number} {marks} {used} {used'} {n} {answer} {Before} {After} {Sleeping} {Before'} {After'} {Sleeping'} inner up out into back within sleeping =
     record {
@@ -215,7 +215,7 @@ lift {all} {number} {marks} {used} {used'} {n} {answer} {Before} {After} {Sleepi
     by_back y (was_join join) = was_join join
     by_back y (dropped h) = by_stays y (inner.stays y h)
 
-    by_sleep : (y : Node) → Sleeping y ⊎ RuleAt all y (λ asked. (slot : Slot) → AsksFor asked slot → used slot.counter ≡ true → ⊥) →
+    by_sleep : (y : Node) → Sleeping y ⊎ RuleAt all y (λ condition. (slot : Slot) → AsksFor condition slot → used slot.counter ≡ true → ⊥) →
         Spared all (taken inner.rule answer) y
     by_sleep y (inl h) = inner.spares y h
     by_sleep y (inr one) = record {
@@ -441,7 +441,7 @@ forks_acted slots all number marks used next nx l at bodies sits = record {
 
 -- the test after a turn of a loop
 abbrev until_rule : Label → Source → Expr → Change → Transition
-until_rule l at e next = record { node = TestAt l at e; asked = Flagged; so = next ∷ []; otherwise = SetsFlag (HeadAt l at) ∷ [] }
+until_rule l at e next = record { node = TestAt l at e; condition = Flagged; on_true = next ∷ []; on_false = SetsFlag (HeadAt l at) ∷ [] }
 
 until_there : (slots : Slots) (l : Label) (at : Source) (body : Block) (e : Expr) (next : Change) →
     Contains (rules_of slots (Again l at body e) next) (until_rule l at e next)
@@ -460,13 +460,13 @@ module _ {w : Setting} (slots : Slots) (all : List Transition) (number : Node �
       (sets_one number marks next nx (agree refl))
       (one_forgetless next is_next) (λ y h. h) (λ y h. h) (λ y h. h) (λ y h. h)
   point_acted g next nx used live sits uses ages dozes is_next agree (turns.takes {l = l} {at = at} {e = e} {body = body} {other = other}) =
-      simple (record { node = TestAt l at e; asked = Flagged; so = enter body next ∷ []; otherwise = enter other next ∷ [] })
+      simple (record { node = TestAt l at e; condition = Flagged; on_true = enter body next ∷ []; on_false = enter other next ∷ [] })
       (sits _ (contains_head _ _)) refl (first_in body nx)
       (sets_one number marks (enter body next) (first_in body nx) (enter_agrees number marks body next nx (λ empty. agree (block_nil body ∙ empty))))
       (one_forgetless (enter body next) (enter_next body next is_next)) (λ y h. h) (λ y h. block_waits body nx y h) (λ y h. waits_block body nx y h)
       (λ y h. block_awake body y h)
   point_acted g next nx used live sits uses ages dozes is_next agree (turns.passes {l = l} {at = at} {e = e} {body = body} {other = other}) =
-      simple (record { node = TestAt l at e; asked = Flagged; so = enter body next ∷ []; otherwise = enter other next ∷ [] })
+      simple (record { node = TestAt l at e; condition = Flagged; on_true = enter body next ∷ []; on_false = enter other next ∷ [] })
       (sits _ (contains_head _ _)) refl (first_in other nx)
       (sets_one number marks (enter other next) (first_in other nx) (enter_agrees number marks other next nx (λ empty. agree (block_nil other ∙ empty))))
       (one_forgetless (enter other next) (enter_next other next is_next)) (λ y h. h) (λ y h. block_waits other nx y h) (λ y h. waits_block other nx y h)
@@ -501,7 +501,7 @@ module _ {w : Setting} (slots : Slots) (all : List Transition) (number : Node �
       (sets_one number marks (SetsFlag (HeadAt l at)) (Some (HeadAt l at)) refl)
       (one_forgetless (SetsFlag (HeadAt l at)) tt) (λ y h. h) (λ y h. h) (λ y h. h) (λ y h. h)
   point_acted g next nx used live sits uses ages dozes is_next agree (turns.enters {l = l} {at = at} {e = e} {body = body}) =
-      simple (record { node = TestAt l at e; asked = Flagged; so = enter body (SetsFlag (TestAt l at e)) ∷ []; otherwise = next ∷ [] })
+      simple (record { node = TestAt l at e; condition = Flagged; on_true = enter body (SetsFlag (TestAt l at e)) ∷ []; on_false = next ∷ [] })
       (sits _ (contains_head _ _)) refl (first_in (turn body (While l at e body)) nx)
       (sets_one number marks (enter body (SetsFlag (TestAt l at e))) (first_in (turn body (While l at e body)) nx)
       (enter_agrees number marks body (SetsFlag (TestAt l at e)) (Some (TestAt l at e)) (λ empty. refl) ∙ turn_first body (While l at e body) nx))
@@ -509,7 +509,7 @@ module _ {w : Setting} (slots : Slots) (all : List Transition) (number : Node �
       (λ y h. block_waits (turn body (While l at e body)) nx y h) (λ y h. waits_block (turn body (While l at e body)) nx y h)
       (λ y h. block_awake (turn body (While l at e body)) y h)
   point_acted g next nx used live sits uses ages dozes is_next agree (turns.skips {l = l} {at = at} {e = e} {body = body}) =
-      simple (record { node = TestAt l at e; asked = Flagged; so = enter body (SetsFlag (TestAt l at e)) ∷ []; otherwise = next ∷ [] })
+      simple (record { node = TestAt l at e; condition = Flagged; on_true = enter body (SetsFlag (TestAt l at e)) ∷ []; on_false = next ∷ [] })
       (sits _ (contains_head _ _)) refl nx (sets_one number marks next nx (agree refl)) (one_forgetless next is_next)
       (λ y h. h) (λ y h. h) (λ y h. h) (λ y h. h)
   point_acted g next nx used live sits uses ages dozes is_next agree (turns.forks {l = l} {at = at} {bodies = bodies}) =
@@ -619,7 +619,7 @@ module _ {w : Setting} (slots : Slots) (all : List Transition) (number : Node �
         (λ y h. ⊎_elim (λ branch. inl branch) (λ other. inr (beside_first other)) h)
       where
         beside_first : {y : Node} → SomeSleeps others y →
-            RuleAt all y (λ asked. (slot : Slot) → AsksFor asked slot → uses_in_branch slots l k body slot.counter ≡ true → ⊥)
+            RuleAt all y (λ condition. (slot : Slot) → AsksFor condition slot → uses_in_branch slots l k body slot.counter ≡ true → ⊥)
         beside_first {y} other =
             let one = asleep_each w i slots all g stood l (suc k) rest others y live.2 sits.2 uses.1 other in
             record {
@@ -636,7 +636,7 @@ module _ {w : Setting} (slots : Slots) (all : List Transition) (number : Node �
         (λ y h. ⊎_elim (λ other. inr (beside_later other)) (λ branch. inl branch) h)
       where
         beside_later : {y : Node} → Sleeps c y →
-            RuleAt all y (λ asked. (slot : Slot) → AsksFor asked slot → uses_in_each slots l (suc k) rest slot.counter ≡ true → ⊥)
+            RuleAt all y (λ condition. (slot : Slot) → AsksFor condition slot → uses_in_each slots l (suc k) rest slot.counter ≡ true → ⊥)
         beside_later {y} other =
             let one =
             asleep w i slots all (uses_in_branch slots l k body) (in_branch stood body g) (SetsCounter (slots.ending l k)) c y live.0 sits.1 uses.0 other in

@@ -15,7 +15,7 @@ use Rattle.bl_machine_laws.specs.Numbers.Waiting.{Sleeps, Waits}
 use Rattle.bl_machine_laws.specs.Passes.Orders.{Orders}
 use Rattle.bl_machine_pass.specs.SlotLayout.{SlotsAreDistinct}
 use Rattle.bl_machine_pass.specs.Registers.{Registers, is_at, is_due, started}
-use Rattle.bl_machine_pass.specs.Transitions.{Asked, Finishes, Transition, rules}
+use Rattle.bl_machine_pass.specs.Transitions.{Condition, Finishes, Transition, rules}
 use Rattle.bl_machine_pass_laws.specs.Turns.Invariant.{Exactly, IsFlagged, IsResume, Marked}
 use Rattle.bl_machine_pass_laws.specs.Turns.Laws.{StaysPlaced, entry_flag}
 use Rattle.bl_machine_pass_laws_turns.specs.Waiting.{BodiesBegin}
@@ -56,33 +56,33 @@ module _ (within : (body : Block) → StaysWithin body) (once : (unit : UnitDef)
     abbrev at_start : Registers
     at_start = started counters (entry_flag (rank i) body)
 
-    flags_begin : (rule : Transition) → Contains (rules slots body) rule → IsFlagged rule.asked →
+    flags_begin : (rule : Transition) → Contains (rules slots body) rule → IsFlagged rule.condition →
         Exactly (is_due (rank i) rule at_start) (Waits (do_block body) None rule.node)
     flags_begin rule there flag = (
       λ due. entry_waits (rank i) body (within body) (λ n m one other same. orders.apart i unit n m is one other same) rule.node
-          (rule_node placing.nodes slots body rule there) (sym (flag_is_due (rank i) at_start rule.node rule.asked flag) ∙ due),
-      λ h. flag_is_due (rank i) at_start rule.node rule.asked flag ∙ waits_flagged (rank i) body rule.node h,
+          (rule_node placing.nodes slots body rule there) (sym (flag_is_due (rank i) at_start rule.node rule.condition flag) ∙ due),
+      λ h. flag_is_due (rank i) at_start rule.node rule.condition flag ∙ waits_flagged (rank i) body rule.node h,
     )
 
-    resumes_begin : (rule : Transition) → Contains (rules slots body) rule → IsResume rule.asked →
+    resumes_begin : (rule : Transition) → Contains (rules slots body) rule → IsResume rule.condition →
         Exactly (is_due (rank i) rule at_start) (Waits (do_block body) None rule.node)
     resumes_begin rule there resume = (
-      λ due. let one = due_at (rank i) at_start rule.node rule.asked resume due in absurd (holds_none one.0 one.1 one.2),
+      λ due. let one = due_at (rank i) at_start rule.node rule.condition resume due in absurd (holds_none one.0 one.1 one.2),
       λ h. absurd (by_other
           (waits_other slots (rules slots body) Finishes (do_block body) None rule.node (placing.begins slots body laid).sits (λ nothing. absurd nothing) h)),
     )
       where
-        holds_none : (slot : Slot) → AsksFor rule.asked slot → is_at counters slot ≡ true → ⊥
+        holds_none : (slot : Slot) → AsksFor rule.condition slot → is_at counters slot ≡ true → ⊥
         holds_none slot asks at =
             asks_counted slots body rule laid there slot asks (sym (eqb-true (counters slot.counter) slot.value at) ∙ none slot.counter)
 
-        is_rule : {P : Asked → Type 0} → RuleAt (rules slots body) rule.node P → P rule.asked
-        is_rule {P} one = subst (λ other. P other.asked) (one_rule placing.nodes slots body (once unit) one.rule rule one.there there one.of_node) one.is
+        is_rule : {P : Condition → Type 0} → RuleAt (rules slots body) rule.node P → P rule.condition
+        is_rule {P} one = subst (λ other. P other.condition) (one_rule placing.nodes slots body (once unit) one.rule rule one.there there one.of_node) one.is
 
         by_other : Sleeps (do_block body) rule.node ⊎ Other (rules slots body) rule.node → ⊥
         by_other (inl sleeps) = block_awake body rule.node sleeps
-        by_other (inr (inl flag)) = not_both rule.asked (is_rule flag) resume
-        by_other (inr (inr end)) = no_end rule.asked rule.node (rule_known slots body rule there).0 resume end
+        by_other (inr (inl flag)) = not_both rule.condition (is_rule flag) resume
+        by_other (inr (inr end)) = no_end rule.condition rule.node (rule_known slots body rule there).0 resume end
 
   pub bodies_begin : BodiesBegin
   bodies_begin placing w rank i slots unit counters orders is laid unended none = record {

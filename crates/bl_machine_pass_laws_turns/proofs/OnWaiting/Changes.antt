@@ -77,7 +77,7 @@ AllForget (change ∷ rest) j = Forget change j ⊎ AllForget rest j
 
 -- the changes of a rule with this answer
 abbrev pub taken : Transition → Bool → List Change
-taken rule answer = if answer then rule.so else rule.otherwise
+taken rule answer = if answer then rule.on_true else rule.on_false
 
 -- ---- functions with another value at one number
 

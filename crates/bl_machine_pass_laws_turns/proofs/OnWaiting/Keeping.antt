@@ -48,7 +48,7 @@ use Rattle.bl_machine_laws.proofs.OnWaiting.Quiet.{along, part_closed}
 use Rattle.bl_machine_laws.proofs.OnPasses.Numbers.{after_rises, lesser}
 use Rattle.bl_machine_pass.specs.SlotLayout.{SlotsAreDistinct, spots_in}
 use Rattle.bl_machine_pass.specs.Registers.{Registers, after_rule, all_changed, is_at, is_due}
-use Rattle.bl_machine_pass.specs.Transitions.{Asked, Change, Finishes, Transition, rules}
+use Rattle.bl_machine_pass.specs.Transitions.{Change, Condition, Finishes, Transition, rules}
 use Rattle.bl_machine_pass_laws.specs.Turns.Invariant.{Exactly, IsFlagged, IsResume, PassInvariant}
 use Rattle.bl_machine_pass_laws.specs.Turns.Laws.{StaysPlaced, Turning, answer_of}
 use Rattle.bl_machine_pass_laws_turns.specs.Waiting.{TurnsKeepFlags, TurnsKeepResumes, TurnsLeaveMore}
@@ -91,7 +91,7 @@ rule_known slots body a one = each_of (Known slots (spots_in body)) (rules slots
 
 -- it asks for no number with value 0
 pub asks_counted : (slots : Slots) (body : Block) (a : Transition) → SlotsAreDistinct slots body → Contains (rules slots body) a → (slot : Slot) →
-    AsksFor a.asked slot →
+    AsksFor a.condition slot →
     slot.value ≡ 0 → ⊥
 asks_counted slots body a laid one slot asks none =
     let spot = (rule_known slots body a one).1 slot asks in laid.counted spot.0 spot.1 (ap (λ other. other.value) spot.2 ∙ none)
@@ -147,8 +147,8 @@ module _ (shrinks : EndsShrink) (lists : TurnsAreWalks) (waiting : TurnsWait) (p
   same_rule turned =
       one_rule placing.nodes slots body (once unit) turned.rule rule turned.there turning.there (turned.of_node ∙ sym turning.of_node)
 
-  is_other : {P : Asked → Type 0} (one : RuleAt all other.node P) → P other.asked
-  is_other {P} one = subst (λ rule. P rule.asked) (one_rule placing.nodes slots body (once unit) one.rule other one.there there one.of_node) one.is
+  is_other : {P : Condition → Type 0} (one : RuleAt all other.node P) → P other.condition
+  is_other {P} one = subst (λ rule. P rule.condition) (one_rule placing.nodes slots body (once unit) one.rule other one.there there one.of_node) one.is
 
   at_most : rank i n ≤ rank i other.node
   at_most = let more : suc (rank i n) ≤ rank i other.node = ahead in omega arith
@@ -177,7 +177,7 @@ module _ (shrinks : EndsShrink) (lists : TurnsAreWalks) (waiting : TurnsWait) (p
 
   -- ---- flags
 
-  module _ (flag : IsFlagged other.asked) (turned : Acts) where
+  module _ (flag : IsFlagged other.condition) (turned : Acts) where
     abbrev changes : List Change
     changes = taken turned.rule answer
 
@@ -190,41 +190,41 @@ module _ (shrinks : EndsShrink) (lists : TurnsAreWalks) (waiting : TurnsWait) (p
         by_stays : Stays (Waits c' None) (Dropped all changes) n other.node → Waits c' None other.node
         by_stays (has_acted is) = absurd (another is)
         by_stays (waits_on waits) = waits
-        by_stays (was_join join) = absurd (no_join other.asked other.node known.0 flag join)
-        by_stays (dropped gone) = absurd (not_both other.asked flag (is_other gone).0)
+        by_stays (was_join join) = absurd (no_join other.condition other.node known.0 flag join)
+        by_stays (dropped gone) = absurd (not_both other.condition flag (is_other gone).0)
 
     flag_first : is_due (rank i) other after ≡ true → Waits c' None other.node
     flag_first due =
-        by_set (all_set (rank i) changes r (rank i other.node) (sym (flag_is_due (rank i) after other.node other.asked flag) ∙ due))
+        by_set (all_set (rank i) changes r (rank i other.node) (sym (flag_is_due (rank i) after other.node other.condition flag) ∙ due))
       where
         by_set : FlagFrom (rank i) (Sets (rank i) r.marks changes) (r.flags (rank i other.node)) (rank i other.node) → Waits c' None other.node
         by_set (was_set before) =
-            flag_waited ((keeps.flags other there flag at_most).0 (flag_is_due (rank i) r other.node other.asked flag ∙ before))
+            flag_waited ((keeps.flags other there flag at_most).0 (flag_is_due (rank i) r other.node other.condition flag ∙ before))
         by_set (is_of y set at) =
             let waits = turned.sets y set in
             subst (Waits c' None) (sym (turning.orders.apart i unit other.node y turning.is (rule_node placing.nodes slots body other there)
             (fresh_within y waits) at)) waits
 
     flag_second : Waits c' None other.node → is_due (rank i) other after ≡ true
-    flag_second h = flag_is_due (rank i) after other.node other.asked flag ∙ by_comes (turned.comes other.node h)
+    flag_second h = flag_is_due (rank i) after other.node other.condition flag ∙ by_comes (turned.comes other.node h)
       where
         by_comes : Comes (Waits c None) (Sets (rank i) r.marks changes) other.node → after.flags (rank i other.node) ≡ true
         by_comes (waited old) =
             all_kept (rank i) changes r (rank i other.node)
-            (sym (flag_is_due (rank i) r other.node other.asked flag) ∙ (keeps.flags other there flag at_most).1 old)
+            (sym (flag_is_due (rank i) r other.node other.condition flag) ∙ (keeps.flags other there flag at_most).1 old)
         by_comes (is_set set) = all_has (rank i) changes r other.node set
-        by_comes (at_join join) = absurd (no_join other.asked other.node known.0 flag join)
+        by_comes (at_join join) = absurd (no_join other.condition other.node known.0 flag join)
 
     flags_exact : Exactly (is_due (rank i) other after) (Waits c' None other.node)
     flags_exact = (flag_first, flag_second)
 
-  pub flags_kept : IsFlagged other.asked → Exactly (is_due (rank i) other (after_rule (rank i) rule answer r)) (Waits c' None other.node)
+  pub flags_kept : IsFlagged other.condition → Exactly (is_due (rank i) other (after_rule (rank i) rule answer r)) (Waits c' None other.node)
   flags_kept flag =
       subst (λ one. Exactly (is_due (rank i) other (after_rule (rank i) one answer r)) (Waits c' None other.node)) (same_rule acts) (flags_exact flag acts)
 
   -- ---- what rested
 
-  module _ (sleepers : SleepersWait) (wakes : TurnsOnlyWake) (resume : IsResume other.asked) (turned : Acts) where
+  module _ (sleepers : SleepersWait) (wakes : TurnsOnlyWake) (resume : IsResume other.condition) (turned : Acts) where
     abbrev changes' : List Change
     changes' = taken turned.rule answer
 
@@ -232,27 +232,27 @@ module _ (shrinks : EndsShrink) (lists : TurnsAreWalks) (waiting : TurnsWait) (p
     after' = all_changed (rank i) changes' r
 
     -- a counter that holds nothing tells no number
-    holds_none : (slot : Slot) → AsksFor other.asked slot → is_at after'.rested slot ≡ true → after'.rested slot.counter ≡ 0 → ⊥
+    holds_none : (slot : Slot) → AsksFor other.condition slot → is_at after'.rested slot ≡ true → after'.rested slot.counter ≡ 0 → ⊥
     holds_none slot asks at none =
         asks_counted slots body other turning.laid there slot asks (sym (eqb-true (after'.rested slot.counter) slot.value at) ∙ none)
 
-    resume_waited : (slot : Slot) → AsksFor other.asked slot → is_at after'.rested slot ≡ true → Waits c None other.node → Waits c' None other.node
+    resume_waited : (slot : Slot) → AsksFor other.condition slot → is_at after'.rested slot ≡ true → Waits c None other.node → Waits c' None other.node
     resume_waited slot asks at h = by_stays (turned.stays other.node h)
       where
         by_stays : Stays (Waits c' None) (Dropped all changes') n other.node → Waits c' None other.node
         by_stays (has_acted is) = absurd (another is)
         by_stays (waits_on waits) = waits
-        by_stays (was_join join) = absurd (no_end other.asked other.node known.0 resume (join_ends other.node join))
+        by_stays (was_join join) = absurd (no_end other.condition other.node known.0 resume (join_ends other.node join))
         by_stays (dropped gone) =
             absurd (holds_none slot asks at (all_forget (rank i) changes' r slot.counter ((is_other gone).1 slot asks)))
 
     resume_first : is_due (rank i) other after' ≡ true → Waits c' None other.node
     resume_first due =
-        let one = due_at (rank i) after' other.node other.asked resume due in
+        let one = due_at (rank i) after' other.node other.condition resume due in
         ⊎_elim (λ (none : after'.rested one.0.counter ≡ 0). absurd (holds_none one.0 one.1 one.2 none))
         (λ (same : after'.rested one.0.counter ≡ r.rested one.0.counter).
         resume_waited one.0 one.1 one.2 ((keeps.resumes other there resume at_most).0
-        (at_due (rank i) r other.node other.asked one.0 one.1 (ap (λ held. nat_eq held one.0.value) (sym same) ∙ one.2))))
+        (at_due (rank i) r other.node other.condition one.0 one.1 (ap (λ held. nat_eq held one.0.value) (sym same) ∙ one.2))))
         (all_either (rank i) changes' r one.0.counter)
 
     resume_second : Waits c' None other.node → is_due (rank i) other after' ≡ true
@@ -263,20 +263,20 @@ module _ (shrinks : EndsShrink) (lists : TurnsAreWalks) (waiting : TurnsWait) (p
         by_sleep : Sleeps c' other.node → is_due (rank i) other after' ≡ true
         by_sleep sleeps =
             let due = (keeps.resumes other there resume at_most).1 (sleepers c None other.node (wakes w rank i c done n c' other.node turn sleeps)) in
-            let one = due_at (rank i) r other.node other.asked resume due in
+            let one = due_at (rank i) r other.node other.condition resume due in
             let spared = is_other (turned.spares other.node sleeps) in
-            at_due (rank i) after' other.node other.asked one.0 one.1
+            at_due (rank i) after' other.node other.condition one.0 one.1
             (ap (λ held. nat_eq held one.0.value) (all_spared (rank i) changes' r one.0.counter (λ gone. spared one.0 one.1 gone)) ∙ one.2)
 
         by_other : Sleeps c' other.node ⊎ Other all other.node → is_due (rank i) other after' ≡ true
         by_other (inl sleeps) = by_sleep sleeps
-        by_other (inr (inl flag)) = absurd (not_both other.asked (is_other flag) resume)
-        by_other (inr (inr end)) = absurd (no_end other.asked other.node known.0 resume end)
+        by_other (inr (inl flag)) = absurd (not_both other.condition (is_other flag) resume)
+        by_other (inr (inr end)) = absurd (no_end other.condition other.node known.0 resume end)
 
     resumes_exact : Exactly (is_due (rank i) other after') (Waits c' None other.node)
     resumes_exact = (resume_first, resume_second)
 
-  pub resumes_kept : SleepersWait → TurnsOnlyWake → IsResume other.asked →
+  pub resumes_kept : SleepersWait → TurnsOnlyWake → IsResume other.condition →
       Exactly (is_due (rank i) other (after_rule (rank i) rule answer r)) (Waits c' None other.node)
   resumes_kept sleepers wakes resume =
       subst (λ one. Exactly (is_due (rank i) other (after_rule (rank i) one answer r)) (Waits c' None other.node)) (same_rule acts)

@@ -30,8 +30,8 @@ use Rattle.bl_machine.specs.Uses.{Slots, is_of, uses, uses_in, uses_in_each}
 use Rattle.bl_machine_pass.specs.SlotLayout.{EndOf, RestOf, Spot, slot_at, spots_in, spots_in_each, spots_of}
 use Rattle.bl_machine_pass.specs.Registers.{Registers, due_by, is_at}
 use Rattle.bl_machine_pass.specs.Transitions.{
-  Asked,
   Change,
+  Condition,
   Ended,
   Flagged,
   Rested,
@@ -57,39 +57,39 @@ use Rattle.bl_machine_pass_laws_turns.proofs.OnWaiting.Lists.{Each, any_found, a
 -- ---- what a rule asks
 
 -- it asks whether the instance rested at the number
-abbrev pub AsksFor : Asked → Slot → Type 0
+abbrev pub AsksFor : Condition → Slot → Type 0
 AsksFor Flagged slot = ⊥
 AsksFor (Rested other) slot = slot ≡ other
 AsksFor (RestedIn slots) slot = Contains slots slot
 AsksFor (Ended age needed) slot = ⊥
 
 -- a rule of the node, of which this holds
-pub record RuleAt (all : List Transition) (y : Node) (P : Asked → Type 0) : Type 0 where
+pub record RuleAt (all : List Transition) (y : Node) (P : Condition → Type 0) : Type 0 where
   pub rule : Transition
   pub there : Contains all rule
   pub of_node : rule.node ≡ y
-  pub is : P rule.asked
+  pub is : P rule.condition
 
-pub rule_map : {P Q : Asked → Type 0} (all : List Transition) (y : Node) → ((asked : Asked) → P asked → Q asked) → RuleAt all y P → RuleAt all y Q
-rule_map all y into one = record { rule = one.rule; there = one.there; of_node = one.of_node; is = into one.rule.asked one.is }
+pub rule_map : {P Q : Condition → Type 0} (all : List Transition) (y : Node) → ((condition : Condition) → P condition → Q condition) → RuleAt all y P → RuleAt all y Q
+rule_map all y into one = record { rule = one.rule; there = one.there; of_node = one.of_node; is = into one.rule.condition one.is }
 
 -- a resume node is due exactly where the instance rested at one of its numbers
-pub due_at : (number : Node → ℕ) (r : Registers) (n : Node) (asked : Asked) → IsResume asked → due_by number r n asked ≡ true →
-    (slot : Slot) × AsksFor asked slot × (is_at r.rested slot ≡ true)
+pub due_at : (number : Node → ℕ) (r : Registers) (n : Node) (condition : Condition) → IsResume condition → due_by number r n condition ≡ true →
+    (slot : Slot) × AsksFor condition slot × (is_at r.rested slot ≡ true)
 due_at number r n Flagged resume due = absurd resume
 due_at number r n (Rested slot) resume due = (slot, refl, due)
 due_at number r n (RestedIn slots) resume due = any_found (is_at r.rested) slots due
 due_at number r n (Ended age needed) resume due = absurd resume
 
-pub at_due : (number : Node → ℕ) (r : Registers) (n : Node) (asked : Asked) (slot : Slot) → AsksFor asked slot → is_at r.rested slot ≡ true →
-    due_by number r n asked ≡ true
+pub at_due : (number : Node → ℕ) (r : Registers) (n : Node) (condition : Condition) (slot : Slot) → AsksFor condition slot → is_at r.rested slot ≡ true →
+    due_by number r n condition ≡ true
 at_due number r n Flagged slot asks at = absurd asks
 at_due number r n (Rested other) slot asks at = subst (λ one. is_at r.rested one ≡ true) asks at
 at_due number r n (RestedIn slots) slot asks at = any_so (is_at r.rested) slots slot asks at
 at_due number r n (Ended age needed) slot asks at = absurd asks
 
 -- where a rule asks for its flag that is what is due
-pub flag_is_due : (number : Node → ℕ) (r : Registers) (n : Node) (asked : Asked) → IsFlagged asked → due_by number r n asked ≡ r.flags (number n)
+pub flag_is_due : (number : Node → ℕ) (r : Registers) (n : Node) (condition : Condition) → IsFlagged condition → due_by number r n condition ≡ r.flags (number n)
 flag_is_due number r n Flagged is = refl
 flag_is_due number r n (Rested slot) is = absurd is
 flag_is_due number r n (RestedIn slots) is = absurd is
@@ -97,10 +97,10 @@ flag_is_due number r n (Ended age needed) is = absurd is
 
 -- ---- nodes that begin
 
-first_at : (rule : Transition) (rest : List Transition) (y : Node) → rule.node ≡ y → IsFlagged rule.asked → RuleAt (rule ∷ rest) y IsFlagged
+first_at : (rule : Transition) (rest : List Transition) (y : Node) → rule.node ≡ y → IsFlagged rule.condition → RuleAt (rule ∷ rest) y IsFlagged
 first_at rule rest y of_node is = record { rule = rule; there = contains_head rule rest; of_node = of_node; is = is }
 
-second_at : (first rule : Transition) (rest : List Transition) (y : Node) → rule.node ≡ y → IsFlagged rule.asked → RuleAt (first ∷ rule ∷ rest) y IsFlagged
+second_at : (first rule : Transition) (rest : List Transition) (y : Node) → rule.node ≡ y → IsFlagged rule.condition → RuleAt (first ∷ rule ∷ rest) y IsFlagged
 second_at first rule rest y of_node is =
     record { rule = rule; there = contains_tail first (rule ∷ rest) rule (contains_head rule rest); of_node = of_node; is = is }
 
@@ -314,19 +314,19 @@ IsEndNode (SurfaceJoinAt l at) = ⊤
 IsEndNode (DepthJoinAt l at) = ⊤
 IsEndNode _ = ⊥
 
-abbrev pub AsksAt : Asked → Node → Type 0
+abbrev pub AsksAt : Condition → Node → Type 0
 AsksAt Flagged n = IsJoinNode n → ⊥
 AsksAt (Rested slot) n = IsEndNode n → ⊥
 AsksAt (RestedIn slots) n = IsEndNode n → ⊥
 AsksAt (Ended age needed) n = ⊤
 
 -- a rule asks for the numbers of these places alone
-abbrev pub AsksAmong : Slots → List Spot → Asked → Type 0
-AsksAmong slots spots asked = (slot : Slot) → AsksFor asked slot → (p : Spot) × Contains spots p × (slot_at slots p ≡ slot)
+abbrev pub AsksAmong : Slots → List Spot → Condition → Type 0
+AsksAmong slots spots condition = (slot : Slot) → AsksFor condition slot → (p : Spot) × Contains spots p × (slot_at slots p ≡ slot)
 
 -- what is known of each rule
 abbrev pub Known : Slots → List Spot → Transition → Type 0
-Known slots spots rule = AsksAt rule.asked rule.node × AsksAmong slots spots rule.asked
+Known slots spots rule = AsksAt rule.condition rule.node × AsksAmong slots spots rule.condition
 
 known_where : (slots : Slots) (spots : List Spot) (b : Bool) (rule : Transition) → Known slots spots rule → Each (Known slots spots) (rule_where b rule)
 known_where slots spots true rule known = (known, tt)
@@ -387,19 +387,19 @@ mutual
 
 -- ---- what a rule can't ask
 
-pub no_join : (asked : Asked) (n : Node) → AsksAt asked n → IsFlagged asked → IsJoinNode n → ⊥
+pub no_join : (condition : Condition) (n : Node) → AsksAt condition n → IsFlagged condition → IsJoinNode n → ⊥
 no_join Flagged n known flag join = known join
 no_join (Rested slot) n known flag join = flag
 no_join (RestedIn slots) n known flag join = flag
 no_join (Ended age needed) n known flag join = flag
 
-pub no_end : (asked : Asked) (n : Node) → AsksAt asked n → IsResume asked → IsEndNode n → ⊥
+pub no_end : (condition : Condition) (n : Node) → AsksAt condition n → IsResume condition → IsEndNode n → ⊥
 no_end Flagged n known resume end = resume
 no_end (Rested slot) n known resume end = known end
 no_end (RestedIn slots) n known resume end = known end
 no_end (Ended age needed) n known resume end = resume
 
-pub not_both : (asked : Asked) → IsFlagged asked → IsResume asked → ⊥
+pub not_both : (condition : Condition) → IsFlagged condition → IsResume condition → ⊥
 not_both Flagged flag resume = resume
 not_both (Rested slot) flag resume = flag
 not_both (RestedIn slots) flag resume = flag

@@ -94,27 +94,27 @@ use Rattle.bl_machine_pass_laws_turns.proofs.OnWaiting.Rules.{AsksFor, IsEndNode
 abbrev pub test_rule : Slots → Pause → Change → Transition
 test_rule slots s next = record {
   node = TestAt s.label s.place s.test;
-  asked = Rested (slots.rest s.label);
-  so = ClearsCounter (slots.rest s.label).counter ∷ next ∷ [];
-  otherwise = [];
+  condition = Rested (slots.rest s.label);
+  on_true = ClearsCounter (slots.rest s.label).counter ∷ next ∷ [];
+  on_false = [];
 }
 
 -- where a `run` does
 abbrev pub resume_rule : Slots → Call → Change → Transition
 resume_rule slots s next = record {
   node = ResumeAt s.label s.place s.arguments;
-  asked = Rested (slots.rest s.label);
-  so = ClearsCounter (slots.rest s.label).counter ∷ next ∷ [];
-  otherwise = [];
+  condition = Rested (slots.rest s.label);
+  on_true = ClearsCounter (slots.rest s.label).counter ∷ next ∷ [];
+  on_false = [];
 }
 
 -- the condition of a `when`
 abbrev pub check_rule : Slots → Watch → Change → Transition
 check_rule slots s next = record {
   node = CheckAt s.label s.place s.test;
-  asked = RestedIn (rests_in slots s.body);
-  so = map ClearsBoth (once (counters_in slots s.body)) ++ fires s.guard s.label s.place s.body next ∷ [];
-  otherwise = [];
+  condition = RestedIn (rests_in slots s.body);
+  on_true = map ClearsBoth (once (counters_in slots s.body)) ++ fires s.guard s.label s.place s.body next ∷ [];
+  on_false = [];
 }
 
 -- where a `when` ends, and where a `cobegin` does
@@ -199,21 +199,21 @@ join_there slots false s next instant =
 
 -- the node is one at which a later tick goes on, and asks for these counters alone
 abbrev pub Asleep : List Transition → (ℕ → Bool) → Node → Type 0
-Asleep all used y = RuleAt all y (λ asked. IsResume asked × ((slot : Slot) → AsksFor asked slot → used slot.counter ≡ true))
+Asleep all used y = RuleAt all y (λ condition. IsResume condition × ((slot : Slot) → AsksFor condition slot → used slot.counter ≡ true))
 
 pub asleep_within : (all : List Transition) (used used' : ℕ → Bool) (y : Node) → ((j : ℕ) → used j ≡ true → used' j ≡ true) → Asleep all used y →
     Asleep all used' y
 asleep_within all used used' y within one =
     record { rule = one.rule; there = one.there; of_node = one.of_node; is = (one.is.0, λ slot asks. within slot.counter (one.is.1 slot asks)) }
 
-rest_asleep : (all : List Transition) (used : ℕ → Bool) (y : Node) (rule : Transition) (slot : Slot) → Contains all rule → rule.node ≡ y → rule.asked
+rest_asleep : (all : List Transition) (used : ℕ → Bool) (y : Node) (rule : Transition) (slot : Slot) → Contains all rule → rule.node ≡ y → rule.condition
     ≡ Rested slot →
     used slot.counter ≡ true → Asleep all used y
-rest_asleep all used y rule slot there of_node asked uses = record {
+rest_asleep all used y rule slot there of_node condition uses = record {
   rule = rule;
   there = there;
   of_node = of_node;
-  is = subst (λ one. IsResume one × ((other : Slot) → AsksFor one other → used other.counter ≡ true)) (sym asked)
+  is = subst (λ one. IsResume one × ((other : Slot) → AsksFor one other → used other.counter ≡ true)) (sym condition)
       (tt, λ other is. subst (λ one. used one.counter ≡ true) (sym is) uses);
 }
 

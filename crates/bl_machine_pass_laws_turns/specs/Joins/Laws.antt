@@ -41,7 +41,7 @@ abbrev pub JoinsWait : Type 0
 JoinsWait =
     (w : Setting) (rank : ℕ → Node → ℕ) (i : ℕ) (slots : Slots) (unit : UnitDef) (stood : Bool) (c : Tree) (rule : Transition) (r : Registers) →
     StaysPlaced → Turning w rank i slots unit stood c rule.node rule → Stemmed (plain_body unit.body) c →
-    ((j : ℕ) → r.counters j ≡ numbers_of slots c Over j) → Marked (rank i) r.marks c → IsJoin rule.asked →
+    ((j : ℕ) → r.counters j ≡ numbers_of slots c Over j) → Marked (rank i) r.marks c → IsJoin rule.condition →
     Exactly (is_due (rank i) rule r) (Waits c None rule.node)
 
 -- a rule of any kind is due iff something waits at its node, where the node has not been passed

@@ -46,9 +46,9 @@ use Rattle.bl_graph_nodes.specs.Plain.{
   inside,
   label_at,
   passed_one,
-  plain,
   plain_block,
   plain_body,
+  plain_stmt,
 }
 use Rattle.bl_graph_nodes.specs.Plain.{Cobegin, Label}
 use Rattle.bl_graph_nodes.proofs.Equations.{plain_statements}
@@ -90,13 +90,13 @@ module _ (site : TypingContext) (C : Run → Type 0) where
   N = NodeFits site C
 
   abbrev S : Stmt → Type 0
-  S s = fits site s ≡ true → AllOf C (runs_in s) → (at : Position) → AllOf N (nodes_of (plain s at))
+  S s = fits site s ≡ true → AllOf C (runs_in s) → (at : Position) → AllOf N (nodes_of (plain_stmt s at))
 
   block_so : (body : List Stmt) (k : ℕ) (block : Position) → Each S body → all_of (map (fits site) body) ≡ true →
-      AllOf C (joined (map runs_in body)) → AllOf N (nodes_in (block_from (map plain body) k block))
+      AllOf C (joined (map runs_in body)) → AllOf N (nodes_in (block_from (map plain_stmt body) k block))
   block_so [] k block each fitted all = tt
   block_so (s ∷ rest) k block each fitted all =
-      all_both N (nodes_of (plain s (block ++ k ∷ []))) (nodes_in (block_from (map plain rest) (suc k) block))
+      all_both N (nodes_of (plain_stmt s (block ++ k ∷ []))) (nodes_in (block_from (map plain_stmt rest) (suc k) block))
       (All-head S s rest each (and_left (fits site s) (all_of (map (fits site) rest)) fitted)
       (of_first C (runs_in s) (joined (map runs_in rest)) all) (block ++ k ∷ []))
       (block_so rest (suc k) block (All-tail S s rest each) (and_right (fits site s) (all_of (map (fits site) rest)) fitted)
@@ -176,7 +176,7 @@ module _ (site : TypingContext) (C : Run → Type 0) where
 
   by_parts : (place : Place) (layer : StmtKind-F StmtKind Arm Branch Stmt) →
       (kind_fits site (fit_parts layer) ≡ true → AllOf C (kind_runs (run_parts layer) place) → (at : Position) →
-      AllOf N (nodes_of (plain (stmt place layer) at))) → S (stmt place layer)
+      AllOf N (nodes_of (plain_stmt (stmt place layer) at))) → S (stmt place layer)
   by_parts place layer gives fitted all = gives (sym (fit_at place layer) ∙ fitted) (subst (AllOf C) (runs_at place layer) all)
 
   abbrev AllNodes : Plain → Type 0

@@ -38,8 +38,8 @@ use Rattle.bl_graph_nodes.specs.Nodes.{
   nodes_in_each,
 }
 use Rattle.bl_graph_nodes.specs.Plain.{Act, Await, Block, Bodies, Cobegin, If, Label, Plain, Position, Repeat, Run as RunOf, Until, When, While, block_from}
-use Rattle.bl_graph_nodes.specs.Plain.{bodies_from, else_at, inside, label_at, passed_one, plain, plain_block}
-use Rattle.bl_machine_prevs_laws.specs.Names.Scoped.{Scoped, are_known, beside, every, in_turn, is_known}
+use Rattle.bl_graph_nodes.specs.Plain.{bodies_from, else_at, inside, label_at, passed_one, plain_block, plain_stmt}
+use Rattle.bl_machine_prevs_laws.specs.Names.Scoped.{Scoped, are_known, block_and_condition, every, is_known, stand_in_turn}
 use Rattle.bl_machine_prevs.specs.Declared.{declared_by, declared_in, declared_kind, prevs_in_inputs, prevs_stand, prevs_stand_in, prevs_stand_in_each}
 use Rattle.bl_machine_prevs.specs.Prevs.{
   arm_prevs,
@@ -89,11 +89,11 @@ record Turned (site : TypingContext) (p : Plain) (of : Scoped) : Type 0 where
 
 -- of a block
 pub record BlockTurned (site : TypingContext) (b : Block) (of : List Scoped) : Type 0 where
-  pub stands : (known mine : Roots) → Related site known mine → in_turn of known ≡ true → prevs_stand_in mine b ≡ true
+  pub stands : (known mine : Roots) → Related site known mine → stand_in_turn of known ≡ true → prevs_stand_in mine b ≡ true
 
 -- of the further arms and the `else` part
 record ElseTurned (site : TypingContext) (b : Block) (arms other : List Scoped) : Type 0 where
-  pub stands : (known mine : Roots) → Related site known mine → every arms known ≡ true → in_turn other known ≡ true →
+  pub stands : (known mine : Roots) → Related site known mine → every arms known ≡ true → stand_in_turn other known ≡ true →
       prevs_stand_in mine b ≡ true
 
 -- and of branches
@@ -102,7 +102,7 @@ record EachTurned (site : TypingContext) (b : Bodies) (of : List Scoped) : Type 
 
 module _ (plains : PlainStatements) (site : TypingContext) where
   abbrev P : Stmt → Type 0
-  P s = fits site s ≡ true → (p : Position) → Turned site (plain s p) (scoped_of s)
+  P s = fits site s ≡ true → (p : Position) → Turned site (plain_stmt s p) (scoped_of s)
 
   abbrev good_arm : Arm → Bool
   good_arm = fold-Arm Bool Bool Bool Bool (kind_fits site) (arm_fits site) branch_fits stmt_fits
@@ -131,7 +131,7 @@ module _ (plains : PlainStatements) (site : TypingContext) where
       (fold-StmtKind (List ℕ) (List ℕ) (List ℕ) (List ℕ) stmt_kind_prevs arm_prevs branch_prevs stmt_layer_prevs)
       prevs_in_arm prevs_in_branch prevs_in layer)
 
-  by_kind : (place : Place) (layer : Layer) (q : Position → Plain) → ((p : Position) → plain (stmt place layer) p ≡ q p) →
+  by_kind : (place : Place) (layer : Layer) (q : Position → Plain) → ((p : Position) → plain_stmt (stmt place layer) p ≡ q p) →
       (fits_layer layer ≡ true → (p : Position) → Turned site (q p) (scoped_layer layer)) →
       P (stmt place layer)
   by_kind place layer q is gives fit p =
@@ -142,7 +142,7 @@ module _ (plains : PlainStatements) (site : TypingContext) where
 
   -- ---- acts
 
-  by_act : (place : Place) (layer : Layer) → ((p : Position) → plain (stmt place layer) p ≡ Act (label_at p) (stmt place layer)) →
+  by_act : (place : Place) (layer : Layer) → ((p : Position) → plain_stmt (stmt place layer) p ≡ Act (label_at p) (stmt place layer)) →
       declared_in (stmt place layer) ≡ (scoped_layer layer).declared →
       (fits_layer layer ≡ true → (known mine : Roots) → Related site known mine → (scoped_layer layer).stands known ≡ true →
       are_known mine (prevs_layer layer) ≡ true) → P (stmt place layer)
@@ -239,19 +239,19 @@ module _ (plains : PlainStatements) (site : TypingContext) where
   -- ---- blocks
 
   block_turned : (body : List Stmt) → Each P body → all_of (map (fits site) body) ≡ true → (k : ℕ) (p : Position) →
-      BlockTurned site (block_from (map plain body) k p) (map scoped_of body)
+      BlockTurned site (block_from (map plain_stmt body) k p) (map scoped_of body)
   block_turned [] each fit k p = record { stands = λ known mine related stands. refl }
   block_turned (s ∷ rest) each fit k p =
-      let here : Plain = plain s (p ++ k ∷ []) in
-      let behind : Block = block_from (map plain rest) (suc k) p in
+      let here : Plain = plain_stmt s (p ++ k ∷ []) in
+      let behind : Block = block_from (map plain_stmt rest) (suc k) p in
       let first = All-head P s rest each (and_left (fits site s) (all_of (map (fits site) rest)) fit) (p ++ k ∷ []) in
       let more = block_turned rest (All-tail P s rest each) (and_right (fits site s) (all_of (map (fits site) rest)) fit) (suc k) p in
       record {
         stands = λ known mine related stands.
             let of : Scoped = scoped_of s in
-            let next = and_right (of.stands known) (in_turn (map scoped_of rest) (of.declared ++ known)) stands in
+            let next = and_right (of.stands known) (stand_in_turn (map scoped_of rest) (of.declared ++ known)) stands in
             both (prevs_stand mine here) (prevs_stand_in (declared_by here ++ mine) behind)
-            (first.stands known mine related (and_left (of.stands known) (in_turn (map scoped_of rest) (of.declared ++ known)) stands))
+            (first.stands known mine related (and_left (of.stands known) (stand_in_turn (map scoped_of rest) (of.declared ++ known)) stands))
             (subst (λ ks. prevs_stand_in (ks ++ mine) behind ≡ true) (sym first.declared)
             (more.stands (of.declared ++ known) (of.declared ++ mine) (related_more site of.declared known mine related) next));
       }
@@ -269,7 +269,7 @@ module _ (plains : PlainStatements) (site : TypingContext) where
   -- one condition, its block, and what else
   record IfTurned (e : Expr) (body other : Block) (arm : Scoped) (arms others : List Scoped) : Type 0 where
     pub stands : (known mine : Roots) → Related site known mine → arm.stands known ≡ true → every arms known ≡ true →
-        in_turn others known ≡ true →
+        stand_in_turn others known ≡ true →
         (are_known mine (prevs_in_expr e) && (prevs_stand_in mine body && prevs_stand_in mine other)) ≡ true
 
   arm_turned : (arm : Arm) (arms : List Arm) (other : List Stmt) → Each P (out-Arm arm).body → good_arm arm ≡ true →
@@ -282,20 +282,20 @@ module _ (plains : PlainStatements) (site : TypingContext) where
       let body : List Stmt = (out-Arm arm).body in
       let good_is : good_arm arm ≡ (is_truth (type_of site e) && all_of (map (fits site) body)) =
       fold_out-Arm Bool Bool Bool Bool (kind_fits site) (arm_fits site) branch_fits stmt_fits arm in
-      let scoped_is : scoped_of_arm arm ≡ beside (roots_in e) (map scoped_of body) =
+      let scoped_is : scoped_of_arm arm ≡ block_and_condition (roots_in e) (map scoped_of body) =
       fold_out-Arm Scoped Scoped Scoped Scoped stmt_kind_scoped arm_scoped branch_scoped stmt_layer_scoped arm in
       let fit : (is_truth (type_of site e) && all_of (map (fits site) body)) ≡ true = sym good_is ∙ good in
       let block = block_turned body each (and_right (is_truth (type_of site e)) (all_of (map (fits site) body)) fit) 0 p in
       let behind : Block = else_at l (map plain_arm arms) (plain_block other) in
       record {
         stands = λ known mine related here arms_stand other_stands.
-            let mine_stands : (are_known known (roots_in e) && in_turn (map scoped_of body) known) ≡ true =
+            let mine_stands : (are_known known (roots_in e) && stand_in_turn (map scoped_of body) known) ≡ true =
             ap (λ (scoped : Scoped). scoped.stands known) (sym scoped_is) ∙ here in
             both (are_known mine (prevs_in_expr e)) (prevs_stand_in mine (plain_block body p) && prevs_stand_in mine behind)
             (truth_stands e (and_left (is_truth (type_of site e)) (all_of (map (fits site) body)) fit) known mine related
-            (and_left (are_known known (roots_in e)) (in_turn (map scoped_of body) known) mine_stands))
+            (and_left (are_known known (roots_in e)) (stand_in_turn (map scoped_of body) known) mine_stands))
             (both (prevs_stand_in mine (plain_block body p)) (prevs_stand_in mine behind)
-            (block.stands known mine related (and_right (are_known known (roots_in e)) (in_turn (map scoped_of body) known) mine_stands))
+            (block.stands known mine related (and_right (are_known known (roots_in e)) (stand_in_turn (map scoped_of body) known) mine_stands))
             (rest.stands known mine related arms_stand other_stands));
       }
 
@@ -351,10 +351,10 @@ module _ (plains : PlainStatements) (site : TypingContext) where
         declared = refl;
         stands = λ known mine related stands.
             let all = (scoped_of_arm arm).stands known in
-            let arms_stand = and_left (all && every (map scoped_of_arm arms) known) (in_turn (map scoped_of other) known) stands in
+            let arms_stand = and_left (all && every (map scoped_of_arm arms) known) (stand_in_turn (map scoped_of other) known) stands in
             one.stands known mine related (and_left all (every (map scoped_of_arm arms) known) arms_stand)
             (and_right all (every (map scoped_of_arm arms) known) arms_stand)
-            (and_right (all && every (map scoped_of_arm arms) known) (in_turn (map scoped_of other) known) stands);
+            (and_right (all && every (map scoped_of_arm arms) known) (stand_in_turn (map scoped_of other) known) stands);
       })
 
   -- ---- branches
@@ -367,7 +367,7 @@ module _ (plains : PlainStatements) (site : TypingContext) where
       let p : Position = inside l k in
       let good_is : good_branch branch ≡ all_of (map (fits site) body) =
       fold_out-Branch Bool Bool Bool Bool (kind_fits site) (arm_fits site) branch_fits stmt_fits branch in
-      let scoped_is : (scoped_of_branch branch).stands ≡ in_turn (map scoped_of body) =
+      let scoped_is : (scoped_of_branch branch).stands ≡ stand_in_turn (map scoped_of body) =
       ap (λ (scoped : Scoped). scoped.stands)
       (fold_out-Branch Scoped Scoped Scoped Scoped stmt_kind_scoped arm_scoped branch_scoped stmt_layer_scoped branch) in
       let first = block_turned body (All-head (λ branch. Each P (out-Branch branch).body) branch branches each)
@@ -410,12 +410,12 @@ module _ (plains : PlainStatements) (site : TypingContext) where
 
   tested_stands : (e : Expr) (b : Block) (of : List Scoped) → is_truth (type_of site e) ≡ true →
       BlockTurned site b of →
-      (known mine : Roots) → Related site known mine → (are_known known (roots_in e) && in_turn of known) ≡ true →
+      (known mine : Roots) → Related site known mine → (are_known known (roots_in e) && stand_in_turn of known) ≡ true →
       (are_known mine (prevs_in_expr e) && prevs_stand_in mine b) ≡ true
   tested_stands e b of truth block known mine related stands =
       both (are_known mine (prevs_in_expr e)) (prevs_stand_in mine b)
-      (truth_stands e truth known mine related (and_left (are_known known (roots_in e)) (in_turn of known) stands))
-      (block.stands known mine related (and_right (are_known known (roots_in e)) (in_turn of known) stands))
+      (truth_stands e truth known mine related (and_left (are_known known (roots_in e)) (stand_in_turn of known) stands))
+      (block.stands known mine related (and_right (are_known known (roots_in e)) (stand_in_turn of known) stands))
 
   guarded_turned : (place : Place) (guard : Guard) (e : Expr) (body : List Stmt) → Each P body → P (stmt place (StmtKind-F.When guard e body))
   guarded_turned place guard e body each =

@@ -65,15 +65,15 @@ use Rattle.bl_machine_prevs_laws.specs.Names.inner.Declared.{scoped_of_arm, scop
 use Rattle.bl_machine_prevs_laws.specs.Names.Scoped.{
   Scoped,
   are_known,
-  beside,
-  block,
-  branches as branches_of,
-  choice,
+  block_and_condition,
   declaring,
   every,
-  in_turn,
   is_known,
   naming,
+  scoped_arms,
+  scoped_block,
+  scoped_branches as branches_of,
+  stand_in_turn,
 }
 use Rattle.bl_machine_prevs_laws.proofs.OnNames.ExprRoots.{arguments_only, expr_only, optional_only, taker_only, target_only}
 use Rattle.bl_machine_prevs_laws.proofs.OnNames.Only.{Only, OuterOnly, ScopeOnly, all_append, both, declare_only, only_weaker, or_first, or_second}
@@ -99,7 +99,7 @@ record Turn (known : Roots) (scopes new : Scopes) (made : Scoped) : Type 0 where
 -- the same of parts one after another
 pub record Turns (known : Roots) (scopes new : Scopes) (made : List Scoped) : Type 0 where
   pub outer : new.outer ≡ scopes.outer
-  pub stands : in_turn made known ≡ true
+  pub stands : stand_in_turn made known ≡ true
 
 abbrev GoodOwn : {A : Type 0} → (A → Scoped) → Piece A → Type 0
 GoodOwn of piece = (known : Roots) (scopes : Scopes) → Only (is_known known) scopes → Fits scopes piece.marks →
@@ -163,13 +163,13 @@ turns (s ∷ body) each known scopes only fits =
     let second = turns body (All-tail StmtGood s body each) (one.declared ++ known) middle first.only (fits_second scopes marks rest fits) in
     record {
       outer = ap (λ (s : Scopes). s.outer) (after-append scopes marks rest) ∙ second.outer ∙ first.outer;
-      stands = both (one.stands known) (in_turn (body_of body middle) (one.declared ++ known)) first.stands second.stands;
+      stands = both (one.stands known) (stand_in_turn (body_of body middle) (one.declared ++ known)) first.stands second.stands;
     }
 
 -- a block
 own_body : (body : List RawStmt) → All StmtGood body → (known : Roots) (scopes : Scopes) → Only (is_known known) scopes →
     Fits scopes (in_scope (marks_in body)) →
-    Own known scopes (after scopes (in_scope (marks_in body))) (block (body_of body (opened scopes)))
+    Own known scopes (after scopes (in_scope (marks_in body))) (scoped_block (body_of body (opened scopes)))
 own_body body each known scopes only fits =
     let marks = marks_in body in
     let behind = after (opened scopes) marks in
@@ -186,7 +186,7 @@ own_body body each known scopes only fits =
 own_tested : (e : RawExpr) (body : List RawStmt) → All StmtGood body → (known : Roots) (scopes : Scopes) → Only (is_known known) scopes →
     Fits scopes (expr_marks e ++ in_scope (marks_in body)) →
     Own known scopes (after scopes (expr_marks e ++ in_scope (marks_in body)))
-    (beside (roots_in (named_expr scopes e)) (body_of body (opened (after scopes (expr_marks e)))))
+    (block_and_condition (roots_in (named_expr scopes e)) (body_of body (opened (after scopes (expr_marks e)))))
 own_tested e body each known scopes only fits =
     let marks = in_scope (marks_in body) in
     let still = still_expr e scopes in
@@ -194,18 +194,18 @@ own_tested e body each known scopes only fits =
     let inside = own_body body each known scopes only (fits_behind scopes (expr_marks e) marks (still_expr e) fits) in
     let all : after scopes (expr_marks e ++ marks) ≡ after scopes marks = after-append scopes (expr_marks e) marks
     ∙ ap (λ s. after s marks) still in
-    subst (λ s. Own known scopes (after scopes (expr_marks e ++ marks)) (beside roots (body_of body (opened s)))) (sym still)
+    subst (λ s. Own known scopes (after scopes (expr_marks e ++ marks)) (block_and_condition roots (body_of body (opened s)))) (sym still)
     (record {
       inner = ap (λ (s : Scopes). s.inner) all ∙ inside.inner;
       outer = ap (λ (s : Scopes). s.outer) all ∙ inside.outer;
-      stands = both (are_known known roots) (in_turn (body_of body (opened scopes)) known)
+      stands = both (are_known known roots) (stand_in_turn (body_of body (opened scopes)) known)
           (expr_only (is_known known) scopes scopes.counts only e (fits_first scopes (expr_marks e) marks fits)) inside.stands;
     })
 
 -- a block before a condition, which sees what is around it
 own_until : (e : RawExpr) (body : List RawStmt) → All StmtGood body → (known : Roots) (scopes : Scopes) → Only (is_known known) scopes →
     Fits scopes (in_scope (marks_in body) ++ expr_marks e) →
-    Own known scopes (after scopes (in_scope (marks_in body) ++ expr_marks e)) (beside (roots_in (named_expr scopes e)) (body_of body
+    Own known scopes (after scopes (in_scope (marks_in body) ++ expr_marks e)) (block_and_condition (roots_in (named_expr scopes e)) (body_of body
     (opened scopes)))
 own_until e body each known scopes only fits =
     let marks = in_scope (marks_in body) in
@@ -224,7 +224,7 @@ own_until e body each known scopes only fits =
     record {
       inner = ap (λ (s : Scopes). s.inner) all ∙ inside.inner;
       outer = ap (λ (s : Scopes). s.outer) all ∙ inside.outer;
-      stands = both (are_known known roots) (in_turn (body_of body (opened scopes)) known)
+      stands = both (are_known known roots) (stand_in_turn (body_of body (opened scopes)) known)
           (expr_only (is_known known) scopes behind.counts only e fits_e) inside.stands;
     }
 
@@ -250,7 +250,7 @@ own_each of piece (x ∷ xs) each known scopes only fits =
 own_choice : (arms : List RawArm) (other : List RawStmt) → All ArmGood arms → All StmtGood other → (known : Roots) (scopes : Scopes) →
     Only (is_known known) scopes → Fits scopes (marks_of_all (map piece_of_arm arms) ++ in_scope (marks_in other)) →
     Own known scopes (after scopes (marks_of_all (map piece_of_arm arms) ++ in_scope (marks_in other)))
-    (choice (map scoped_of_arm (made_of_all (map piece_of_arm arms) scopes))
+    (scoped_arms (map scoped_of_arm (made_of_all (map piece_of_arm arms) scopes))
     (body_of other (opened (after scopes (marks_of_all (map piece_of_arm arms))))))
 own_choice arms other in_arms in_other known scopes only fits =
     let marks = marks_of_all (map piece_of_arm arms) in
@@ -262,7 +262,7 @@ own_choice arms other in_arms in_other known scopes only fits =
     record {
       inner = ap (λ (s : Scopes). s.inner) (after-append scopes marks rest) ∙ second.inner ∙ first.inner;
       outer = ap (λ (s : Scopes). s.outer) (after-append scopes marks rest) ∙ second.outer ∙ first.outer;
-      stands = both (every (map scoped_of_arm (made_of_all (map piece_of_arm arms) scopes)) known) (in_turn (body_of other (opened middle)) known)
+      stands = both (every (map scoped_of_arm (made_of_all (map piece_of_arm arms) scopes)) known) (stand_in_turn (body_of other (opened middle)) known)
           first.stands second.stands;
     }
 
@@ -281,11 +281,11 @@ scoped_at place kind layer is =
     ∙ ap scoped_in is)
 
 arm_at : (test : NamedExpr) (body : List NamedStmt) → scoped_of_arm (roll-NamedArm (record { test = test; body = body }))
-    ≡ beside (roots_in test) (map scoped_of body)
+    ≡ block_and_condition (roots_in test) (map scoped_of body)
 arm_at test body = rw fold-roll-NamedArm refl
 
 branch_at : (weak : Bool) (body : List NamedStmt) → scoped_of_branch (roll-NamedBranch (record { weak = weak; body = body }))
-    ≡ block (map scoped_of body)
+    ≡ scoped_block (map scoped_of body)
 branch_at weak body = rw fold-roll-NamedBranch refl
 
 -- a statement whose kind becomes this

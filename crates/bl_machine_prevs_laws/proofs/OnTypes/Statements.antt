@@ -41,7 +41,8 @@ use Rattle.bl_types.specs.Expressions.{in_context, judged, targeted}
 use Rattle.bl_types.specs.Statements.{Block, StatementJudgement, Walked, arguments, arm_of, arm_walked, branch_walked, condition, declare, in_order, misplaced}
 use Rattle.bl_types.specs.Statements.{run_target, type_found, walked_arm, walked_block, walked_branch, walked_stmt}
 use Rattle.bl_machine_prevs_laws.specs.Names.Scoped as scopes
-use Rattle.bl_machine_prevs_laws.specs.Names.Scoped.{Scoped, are_known, beside, block, branches as branches_of, choice, declaring, every, is_known, naming}
+use Rattle.bl_machine_prevs_laws.specs.Names.Scoped.{Scoped, are_known, block_and_condition, declaring, every, is_known, naming, scoped_arms, scoped_block}
+use Rattle.bl_machine_prevs_laws.specs.Names.Scoped.{scoped_branches as branches_of}
 use Rattle.bl_machine_prevs_laws.specs.Names.Declared as before
 use Rattle.bl_machine_prevs_laws.specs.Names.inner.Declared as earlier
 use Rattle.bl_types_laws.specs.Standing.{Around, Grown, Known, PartPassed, declared_by, stmt_named}
@@ -144,12 +145,12 @@ module _ {X A : Type 0} (site : TypingContext) (walk : X → Environment → Wal
 -- ---- statements one after another
 
 stmt_first : (known : Roots) (of : Scoped) (made : Option Stmt) (rest : List Stmt) → StmtKept known of made →
-    scopes.in_turn (map scoped_of rest) (of.declared ++ known) ≡ true →
-    scopes.in_turn (map scoped_of (cons_option made rest)) known ≡ true
+    scopes.stand_in_turn (map scoped_of rest) (of.declared ++ known) ≡ true →
+    scopes.stand_in_turn (map scoped_of (cons_option made rest)) known ≡ true
 stmt_first known of (Some s) rest one more =
-    both ((scoped_of s).stands known) (scopes.in_turn (map scoped_of rest) ((scoped_of s).declared ++ known)) one.stands
-    (subst (λ declared. scopes.in_turn (map scoped_of rest) (declared ++ known) ≡ true) (sym one.declared) more)
-stmt_first known of None rest one more = subst (λ declared. scopes.in_turn (map scoped_of rest) (declared ++ known) ≡ true) one more
+    both ((scoped_of s).stands known) (scopes.stand_in_turn (map scoped_of rest) ((scoped_of s).declared ++ known)) one.stands
+    (subst (λ declared. scopes.stand_in_turn (map scoped_of rest) (declared ++ known) ≡ true) (sym one.declared) more)
+stmt_first known of None rest one more = subst (λ declared. scopes.stand_in_turn (map scoped_of rest) (declared ++ known) ≡ true) one more
 
 -- of each that is named well
 each_named : {X : Type 0} (test : X → Bool) (W : X → Type 0) (xs : List X) → All (λ x. test x ≡ true → W x) xs →
@@ -193,8 +194,8 @@ module _ (constants : List NamedConstant) (vars : List NamedVar) (site : TypingC
   -- what is known behind a block, and what is made of it
   record BodyGone (body : List NamedStmt) (env : Environment) (counts : DeclaredBefore) : Type 0 where
     pub threads : Threads env counts (walked_body body env).env
-    pub kept : (known : Roots) → scopes.in_turn (map before.scoped_of body) known ≡ true →
-        scopes.in_turn (map scoped_of (walked_body body env).made) known ≡ true
+    pub kept : (known : Roots) → scopes.stand_in_turn (map before.scoped_of body) known ≡ true →
+        scopes.stand_in_turn (map scoped_of (walked_body body env).made) known ≡ true
 
   body_gone : (body : List NamedStmt) → All P body → body_named body ≡ true → (env : Environment) → Around env site → Known env →
       (counts : DeclaredBefore) →
@@ -224,9 +225,9 @@ module _ (constants : List NamedConstant) (vars : List NamedVar) (site : TypingC
             let of : Scoped = before.scoped_of s in
             stmt_first vars_known of one.made further.made
             (All-head P s rest each named_s env around known found.0 found.1 first vars_known
-            (and_left (of.stands vars_known) (scopes.in_turn (map before.scoped_of rest) (of.declared ++ vars_known)) all))
+            (and_left (of.stands vars_known) (scopes.stand_in_turn (map before.scoped_of rest) (of.declared ++ vars_known)) all))
             (more.kept (of.declared ++ vars_known)
-            (and_right (of.stands vars_known) (scopes.in_turn (map before.scoped_of rest) (of.declared ++ vars_known)) all));
+            (and_right (of.stands vars_known) (scopes.stand_in_turn (map before.scoped_of rest) (of.declared ++ vars_known)) all));
       }
 
   -- ---- by the kind of a statement
@@ -316,17 +317,17 @@ module _ (constants : List NamedConstant) (vars : List NamedVar) (site : TypingC
   beside_kept : (place : Place) (known : Roots) (make : Expr → StmtKind) (layer : Expr → StmtKind-F StmtKind Arm Branch Stmt)
       (body : List Stmt) →
       ((e : Expr) → out-StmtKind (make e) ≡ layer e) →
-      ((e : Expr) → scoped_in (layer e) ≡ beside (names.roots_in e) (map scoped_of body)) →
+      ((e : Expr) → scoped_in (layer e) ≡ block_and_condition (names.roots_in e) (map scoped_of body)) →
       (e : NamedExpr) (parts : List Scoped) (test : Option Expr) → ExprIn (named_size e) test → are_known known (written.roots_in e) ≡ true →
-      scopes.in_turn (map scoped_of body) known ≡ true →
-      KindKept place known (beside (written.roots_in e) parts) (option_map make test)
+      scopes.stand_in_turn (map scoped_of body) known ≡ true →
+      KindKept place known (block_and_condition (written.roots_in e) parts) (option_map make test)
   beside_kept place known make layer body outs scoped e parts test most all stands =
-      tested_kept place known (beside (written.roots_in e) parts) make test (named_size e) refl most
-      (λ it among. kind_kept place (make it) (layer it) known (beside (written.roots_in e) parts) (outs it)
-      (subst (Same known (beside (written.roots_in e) parts)) (sym (scoped it))
+      tested_kept place known (block_and_condition (written.roots_in e) parts) make test (named_size e) refl most
+      (λ it among. kind_kept place (make it) (layer it) known (block_and_condition (written.roots_in e) parts) (outs it)
+      (subst (Same known (block_and_condition (written.roots_in e) parts)) (sym (scoped it))
       (record {
         declared = refl;
-        stands = both (are_known known (names.roots_in it)) (scopes.in_turn (map scoped_of body) known)
+        stands = both (are_known known (names.roots_in it)) (scopes.stand_in_turn (map scoped_of body) known)
             (among (is_known known) all) stands;
       })))
 
@@ -342,8 +343,8 @@ module _ (constants : List NamedConstant) (vars : List NamedVar) (site : TypingC
       let made = (walked_body body env).made in
       beside_kept place vars_known (λ test. what.When guard test made) (λ test. StmtKind-F.When guard test made) made
       (λ test. what.outs-When guard test made) (λ test. refl) e (parts_of body) (condition env e).made (condition_in env e)
-      (and_left (are_known vars_known (written.roots_in e)) (scopes.in_turn (parts_of body) vars_known) all)
-      (gone.kept vars_known (and_right (are_known vars_known (written.roots_in e)) (scopes.in_turn (parts_of body) vars_known) all)))
+      (and_left (are_known vars_known (written.roots_in e)) (scopes.stand_in_turn (parts_of body) vars_known) all)
+      (gone.kept vars_known (and_right (are_known vars_known (written.roots_in e)) (scopes.stand_in_turn (parts_of body) vars_known) all)))
 
   while_kept : (place : Place) (e : NamedExpr) (body : List NamedStmt) → All P body → P (stmt place (NamedStmtKind-F.While e body))
   while_kept place e body each = by_kind place (NamedStmtKind-F.While e body)
@@ -352,8 +353,8 @@ module _ (constants : List NamedConstant) (vars : List NamedVar) (site : TypingC
       let made = (walked_body body env).made in
       beside_kept place vars_known (λ test. what.While test made) (λ test. StmtKind-F.While test made) made
       (λ test. what.outs-While test made) (λ test. refl) e (parts_of body) (condition env e).made (condition_in env e)
-      (and_left (are_known vars_known (written.roots_in e)) (scopes.in_turn (parts_of body) vars_known) all)
-      (gone.kept vars_known (and_right (are_known vars_known (written.roots_in e)) (scopes.in_turn (parts_of body) vars_known) all)))
+      (and_left (are_known vars_known (written.roots_in e)) (scopes.stand_in_turn (parts_of body) vars_known) all)
+      (gone.kept vars_known (and_right (are_known vars_known (written.roots_in e)) (scopes.stand_in_turn (parts_of body) vars_known) all)))
 
   until_kept : (place : Place) (body : List NamedStmt) (e : NamedExpr) → All P body → P (stmt place (NamedStmtKind-F.Until body e))
   until_kept place body e each = by_kind place (NamedStmtKind-F.Until body e)
@@ -364,15 +365,15 @@ module _ (constants : List NamedConstant) (vars : List NamedVar) (site : TypingC
       (nil_left block.failures (condition block.env e).failures none) in
       beside_kept place vars_known (λ test. what.Until block.made test) (λ test. StmtKind-F.Until block.made test) block.made
       (λ test. what.outs-Until block.made test) (λ test. refl) e (parts_of body) (condition block.env e).made (condition_in block.env e)
-      (and_left (are_known vars_known (written.roots_in e)) (scopes.in_turn (parts_of body) vars_known) all)
-      (gone.kept vars_known (and_right (are_known vars_known (written.roots_in e)) (scopes.in_turn (parts_of body) vars_known) all)))
+      (and_left (are_known vars_known (written.roots_in e)) (scopes.stand_in_turn (parts_of body) vars_known) all)
+      (gone.kept vars_known (and_right (are_known vars_known (written.roots_in e)) (scopes.stand_in_turn (parts_of body) vars_known) all)))
 
   repeat_kept : (place : Place) (body : List NamedStmt) → All P body → P (stmt place (NamedStmtKind-F.Repeat body))
   repeat_kept place body each = by_kind place (NamedStmtKind-F.Repeat body)
       (λ named env around known counts step none vars_known all.
       let gone = body_gone body each named env around known counts step none in
       let made = (walked_body body env).made in
-      kind_kept place (what.Repeat made) (StmtKind-F.Repeat made) vars_known (block (parts_of body)) (what.outs-Repeat made)
+      kind_kept place (what.Repeat made) (StmtKind-F.Repeat made) vars_known (scoped_block (parts_of body)) (what.outs-Repeat made)
       (record { declared = refl; stands = gone.kept vars_known all }))
 
   if_kept : (place : Place) (arms : List NamedArm) (other : List NamedStmt) → All Q arms → All P other →
@@ -391,12 +392,12 @@ module _ (constants : List NamedConstant) (vars : List NamedVar) (site : TypingC
       (grown_around env tests.env site first.threads.grown around) first.threads.known counts (ap (steps other) first.threads.counts_are ∙ found.2)
       (nil_right tests.failures last.failures none) in
       let arms_all = every (map earlier.scoped_of_arm arms) vars_known in
-      let other_all = scopes.in_turn (parts_of other) vars_known in
+      let other_all = scopes.stand_in_turn (parts_of other) vars_known in
       kind_kept place (what.If tests.made last.made) (StmtKind-F.If tests.made last.made) vars_known
-      (choice (map earlier.scoped_of_arm arms) (parts_of other)) (what.outs-If tests.made last.made)
+      (scoped_arms (map earlier.scoped_of_arm arms) (parts_of other)) (what.outs-If tests.made last.made)
       (record {
         declared = refl;
-        stands = both (every (map scoped_of_arm tests.made) vars_known) (scopes.in_turn (map scoped_of last.made) vars_known)
+        stands = both (every (map scoped_of_arm tests.made) vars_known) (scopes.stand_in_turn (map scoped_of last.made) vars_known)
             (first.kept vars_known (and_left arms_all other_all all)) (second.kept vars_known (and_right arms_all other_all all));
       }))
 
@@ -416,11 +417,11 @@ module _ (constants : List NamedConstant) (vars : List NamedVar) (site : TypingC
 
   arm_made : (known : Roots) (e : NamedExpr) (body : List Stmt) (test : Option Expr) → ExprIn (named_size e) test →
       are_known known (written.roots_in e) ≡ true →
-      scopes.in_turn (map scoped_of body) known ≡ true → PartKept known scoped_of_arm (option_map (λ e. arm_of e body) test)
+      scopes.stand_in_turn (map scoped_of body) known ≡ true → PartKept known scoped_of_arm (option_map (λ e. arm_of e body) test)
   arm_made known e body (Some test) most all stands =
-      let is : scoped_of_arm (arm_of test body) ≡ beside (names.roots_in test) (map scoped_of body) = rw fold-roll-Arm refl in
+      let is : scoped_of_arm (arm_of test body) ≡ block_and_condition (names.roots_in test) (map scoped_of body) = rw fold-roll-Arm refl in
       ap (λ (scoped : Scoped). scoped.stands known) is
-      ∙ both (are_known known (names.roots_in test)) (scopes.in_turn (map scoped_of body) known) (most.roots (is_known known) all) stands
+      ∙ both (are_known known (names.roots_in test)) (scopes.stand_in_turn (map scoped_of body) known) (most.roots (is_known known) all) stands
   arm_made known e body None most all stands = tt
 
   arm_case : (test : NamedExpr) (body : List NamedStmt) → All P body → Q (roll-NamedArm (record { test = test; body = body }))
@@ -431,20 +432,20 @@ module _ (constants : List NamedConstant) (vars : List NamedVar) (site : TypingC
       let walked_as : arm_walked constants vars arm ≡ walked_arm (record { test = test; body = map (walked_stmt constants vars) body }) =
       rw fold-roll-NamedArm refl in
       let step_as : step_of_arm vars constants arm ≡ tested test (map (stmt_step vars constants) body) = rw fold-roll-NamedArm refl in
-      let scoped_as : earlier.scoped_of_arm arm ≡ beside (written.roots_in test) (parts_of body) = rw fold-roll-NamedArm refl in
+      let scoped_as : earlier.scoped_of_arm arm ≡ block_and_condition (written.roots_in test) (parts_of body) = rw fold-roll-NamedArm refl in
       let gone = tested_goes test body each (and_right (calls_functions site.earlier test) (body_named body) (sym named_as
       ∙ named)) env around known counts
       (ap (λ (step : PlacedStep). step (known_in env)) (sym step_as) ∙ step) []
       (ap (λ (walk : StatementJudgement Arm). (walk env).failures) (sym walked_as) ∙ none) in
       let made : Walked Arm = walked_arm (record { test = test; body = map (walked_stmt constants vars) body }) env in
-      let here : Gone (beside (written.roots_in test) (parts_of body)) scoped_of_arm env counts made = record {
+      let here : Gone (block_and_condition (written.roots_in test) (parts_of body)) scoped_of_arm env counts made = record {
         threads = gone.threads;
         kept = λ vars_known all. arm_made vars_known test (walked_body body env).made (condition env test).made (condition_in env test)
-            (and_left (are_known vars_known (written.roots_in test)) (scopes.in_turn (parts_of body) vars_known) all)
-            (gone.kept vars_known (and_right (are_known vars_known (written.roots_in test)) (scopes.in_turn (parts_of body) vars_known) all));
+            (and_left (are_known vars_known (written.roots_in test)) (scopes.stand_in_turn (parts_of body) vars_known) all)
+            (gone.kept vars_known (and_right (are_known vars_known (written.roots_in test)) (scopes.stand_in_turn (parts_of body) vars_known) all));
       } in
       subst (λ of. Gone of scoped_of_arm env counts (arm_walked constants vars arm env)) (sym scoped_as)
-      (subst (λ (walk : StatementJudgement Arm). Gone (beside (written.roots_in test) (parts_of body)) scoped_of_arm env counts (walk env)) (sym walked_as) here)
+      (subst (λ (walk : StatementJudgement Arm). Gone (block_and_condition (written.roots_in test) (parts_of body)) scoped_of_arm env counts (walk env)) (sym walked_as) here)
 
   branch_case : (weak : Bool) (body : List NamedStmt) → All P body → R (roll-NamedBranch (record { weak = weak; body = body }))
   branch_case weak body each named env around known counts step none =
@@ -453,20 +454,20 @@ module _ (constants : List NamedConstant) (vars : List NamedVar) (site : TypingC
       let walked_as : branch_walked constants vars branch ≡ walked_branch (record { weak = weak; body = map (walked_stmt constants vars) body }) =
       rw fold-roll-NamedBranch refl in
       let step_as : step_of_branch vars constants branch ≡ steps body = rw fold-roll-NamedBranch refl in
-      let scoped_as : earlier.scoped_of_branch branch ≡ block (parts_of body) = rw fold-roll-NamedBranch refl in
+      let scoped_as : earlier.scoped_of_branch branch ≡ scoped_block (parts_of body) = rw fold-roll-NamedBranch refl in
       let gone = body_gone body each (sym named_as ∙ named) env around known counts (ap (λ (step : PlacedStep). step (known_in env)) (sym step_as)
       ∙ step)
       (ap (λ (walk : StatementJudgement Branch). (walk env).failures) (sym walked_as) ∙ none) in
       let stmts : Block Stmt = walked_body body env in
-      let made_as : scoped_of_branch (roll-Branch (record { weak = weak; body = stmts.made })) ≡ block (map scoped_of stmts.made) =
+      let made_as : scoped_of_branch (roll-Branch (record { weak = weak; body = stmts.made })) ≡ scoped_block (map scoped_of stmts.made) =
       rw fold-roll-Branch refl in
       let made : Walked Branch = walked_branch (record { weak = weak; body = map (walked_stmt constants vars) body }) env in
-      let here : Gone (block (parts_of body)) scoped_of_branch env counts made = record {
+      let here : Gone (scoped_block (parts_of body)) scoped_of_branch env counts made = record {
         threads = gone.threads;
         kept = λ vars_known all. ap (λ (scoped : Scoped). scoped.stands vars_known) made_as ∙ gone.kept vars_known all;
       } in
       subst (λ of. Gone of scoped_of_branch env counts (branch_walked constants vars branch env)) (sym scoped_as)
-      (subst (λ (walk : StatementJudgement Branch). Gone (block (parts_of body)) scoped_of_branch env counts (walk env)) (sym walked_as) here)
+      (subst (λ (walk : StatementJudgement Branch). Gone (scoped_block (parts_of body)) scoped_of_branch env counts (walk env)) (sym walked_as) here)
 
   cases : Cases P Q R
   cases = record {
@@ -504,8 +505,8 @@ module _ (constants : List NamedConstant) (vars : List NamedVar) (site : TypingC
   pub block_kept : (body : List NamedStmt) → list_all (stmt_named constants vars site.earlier) body ≡ true →
       (env : Environment) → Around env site →
       Known env → (counts : DeclaredBefore) → in_turn (map (stmt_step vars constants) body) (known_in env) ≡ Some counts →
-      (walked_block constants vars body env).failures ≡ [] → (known : Roots) → scopes.in_turn (map before.scoped_of body) known ≡ true →
-      scopes.in_turn (map scoped_of (walked_block constants vars body env).made) known ≡ true
+      (walked_block constants vars body env).failures ≡ [] → (known : Roots) → scopes.stand_in_turn (map before.scoped_of body) known ≡ true →
+      scopes.stand_in_turn (map scoped_of (walked_block constants vars body env).made) known ≡ true
   block_kept body named env around known counts step none =
       (body_gone body (λ k d within. induct P Q R cases _) (all_mapped (stmt_named constants vars site.earlier) body named) env around known counts
       step

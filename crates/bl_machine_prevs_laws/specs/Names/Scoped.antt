@@ -23,9 +23,9 @@ pub record Scoped : Type 0 where
   pub stands : Roots → Bool
 
 -- whether parts one after another name known variables alone: each knows what those before it declare
-abbrev pub in_turn : List Scoped → Roots → Bool
-in_turn [] known = true
-in_turn (part ∷ rest) known = part.stands known && in_turn rest (part.declared ++ known)
+abbrev pub stand_in_turn : List Scoped → Roots → Bool
+stand_in_turn [] known = true
+stand_in_turn (part ∷ rest) known = part.stands known && stand_in_turn rest (part.declared ++ known)
 
 -- whether parts beside each other name known variables alone; none knows what another declares
 abbrev pub every : List Scoped → Roots → Bool
@@ -40,17 +40,17 @@ abbrev pub declaring : ℕ → Roots → Scoped
 declaring k roots = record { declared = k ∷ []; stands = λ known. are_known known roots }
 
 -- the scoping of a block
-abbrev pub block : List Scoped → Scoped
-block body = record { declared = []; stands = in_turn body }
+abbrev pub scoped_block : List Scoped → Scoped
+scoped_block body = record { declared = []; stands = stand_in_turn body }
 
 -- a block, and an expression beside it that names the given variables outside of the block's scope
-abbrev pub beside : Roots → List Scoped → Scoped
-beside roots body = record { declared = []; stands = λ known. are_known known roots && in_turn body known }
+abbrev pub block_and_condition : Roots → List Scoped → Scoped
+block_and_condition roots body = record { declared = []; stands = λ known. are_known known roots && stand_in_turn body known }
 
 -- the scoping of branches beside one another
-abbrev pub branches : List Scoped → Scoped
-branches parts = record { declared = []; stands = every parts }
+abbrev pub scoped_branches : List Scoped → Scoped
+scoped_branches parts = record { declared = []; stands = every parts }
 
 -- the arms of an `if` and its `else` block
-abbrev pub choice : List Scoped → List Scoped → Scoped
-choice arms other = record { declared = []; stands = λ known. every arms known && in_turn other known }
+abbrev pub scoped_arms : List Scoped → List Scoped → Scoped
+scoped_arms arms other = record { declared = []; stands = λ known. every arms known && stand_in_turn other known }

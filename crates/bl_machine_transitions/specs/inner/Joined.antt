@@ -9,7 +9,7 @@ use Rattle.bl_machine.specs.declared.slots.Slot.{Slot}
 use Rattle.bl_machine_pass.specs.Numbered.{no_slot}
 use Rattle.bl_machine_transitions.specs.declared.transition.Age.{Age}
 use Rattle.bl_machine_transitions.specs.declared.transition.Age.TheVariants.{New, Old, Any}
-use Rattle.bl_machine_transitions.specs.declared.transition.Asked.TheVariants.{RestedIn, Ended}
+use Rattle.bl_machine_transitions.specs.declared.transition.Condition.TheVariants.{RestedIn, Ended}
 use Rattle.bl_machine_transitions.specs.declared.transition.Change.{Change}
 use Rattle.bl_machine_transitions.specs.declared.transition.Change.TheVariants.{SetCounter, SetFlag}
 use Rattle.bl_machine_transitions.specs.declared.transition.Needed.{Needed}
@@ -18,15 +18,15 @@ use Rattle.bl_machine_transitions.specs.declared.size.Size.{Size}
 use Rattle.bl_machine_transitions.specs.declared.table.Table.{Table}
 use Rattle.bl_machine_transitions.specs.Listed.{
   Layout,
-  body_ends,
-  flagged,
+  when_body_end,
+  flagged_rule,
   fork_nodes,
   forgotten,
   freed,
   guard_nodes,
-  marked,
-  tested,
-  woken,
+  mark_change,
+  tested_rule,
+  resting_rule,
 }
 use Rattle.bl_machine_transitions.specs.Told.{Nothing, NumberedTransition, Task}
 
@@ -89,14 +89,14 @@ fork_size fork = record { nodes = fork_nodes (fork_instant fork) + fork.nodes; p
 -- ---- changes
 
 -- the change where a block is entered, whose first node has the position, if it isn't empty
-abbrev pub entered : Layout → Bool → ℕ → Change → Change
-entered layout true k next = next
-entered layout false k next = SetFlag (layout.number k)
+abbrev pub enter_unless_empty : Layout → Bool → ℕ → Change → Change
+enter_unless_empty layout true k next = next
+enter_unless_empty layout false k next = SetFlag (layout.number k)
 
 -- a condition that was true, where the body may be empty
 abbrev pub fired : Layout → ℕ → Guard → Bool → Change → Change → Change
 fired layout k Abort empty ends next = next
-fired layout k Reset empty ends next = entered layout empty k ends
+fired layout k Reset empty ends next = enter_unless_empty layout empty k ends
 
 -- ---- counters that were found
 
@@ -115,10 +115,10 @@ where_so false rule = []
 abbrev pub joined : Layout → ℕ → ℕ → ℕ → Needed → Age → Change → NumberedTransition
 joined layout k p places needed age next = record {
   number = layout.number k;
-  asked = Ended age needed;
+  condition = Ended age needed;
   task = Nothing;
-  so = freed layout p places ++ next ∷ [];
-  otherwise = [];
+  on_true = freed layout p places ++ next ∷ [];
+  on_false = [];
 }
 
 -- how far behind the first node of a construct its resume node stands
@@ -146,31 +146,31 @@ all_joined layout instant k p places needed next =
 abbrev pub looked : Layout → ℕ → ℕ → ℕ → List Slot → Task → Change → NumberedTransition
 looked layout k p places rests task fires = record {
   number = layout.number k;
-  asked = RestedIn rests;
+  condition = RestedIn rests;
   task = task;
-  so = forgotten layout p places ++ fires ∷ [];
-  otherwise = [];
+  on_true = forgotten layout p places ++ fires ∷ [];
+  on_false = [];
 }
 
 -- the nodes of a `when` that begins at the node with the position
 abbrev pub watched : Layout → ℕ → ℕ → Guard → Task → Bool → Size → List Slot → Change → List NumberedTransition
 watched layout k p guard task empty body rests next =
-    let ends = body_ends layout k body.instant in
+    let ends = when_body_end layout k body.instant in
     let inner = k + guard_nodes body.instant in
-    flagged layout k Nothing (marked body.instant (layout.number k) (entered layout empty inner ends ∷ []))
-    ∷ (where_so body.instant (flagged layout (k + 1) Nothing (next ∷ []))
+    flagged_rule layout k Nothing (mark_change body.instant (layout.number k) (enter_unless_empty layout empty inner ends ∷ []))
+    ∷ (where_so body.instant (flagged_rule layout (k + 1) Nothing (next ∷ []))
     ++ looked layout (k + later body.instant) p body.places rests task (fired layout inner guard empty ends next)
-    ∷ flagged layout (k + last body.instant) Nothing (next ∷ [])
+    ∷ flagged_rule layout (k + last body.instant) Nothing (next ∷ [])
     ∷ [])
 
 -- a node that waits, and one at which the activity is woken
 abbrev pub paused : Layout → ℕ → ℕ → Task → Task → Change → List NumberedTransition
 paused layout k p first second next =
-    flagged layout k first (SetCounter (layout.slot p) ∷ []) ∷ woken layout (k + 1) (layout.slot p) second next ∷ []
+    flagged_rule layout k first (SetCounter (layout.slot p) ∷ []) ∷ resting_rule layout (k + 1) (layout.slot p) second next ∷ []
 
 -- the nodes of a loop with its test at the end
 abbrev pub turned : Layout → ℕ → Task → Bool → Change → List NumberedTransition
 turned layout k task empty next =
-    flagged layout k Nothing (entered layout empty (k + 2) (SetFlag (layout.number (k + 1))) ∷ [])
-    ∷ tested layout (k + 1) task (next ∷ []) (SetFlag (layout.number k) ∷ [])
+    flagged_rule layout k Nothing (enter_unless_empty layout empty (k + 2) (SetFlag (layout.number (k + 1))) ∷ [])
+    ∷ tested_rule layout (k + 1) task (next ∷ []) (SetFlag (layout.number k) ∷ [])
     ∷ []

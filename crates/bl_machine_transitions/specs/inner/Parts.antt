@@ -16,11 +16,11 @@ use Rattle.bl_machine_transitions.specs.declared.transition.Change.TheVariants.{
 use Rattle.bl_machine_transitions.specs.declared.transition.Needed.{Needed}
 use Rattle.bl_machine_transitions.specs.declared.size.Fork.{Fork}
 use Rattle.bl_machine_transitions.specs.declared.size.Size.{Size}
-use Rattle.bl_machine_transitions.specs.Listed.{Layout, body_ends, flagged, fork_nodes, guard_nodes, marked, tested}
+use Rattle.bl_machine_transitions.specs.Listed.{Layout, flagged_rule, fork_nodes, guard_nodes, mark_change, tested_rule, when_body_end}
 use Rattle.bl_machine_transitions.specs.Told.{Acts, Enters, Nothing, NumberedTransition, Resumes, Task, Tests}
 use Rattle.bl_machine_transitions.specs.inner.Joined.{
   all_joined,
-  entered,
+  enter_unless_empty,
   fork_instant,
   fork_of,
   fork_size,
@@ -70,14 +70,14 @@ follow s rest = record {
   empty = false;
   size = then_size s.size rest.size;
   rests = λ layout p. s.rests layout p ++ rest.rests layout (p + s.size.places);
-  rules = λ layout k p next. s.rules layout k p (entered layout rest.empty (k + s.size.nodes) next)
+  rules = λ layout k p next. s.rules layout k p (enter_unless_empty layout rest.empty (k + s.size.nodes) next)
       ++ rest.rules layout (k + s.size.nodes) (p + s.size.places) next;
 }
 
 -- the statements of a block
-abbrev pub block : List Part → Part
-block [] = nothing
-block (s ∷ rest) = follow s (block rest)
+abbrev pub part_of_block : List Part → Part
+part_of_block [] = nothing
+part_of_block (s ∷ rest) = follow s (part_of_block rest)
 
 -- ---- statements
 
@@ -87,12 +87,12 @@ act s = record {
   empty = false;
   size = record { nodes = 1; places = 0; instant = true };
   rests = λ layout p. [];
-  rules = λ layout k p next. flagged layout k (Acts s) (next ∷ []) ∷ [];
+  rules = λ layout k p next. flagged_rule layout k (Acts s) (next ∷ []) ∷ [];
 }
 
 -- a statement that rests at a place, with what is done at its two nodes
-abbrev pub pause : Task → Task → Part
-pause first second = record {
+abbrev pub resting_part : Task → Task → Part
+resting_part first second = record {
   empty = false;
   size = record { nodes = 2; places = 1; instant = false };
   rests = λ layout p. layout.slot p ∷ [];
@@ -100,20 +100,20 @@ pause first second = record {
 }
 
 -- a condition with what is done where it is true, and what else
-abbrev pub choice : Expr → Part → Part → Part
-choice test body other = record {
+abbrev pub condition_part : Expr → Part → Part → Part
+condition_part test body other = record {
   empty = false;
   size = or_size (sized 1 body.size.instant body.size) other.size;
   rests = λ layout p. body.rests layout p ++ other.rests layout (p + body.size.places);
-  rules = λ layout k p next. tested layout k (Tests test) (entered layout body.empty (k + 1) next ∷ [])
-      (entered layout other.empty (k + 1 + body.size.nodes) next ∷ [])
+  rules = λ layout k p next. tested_rule layout k (Tests test) (enter_unless_empty layout body.empty (k + 1) next ∷ [])
+      (enter_unless_empty layout other.empty (k + 1 + body.size.nodes) next ∷ [])
       ∷ (body.rules layout (k + 1) p next ++ other.rules layout (k + 1 + body.size.nodes) (p + body.size.places) next);
 }
 
 -- the arms of an `if`, and what else
 abbrev pub chain : List ArmPart → Part → Part
 chain [] other = other
-chain (arm ∷ rest) other = choice arm.test arm.body (chain rest other)
+chain (arm ∷ rest) other = condition_part arm.test arm.body (chain rest other)
 
 -- the arms rest at what was appended, whatever else there is, whose first place has the second position
 abbrev pub ArmsRest : Layout → List ArmPart → ℕ → ℕ → List Slot → List Slot → Type 0
@@ -127,18 +127,18 @@ ArmsListed layout arms bare k p node place next before after = (other : Part) �
     after ++ other.rules layout node place next ≡ before ++ (chain arms other).rules layout k p next
 
 -- the part of an `if`. No program has one without an arm, which would do its `else` part
-abbrev pub chosen : Place → List ArmPart → Part → Part
-chosen place [] other = choice (never place) other other
-chosen place (arm ∷ rest) other = chain (arm ∷ rest) other
+abbrev pub if_part : Place → List ArmPart → Part → Part
+if_part place [] other = condition_part (never place) other other
+if_part place (arm ∷ rest) other = chain (arm ∷ rest) other
 
 -- a `when`
-abbrev pub guarded : Guard → Expr → Part → Part
-guarded guard e body = record {
+abbrev pub when_part : Guard → Expr → Part → Part
+when_part guard e body = record {
   empty = false;
   size = guarded_size body.size;
   rests = body.rests;
   rules = λ layout k p next. watched layout k p guard (Tests e) body.empty body.size (body.rests layout p) next
-      ++ body.rules layout (k + guard_nodes body.size.instant) p (body_ends layout k body.size.instant);
+      ++ body.rules layout (k + guard_nodes body.size.instant) p (when_body_end layout k body.size.instant);
 }
 
 -- a loop without end
@@ -147,7 +147,7 @@ endless body = record {
   empty = false;
   size = sized 1 false body.size;
   rests = body.rests;
-  rules = λ layout k p next. flagged layout k Nothing (entered layout body.empty (k + 1) (SetFlag (layout.number k)) ∷ [])
+  rules = λ layout k p next. flagged_rule layout k Nothing (enter_unless_empty layout body.empty (k + 1) (SetFlag (layout.number k)) ∷ [])
       ∷ body.rules layout (k + 1) p (SetFlag (layout.number k));
 }
 
@@ -166,7 +166,7 @@ while e body = record {
   empty = false;
   size = sized 1 true body.size;
   rests = body.rests;
-  rules = λ layout k p next. tested layout k (Tests e) (entered layout body.empty (k + 1) (SetFlag (layout.number k)) ∷ []) (next ∷ [])
+  rules = λ layout k p next. tested_rule layout k (Tests e) (enter_unless_empty layout body.empty (k + 1) (SetFlag (layout.number k)) ∷ []) (next ∷ [])
       ∷ body.rules layout (k + 1) p (SetFlag (layout.number k));
 }
 
@@ -178,8 +178,8 @@ forked [] = no_fork
 forked (branch ∷ rest) = join_fork (fork_of branch.weak branch.body.size) (forked rest)
 
 -- how many places stand in a branch, with its end
-abbrev pub places_of : BranchPart → ℕ
-places_of branch = branch.body.size.places + 1
+abbrev pub places_in_branch : BranchPart → ℕ
+places_in_branch branch = branch.body.size.places + 1
 
 -- the numbers at which the first branch rests
 abbrev pub first_rests : Layout → ℕ → List BranchPart → List Slot
@@ -191,24 +191,25 @@ abbrev pub ends : Bool → Layout → ℕ → List BranchPart → List Slot
 ends strong layout p [] = []
 ends strong layout p (branch ∷ rest) =
     if strong && branch.weak
-    then ends strong layout (p + places_of branch) rest
-    else layout.slot p ∷ ends strong layout (p + places_of branch) rest
+    then ends strong layout (p + places_in_branch branch) rest
+    else layout.slot p ∷ ends strong layout (p + places_in_branch branch) rest
 
 -- the ends for which a `cobegin` waits
 abbrev pub needs : Layout → ℕ → List BranchPart → Needed
 needs layout p branches = record { all = (forked branches).strong; slots = ends (forked branches).strong layout p branches }
 
 -- the changes by which branches begin
-abbrev pub begins : Layout → ℕ → ℕ → List BranchPart → List Change
-begins layout k p [] = []
-begins layout k p (branch ∷ rest) =
-    entered layout branch.body.empty k (SetCounter (layout.slot p)) ∷ begins layout (k + branch.body.size.nodes) (p + places_of branch) rest
+abbrev pub entry_changes : Layout → ℕ → ℕ → List BranchPart → List Change
+entry_changes layout k p [] = []
+entry_changes layout k p (branch ∷ rest) =
+    enter_unless_empty layout branch.body.empty k (SetCounter (layout.slot p))
+    ∷ entry_changes layout (k + branch.body.size.nodes) (p + places_in_branch branch) rest
 
 -- the rules of the nodes of branches, in their order, from these positions on
 abbrev pub each : Layout → ℕ → ℕ → List BranchPart → List NumberedTransition
 each layout k p [] = []
 each layout k p (branch ∷ rest) =
-    branch.body.rules layout k (p + 1) (SetCounter (layout.slot p)) ++ each layout (k + branch.body.size.nodes) (p + places_of branch) rest
+    branch.body.rules layout k (p + 1) (SetCounter (layout.slot p)) ++ each layout (k + branch.body.size.nodes) (p + places_in_branch branch) rest
 
 -- a `cobegin`
 abbrev pub cobegin : List BranchPart → Part
@@ -219,7 +220,7 @@ cobegin branches = record {
   rules = λ layout k p next.
       let instant = fork_instant (forked branches) in
       let inner = k + fork_nodes instant in
-      flagged layout k Nothing (marked instant (layout.number k) (begins layout inner p branches))
+      flagged_rule layout k Nothing (mark_change instant (layout.number k) (entry_changes layout inner p branches))
       ∷ (all_joined layout instant k p (forked branches).places (needs layout p branches) next ++ each layout inner p branches);
 }
 
@@ -230,24 +231,24 @@ abbrev pub kind_part : StmtKind-F (Place → Part) ArmPart BranchPart Part → P
 kind_part (StmtKind-F.Declare k initial) place = act (stmt place (StmtKind-F.Declare k initial))
 kind_part (StmtKind-F.Assign path e) place = act (stmt place (StmtKind-F.Assign path e))
 kind_part (StmtKind-F.Call f inputs outputs) place = act (stmt place (StmtKind-F.Call f inputs outputs))
-kind_part (StmtKind-F.Await e) place = pause Nothing (Tests e)
+kind_part (StmtKind-F.Await e) place = resting_part Nothing (Tests e)
 kind_part (StmtKind-F.Run target a inputs outputs) place =
-    pause (Enters place a (arguments_of target inputs outputs)) (Resumes place a (arguments_of target inputs outputs))
-kind_part (StmtKind-F.If arms other) place = chosen place arms (block other)
+    resting_part (Enters place a (arguments_of target inputs outputs)) (Resumes place a (arguments_of target inputs outputs))
+kind_part (StmtKind-F.If arms other) place = if_part place arms (part_of_block other)
 kind_part (StmtKind-F.Cobegin branches) place = cobegin branches
-kind_part (StmtKind-F.When guard e body) place = guarded guard e (block body)
-kind_part (StmtKind-F.Repeat body) place = endless (block body)
-kind_part (StmtKind-F.Until body e) place = until (block body) e
-kind_part (StmtKind-F.While e body) place = while e (block body)
+kind_part (StmtKind-F.When guard e body) place = when_part guard e (part_of_block body)
+kind_part (StmtKind-F.Repeat body) place = endless (part_of_block body)
+kind_part (StmtKind-F.Until body e) place = until (part_of_block body) e
+kind_part (StmtKind-F.While e body) place = while e (part_of_block body)
 kind_part (StmtKind-F.Return e) place = act (stmt place (StmtKind-F.Return e))
 
 -- an arm, from the parts in it
 abbrev pub arm_of : Arm-F (Place → Part) ArmPart BranchPart Part → ArmPart
-arm_of arm = record { test = arm.test; body = block arm.body }
+arm_of arm = record { test = arm.test; body = part_of_block arm.body }
 
 -- a branch, from the parts in it
 abbrev pub branch_of : Branch-F (Place → Part) ArmPart BranchPart Part → BranchPart
-branch_of branch = record { weak = branch.weak; body = block branch.body }
+branch_of branch = record { weak = branch.weak; body = part_of_block branch.body }
 
 -- the part of a statement is that of its kind, at its place
 abbrev pub stmt_of : Stmt-F (Place → Part) ArmPart BranchPart Part → Part

@@ -138,8 +138,8 @@ abbrev pub branch_count : Branch → ℕ
 branch_count = fold-Branch ℕ ℕ ℕ ℕ kind_statement_count arm_statement_count branch_statement_count stmt_layer_count
 
 -- how many statements one statement becomes
-abbrev pub counted : Peeling → Count
-counted s = record { deep = saturated (stmt_count s.deep); front = saturated (statement_count s.front); instant = s.instant }
+abbrev pub peeled_count : Peeling → Count
+peeled_count s = record { deep = saturated (stmt_count s.deep); front = saturated (statement_count s.front); instant = s.instant }
 
 -- how many statements a block becomes
 abbrev pub counted_block : List Peeling → Count

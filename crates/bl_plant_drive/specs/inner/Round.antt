@@ -48,12 +48,12 @@ IsTested inputs first numbers (Err fault.NoMemory) = ⊥
 -- ---- all plants
 
 -- the numbers of seats, one after the other
-abbrev pub numbers_in : List Seat → List ℤ
-numbers_in seats = flat_map (λ seat. seat.columns) seats
+abbrev pub seat_numbers : List Seat → List ℤ
+seat_numbers seats = flat_map (λ seat. seat.columns) seats
 
 -- the numbers of the first k seats are in the ranges of their inputs
 abbrev pub FrontFits : List Column → ℕ → List Seat → Type 0
-FrontFits inputs k seats = in_ranges (types_of (take (length (numbers_in (take k seats))) inputs)) (numbers_in (take k seats)) ≡ true
+FrontFits inputs k seats = in_ranges (types_of (take (length (seat_numbers (take k seats))) inputs)) (seat_numbers (take k seats)) ≡ true
 
 -- a plant has failed; the numbers of those before it are in the ranges of their inputs
 pub record HasFailedIn (s : Scene) (inputs : List Column) (plants : List PlantView) (seats : List Seat) (gone : List Gone) (name : ℕ) : Type 0 where
@@ -69,7 +69,7 @@ pub record IsOutsideIn (s : Scene) (inputs : List Column) (plants : List PlantVi
   pub front : FrontFits inputs k seats
   pub seat : Seat
   pub seat_is : slice_get seats k ≡ Some seat
-  pub outside : IsFirstOutside inputs (length (numbers_in (take k seats))) seat.columns column number
+  pub outside : IsFirstOutside inputs (length (seat_numbers (take k seats))) seat.columns column number
 
 -- memory was refused while plants were asked
 pub record IsShortIn (s : Scene) (plants : List PlantView) (seats : List Seat) (gone : List Gone) : Type 0 where
@@ -79,7 +79,7 @@ pub record IsShortIn (s : Scene) (plants : List PlantView) (seats : List Seat) (
 -- all plants were asked, and their numbers are in the ranges of the inputs
 pub record AreAsked (s : Scene) (inputs : List Column) (plants : List PlantView) (seats : List Seat) (gone : List Gone) : Type 0 where
   pub stands : AskedSoFar s (length seats) plants seats gone
-  pub fit : in_ranges (types_of inputs) (numbers_in seats) ≡ true
+  pub fit : in_ranges (types_of inputs) (seat_numbers seats) ≡ true
 
 -- how a round of asking ends
 abbrev pub RoundEnds : Scene → List Column → List PlantView → List Seat → List Gone → Result (Unit {0}) DriveFault → Type 0

@@ -3,7 +3,7 @@ use Rattle.std.specs.Prelude.{◌≡◌, ℕ, suc, ℤ, pos, true, false, List, 
 use Rattle.std.specs.Prelude.{Result, Ok, Err, nat_eq}
 use Rattle.std.specs.List.{AllByRecursion, list_any}
 use Rattle.bl_plant.specs.Plants.{Gives, IsSame, PlantView}
-use Rattle.bl_plant_drive.specs.Roles.{IsCast, Plays, Role, gone_at, gone_before, inputs_before, last_of, left_in}
+use Rattle.bl_plant_drive.specs.Roles.{IsCast, Plays, Role, gone_at, gone_before, inputs_before, last_row, left_in}
 use Rattle.bl_plant_drive.specs.declared.driven.Gone.{Gone}
 use Rattle.bl_plant_drive.specs.declared.fault.DriveFault.{DriveFault}
 use Rattle.bl_plant_drive.specs.declared.fault.DriveFault.TheVariants as fault
@@ -14,7 +14,7 @@ use Rattle.bl_plant_drive.specs.declared.seat.Seat.{Seat}
 abbrev pub seat_of : Role → Seat
 seat_of r = record {
   name = record { number = r.plant.name };
-  columns = last_of (replicate r.plant.width (pos 0)) r.part.given;
+  columns = last_row (replicate r.plant.width (pos 0)) r.part.given;
   finished = r.part.gone;
 }
 

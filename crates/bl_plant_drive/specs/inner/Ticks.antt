@@ -5,13 +5,13 @@ use Rattle.std.specs.List.{AllByRecursion}
 use Rattle.bl_crun.specs.Running.{Running, after_tick, answer_of, outputs_after, reply_at}
 use Rattle.bl_crun.specs.declared.tick.TickAnswer.{TickAnswer}
 use Rattle.bl_crun.specs.declared.tick.TickAnswer.TheVariants as tick
-use Rattle.bl_plant_drive.specs.Drives.{DriveEnds, DriveIsOver, DriveSetting, IsShort, columns_in, runner_after, trace_over, width_of, widths_of}
+use Rattle.bl_plant_drive.specs.Drives.{DriveEnds, DriveIsOver, DriveSetting, IsShort, columns_in, plant_width, runner_after, trace_over, widths_of}
 use Rattle.bl_plant_drive.specs.Roles.{IsCast, Plays, Role, first_named, gone_before, inputs_before, left_in}
 use Rattle.bl_plant_drive.specs.declared.driven.Driven.{Driven}
 use Rattle.bl_plant_drive.specs.declared.driven.Gone.{Gone}
 use Rattle.bl_plant_drive.specs.declared.fault.DriveFault.{DriveFault}
 use Rattle.bl_plant_drive.specs.declared.seat.Seat.{Seat}
-use Rattle.bl_plant_drive.specs.inner.Round.{RoundEnds, numbers_in}
+use Rattle.bl_plant_drive.specs.inner.Round.{RoundEnds, seat_numbers}
 use Rattle.bl_plant_drive.specs.inner.Stands.{AskedSoFar, Scene, seat_of}
 use Rattle.bl_plant.specs.Plants.{PlantView}
 use Rattle.bl_tree.specs.Ports.{RowsFit, row_fits}
@@ -26,7 +26,7 @@ use Rattle.bl_tree.specs.declared.row.Last.TheVariants as last
 abbrev pub new_seat : List PlantView → ℕ → Seat
 new_seat plants name = record {
   name = record { number = name };
-  columns = replicate (width_of (first_named name plants)) (pos 0);
+  columns = replicate (plant_width (first_named name plants)) (pos 0);
   finished = false;
 }
 
@@ -64,7 +64,7 @@ pub record Goes (s : DriveSetting) (ticks : ℕ) (runner : Running) (plants : Li
 
 -- all plants were asked for the row of inputs, or the round has ended with a fault
 abbrev pub RowEnds : Scene → List Column → List PlantView → List Seat → List Gone → Result (List ℤ) DriveFault → Type 0
-RowEnds s inputs plants seats gone (Ok row) = RoundEnds s inputs plants seats gone (Ok tt) × (row ≡ numbers_in seats)
+RowEnds s inputs plants seats gone (Ok row) = RoundEnds s inputs plants seats gone (Ok tt) × (row ≡ seat_numbers seats)
 RowEnds s inputs plants seats gone (Err e) = RoundEnds s inputs plants seats gone (Err e)
 
 -- ---- told
@@ -111,7 +111,7 @@ AreTold h plants seats (Err e) = (k : ℕ) × ToldSoFar h k plants seats
 -- all plants were asked, and gave the row of inputs
 pub record HasInputs (s : DriveSetting) (plants : List PlantView) (seats : List Seat) (d : Driven) (ins : List ℤ) : Type 0 where
   pub stands : AskedSoFar (scene_of s d) (length seats) plants seats d.gone
-  pub row : ins ≡ numbers_in seats
+  pub row : ins ≡ seat_numbers seats
 
 -- the constants of telling the outputs of this tick to plants
 abbrev pub hearing_of : DriveSetting → Driven → List ℤ → List ℤ → Hearing

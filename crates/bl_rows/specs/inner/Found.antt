@@ -1,7 +1,7 @@
 -- How many records a line was found to have.
 use Rattle.std.specs.Prelude.{ℕ, ◌≡◌, List, [], ◌∷◌, Bool, false, Option, Some, None}
 use Rattle.std.specs.Str.{bytes_eq}
-use Rattle.bl_rows.specs.Fields.{is_number, number_of}
+use Rattle.bl_rows.specs.Fields.{is_this_number, number_of}
 use Rattle.csv.specs.declared.error.ErrorKind.{ErrorKind}
 use Rattle.csv.specs.declared.error.ErrorKind.TheVariants as kind
 use Rattle.bl_rows.specs.declared.found.Found.{Found}
@@ -30,4 +30,4 @@ is_word word (Some field) = bytes_eq field word
 -- whether there is a first field and it is the number of the tick
 abbrev pub starts_with_tick : ℕ → List (List ℕ) → Bool
 starts_with_tick n [] = false
-starts_with_tick n (field ∷ fields) = is_number n (number_of field)
+starts_with_tick n (field ∷ fields) = is_this_number n (number_of field)

@@ -53,8 +53,8 @@ abbrev pub runner_at : Start → Parts → Running
 runner_at start file = record { parts = file; cells = start.cells; ready = start.ready; live = true }
 
 -- the state of a runner
-abbrev pub start_of : Running → Start
-start_of r = record { cells = r.cells; ready = r.ready }
+abbrev pub runner_start : Running → Start
+runner_start r = record { cells = r.cells; ready = r.ready }
 
 -- these bytes were read, their rows have run, and the report of them was written
 pub record RunStands (report : Report) (start : Start) (file : Parts) (read : List ℕ) (before : Option (List ℕ)) (s : Session) (r : Running)

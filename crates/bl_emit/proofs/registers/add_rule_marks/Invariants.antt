@@ -4,4 +4,4 @@ use Rattle.bl_emit_tables.specs.Told.{mark_told}
 use Rattle.bl_emit.proofs.registers.add_rule_marks.Given as goal
 
 abbrev pub invariant-loop-change : goal.invariant-loop-change
-invariant-loop-change l = l.locals ++ joined (map mark_told (drop l.change-index l.so)) ≡ l.initial.locals ++ joined (map mark_told l.so)
+invariant-loop-change l = l.locals ++ joined (map mark_told (drop l.change-index l.on_true)) ≡ l.initial.locals ++ joined (map mark_told l.on_true)

@@ -1,6 +1,6 @@
 use Rattle.std.proofs.Common.{◌≡◌, ◌++◌, map, drop}
 use Rattle.std.specs.Prelude.{option_map}
-use Rattle.bl_emit_acts.specs.Expressions.{arg_of, made_of, step_of, steps_of}
+use Rattle.bl_emit_acts.specs.Expressions.{arg_of, made_of, step_typing, steps_of}
 use Rattle.bl_emit_acts.specs.Sites.{site_in}
 use Rattle.bl_emit_acts.proofs.expressions.+expressions.Given as goal
 
@@ -10,5 +10,5 @@ invariant-arguments-loop-e l =
 
 abbrev pub invariant-steps-loop-part : goal.invariant-steps-loop-part
 invariant-steps-loop-part l =
-    l.steps ++ steps_of (map (step_of (site_in l.site)) (drop l.part-index l.parts)) (option_map (λ ty. ty.now) l.ty)
-    ≡ steps_of (map (step_of (site_in l.site)) l.parts) (option_map (λ ty. ty.now) l.first)
+    l.steps ++ steps_of (map (step_typing (site_in l.site)) (drop l.part-index l.parts)) (option_map (λ ty. ty.now) l.ty)
+    ≡ steps_of (map (step_typing (site_in l.site)) l.parts) (option_map (λ ty. ty.now) l.first)

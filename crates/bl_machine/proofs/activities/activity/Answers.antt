@@ -6,7 +6,7 @@ use Rattle.bl_graph_nodes.specs.Plain.{plain_body}
 use Rattle.bl_machine.specs.Blocks.{Ordered, up_to}
 use Rattle.bl_machine.specs.inner.Laid.{counters_from, laid, widths}
 use Rattle.bl_machine.specs.Layout.{counters_in}
-use Rattle.bl_machine.specs.Slots.{numbered}
+use Rattle.bl_machine.specs.Slots.{numbered_slots}
 use Rattle.bl_machine.proofs.ActivityLemmas.{counters_keep, laid_within, slots_are}
 use Rattle.bl_machine.proofs.OrderLemmas.{one_each, ordered_by_rank, single_blocks}
 use Rattle.bl_machine.proofs.activities.activity.Goals as goal
@@ -24,8 +24,8 @@ numbered-requires c =
     (counters_of_body c.deref-2.result.now _ _ c.deref.result.now c.args.unit.now.body c.deref-2.ensures c.in_ok-width.ensures.counters
     c.new-counters.ensures c.deref.ensures)
 
-pub returns-clause-keeps : goal.returns-clause-keeps
-returns-clause-keeps c =
+pub returns-clause-agrees : goal.returns-clause-agrees
+returns-clause-agrees c =
     let body = c.args.unit.now.body in
     let nodes = c.in_ok-nodes.nodes.items in
     let blocks : c.in_ok-blocks.blocks ≡ one_each nodes = c.in_ok-blocks.ensures ∙ ap one_each c.deref-3.ensures.value in record {
@@ -36,7 +36,7 @@ returns-clause-keeps c =
       slots = are_numbered;
     }
   where
-    are_numbered : c.in_ok-slots.slots ≡ numbered (counters_in (plain_body c.args.unit.now.body) 0)
+    are_numbered : c.in_ok-slots.slots ≡ numbered_slots (counters_in (plain_body c.args.unit.now.body) 0)
     are_numbered =
         slots_are c.plain_statements.ensures c.args.unit.now.body c.deref-2.result.now c.in_ok-slots.slots
         (counters_of_body c.deref-2.result.now _ _ c.deref.result.now c.args.unit.now.body c.deref-2.ensures c.in_ok-width.ensures.counters

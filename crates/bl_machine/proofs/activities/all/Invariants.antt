@@ -5,6 +5,6 @@ use Rattle.bl_machine.proofs.activities.all.Given as goal
 
 abbrev pub invariant-loop-at : goal.invariant-loop-at
 invariant-loop-at l = record {
-  keeps : EachTwo IsActivityOf (activities (take l.at l.program.units)) l.made;
+  agrees : EachTwo IsActivityOf (activities (take l.at l.program.units)) l.made;
   plain : EachTwo IsPlainActivityOf (activities (take l.at l.program.units)) l.made;
 }

@@ -1,13 +1,13 @@
 use Rattle.std.proofs.Common.{◌≡◌, ◌+◌, ◌++◌, map, drop}
 use Rattle.bl_machine_transitions.specs.inner.Joined.{layout_in}
-use Rattle.bl_machine_transitions.specs.inner.Parts.{Part, arm_part, block, chain, part}
+use Rattle.bl_machine_transitions.specs.inner.Parts.{Part, arm_part, chain, part, part_of_block}
 use Rattle.bl_machine_transitions.proofs.rests.+resting.Given as goal
 
 abbrev pub invariant-in_block-loop-s : goal.invariant-in_block-loop-s
 invariant-in_block-loop-s l =
-    (l.at + (block (map part (drop l.s-index l.body))).size.places ≡ l.p + (block (map part l.body)).size.places)
-    × (l.into ++ (block (map part (drop l.s-index l.body))).rests (layout_in l.t) l.at
-    ≡ l.initial.into ++ (block (map part l.body)).rests (layout_in l.t) l.p)
+    (l.at + (part_of_block (map part (drop l.s-index l.body))).size.places ≡ l.p + (part_of_block (map part l.body)).size.places)
+    × (l.into ++ (part_of_block (map part (drop l.s-index l.body))).rests (layout_in l.t) l.at
+    ≡ l.initial.into ++ (part_of_block (map part l.body)).rests (layout_in l.t) l.p)
 
 abbrev pub invariant-in_arms-loop-arm : goal.invariant-in_arms-loop-arm
 invariant-in_arms-loop-arm l = (other : Part) →

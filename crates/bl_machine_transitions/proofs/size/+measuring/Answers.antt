@@ -1,6 +1,6 @@
 use Rattle.std.proofs.Common.{ap, map, refl, sym, ◌∙◌}
 use Rattle.bl_machine_transitions.specs.inner.Joined.{or_size}
-use Rattle.bl_machine_transitions.specs.inner.Parts.{arm_part, block, chain, part}
+use Rattle.bl_machine_transitions.specs.inner.Parts.{arm_part, chain, part, part_of_block}
 use Rattle.bl_machine_transitions.proofs.Loops.{arm_end, arm_next, fork_end, fork_next, none_beside, none_or, none_then, part_some_if, size_end, size_next}
 use Rattle.bl_machine_transitions.proofs.size.+measuring.Goals as goal
 
@@ -43,8 +43,8 @@ pub of_statement-returns-in_ok-size-in-If : goal.of_statement-returns-in_ok-size
 of_statement-returns-in_ok-size-in-If t c =
     c.in_ok-size-in-If.ensures
     ∙ ap (or_size c.in_ok-some-in-If.some)
-    (c.in_ok-rest-in-If.ensures ∙ ap (λ body. (block (map part body)).size) c.deref-else-is_empty.ensures)
-    ∙ c.in_ok-some-in-If.ensures (block (map part c.in-If.other))
-    ∙ ap (λ arms. (chain (map arm_part arms) (block (map part c.in-If.other))).size) c.deref.ensures
+    (c.in_ok-rest-in-If.ensures ∙ ap (λ body. (part_of_block (map part body)).size) c.deref-else-is_empty.ensures)
+    ∙ c.in_ok-some-in-If.ensures (part_of_block (map part c.in-If.other))
+    ∙ ap (λ arms. (chain (map arm_part arms) (part_of_block (map part c.in-If.other))).size) c.deref.ensures
     ∙ sym (ap (λ a. a.size)
     (part_some_if c.args.s.now c.in-If.arms c.in-If.other c.is_empty.result c.in-If.is c.if-is_empty.false c.is_empty.ensures))

@@ -8,9 +8,9 @@ pub in_block-loop-s-preserved : goal.in_block-loop-s-preserved
 in_block-loop-s-preserved t c = (
   left_next c.args.body.now c.loop-s.s-index c.s-item.result c.loop-s.left c.loop-s-test.true c.s-item.is c.loop-s.invariant.0,
   rules_of_next (layout_in c.args.t.now) c.args.body.now c.loop-s.s-index c.s-item.result c.in_ok-size.size c.loop-s.node c.loop-s.place
-      c.in_ok-node.node c.in_ok-place.place c.loop-s.left c.args.next c.entered-so.result (map rule_in c.loop-s.into)
+      c.in_ok-node.node c.in_ok-place.place c.loop-s.left c.args.next c.entered-enters.result (map rule_in c.loop-s.into)
       (map rule_in c.in_statement.new.into) _ c.loop-s-test.true c.s-item.is c.in_ok-size.ensures c.in_ok-node.ensures c.in_ok-place.ensures
-      c.entered-so.ensures c.in_ok-in_statement.ensures c.loop-s.invariant.0 c.loop-s.invariant.1,
+      c.entered-enters.ensures c.in_ok-in_statement.ensures c.loop-s.invariant.0 c.loop-s.invariant.1,
 )
 
 pub in_block-returns : goal.in_block-returns
@@ -24,9 +24,9 @@ in_arms-loop-arm-preserved t c = (
   λ other bare.
       rules_of_arm (layout_in c.args.t.now) c.args.arms.now c.loop-arm.arm-index c.arm-item.result c.as_slice-body.result.now other c.in_ok-size.size
       c.loop-arm.node c.loop-arm.place c.in_ok-inner.inner c.in_ok-node.node c.in_ok-place.place c.loop-arm.left c.is_bare-empty.result
-      c.args.bare c.args.next c.entered-so.result c.entered-otherwise.result (map rule_in c.loop-arm.into) (map rule_in c.put_tested.new.into)
+      c.args.bare c.args.next c.entered-on_true.result c.entered-on_false.result (map rule_in c.loop-arm.into) (map rule_in c.put_tested.new.into)
       (map rule_in c.in_block.new.into) _ c.loop-arm-test.true c.arm-item.is c.as_slice-body.ensures c.in_ok-size.ensures c.in_ok-inner.ensures
-      c.in_ok-node.ensures c.in_ok-place.ensures c.is_bare-empty.ensures bare c.entered-so.ensures c.entered-otherwise.ensures
+      c.in_ok-node.ensures c.in_ok-place.ensures c.is_bare-empty.ensures bare c.entered-on_true.ensures c.entered-on_false.ensures
       c.in_ok-put_tested.ensures c.in_ok-in_block.ensures c.loop-arm.invariant.0 (c.loop-arm.invariant.1 other bare),
 )
 

@@ -10,10 +10,10 @@ use Rattle.bl_peel.specs.inner.Parts.{
   count_cobegin,
   count_repeated,
   count_tested,
-  counted,
   counted_arms,
   counted_block,
   counted_branches,
+  peeled_count,
   peeling_of_arm,
   peeling_of_branch,
 }
@@ -38,7 +38,7 @@ use Rattle.bl_peel.proofs.Equations.{peeling_out}
 use Rattle.bl_peel.proofs.count.+counting.Goals as goal
 
 pub in_statement-returns : goal.in_statement-returns
-in_statement-returns t c = c.in_kind.ensures (out-Stmt c.args.s.now).place ∙ sym (ap counted (peeling_out c.args.s.now))
+in_statement-returns t c = c.in_kind.ensures (out-Stmt c.args.s.now).place ∙ sym (ap peeled_count (peeling_out c.args.s.now))
 
 pub in_arm-returns : goal.in_arm-returns
 in_arm-returns t c = c.in_block.ensures ∙ ap (λ body. counted_block (map peeling body)) c.deref.ensures ∙ arm_counts c.args.arm.now

@@ -1,6 +1,6 @@
 use Rattle.std.proofs.Common.{◌+◌, ◌<◌, ap, arith, length, sym, ◌∙◌}
 use Rattle.bl_plant_drive.specs.declared.seat.Seat.{Seat}
-use Rattle.bl_plant_drive.specs.inner.Round.{numbers_in}
+use Rattle.bl_plant_drive.specs.inner.Round.{seat_numbers}
 use Rattle.bl_plant_drive.proofs.Ends.{asked-passed, tested-passed}
 use Rattle.bl_plant_drive.proofs.Going.{one-more, round-on, round-within, same-seat}
 use Rattle.bl_plant_drive.proofs.Ranges.{front-kept, wide-kept}
@@ -36,7 +36,7 @@ returns-in_err-test_ranges g c = λ s ticks stands.
     c.from_residual-in_err-test_ranges.result c.from_residual-in_err-test_ranges.ensures.1
     (c.in_ok-ask_next.ensures.asked s ticks (c.loop-k.invariant.on s ticks stands))
     (front-kept c.args.inputs.now c.loop-k.k _ c.ask_next.new.seats.items c.in_ok-ask_next.ensures.front c.loop-k.invariant.front) low
-    c.index.ensures (c.loop-k.invariant.first ∙ ap (λ z. length (numbers_in z)) (sym c.in_ok-ask_next.ensures.front))
+    c.index.ensures (c.loop-k.invariant.first ∙ ap (λ z. length (seat_numbers z)) (sym c.in_ok-ask_next.ensures.front))
     c.in_err-test_ranges.ensures
 
 pub overflow_add-first : goal.overflow_add-first

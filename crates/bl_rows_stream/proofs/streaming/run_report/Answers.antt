@@ -1,12 +1,12 @@
 use Rattle.std.proofs.Common.{subst}
 use Rattle.bl_rows.specs.Reading.{most_lines}
 use Rattle.bl_rows_stream.specs.Streams.{Reported}
-use Rattle.bl_rows_stream.specs.inner.Going.{start_of}
+use Rattle.bl_rows_stream.specs.inner.Going.{runner_start}
 use Rattle.bl_rows_stream.proofs.Steps.{bytes-left, reads-none, reported-by, runner-same}
 use Rattle.bl_rows_stream.proofs.streaming.run_report.Goals as goal
 
 pub run_all-requires : goal.run_all-requires
-run_all-requires g c = record { begun = (c.args.report, start_of c.args.runner.now, g.O.Sink.held c.args.out.now, c.in-Ok.ensures.stands) }
+run_all-requires g c = record { begun = (c.args.report, runner_start c.args.runner.now, g.O.Sink.held c.args.out.now, c.in-Ok.ensures.stands) }
 
 pub returns-in-Ok-clause-reported : goal.returns-in-Ok-clause-reported
 returns-in-Ok-clause-reported g c =
@@ -15,7 +15,7 @@ returns-in-Ok-clause-reported g c =
     let before = g.O.Sink.held c.args.out.now in
     subst (λ r. Reported c.args.report r left rest before (g.O.Sink.held c.run_all.new.out) c.run_all.new.runner c.run_all.result)
     (runner-same c.args.runner.now c.requires.live)
-    (c.run_all.ensures.reported c.args.report (start_of c.args.runner.now) before c.in-Ok.ensures.stands)
+    (c.run_all.ensures.reported c.args.report (runner_start c.args.runner.now) before c.in-Ok.ensures.stands)
 
 pub returns-in-Err-clause-reported : goal.returns-in-Err-clause-reported
 returns-in-Err-clause-reported g c =

@@ -6,7 +6,7 @@ use Rattle.std.proofs.Common.{ap, refl, subst, sym, ◌∙◌, ◌∷◌, ◌≡
 use Rattle.bl_cparse_syntax.specs.Follow.{constant_starts}
 use Rattle.bl_cparse_syntax.specs.Classes.Class.{exactly}
 use Rattle.bl_cparse.proofs.ExprOpening.{false_passed, least_passed, true_passed}
-use Rattle.bl_cparse_syntax.specs.Pieces.{first_of}
+use Rattle.bl_cparse_syntax.specs.Pieces.{first_piece}
 use Rattle.bl_cparse_syntax.specs.Tables.{has}
 use Rattle.bl_cparse.specs.inner.Reading.{least_starts, part}
 use Rattle.bl_cparse.specs.Places.{WantsMemory}
@@ -31,9 +31,9 @@ pub returns-clause-follows : goal.returns-clause-follows
 returns-clause-follows c = λ room rest e. let same : c.eat-2.new.self ≡ c.args.r.now =
     c.eat-2.ensures.no c.if-eat-2.false ∙ c.eat.ensures.no c.if-eat.false in
     widened {A = CExprKind} {E = CRefusal} (λ x. Expects rest c.bracketed_constant.new.r) WantsMemory c.bracketed_constant.result
-    (λ k. no_literal (first_of c.args.r.now) (no_plain (first_of c.args.r.now) (sym c.eat.ensures.is ∙ c.if-eat.false)
-    (ap (λ (ts : List Token). matches (exactly (codes "false")) (first_of ts)) (sym (c.eat.ensures.no c.if-eat.false))
-    ∙ (sym c.eat-2.ensures.is ∙ c.if-eat-2.false)) (ap (λ (ts : List Token). has least_starts (first_of ts)) (sym same)
+    (λ k. no_literal (first_piece c.args.r.now) (no_plain (first_piece c.args.r.now) (sym c.eat.ensures.is ∙ c.if-eat.false)
+    (ap (λ (ts : List Token). matches (exactly (codes "false")) (first_piece ts)) (sym (c.eat.ensures.no c.if-eat.false))
+    ∙ (sym c.eat-2.ensures.is ∙ c.if-eat-2.false)) (ap (λ (ts : List Token). has least_starts (first_piece ts)) (sym same)
     ∙ (rw c.piece.ensures at (c.in_default.ensures.none refl))))
-    (ap (λ (ts : List Token). has constant_starts (first_of ts)) (sym same) ∙ k))
+    (ap (λ (ts : List Token). has constant_starts (first_piece ts)) (sym same) ∙ k))
     (c.bracketed_constant.ensures.follows room rest (subst (λ (ts : List Token). Expects (part Simple room ∷ rest) ts) (sym same) e))

@@ -1,8 +1,9 @@
 use Rattle.std.proofs.Common.{◌≡◌, drop, map}
 use Rattle.bl_tree.specs.Reduce.{joined}
 use Rattle.bl_ctext.specs.Spelling.{member_tokens}
-use Rattle.bl_cparse.specs.HasPlaces.{past}
+use Rattle.bl_cparse.specs.HasPlaces.{behind_tokens}
 use Rattle.bl_cparse.proofs.placing.item.members.Given as goal
 
 abbrev pub invariant-loop-one : goal.invariant-loop-one
-invariant-loop-one l = past (joined (map member_tokens (drop l.one-index l.members))) l.spot ≡ past (joined (map member_tokens l.members)) l.fn.spot
+invariant-loop-one l = behind_tokens (joined (map member_tokens (drop l.one-index l.members))) l.spot
+    ≡ behind_tokens (joined (map member_tokens l.members)) l.fn.spot

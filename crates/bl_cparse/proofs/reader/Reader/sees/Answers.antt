@@ -1,5 +1,5 @@
 use Rattle.std.proofs.Common.{◌∙◌, refl}
-use Rattle.bl_cparse_syntax.specs.Pieces.{is_same, first_of}
+use Rattle.bl_cparse_syntax.specs.Pieces.{is_same, first_piece}
 use Rattle.bl_cparse_syntax.specs.Classes.{matches}
 use Rattle.bl_cparse.proofs.TokenLemmas.{same_other}
 use Rattle.bl_cparse.proofs.reader.Reader.sees.Goals as goal
@@ -10,4 +10,4 @@ returns-clause-same c = c.eq.ensures ∙ rw (c.piece.ensures, c.as_bytes.ensures
 
 pub returns-clause-is : goal.returns-clause-is
 unfolding is_same matches
-returns-clause-is c = c.eq.ensures ∙ rw (c.piece.ensures, c.as_bytes.ensures.value) (same_other (first_of c.args.self.now) c.args.what.now)
+returns-clause-is c = c.eq.ensures ∙ rw (c.piece.ensures, c.as_bytes.ensures.value) (same_other (first_piece c.args.self.now) c.args.what.now)

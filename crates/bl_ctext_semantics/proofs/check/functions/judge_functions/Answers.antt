@@ -1,5 +1,5 @@
 use Rattle.std.proofs.Common.{◌≡◌, ℕ, ◌+◌, ◌∷◌, List, drop, refl, ap, ◌∙◌}
-use Rattle.bl_ctext_semantics.specs.inner.Checked.{functions_of, structs_of}
+use Rattle.bl_ctext_semantics.specs.inner.Checked.{checked_structs, functions_of}
 use Rattle.bl_ctext_semantics.specs.Faults.{depth_of_function, signature_in}
 use Rattle.bl_ctext_semantics.specs.inner.Maps.{text_at}
 use Rattle.bl_ctext_semantics.specs.Tables.{with_entry}
@@ -23,6 +23,7 @@ loop-k-preserved c =
     (signature_in f) refl c.in_ok-add-2.ensures asked
     ∙ ap (λ n. with_entry (functions_of c.loop-k.functions) n (signature_in f) asked) c.as_str-in-loop-k.ensures in
     rw (c.earlier-first.ensures, c.in_ok-here.ensures)
-    (function-next (structs_of c.args.structs.now) (functions_of c.loop-k.functions) (functions_of c.add-in-loop-k.new.map) depths (text_at c.add.new.map) _
+    (function-next (checked_structs c.args.structs.now) (functions_of c.loop-k.functions) (functions_of c.add-in-loop-k.new.map) depths
+    (text_at c.add.new.map) _
     rest f _ c.loop-k.first _
     step (behind c.args.list.now c.loop-k.k c.loop-k-test.true) more deeper c.loop-k.invariant)

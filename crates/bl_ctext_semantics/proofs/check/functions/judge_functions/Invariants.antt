@@ -1,5 +1,5 @@
 use Rattle.std.proofs.Common.{◌≡◌, drop}
-use Rattle.bl_ctext_semantics.specs.inner.Checked.{functions_of, structs_of}
+use Rattle.bl_ctext_semantics.specs.inner.Checked.{checked_structs, functions_of}
 use Rattle.bl_ctext_semantics.specs.Faults.{earlier_of, first_place, function_faults_after}
 use Rattle.bl_ctext_semantics.specs.inner.Maps.{text_at}
 use Rattle.bl_ctext_semantics.specs.Tables.{no_entries}
@@ -7,5 +7,5 @@ use Rattle.bl_ctext_semantics.proofs.check.functions.judge_functions.Given as go
 
 abbrev pub invariant-loop-k : goal.invariant-loop-k
 invariant-loop-k l =
-    earlier_of l.first (first_place (function_faults_after (structs_of l.structs) (functions_of l.functions) (text_at l.depths) (drop l.k l.list)))
-    ≡ first_place (function_faults_after (structs_of l.structs) no_entries no_entries l.list)
+    earlier_of l.first (first_place (function_faults_after (checked_structs l.structs) (functions_of l.functions) (text_at l.depths) (drop l.k l.list)))
+    ≡ first_place (function_faults_after (checked_structs l.structs) no_entries no_entries l.list)

@@ -1,11 +1,11 @@
 use Rattle.std.proofs.Common.{ap, sym, ◌∙◌, Err, append-nil, ◌++◌}
-use Rattle.bl_rows.specs.Reading.{Reading, answer_of}
+use Rattle.bl_rows.specs.Reading.{Reading, call_answer}
 use Rattle.bl_rows.proofs.Pieces.{unrefused_by, stopped_fault, stopped_rows, stopped_cut, answered_cut, answered_joins}
 use Rattle.bl_rows.proofs.rows.Rows.feed.Goals as goal
 
 pub returns-in-Some-clause-answer : goal.returns-in-Some-clause-answer
 returns-in-Some-clause-answer c = unrefused_by (Err c.in-Some.fault)
-    (ap answer_of (sym (stopped_fault c.args.self.now c.args.piece.now c.in-Some.fault (sym (ap (λ (r : Reading). r.stop) c.self.view_is) ∙ c.in-Some.is))))
+    (ap call_answer (sym (stopped_fault c.args.self.now c.args.piece.now c.in-Some.fault (sym (ap (λ (r : Reading). r.stop) c.self.view_is) ∙ c.in-Some.is))))
 
 pub returns-in-Some-clause-rows : goal.returns-in-Some-clause-rows
 returns-in-Some-clause-rows c = unrefused_by (Err c.in-Some.fault)
