@@ -1,10 +1,13 @@
 -- The plants of this crate: what they show when they are made, and their rules.
-use Rattle.std.specs.Prelude.{◌≡◌, ℕ, ℤ, pos, neg_ℤ, ◌+ℤ◌, ◌-ℤ◌, ◌^◌, ◌-◌, List, []}
+use Rattle.std.specs.Prelude.{◌≡◌, ℕ, ℤ, pos, neg_ℤ, ◌+ℤ◌, ◌-ℤ◌, ◌^◌, ◌+◌, ◌-◌, List, []}
 use Rattle.std.specs.Prelude.{◌∷◌, length, fold, nat_lt, if◌then◌else◌, slice_get}
 use Rattle.std.specs.Prelude.{slice_index_or, Option, Some, None}
 use Rattle.std.specs.Int.{int_max, int_min}
-use Rattle.bl_plant.specs.Plants.{PlantView}
+use Rattle.bl_io.specs.Count.{count_up}
+use Rattle.bl_plant.specs.Plants.{PlantView, with_given}
 use Rattle.bl_plant.specs.declared.log.Log.{Log}
+use Rattle.bl_plant.specs.declared.plant.Give.{Give}
+use Rattle.bl_plant.specs.declared.plant.Give.TheVariants as give
 use Rattle.bl_plant.specs.declared.script.Turn.{Turn}
 use Rattle.bl_plant.specs.declared.script.Turn.TheVariants as turn
 
@@ -71,3 +74,30 @@ script_rule turns log = slice_get (rows_in turns) (length log.given)
 -- a script that has this log and so many faults
 abbrev pub script : ℕ → ℕ → List Turn → Log → ℕ → PlantView
 script name width turns log faults = record { name = name; width = width; log = log; faults = faults; rule = Some (script_rule turns) }
+
+-- where a script is: how many turns it has taken, what it gave and was told, and its count of faults
+pub record ScriptState : Type 0 where
+  pub taken : ℕ
+  pub log : Log
+  pub faults : ℕ
+
+-- a script that has given this row in its turn
+abbrev pub turn_given : ScriptState → List ℤ → ScriptState
+turn_given s row = record { taken = s.taken + 1; log = with_given s.log row; faults = s.faults }
+
+-- a script that has failed in its turn
+abbrev pub turn_failed : ScriptState → ScriptState
+turn_failed s = record { taken = s.taken + 1; log = s.log; faults = count_up s.faults }
+
+-- the answer to whom asks in a turn that gives a row: the row comes, or memory is refused and the turn is still to be taken
+abbrev pub AnswersRow : ScriptState → List ℤ → Give → List ℤ → ScriptState → Type 0
+AnswersRow before row give.Gave into after = (into ≡ row) × (after ≡ turn_given before row)
+AnswersRow before row give.Finished into after = ⊥
+AnswersRow before row give.Failed into after = ⊥
+AnswersRow before row give.NoMemory into after = after ≡ before
+
+-- the answer to whom asks a script that has reached this turn, and where it is then; past its last turn it has finished
+abbrev pub AnswersTurn : Option Turn → ScriptState → Give → List ℤ → ScriptState → Type 0
+AnswersTurn None before answer into after = (answer ≡ give.Finished) × (after ≡ before)
+AnswersTurn (Some turn.Fail) before answer into after = (answer ≡ give.Failed) × (after ≡ turn_failed before)
+AnswersTurn (Some (turn.Give row)) before answer into after = AnswersRow before row answer into after

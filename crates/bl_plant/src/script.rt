@@ -1,7 +1,8 @@
 //! A plant that does what it is told to, for tests.
 
-ghost use Rattle.std.specs.Prelude.{◌≡◌, ◌≤◌, length, take};
-ghost use Rattle.bl_plant.specs.Kinds.{AreWide, no_log, rows_in, script};
+ghost use Rattle.std.specs.Prelude.{◌≡◌, ◌≤◌, length, slice_get, take};
+ghost use Rattle.bl_plant.specs.Kinds.{AnswersTurn, AreWide, no_log, rows_in, script};
+ghost use Rattle.bl_plant.specs.Plants.{Gives, IsTold};
 
 use crate::log::{Log, PlantName};
 use crate::plant::{Give, Plant};
@@ -37,7 +38,9 @@ impl Script {
     /// A script that was never asked, whose rows all have this width.
     pub fn new(alloc: Global, name: PlantName, width: u32, turns: List<Turn>) -> Script
         requires { AreWide width turns }
-        ensures { ⟦<Script as Plant>⟧.shown result ≡ script name.number width turns no_log 0 }
+        ensures shown { ⟦<Script as Plant>⟧.shown result ≡ script name.number width turns no_log 0 }
+        ensures turns { result.turns ≡ turns }
+        ensures taken { result.taken ≡ 0 }
     {
         Script {
             alloc,
@@ -69,7 +72,18 @@ impl Plant for Script {
         &self.log
     }
 
-    fn give(&mut self, into: &mut Row) -> Give {
+    fn give(&mut self, into: &mut Row) -> Give
+        requires { length into.old ≡ self.old.width }
+        ensures length { length into.new ≡ length into.old }
+        ensures gives { Gives (script self.old.name.number self.old.width self.old.turns self.old.log self.old.faults) result into.new
+            (script self.new.name.number self.new.width self.new.turns self.new.log self.new.faults) }
+
+        // Which answer comes, by the turn that was reached, and which turn comes next.
+        ensures turns { self.new.turns ≡ self.old.turns }
+        ensures turn { AnswersTurn (slice_get self.old.turns self.old.taken)
+            (record { taken = self.old.taken; log = self.old.log; faults = self.old.faults }) result into.new
+            (record { taken = self.new.taken; log = self.new.log; faults = self.new.faults }) }
+    {
         if self.taken >= self.turns.len() {
             return Give::Finished;
         }
@@ -89,7 +103,12 @@ impl Plant for Script {
         }
     }
 
-    fn told(&mut self, outs: &Row) -> Result<(), NoMemory> {
+    fn told(&mut self, outs: &Row) -> Result<(), NoMemory>
+        ensures told { IsTold (script self.old.name.number self.old.width self.old.turns self.old.log self.old.faults) outs.now result
+            (script self.new.name.number self.new.width self.new.turns self.new.log self.new.faults) }
+        ensures turns { self.new.turns ≡ self.old.turns }
+        ensures taken { self.new.taken ≡ self.old.taken }
+    {
         keep_told(self.alloc, &mut self.log, outs)
     }
 }

@@ -1,12 +1,17 @@
 //! Each kind of plant, asked and told a few times.
 
-use bl_plant::{Give, Plant, PlantName, Ramp, Tank};
-use bl_tree::{NoMemory, Row};
+ghost use Rattle.std.specs.Prelude.{◌≡◌, length, IfOk};
+ghost use Rattle.bl_plant.specs.Kinds.{AreWide};
+
+use bl_plant::{Give, Plant, PlantName, Ramp, Script, Tank, Turn};
+use bl_tree::{List, NoMemory, Row};
 use std::alloc::Global;
 use std::test::Fail;
 
 /// A row of one number.
-fn one(alloc: Global, number: i128) -> Result<Row, NoMemory> {
+fn one(alloc: Global, number: i128) -> Result<Row, NoMemory>
+    ensures { IfOk result (λ row. length row ≡ 1) }
+{
     let mut row = Row::new(alloc, 1)?;
     if row.len() == 1 {
         row.set(0, number);
@@ -76,5 +81,50 @@ fn a_ramp_grows(rt: HostRuntime) -> Result<(), Fail> {
         asked(rt.alloc(), &mut last).ok().flatten(),
         Some(i128::from(i64::MAX))
     );
+    Ok(())
+}
+
+/// Turns that give a row, fail, and give another row.
+fn turns_around_a_failure(alloc: Global, first: Row, last: Row) -> Result<List<Turn>, NoMemory>
+    requires first { length first ≡ 1 }
+    requires last { length last ≡ 1 }
+    ensures { IfOk result (λ turns. AreWide 1 turns) }
+{
+    let mut turns = List::new(alloc);
+    turns.push(Turn::Give(first))?;
+    turns.push(Turn::Fail)?;
+    turns.push(Turn::Give(last))?;
+    Ok(turns)
+}
+
+/// A script of name 5 that gives a number, fails, and gives another number.
+fn script_around_a_failure(alloc: Global, first: i128, last: i128) -> Result<Script, NoMemory> {
+    let first = one(alloc, first)?;
+    let last = one(alloc, last)?;
+    let turns = turns_around_a_failure(alloc, first, last)?;
+    Ok(Script::new(alloc, PlantName { number: 5 }, 1, turns))
+}
+
+/// How a plant answers, and what then is in the row of one column.
+fn answered<P: Plant>(alloc: Global, plant: &mut P) -> Result<(Give, i128), NoMemory> {
+    let mut row = Row::new(alloc, plant.width())?;
+    let answer = plant.give(&mut row);
+    Ok((answer, if row.len() == 1 { row.at(0) } else { 0 }))
+}
+
+#[test]
+fn a_script_takes_each_turn_once(rt: HostRuntime) -> Result<(), Fail> {
+    let made = script_around_a_failure(rt.alloc(), 4, 7);
+    let mut script = made.ok().ok_or("no memory")?;
+    for answer in [
+        (Give::Gave, 4),
+        (Give::Failed, 0),
+        (Give::Gave, 7),
+        (Give::Finished, 0),
+        (Give::Finished, 0),
+    ] {
+        assert_eq!(rt; answered(rt.alloc(), &mut script).ok(), Some(answer));
+    }
+    assert_eq!(rt; script.log().given.len(), 2);
     Ok(())
 }
