@@ -67,6 +67,14 @@ impl Rows {
         })
     }
 
+    /// How many whole lines it has read.
+    pub fn lines(&self) -> u32
+        ensures lines { result ≡ self.now.at.lines }
+        ensures few { result ≤ 1000000 }
+    {
+        self.at.lines
+    }
+
     /// Reads on, and appends the rows of the lines that become whole. A fault comes at the first bad line: at its line
     /// feed, or already at the first byte past a limit. It comes again at every later call, want of memory too.
     pub fn feed(&mut self, piece: &[u8], into: &mut Vec<Row>) -> Result<(), RowFault>

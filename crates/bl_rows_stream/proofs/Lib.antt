@@ -4,6 +4,7 @@ pub mod PieceEnds
 pub mod Reaches
 pub mod Readers
 pub mod RowLoop
+pub mod Steadily
 pub mod Steps
 pub mod Takings
 pub mod Texts

@@ -130,7 +130,7 @@ module _ (report : Report) (start : Start) (read piece : List ℕ) (before now n
 
     stands-on : last ≡ Open → fault ≡ None → RunStands report start r.parts (read ++ piece) before s2 r2 now2
     stands-on e none = record {
-      fed = fed-more (inputs_of r.parts) read piece s.reader s2.reader stands.fed (sym found ∙ none) cuts (joins none) unended;
+      fed = fed-more (inputs_of r.parts) read piece s.reader s2.reader stands.fed (sym found ∙ none) (state none) cuts (joins none) unended;
       runs =
           after e ∙ ap (λ q. after_rows q rows) stands.runs
           ∙ sym (after-more (runner_at start r.parts) (rows_in (empty_reading (inputs_of r.parts)) read) rows)

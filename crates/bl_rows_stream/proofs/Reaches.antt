@@ -29,7 +29,8 @@ use Rattle.std.specs.Prelude.{nat_le, nat_lt, if◌then◌else◌, ◌==◌}
 use Rattle.std.proofs.lemmas.Bool.Decides.{nat_tests}
 use Rattle.bl_tree.specs.declared.row.Column.{Column}
 use Rattle.bl_rows.specs.Fields.{records_in}
-use Rattle.bl_rows.specs.Lines.{Cut, cut, last_line, led_by_byte, lines_of, unfinished, whole_lines}
+use Rattle.bl_rows.specs.Lines.{Cut, cut, has_feed, last_line, led_by_byte, lines_of, unfinished, whole_lines}
+use Rattle.bl_rows.proofs.Cuts.{cut_append, cut_other, lines_append, or_false, unfinished_feedless}
 use Rattle.bl_rows.specs.Reading.{
   Reading,
   Scan,
@@ -209,3 +210,67 @@ few-lines ins read good =
     let count = scan-count ins at_start (whole_lines read) later.0 in
     let room = last-room (scanned (empty_reading ins) read).at (unfinished read) low later.1 in
     let long = length-append (whole_lines read) (last_line (unfinished read)) in omega (arith, count, room, long)
+
+-- the lines that are whole once a good piece was read, and the bytes after them
+pub lines-on : (s s2 : Reading) (read piece : List ℕ) → s.at.lines ≡ length (whole_lines read) → s.line ≡ unfinished read → fault_in s piece ≡ None →
+    s2 ≡ read_on s piece → s2.at.lines ≡ length (whole_lines (read ++ piece))
+unfolding read_on
+lines-on s s2 read piece lines line good is =
+    let both : whole_lines (read ++ piece) ≡ whole_lines read ++ whole_lines (unfinished read ++ piece) =
+    ap (λ (c : Cut). c.whole) (cut_append read piece) in
+    ap (λ (r : Reading). r.at.lines) is ∙ scan-count s.columns s.at (whole_lines (s.line ++ piece)) (scanned-good s piece good)
+    ∙ ap (λ n. n + length (whole_lines (s.line ++ piece))) lines
+    ∙ ap (λ l. length (whole_lines read) + length (whole_lines (l ++ piece))) line
+    ∙ sym (ap length both ∙ length-append (whole_lines read) (whole_lines (unfinished read ++ piece)))
+
+pub line-on : (s s2 : Reading) (read piece : List ℕ) → s.line ≡ unfinished read → s2 ≡ read_on s piece → s2.line ≡ unfinished (read ++ piece)
+unfolding read_on
+line-on s s2 read piece line is =
+    ap (λ (r : Reading). r.line) is ∙ ap (λ l. unfinished (l ++ piece)) line ∙ sym (ap (λ (c : Cut). c.rest) (cut_append read piece))
+
+-- ---- how many lines a piece begins
+
+many-bytes : (lines : List (List ℕ)) → length lines ≤ bytes_in lines
+many-bytes [] = omega arith
+many-bytes (line ∷ lines) = let few = many-bytes lines in omega (arith, few)
+
+one-line : (rest : List ℕ) → length (last_line rest) ≤ length rest
+one-line [] = omega arith
+one-line (b ∷ rest) = omega arith
+
+-- each byte begins one at most
+lines-short : (bytes : List ℕ) → length (lines_of bytes) ≤ length bytes
+lines-short bytes =
+    let size = cut-size bytes in
+    let few = many-bytes (whole_lines bytes) in
+    let last = one-line (unfinished bytes) in
+    let both = length-append (whole_lines bytes) (last_line (unfinished bytes)) in
+    omega (arith, size, few, last, both)
+
+led-lines : (b : ℕ) (whole : List (List ℕ)) (rest : List ℕ) (n : ℕ) → 1 ≤ n → length (whole ++ last_line rest) ≤ n →
+    length ((led_by_byte b whole rest).whole ++ last_line (led_by_byte b whole rest).rest) ≤ n
+led-lines b [] rest n one few = one
+led-lines b (line ∷ lines) rest n one few = few
+
+-- bytes of an unfinished line come before them
+behind-lines : (line bytes : List ℕ) (n : ℕ) → has_feed line ≡ false → 1 ≤ n → length (lines_of bytes) ≤ n → length (lines_of (line ++ bytes)) ≤ n
+behind-lines [] bytes n none one few = few
+behind-lines (b ∷ line) bytes n none one few =
+    let tests = or_false (b == 10) (has_feed line) none in
+    subst (λ (c : Cut). length (c.whole ++ last_line c.rest) ≤ n) (sym (cut_other b (line ++ bytes) tests.0))
+    (led-lines b (whole_lines (line ++ bytes)) (unfinished (line ++ bytes)) n one (behind-lines line bytes n tests.1 one few))
+
+lines-by : (read piece : List ℕ) (most n : ℕ) → 1 ≤ n → length piece ≤ n → length (whole_lines read) + n ≤ most + 1 →
+    length (lines_of (read ++ piece)) ≤ most + 1
+lines-by read piece most n one long fits =
+    let short = lines-short piece in
+    let more = behind-lines (unfinished read) piece n (unfinished_feedless read) one (omega (arith, short, long)) in
+    let same = ap length (lines_append read piece) in
+    let both = length-append (whole_lines read) (lines_of (unfinished read ++ piece)) in
+    omega (arith, more, same, both, fits)
+
+-- a piece that has no more bytes than lines may still begin
+pub piece-lines : (read piece : List ℕ) (most : ℕ) → length (whole_lines read) ≤ most → length (whole_lines read) + length piece ≤ most + 1 →
+    length (lines_of (read ++ piece)) ≤ most + 1
+piece-lines read [] most few fits = lines-by read [] most 1 (omega arith) (omega arith) (omega (arith, few))
+piece-lines read (b ∷ piece) most few fits = lines-by read (b ∷ piece) most (length (b ∷ piece)) (omega arith) (omega arith) fits

@@ -25,11 +25,12 @@ use Rattle.std.proofs.Common.{
 }
 use Rattle.std.specs.List.{list_all}
 use Rattle.bl_tree.specs.declared.row.Column.{Column}
-use Rattle.bl_rows.specs.Reading.{Reading, RowsRead, empty_reading, fault_in, led_by_rows, rows_after, rows_in, rows_of}
+use Rattle.bl_rows.specs.Reading.{Reading, RowsRead, empty_reading, fault_in, led_by_rows, read_on, rows_after, rows_in, rows_of}
 use Rattle.bl_rows.specs.declared.fault.RowFault.{RowFault}
 use Rattle.bl_rows_stream.specs.inner.Going.{HasFed}
 use Rattle.bl_tree.specs.Ports.{RowsFit, row_fits}
 use Rattle.bl_rows_stream.proofs.Fits.{and-both, and-left, and-right, fit-later, told-few, told-fits}
+use Rattle.bl_rows_stream.proofs.Reaches.{line-on, lines-on}
 
 pub none-in : (ins : List Column) → rows_in (empty_reading ins) [] ≡ []
 unfolding rows_in
@@ -47,6 +48,8 @@ fed-first ins s is tells = record {
   fault = λ more. ap (λ (r : Reading). fault_in r more) (sym is);
   good = good-none ins;
   running = ap (λ (r : Reading). r.ended) is;
+  lines = ap (λ (r : Reading). r.at.lines) is;
+  line = ap (λ (r : Reading). r.line) is;
 }
 
 -- what a file tells whose next bytes are a piece
@@ -59,11 +62,11 @@ told-more ins read piece rest s s2 fed cuts =
     (sym (append_assoc (rows_in (empty_reading ins) read) (rows_in s piece) (rows_after s2 rest).rows))
 
 -- a piece without a fault
-pub fed-more : (ins : List Column) (read piece : List ℕ) (s s2 : Reading) → HasFed ins read s → fault_in s piece ≡ None →
+pub fed-more : (ins : List Column) (read piece : List ℕ) (s s2 : Reading) → HasFed ins read s → fault_in s piece ≡ None → s2 ≡ read_on s piece →
     ((rest : List ℕ) → rows_after s (piece ++ rest) ≡ led_by_rows (rows_in s piece) (rows_after s2 rest)) →
     ((more : List ℕ) → (rows_in s (piece ++ more) ≡ rows_in s piece ++ rows_in s2 more) × (fault_in s (piece ++ more) ≡ fault_in s2 more)) →
     s2.ended ≡ false → HasFed ins (read ++ piece) s2
-fed-more ins read piece s s2 fed good cuts joins running = record {
+fed-more ins read piece s s2 fed good on cuts joins running = record {
   told = λ rest. told-more ins read piece rest s s2 fed (cuts rest) ∙ ap (λ rows. led_by_rows rows (rows_after s2 rest)) (sym (fed.rows piece));
   rows = λ more.
       ap (rows_in (empty_reading ins)) (append_assoc read piece more) ∙ fed.rows (piece ++ more) ∙ ap (λ rows. rows_in (empty_reading ins) read ++ rows) (joins more).0
@@ -71,6 +74,8 @@ fed-more ins read piece s s2 fed good cuts joins running = record {
   fault = λ more. ap (fault_in (empty_reading ins)) (append_assoc read piece more) ∙ fed.fault (piece ++ more) ∙ (joins more).1;
   good = fed.fault piece ∙ good;
   running = running;
+  lines = lines-on s s2 read piece fed.lines fed.line good on;
+  line = line-on s s2 read piece fed.line on;
 }
 
 -- ---- rows that a piece makes whole, or that the file's end does

@@ -2,6 +2,7 @@
 use Rattle.std.proofs.Common.{
   ◌≡◌,
   ℕ,
+  ◌+◌,
   ◌≤◌,
   ◌⊎◌,
   true,
@@ -24,14 +25,16 @@ use Rattle.std.proofs.Common.{
   arith,
   append_assoc,
   append-nil,
+  length-append,
 }
-use Rattle.std.proofs.lemmas.List.{length-take-le, take-append-drop}
+use Rattle.std.proofs.lemmas.List.{length-take-le, take-append-drop, take-append-le}
 use Rattle.bl_ctext_semantics.specs.Cells.{inputs_of, outputs_of}
 use Rattle.bl_ctext_semantics.specs.Parts.{Parts}
 use Rattle.bl_crun.specs.Running.{Running}
 use Rattle.bl_io.specs.Held.{Appends}
 use Rattle.bl_io.specs.Left.{HandsOver, IsNext}
 use Rattle.bl_io.proofs.Held.{Appends-nothing}
+use Rattle.bl_rows.specs.Lines.{last_line, lines_of, unfinished, whole_lines}
 use Rattle.bl_rows.specs.Reading.{Reading, empty_reading, fault_in, most_lines, rows_of}
 use Rattle.bl_io.specs.declared.pieces.TheConstants.{PIECE}
 use Rattle.bl_rows.specs.declared.fault.RowFault.{RowFault}
@@ -83,7 +86,7 @@ use Rattle.bl_rows_stream.specs.declared.pieces.Session.{Session}
 use Rattle.bl_rows_stream.specs.declared.ticks.Report.{Report}
 use Rattle.bl_rows_stream.specs.declared.ticks.Report.TheVariants as kind
 use Rattle.bl_rows_stream.proofs.PieceEnds.{refused}
-use Rattle.bl_rows_stream.proofs.Reaches.{few-lines}
+use Rattle.bl_rows_stream.proofs.Reaches.{few-lines, piece-lines}
 use Rattle.bl_rows_stream.proofs.Readers.{none-in}
 use Rattle.bl_rows_stream.proofs.Texts.{Begins, front-all, front-more, trace-text}
 use Rattle.bl_rows_stream.proofs.Traces.{trace-none}
@@ -177,30 +180,42 @@ goes-unread report start every before left now rest s r going same =
 pub reads-none : (most : ℕ) (left : Option (List ℕ)) → ReadsLines most left left
 reads-none most None = tt
 reads-none most (Some bytes) =
-    record { read = []; piece = []; rest = bytes; are = refl; few = omega arith; short = omega arith; left = refl }
+    record { read = []; piece = []; rest = bytes; are = refl; few = omega arith; short = omega arith; within = omega arith; left = refl }
+
+-- bytes are handed over into a room of which a front was given
+pub hands-front : (left left2 : Option (List ℕ)) (n : ℕ) (room behind : List ℕ) → n ≤ length room → HandsOver left n room left2 →
+    HandsOver left n (room ++ behind) left2
+hands-front None left2 n room behind low next = tt
+hands-front (Some bytes) left2 n room behind low next =
+    record { within = next.within; front = take-append-le n room behind low ∙ next.front; rest = next.rest; at_end = next.at_end }
 
 -- the piece behind what was read so far, or none
-pub reads-piece : (ins : List Column) (every left left2 : Option (List ℕ)) (read room : List ℕ) (n size : ℕ) → HasRead every read left →
-    fault_in (empty_reading ins) read ≡ None → n ≤ size → size ≤ PIECE → HandsOver left n room left2 → ReadsLines most_lines every left2
-reads-piece ins None left left2 read room n size so good within short next = tt
-reads-piece ins (Some bytes) left left2 read room n size so good within short next =
+pub reads-piece : (ins : List Column) (every left left2 : Option (List ℕ)) (read room : List ℕ) (n size : ℕ) (s : Reading) → HasRead every read left →
+    HasFed ins read s → n ≤ size → size ≤ PIECE → s.at.lines + n ≤ 1000001 → HandsOver left n room left2 → ReadsLines most_lines every left2
+reads-piece ins None left left2 read room n size s so fed within short fits next = tt
+reads-piece ins (Some bytes) left left2 read room n size s so fed within short fits next =
     let now : IsNext so.0 n room left2 = rw so.1.1 at next in
     let long : length (take n so.0) ≡ n = length-take-le n so.0 now.within in
+    let few = few-lines ins read fed.good in
+    let both = length-append (whole_lines read) (last_line (unfinished read)) in
+    let lines = fed.lines in
     record {
       read = read;
       piece = take n so.0;
       rest = drop n so.0;
       are = so.1.0 ∙ ap (λ l. read ++ l) (sym (take-append-drop n so.0));
-      few = few-lines ins read good;
+      few = few;
       short = omega (arith, long, within, short);
+      within = piece-lines read (take n so.0) most_lines (omega (arith, few, both)) (omega (arith, lines, long, fits));
       left = now.rest;
     }
 
 pub going-reads : (report : Report) (start : Start) (file : Parts) (every before left left2 now : Option (List ℕ)) (s : Session) (r : Running)
     (room : List ℕ) (n size : ℕ) →
-    Going report start file every before s r left now → n ≤ size → size ≤ PIECE → HandsOver left n room left2 → ReadsLines most_lines every left2
-going-reads report start file every before left left2 now s r room n size going within short next =
-    reads-piece (inputs_of file) every left left2 going.read room n size going.has_read going.stands.fed.good within short next
+    Going report start file every before s r left now → n ≤ size → size ≤ PIECE → s.reader.at.lines + n ≤ 1000001 → HandsOver left n room left2 →
+    ReadsLines most_lines every left2
+going-reads report start file every before left left2 now s r room n size going within short fits next =
+    reads-piece (inputs_of file) every left left2 going.read room n size s.reader going.has_read going.stands.fed within short fits next
 
 -- a file that is as it was
 pub still-there : (every left left2 : Option (List ℕ)) (read : List ℕ) → HasRead every read left → left2 ≡ left → (ins : List Column) →
@@ -213,6 +228,10 @@ still-there (Some bytes) left left2 read so same ins good = record {
   are = so.1.0;
   few = few-lines ins read good;
   short = omega arith;
+  within =
+      let few = few-lines ins read good in
+      let same = ap (λ l. length (lines_of l)) (append-nil read) in
+      omega (arith, few, same);
   left = same ∙ so.1.1;
 }
 

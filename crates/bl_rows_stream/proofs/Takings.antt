@@ -69,7 +69,7 @@ module _ (ins : List Column) (all left left2 : Option (List ℕ)) (s s2 : Readin
   piece-good good on joins running short = record {
     read = taken.read ++ piece;
     has_read = read;
-    fed = fed-more ins taken.read piece s s2 taken.fed good cuts joins running;
+    fed = fed-more ins taken.read piece s s2 taken.fed good on cuts joins running;
     are = both-rows ∙ sym (taken.fed.rows piece);
     low = reads-low s s2 piece taken.low good on;
     short = short;

@@ -1,5 +1,5 @@
 -- What a run over a file of rows leaves, and how it ends.
-use Rattle.std.specs.Prelude.{◌≡◌, ◌⊎◌, ℕ, ◌≤◌, ℤ, List, ◌++◌, length, take, Option, Some, None, IfSome}
+use Rattle.std.specs.Prelude.{◌≡◌, ◌⊎◌, ℕ, ◌+◌, ◌≤◌, ℤ, List, ◌++◌, length, take, Option, Some, None, IfSome}
 use Rattle.bl_tree.specs.declared.row.Column.{Column}
 use Rattle.bl_tree.specs.declared.row.Last.{Last}
 use Rattle.bl_tree.specs.declared.row.Last.TheVariants.{Open, Ended, Trap}
@@ -7,6 +7,7 @@ use Rattle.bl_ctext_semantics.specs.Cells.{inputs_of, outputs_of}
 use Rattle.bl_ctext_semantics.specs.Parts.{Parts}
 use Rattle.bl_ctext_semantics.specs.Trace.{c_trace}
 use Rattle.bl_io.specs.Held.{Appends}
+use Rattle.bl_io.specs.Left.{IsKept}
 use Rattle.bl_io.specs.declared.pieces.TheConstants.{PIECE}
 use Rattle.bl_crun.specs.Running.{Running}
 use Rattle.bl_rows.specs.Lines.{lines_of}
@@ -140,7 +141,7 @@ pub data Reported (report : Report) (r : Running) (left rest before after : Opti
 
 -- ---- how far a file is read
 
--- the bytes of a file were handed over in pieces, and the last of these was asked for behind so many lines at most
+-- the bytes of a file were handed over in pieces. So many lines at most were begun before the last piece, and one more at most with it
 pub record StandsBehind (most : ℕ) (bytes : List ℕ) (now : Option (List ℕ)) : Type 0 where
   pub read : List ℕ
   pub piece : List ℕ
@@ -148,8 +149,27 @@ pub record StandsBehind (most : ℕ) (bytes : List ℕ) (now : Option (List ℕ)
   pub are : bytes ≡ read ++ (piece ++ rest)
   pub few : length (lines_of read) ≤ most
   pub short : length piece ≤ PIECE
+  pub within : length (lines_of (read ++ piece)) ≤ most + 1
   pub left : now ≡ Some rest
 
--- a file was read in pieces up to at most so many lines, where its content is known
+-- a file was read in pieces until one line more than so many was begun at most, where its content is known
 abbrev pub ReadsLines : ℕ → Option (List ℕ) → Option (List ℕ) → Type 0
 ReadsLines most before after = IfSome before (λ bytes. StandsBehind most bytes after)
+
+-- ---- in step with the file
+
+-- the bytes held grew by this text, and perhaps by more
+abbrev pub Extends : Option (List ℕ) → List ℕ → Option (List ℕ) → Type 0
+Extends before text after = IfSome before (λ bytes. (more : List ℕ) × (after ≡ Some (bytes ++ (text ++ more))))
+
+-- the report of the rows that were handed over before the last piece was written
+pub record KeepsUp (report : Report) (r : Running) (left rest before after : Option (List ℕ)) : Type 0 where
+  pub read : List ℕ
+  pub piece : List ℕ
+  pub handed : HasRead left (read ++ piece) rest
+  pub short : length piece ≤ PIECE
+  pub written : Extends before (report_of report r (rows_so_far r read)) after
+
+-- nothing was handed over before the header was written, and no piece before the report of the rows in all earlier ones
+abbrev pub InStep : Report → Running → Option (List ℕ) → Option (List ℕ) → Option (List ℕ) → Option (List ℕ) → Type 0
+InStep report r left rest before after = IsKept left rest ⊎ KeepsUp report r left rest before after

@@ -12,7 +12,7 @@ ghost use Rattle.bl_rows_stream.specs.inner.Taking.{Taken, TakesOn, at_fault};
 ghost use Rattle.bl_tree.specs.declared.row.Column.{Column as InputColumn};
 
 use crate::finish::{Finish, finish_by};
-use crate::pieces::{feed, finish};
+use crate::pieces::{feed, finish, read_next};
 use bl_io::{Files, IoFault, PIECE};
 use bl_rows::{RowFault, Rows};
 use bl_tree::{Column, Last, List, NoMemory, Row};
@@ -79,7 +79,7 @@ fn take<F: Files>(
     ensures others { KeepsOthers name.now (F.left files.old) (F.left files.new) }
     ensures file_counts { NeverFell (F.faults files.old) (F.faults files.new) }
 {
-    match files.next(name, room) {
+    match read_next(reader, name, room, files) {
         Ok(0) => Ok(Some(RowsEnd::Read(finish(reader, rows)?))),
         Ok(n) => Ok(at_fault(feed(reader, &room[..n], rows)?)),
         Err(IoFault::Failed) => Ok(Some(RowsEnd::Unread)),

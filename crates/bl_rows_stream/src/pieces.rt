@@ -5,11 +5,11 @@ ghost use Rattle.std.specs.Prelude.{None, Some, true, false, IfErr, IfOk, IfSome
 ghost use Rattle.bl_ctext_semantics.specs.Cells.{inputs_of, outputs_of};
 ghost use Rattle.bl_io.specs.Count.{NeverFell, Rose};
 ghost use Rattle.bl_io.specs.Held.{Appends};
-ghost use Rattle.bl_io.specs.Left.{KeepsOthers};
+ghost use Rattle.bl_io.specs.Left.{HandsOver, KeepsOthers};
 ghost use Rattle.bl_io.specs.declared.pieces.TheConstants.{PIECE};
 ghost use Rattle.bl_rows.specs.Reading.{fault_in, led_by_rows, most_lines, read_on, rows_after, rows_in};
 ghost use Rattle.bl_rows_stream.specs.Reports.{after_rows, report_from, trace_from};
-ghost use Rattle.bl_rows_stream.specs.Streams.{AppendsFront, ReadsLines, Reported};
+ghost use Rattle.bl_rows_stream.specs.Streams.{AppendsFront, Extends, KeepsUp, ReadsLines, Reported};
 ghost use Rattle.bl_rows_stream.specs.inner.Going.{RunEnds, Going, GoesOrEnds, Leaves, RunStands, Start, reach, runner_at};
 ghost use Rattle.bl_tree.specs.Ports.{RowsFit};
 
@@ -48,6 +48,9 @@ pub fn run_all<F: Files, O: Sink>(
     ensures others { KeepsOthers name.now (F.left files.old) (F.left files.new) }
     ensures file_counts { NeverFell (F.faults files.old) (F.faults files.new) }
     ensures out_count { O.faults out.old ≤ O.faults out.new }
+    ensures keeps_up { (report : Report) (start : Start) (before : Option (List ℕ)) →
+        RunStands report start runner.old.parts [] before session.old runner.old (O.held out.old) →
+        KeepsUp report (runner_at start runner.old.parts) (F.left files.old name.now) (F.left files.new name.now) before (O.held out.new) }
 {
     let mut room = [0; PIECE];
     'pieces: loop {
@@ -84,13 +87,36 @@ fn run_next<F: Files, O: Sink>(
     ensures others { KeepsOthers name.now (F.left files.old) (F.left files.new) }
     ensures file_counts { NeverFell (F.faults files.old) (F.faults files.new) }
     ensures out_count { O.faults out.old ≤ O.faults out.new }
+    ensures keeps_up { (report : Report) (start : Start) (all before : Option (List ℕ)) →
+        Going report start runner.old.parts all before session.old runner.old (F.left files.old name.now) (O.held out.old) →
+        KeepsUp report (runner_at start runner.old.parts) all (F.left files.new name.now) before (O.held out.new) }
 {
-    match files.next(name, room) {
+    match read_next(&session.reader, name, room, files) {
         Ok(0) => Progress::Over(run_last(alloc, runner, session, out)),
         Ok(n) => run_piece(alloc, runner, session, &room[..n], out),
         Err(IoFault::Failed) => Progress::Over(Finish::ReadFault),
         Err(IoFault::NoMemory) => Progress::Over(Finish::NoMemory),
     }
+}
+
+/// Fills a front of a room with the next bytes of a file of rows: with as few as can't begin a line behind line 1,000,001.
+pub fn read_next<F: Files>(
+    reader: &Rows,
+    name: &str,
+    room: &mut [u8],
+    files: &mut F,
+) -> Result<usize, IoFault>
+    requires { 0 < length room.old }
+    ensures bound { IfOk result (λ n. n ≤ length room.old) }
+    ensures few { IfOk result (λ n. reader.now.at.lines + n ≤ 1000001) }
+    ensures front { IfOk result (λ n. HandsOver (F.left files.old name.now) n room.new (F.left files.new name.now)) }
+    ensures err { OnErr result (F.left files.new name.now ≡ F.left files.old name.now) }
+    ensures others { KeepsOthers name.now (F.left files.old) (F.left files.new) }
+    ensures counts { NeverFell (F.faults files.old) (F.faults files.new) }
+    ensures failed { IsErrOf result IoFault.Failed → Rose (F.faults files.old name.now) (F.faults files.new name.now) }
+{
+    let most = room.len().min(1_000_001 - reader.lines() as usize);
+    files.next(name, &mut room[..most])
 }
 
 // Runs the rows that a piece makes whole.
@@ -109,6 +135,7 @@ fn run_piece<O: Sink>(
         Leaves report start runner.old.parts (read ++ piece.now) before session.new runner.new (O.held out.new) result }
     ensures write_fault { result ≡ Progress.Over Finish.WriteFault → Rose (O.faults out.old) (O.faults out.new) }
     ensures out_count { O.faults out.old ≤ O.faults out.new }
+    ensures grows { Extends (O.held out.old) [] (O.held out.new) }
 {
     let mut rows = Vec::new(alloc);
     let Ok(fault) = feed(&mut session.reader, piece, &mut rows) else {
@@ -134,6 +161,7 @@ fn run_last<O: Sink>(
         RunEnds report (runner_at start runner.old.parts) read before (O.held out.new) runner.new result }
     ensures write_fault { result ≡ Finish.WriteFault → Rose (O.faults out.old) (O.faults out.new) }
     ensures out_count { O.faults out.old ≤ O.faults out.new }
+    ensures grows { Extends (O.held out.old) [] (O.held out.new) }
 {
     let mut rows = Vec::new(alloc);
     let Ok(fault) = finish(&mut session.reader, &mut rows) else {

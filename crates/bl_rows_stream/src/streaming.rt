@@ -8,7 +8,7 @@ ghost use Rattle.bl_io.specs.Held.{Appends};
 ghost use Rattle.bl_io.specs.Left.{KeepsOthers};
 ghost use Rattle.bl_rows.specs.Reading.{empty_reading, most_lines};
 ghost use Rattle.bl_rows_stream.specs.inner.Going.{RunEnds, HasFed, RunStands, runner_start};
-ghost use Rattle.bl_rows_stream.specs.Streams.{ReadsLines, Reported, Streamed, course_from};
+ghost use Rattle.bl_rows_stream.specs.Streams.{InStep, ReadsLines, Reported, Streamed, course_from};
 
 use crate::finish::Finish;
 use crate::pieces::{Session, run_all, write};
@@ -38,6 +38,7 @@ pub fn stream<F: Files, O: Sink>(
     ensures others { KeepsOthers rows.now (F.left files.old) (F.left files.new) }
     ensures file_counts { NeverFell (F.faults files.old) (F.faults files.new) }
     ensures out_count { O.faults out.old ≤ O.faults out.new }
+    ensures in_step { InStep Report.Trace runner.old (F.left files.old rows.now) (F.left files.new rows.now) (O.held out.old) (O.held out.new) }
 {
     run_report(alloc, runner, Report::Trace, rows, files, out)
 }
@@ -59,6 +60,7 @@ pub fn count<F: Files, O: Sink>(
     ensures others { KeepsOthers rows.now (F.left files.old) (F.left files.new) }
     ensures file_counts { NeverFell (F.faults files.old) (F.faults files.new) }
     ensures out_count { O.faults out.old ≤ O.faults out.new }
+    ensures in_step { InStep Report.Counts runner.old (F.left files.old rows.now) (F.left files.new rows.now) (O.held out.old) (O.held out.new) }
 {
     run_report(alloc, runner, Report::Counts, rows, files, out)
 }
@@ -121,6 +123,7 @@ fn run_report<F: Files, O: Sink>(
     ensures others { KeepsOthers rows.now (F.left files.old) (F.left files.new) }
     ensures file_counts { NeverFell (F.faults files.old) (F.faults files.new) }
     ensures out_count { O.faults out.old ≤ O.faults out.new }
+    ensures in_step { InStep report runner.old (F.left files.old rows.now) (F.left files.new rows.now) (O.held out.old) (O.held out.new) }
 {
     match begin(alloc, runner, report, out) {
         Ok(mut session) => run_all(alloc, runner, &mut session, rows, files, out),

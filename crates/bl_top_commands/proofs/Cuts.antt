@@ -65,7 +65,7 @@ further_same limit (Some bytes) = (0, omega arith, refl)
 pub lines_same : (most : ℕ) (left : Option (List ℕ)) → ReadsLines most left left
 lines_same most None = tt
 lines_same most (Some bytes) =
-    record { read = []; piece = []; rest = bytes; are = refl; few = omega arith; short = omega arith; left = refl }
+    record { read = []; piece = []; rest = bytes; are = refl; few = omega arith; short = omega arith; within = omega arith; left = refl }
 
 within_same : (limit : Limit) (left : Option (List ℕ)) → StandsWithin limit left left
 within_same (in_bytes most) left = further_same most left

@@ -28,7 +28,7 @@ most_rows = 1000000
 pub data Limit : Type 0 where
   -- the first n bytes
   in_bytes : ℕ → Limit
-  -- pieces of which none is asked for after more than n lines have begun
+  -- pieces of which none is asked for after more than n lines have begun, and which begin no line behind the next one
   in_lines : ℕ → Limit
 
 -- the state of a file after it was read within a limit

@@ -7,6 +7,7 @@ use Rattle.bl_ctext_semantics.specs.Cells.{inputs_of, outputs_of}
 use Rattle.bl_ctext_semantics.specs.Parts.{Parts}
 use Rattle.bl_crun.specs.Running.{Running}
 use Rattle.bl_io.specs.Held.{Appends}
+use Rattle.bl_rows.specs.Lines.{unfinished, whole_lines}
 use Rattle.bl_rows.specs.Reading.{Reading, empty_reading, fault_in, led_by_rows, rows_after, rows_in, rows_of}
 use Rattle.bl_rows.specs.declared.fault.RowFault.{RowFault}
 use Rattle.bl_rows_stream.specs.Reports.{HasRun, after_rows, report_of}
@@ -34,6 +35,9 @@ pub record HasFed (ins : List Column) (read : List ℕ) (reader : Reading) : Typ
   pub fault : (more : List ℕ) → fault_in (empty_reading ins) (read ++ more) ≡ fault_in reader more
   pub good : fault_in (empty_reading ins) read ≡ None
   pub running : reader.ended ≡ false
+  -- the whole lines are counted, and the bytes of the unfinished one are kept
+  pub lines : reader.at.lines ≡ length (whole_lines read)
+  pub line : reader.line ≡ unfinished read
 
 -- how far a reader has come: no line has more than 65,536 bytes and a line feed
 abbrev pub reach : Reading → ℕ

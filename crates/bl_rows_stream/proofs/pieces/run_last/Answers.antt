@@ -2,6 +2,7 @@ use Rattle.std.proofs.Common.{[], ◌++◌, ap, inr, refl, ◌∙◌}
 use Rattle.bl_rows.specs.Reading.{rows_after}
 use Rattle.bl_rows_stream.specs.declared.finish.Finish.TheVariants.{NoMemory}
 use Rattle.bl_rows_stream.proofs.PieceEnds.{last-ends, last-failed, last-few-left, last-fit, last-refused}
+use Rattle.bl_rows_stream.proofs.Steadily.{extends-all, extends-front, extends-same}
 use Rattle.bl_rows_stream.proofs.pieces.run_last.Goals as goal
 
 pub returns-in_default-clause-ends : goal.returns-in_default-clause-ends
@@ -38,3 +39,12 @@ returns-clause-ends g c =
     last-failed report start read before _ _ c.args.session.now c.args.runner.now c.run_and_write.new.runner stands c.deref.result.now
     (c.deref.ensures.value ∙ c.in-Ok.ensures.rows ∙ ap (λ l. l ++ rows) c.new-rows.ensures.items) c.in-Err.ended
     c.in-Err.ensures.why c.in-Err.ensures.front
+
+pub returns-in_default-clause-grows : goal.returns-in_default-clause-grows
+returns-in_default-clause-grows g c = extends-same (g.O.Sink.held c.args.out.now)
+
+pub returns-in-Ok-run_and_write-clause-grows : goal.returns-in-Ok-run_and_write-clause-grows
+returns-in-Ok-run_and_write-clause-grows g c = extends-all _ _ _ c.in-Ok-run_and_write.ensures.all
+
+pub returns-clause-grows : goal.returns-clause-grows
+returns-clause-grows g c = extends-front _ _ _ c.in-Err.ensures.front

@@ -4,6 +4,7 @@ use Rattle.bl_rows_stream.specs.inner.Going.{Leaves}
 use Rattle.bl_rows_stream.specs.declared.finish.Finish.TheVariants.{NoMemory}
 use Rattle.bl_rows_stream.specs.declared.pieces.Session.{Session}
 use Rattle.bl_rows_stream.proofs.PieceEnds.{piece-failed, piece-few-left, piece-fit, piece-further, piece-leaves, piece-refused}
+use Rattle.bl_rows_stream.proofs.Steadily.{extends-all, extends-front, extends-same}
 use Rattle.bl_rows_stream.proofs.pieces.run_piece.Goals as goal
 
 pub returns-in_default-clause-left : goal.returns-in_default-clause-left
@@ -56,3 +57,12 @@ returns-clause-left g c =
     c.deref.result.now
     (c.deref.ensures.value ∙ c.in-Ok.ensures.rows ∙ ap (λ l. l ++ rows) c.new-rows.ensures.items) c.in-Ok.ensures.any_cut
     c.in-Err.finish c.in-Err.ensures.why c.in-Err.ensures.front rest
+
+pub returns-in_default-clause-grows : goal.returns-in_default-clause-grows
+returns-in_default-clause-grows g c = extends-same (g.O.Sink.held c.args.out.now)
+
+pub returns-in-Ok-run_and_write-clause-grows : goal.returns-in-Ok-run_and_write-clause-grows
+returns-in-Ok-run_and_write-clause-grows g c = extends-all _ _ _ c.in-Ok-run_and_write.ensures.all
+
+pub returns-clause-grows : goal.returns-clause-grows
+returns-clause-grows g c = extends-front _ _ _ c.in-Err.ensures.front

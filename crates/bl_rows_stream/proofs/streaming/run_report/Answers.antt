@@ -1,8 +1,9 @@
-use Rattle.std.proofs.Common.{subst}
+use Rattle.std.proofs.Common.{inl, inr, subst}
 use Rattle.bl_rows.specs.Reading.{most_lines}
-use Rattle.bl_rows_stream.specs.Streams.{Reported}
+use Rattle.bl_rows_stream.specs.Streams.{KeepsUp, Reported}
 use Rattle.bl_rows_stream.specs.inner.Going.{runner_start}
 use Rattle.bl_rows_stream.proofs.Steps.{bytes-left, reads-none, reported-by, runner-same}
+use Rattle.bl_rows_stream.proofs.Takings.{kept-same}
 use Rattle.bl_rows_stream.proofs.streaming.run_report.Goals as goal
 
 pub run_all-requires : goal.run_all-requires
@@ -25,3 +26,14 @@ returns-in-Err-clause-reported g c =
 
 pub returns-in-Err-clause-reads : goal.returns-in-Err-clause-reads
 returns-in-Err-clause-reads g c = reads-none most_lines (g.F.Files.left c.args.files.now c.args.rows.now)
+
+pub returns-in-Ok-clause-in_step : goal.returns-in-Ok-clause-in_step
+returns-in-Ok-clause-in_step g c =
+    let left = g.F.Files.left c.args.files.now c.args.rows.now in
+    let rest = g.F.Files.left c.run_all.new.files c.args.rows.now in
+    let before = g.O.Sink.held c.args.out.now in
+    inr (subst (λ r. KeepsUp c.args.report r left rest before (g.O.Sink.held c.run_all.new.out)) (runner-same c.args.runner.now c.requires.live)
+    (c.run_all.ensures.keeps_up c.args.report (runner_start c.args.runner.now) before c.in-Ok.ensures.stands))
+
+pub returns-in-Err-clause-in_step : goal.returns-in-Err-clause-in_step
+returns-in-Err-clause-in_step g c = inl (kept-same (g.F.Files.left c.args.files.now c.args.rows.now))
