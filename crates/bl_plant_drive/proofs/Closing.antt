@@ -18,13 +18,14 @@ use Rattle.bl_plant_drive.specs.declared.seat.Seat.{Seat}
 use Rattle.bl_plant_drive.specs.inner.Round.{seat_numbers}
 use Rattle.bl_plant_drive.specs.inner.Stands.{AskedSoFar, seat_of}
 use Rattle.bl_plant_drive.specs.inner.Ticks.{Goes, HasInputs, IsTickOfRunner, RunsOn, ToldSoFar, hearing_of, scene_of, with_tick, with_trap}
-use Rattle.bl_plant_drive.proofs.Asking.{gone-by, gone-not}
+use Rattle.bl_plant_drive.proofs.Asking.{gone-by, gone-not, last-snoc}
 use Rattle.bl_plant_drive.proofs.Casts.{eq-same, split}
 use Rattle.bl_plant_drive.proofs.Telling.{all-both, all-map, given-low, plays-same, take-front}
 use Rattle.bl_plant_drive.proofs.Traces.{fit-more, live-more, runner-more, trace-more, trace_with}
 use Rattle.bl_plant.specs.Plants.{PlantView}
 use Rattle.bl_tree.specs.Ports.{RowsFit}
 use Rattle.bl_tree.specs.declared.row.Last.TheVariants as last
+use Rattle.bl_tree.specs.declared.row.Trace.{Trace}
 
 -- ---- inputs
 
@@ -300,9 +301,9 @@ has-trapped s runner plants seats d ins outs run =
 
 -- ---- want of memory
 
-may-by : (outs told : List (List ℤ)) (row : List ℤ) (asked : ℕ) (r : Role) → (asked ≡ length outs) ⊎ (asked ≡ suc (length outs)) →
-    (told ≡ outs) ⊎ (told ≡ outs ++ row ∷ []) → Plays outs told asked r → MayGoOn outs row r
-may-by outs told row asked r asked_is told_is plays = record {
+may-by : (outs now told : List (List ℤ)) (asked : ℕ) (r : Role) → (asked ≡ length outs) ⊎ (asked ≡ suc (length outs)) →
+    (told ≡ outs) ⊎ ((asked ≡ suc (length outs)) × (told ≡ now)) → Plays outs told asked r → MayGoOn outs now r
+may-by outs now told asked r asked_is told_is plays = record {
   asked = asked;
   told = told;
   asked_is = asked_is;
@@ -318,6 +319,7 @@ pub short-standing : (s : DriveSetting) (k : ℕ) (runner : Running) (plants : L
 short-standing s k runner plants seats d gone fit trace running runner_is within st =
     let n : ℕ = length d.ins in
     let outs : List (List ℤ) = d.trace.rows in
+    let now : List (List ℤ) = (trace_over s.runner (d.ins ++ [])).rows in
     let none : rowless d.trace.last ≡ 0 = ap rowless running in
     let long : length outs ≡ n = st.long in
     record {
@@ -332,15 +334,14 @@ short-standing s k runner plants seats d gone fit trace running runner_is within
       running = running;
       within = within;
       further = [];
-      one = omega arith;
+      further_is = inl refl;
       runner = runner_is ∙ ap (runner_after s.runner) (sym (append-nil d.ins));
       plants = st.left;
-      row = [];
       parts =
-          all-both (MayGoOn outs []) st.done st.rest
-          (all-map (Plays outs outs (suc n)) (MayGoOn outs [])
-          (λ r plays. may-by outs outs [] (suc n) r (inr (ap suc (sym long))) (inl refl) plays) st.done st.earlier)
-          (all-map (Plays outs outs n) (MayGoOn outs []) (λ r plays. may-by outs outs [] n r (inl (sym long)) (inl refl) plays) st.rest st.later);
+          all-both (MayGoOn outs now) st.done st.rest
+          (all-map (Plays outs outs (suc n)) (MayGoOn outs now)
+          (λ r plays. may-by outs now outs (suc n) r (inr (ap suc (sym long))) (inl refl) plays) st.done st.earlier)
+          (all-map (Plays outs outs n) (MayGoOn outs now) (λ r plays. may-by outs now outs n r (inl (sym long)) (inl refl) plays) st.rest st.later);
       gone = st.gone ∙ gone-both outs outs n st.done st.rest st.later;
     }
 
@@ -351,29 +352,31 @@ pub short-asking : (s : DriveSetting) (k : ℕ) (runner : Running) (plants : Lis
 short-asking s k runner plants seats d gone runs within st =
     short-standing s k runner plants seats d gone runs.fit runs.trace runs.running runs.runner_is within st
 
-back : (outs : List (List ℤ)) (row : List ℤ) (n : ℕ) (told : List (List ℤ)) (r : Role) → n ≡ suc (length outs) →
-    (told ≡ outs) ⊎ (told ≡ outs ++ row ∷ []) → Plays (outs ++ row ∷ []) told n r → MayGoOn outs row r
-back outs row n told r long told_is plays =
-    may-by outs told row n r (inr long) told_is
+back : (outs now : List (List ℤ)) (row : List ℤ) (n : ℕ) (told : List (List ℤ)) (r : Role) → n ≡ suc (length outs) →
+    (told ≡ outs) ⊎ (told ≡ now) → Plays (outs ++ row ∷ []) told n r → MayGoOn outs now r
+back outs now row n told r long told_is plays =
+    may-by outs now told n r (inr long) (told-so told_is)
     (plays-same r (outs ++ row ∷ []) outs told n (λ k low. sym (take-front outs row n k long low)) plays)
+  where
+    told-so : (told ≡ outs) ⊎ (told ≡ now) → (told ≡ outs) ⊎ ((n ≡ suc (length outs)) × (told ≡ now))
+    told-so (inl before) = inl before
+    told-so (inr up_to_now) = inr (long, up_to_now)
 
--- want of memory while they are told, or once they were
-pub short-telling : (s : DriveSetting) (k : ℕ) (runner : Running) (plants now : List PlantView) (seats : List Seat) (d : Driven) (ins outs : List ℤ)
-    (answer : TickAnswer) →
-    IsTickOfRunner s runner plants seats d ins outs answer → ToldSoFar (hearing_of s d ins outs) k now seats →
+-- want of memory once the runner has done its tick
+short-by : (s : DriveSetting) (runner : Running) (plants now : List PlantView) (seats : List Seat) (d : Driven) (ins outs : List ℤ) (answer : TickAnswer)
+    (cast : List Role) → IsTickOfRunner s runner plants seats d ins outs answer → IsCast s.plants s.names cast → now ≡ left_in cast [] s.plants →
+    d.ins ++ ins ∷ [] ≡ inputs_before cast (length (d.ins ++ ins ∷ [])) → d.gone ≡ gone_before cast (length (d.ins ++ ins ∷ [])) →
+    length d.trace.rows ≡ length d.ins → AllByRecursion (MayGoOn d.trace.rows (trace_over s.runner (d.ins ++ ins ∷ [])).rows) cast →
     IsShort s (record { runner = runner; plants = now; driven = d })
-short-telling s k runner plants now seats d ins outs answer run t =
-    let a = all-asked s plants seats d ins run.inputs in
-    let rows : List (List ℤ) = d.trace.rows in
+short-by s runner plants now seats d ins outs answer cast run is left row gone long parts =
     let m : length (d.ins ++ ins ∷ []) ≡ suc (length d.ins) = one-more d ins in
     let none : rowless d.trace.last ≡ 0 = ap rowless run.runs.running in
-    let long : length rows ≡ length d.ins = a.long in
+    let both : d.ins ++ ins ∷ [] ≡ inputs_before cast (length d.ins) ++ inputs_at (length d.ins) cast ∷ [] = row ∙ ap (inputs_before cast) m in
     record {
-      cast = t.done ++ t.rest;
+      cast = cast;
       driven = record {
-        is_cast = t.cast;
-        ins = front-same d.ins (inputs_before (t.done ++ t.rest) (length d.ins)) ins (inputs_at (length d.ins) (t.done ++ t.rest))
-            (t.ins ∙ ap (inputs_before (t.done ++ t.rest)) m);
+        is_cast = is;
+        ins = front-same d.ins (inputs_before cast (length d.ins)) ins (inputs_at (length d.ins) cast) both;
         fit = run.runs.fit;
         trace = run.runs.trace;
         begun = omega (arith, long, none);
@@ -381,17 +384,11 @@ short-telling s k runner plants now seats d ins outs answer run t =
       running = run.runs.running;
       within = let low = run.within in omega (arith, low);
       further = ins ∷ [];
-      one = omega arith;
+      further_is = inr (ap (λ z. z ∷ []) (last-same d.ins (inputs_before cast (length d.ins)) ins (inputs_at (length d.ins) cast) both));
       runner = run.after ∙ runner-more s.runner run.before d.ins ins run.runs.runner_is;
-      plants = t.left;
-      row = outs;
-      parts =
-          all-both (MayGoOn rows outs) t.done t.rest
-          (all-map (Plays (rows ++ outs ∷ []) (rows ++ outs ∷ []) (length (d.ins ++ ins ∷ []))) (MayGoOn rows outs)
-          (λ r plays. back rows outs (length (d.ins ++ ins ∷ [])) (rows ++ outs ∷ []) r t.long (inr refl) plays) t.done t.earlier)
-          (all-map (Plays (rows ++ outs ∷ []) rows (length (d.ins ++ ins ∷ []))) (MayGoOn rows outs)
-          (λ r plays. back rows outs (length (d.ins ++ ins ∷ [])) rows r t.long (inl refl) plays) t.rest t.later);
-      gone = t.gone ∙ ap (gone_before (t.done ++ t.rest)) m;
+      plants = left;
+      parts = parts;
+      gone = gone ∙ ap (gone_before cast) m;
     }
   where
     front-same : (xs ys : List (List ℤ)) (x y : List ℤ) → xs ++ x ∷ [] ≡ ys ++ y ∷ [] → xs ≡ ys
@@ -400,8 +397,35 @@ short-telling s k runner plants now seats d ins outs answer run t =
         let same : length xs ≡ length ys = omega (arith, both) in
         sym (take-append_seam xs (x ∷ [])) ∙ ap (take (length xs)) e ∙ ap (λ n. take n (ys ++ y ∷ [])) same ∙ take-append_seam ys (y ∷ [])
 
+    last-same : (xs ys : List (List ℤ)) (x y : List ℤ) → xs ++ x ∷ [] ≡ ys ++ y ∷ [] → x ≡ y
+    last-same xs ys x y e = sym (last-snoc [] xs x) ∙ ap (last_row []) e ∙ last-snoc [] ys y
+
+-- want of memory while plants are told, or once they were
+pub short-telling : (s : DriveSetting) (k : ℕ) (runner : Running) (plants now : List PlantView) (seats : List Seat) (d : Driven) (ins outs : List ℤ)
+    (answer : TickAnswer) →
+    IsTickOfRunner s runner plants seats d ins outs answer → d.trace.rows ++ outs ∷ [] ≡ (trace_with d.trace answer outs).rows →
+    ToldSoFar (hearing_of s d ins outs) k now seats → IsShort s (record { runner = runner; plants = now; driven = d })
+short-telling s k runner plants now seats d ins outs answer run has_row t =
+    let a = all-asked s plants seats d ins run.inputs in
+    let rows : List (List ℤ) = d.trace.rows in
+    let told : List (List ℤ) = (trace_over s.runner (d.ins ++ ins ∷ [])).rows in
+    let told_is : rows ++ outs ∷ [] ≡ told =
+    has_row ∙ ap (λ (trace : Trace). trace.rows) (run-trace s run.before d ins outs run.first answer run.runs run.answer_is run.outs_are) in
+    short-by s runner plants now seats d ins outs answer (t.done ++ t.rest) run t.cast t.left t.ins t.gone a.long
+    (all-both (MayGoOn rows told) t.done t.rest
+    (all-map (Plays (rows ++ outs ∷ []) (rows ++ outs ∷ []) (length (d.ins ++ ins ∷ []))) (MayGoOn rows told)
+    (λ r plays. back rows told outs (length (d.ins ++ ins ∷ [])) (rows ++ outs ∷ []) r t.long (inr told_is) plays) t.done t.earlier)
+    (all-map (Plays (rows ++ outs ∷ []) rows (length (d.ins ++ ins ∷ []))) (MayGoOn rows told)
+    (λ r plays. back rows told outs (length (d.ins ++ ins ∷ [])) rows r t.long (inl refl) plays) t.rest t.later))
+
 -- want of memory once a tick has trapped
 pub short-trapped : (s : DriveSetting) (runner : Running) (plants : List PlantView) (seats : List Seat) (d : Driven) (ins outs : List ℤ) (answer : TickAnswer) →
     IsTickOfRunner s runner plants seats d ins outs answer → IsShort s (record { runner = runner; plants = plants; driven = d })
 short-trapped s runner plants seats d ins outs answer run =
-    short-telling s 0 runner plants plants seats d ins outs answer run (tells-none s plants seats d ins outs run.inputs)
+    let a = all-asked s plants seats d ins run.inputs in
+    let rows : List (List ℤ) = d.trace.rows in
+    let told : List (List ℤ) = (trace_over s.runner (d.ins ++ ins ∷ [])).rows in
+    short-by s runner plants plants seats d ins outs answer a.cast run a.is a.left (inputs-more s plants seats d ins a)
+    (a.gone ∙ ap (gone_before a.cast) (sym (one-more d ins))) a.long
+    (all-map (Plays rows rows (suc (length d.ins))) (MayGoOn rows told)
+    (λ r plays. may-by rows told rows (suc (length d.ins)) r (inr (ap suc (sym a.long))) (inl refl) plays) a.cast a.plays)

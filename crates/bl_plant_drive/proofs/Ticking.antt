@@ -146,7 +146,7 @@ closes-row-by s runner plants now seats d ins outs left (Ok u) run closed =
     subst (Goes s (suc (length d.ins)) runner now seats) (sym closed.0) (goes-on s runner plants now seats d ins outs run closed.1)
 closes-row-by s runner plants now seats d ins outs left (Err e) run closed =
     subst (λ x. IsShort s (record { runner = runner; plants = now; driven = x })) (sym closed.0)
-    (short-telling s closed.1.0 runner plants now seats d ins outs tick.Row run closed.1.1)
+    (short-telling s closed.1.0 runner plants now seats d ins outs tick.Row run refl closed.1.1)
 
 pub closes-row : (s : DriveSetting) (runner : Running) (plants now : List PlantView) (seats : List Seat) (d : Driven) (ins outs : List ℤ) (left : Driven)
     (answer : TickAnswer) (r : Result (Unit {0}) NoMemory) → answer ≡ tick.Row → IsTickOfRunner s runner plants seats d ins outs answer →
@@ -163,7 +163,7 @@ closes-ended-by s runner plants now seats d ins outs left (Ok u) run closed =
     (has-ended s runner plants now seats d ins outs run closed.1)
 closes-ended-by s runner plants now seats d ins outs left (Err e) run closed =
     subst (λ x. IsShort s (record { runner = runner; plants = now; driven = x })) (sym closed.0)
-    (short-telling s closed.1.0 runner plants now seats d ins outs tick.Ended run closed.1.1)
+    (short-telling s closed.1.0 runner plants now seats d ins outs tick.Ended run refl closed.1.1)
 
 pub closes-ended : (s : DriveSetting) (runner : Running) (plants now : List PlantView) (seats : List Seat) (d : Driven) (ins outs : List ℤ) (left : Driven)
     (answer : TickAnswer) (r : Result (Unit {0}) NoMemory) → answer ≡ tick.Ended → IsTickOfRunner s runner plants seats d ins outs answer →

@@ -174,12 +174,12 @@ pub record HasGivenOutside (s : DriveSetting) (o : Outcome) (column : ℕ) (numb
   pub fit : FirstFit s (length o.driven.ins) asked
   pub outside : IsFirstOutside (columns_in s) (length (inputs_at (length o.driven.ins) asked)) (numbers_at (length o.driven.ins) role) column number
 
--- a plant may have gone on with the tick after these rows: it was asked in it or not, and told this row or not
-pub record MayGoOn (outs : List (List ℤ)) (row : List ℤ) (r : Role) : Type 0 where
+-- a plant may have gone on with the tick after these rows: it was asked in it or not. One that was asked may have been told the rows up to that tick
+pub record MayGoOn (outs now : List (List ℤ)) (r : Role) : Type 0 where
   pub asked : ℕ
   pub told : List (List ℤ)
   pub asked_is : (asked ≡ length outs) ⊎ (asked ≡ suc (length outs))
-  pub told_is : (told ≡ outs) ⊎ (told ≡ outs ++ row ∷ [])
+  pub told_is : (told ≡ outs) ⊎ ((asked ≡ suc (length outs)) × (told ≡ now))
   pub plays : Plays outs told asked r
 
 -- memory was refused: the plants and the runner may have gone on with the tick after the recorded ones
@@ -188,12 +188,13 @@ pub record IsShort (s : DriveSetting) (o : Outcome) : Type 0 where
   pub driven : HasDriven s cast o.driven
   pub running : o.driven.trace.last ≡ last.Open
   pub within : length o.driven.ins ≤ s.ticks
+  -- the row of that tick, which the plants gave, where the runner has gone on
   pub further : List (List ℤ)
-  pub one : length further ≤ 1
+  pub further_is : (further ≡ []) ⊎ (further ≡ inputs_at (length o.driven.ins) cast ∷ [])
   pub runner : o.runner ≡ runner_after s.runner (o.driven.ins ++ further)
   pub plants : o.plants ≡ left_in cast [] s.plants
-  pub row : List ℤ
-  pub parts : AllByRecursion (MayGoOn o.driven.trace.rows row) cast
+  -- what is told is rows of the runner's trace
+  pub parts : AllByRecursion (MayGoOn o.driven.trace.rows (trace_over s.runner (o.driven.ins ++ further)).rows) cast
   pub gone : o.driven.gone ≡ gone_before cast (suc (length o.driven.ins))
 
 -- how a drive ends
