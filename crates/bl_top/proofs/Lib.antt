@@ -4,5 +4,6 @@ pub mod Courses
 pub mod Cuts
 pub mod Driven
 pub mod Ends
+pub mod Plants
 pub mod Programs
 pub mod Texts

@@ -1,5 +1,5 @@
 -- How the job that words ask for ends, and so a call.
-use Rattle.std.specs.Prelude.{◌≡◌, ℕ, List, Option, Some, None}
+use Rattle.std.specs.Prelude.{◌≡◌, ℕ, List, [], ◌∷◌, Option, Some, None}
 use Rattle.bl_top_commands.specs.Bound.{BoundEnds}
 use Rattle.bl_top_commands.specs.Calls.{Call}
 use Rattle.bl_top_commands.specs.Check.{CheckEnds}
@@ -12,6 +12,7 @@ use Rattle.bl_top_commands.specs.declared.status.Status.{Status}
 use Rattle.bl_top_commands.specs.declared.status.Status.TheVariants as status
 use Rattle.bl_top_commands.specs.Walk.{WalkEnds}
 use Rattle.bl_io.specs.Left.{IsKept}
+use Rattle.bl_plant.specs.Plants.{IsSame, PlantView}
 use Rattle.bl_top.specs.Build.{BuildEnds}
 use Rattle.bl_top.specs.Drive.{DriveEnds, Plants}
 use Rattle.bl_top.specs.Run.{RunEnds}
@@ -47,6 +48,12 @@ pub data Answers (c : Call) (plants : Plants) : Option JobSpec → Status → Li
 abbrev pub KeepsPlants : Option JobSpec → Plants → Type 0
 KeepsPlants (Some (drive source ticks names)) plants = Unit {0}
 KeepsPlants job plants = plants.after ≡ plants.before
+
+-- the plants that a call leaves are those that it found, in their order and without the dropped ones: no count of faults has fallen
+pub data KeepsCounts : List PlantView → List PlantView → Type 0 where
+  no_plant : KeepsCounts [] []
+  stays : {p q : PlantView} {before after : List PlantView} → IsSame p q → KeepsCounts before after → KeepsCounts (p ∷ before) (q ∷ after)
+  dropped : {p : PlantView} {before after : List PlantView} → KeepsCounts before after → KeepsCounts (p ∷ before) after
 
 -- a call of these words ends with the status of their job, whose lines grew on `notes`, or with that of writing the lines
 pub record Answered (words : List Word) (c : Call) (plants : Plants) (ended : Status) : Type 0 where

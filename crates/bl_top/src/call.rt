@@ -5,7 +5,7 @@ ghost use Rattle.bl_top_commands.specs.Calls.{Output, call_of, output_of};
 ghost use Rattle.bl_top_commands.specs.inner.Outcomes.{lines_in};
 ghost use Rattle.bl_top_commands.specs.Reads.{Reads, files_read};
 ghost use Rattle.bl_io.specs.Count.{NeverFell};
-ghost use Rattle.bl_top.specs.Answers.{Answered, Answers, KeepsPlants};
+ghost use Rattle.bl_top.specs.Answers.{Answered, Answers, KeepsCounts, KeepsPlants};
 ghost use Rattle.bl_top_args.specs.Jobs.{job_of};
 
 use crate::build::build;
@@ -51,6 +51,7 @@ pub fn blechc<F: Files, O: Sink, N: Sink>(
     ensures file_counts { NeverFell (F.faults files.old) (F.faults files.new) }
     ensures out_count { O.faults out.old ≤ O.faults out.new }
     ensures notes_count { N.faults notes.old ≤ N.faults notes.new }
+    ensures plant_counts { KeepsCounts (map (λ b. shown b) plants.old.items) (map (λ b. shown b) plants.new.items) }
 {
     let done = answer(alloc, words, files, out, plants);
     with_notes(&done, notes)
