@@ -1,5 +1,7 @@
 pub mod Builds
 pub mod Calls
+pub mod Casts
+pub mod Drives
 pub mod Jobs
 pub mod Loading
 pub mod Runs

@@ -86,7 +86,7 @@ streams_due course left rest rows out _ _ bytes holds none_read none_written (no
 abbrev pub OneTree : Type 0
 OneTree = (text : List ℕ) (raw other : Raw) → HasTree text raw → HasTree text other → raw ≡ other
 
-one_unit : (found : Option UnitDef) (one other : UnitDef) → found ≡ Some one → found ≡ Some other → one ≡ other
+pub one_unit : (found : Option UnitDef) (one other : UnitDef) → found ≡ Some one → found ≡ Some other → one ≡ other
 one_unit found one other is too = let both = sym is ∙ too in cc
 
 one_last : (one other : Last) → Some one ≡ Some other → one ≡ other

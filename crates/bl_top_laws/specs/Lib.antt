@@ -1,3 +1,4 @@
 pub mod Complete
 pub mod Correct
+pub mod Driven
 pub mod Theorem

@@ -1,6 +1,7 @@
-//! Calls in which nothing fails end as is due, as the contract of a function that does nothing.
+//! Calls in which nothing fails end as is due, as the contracts of functions that do nothing.
 
 ghost use Rattle.bl_top_laws.specs.Complete.{CallsEndAsDue};
+ghost use Rattle.bl_top_laws.specs.Driven.{DrivesEndAsDue, OthersHaveOtherShapes};
 
 use bl_ctext_semantics_laws_places::bytes::bytes_behave_as_their_file;
 use bl_rules::laws::an_accepted_text_has_one_tree;
@@ -13,4 +14,13 @@ pub fn calls_end_as_due()
     an_accepted_text_has_one_tree();
     bytes_behave_as_their_file();
     one_memory();
+}
+
+/// A call of `drive` in which no count of faults rises ends as its trace says where the plants agree and give no number outside
+/// its range, and with PlantShape where they don't agree; want of memory aside.
+pub fn drives_end_as_due()
+    ensures due { DrivesEndAsDue }
+    ensures others { OthersHaveOtherShapes }
+{
+    an_accepted_text_has_one_tree();
 }
