@@ -93,3 +93,20 @@ fn host_files_and_sinks(rt: HostRuntime) -> Result<(), Fail> {
     assert_eq!(rt; narrow.write(b"c"), Err(IoFault::Failed));
     Ok(())
 }
+
+/// A file that was read to its end isn't looked at again.
+#[test]
+fn a_file_that_has_grown_has_ended(rt: HostRuntime) -> Result<(), Fail> {
+    let mut first = HostSink::new(fs::create(&rt, "grown")?);
+    write_all(&mut first, b"abc")?;
+    let mut files = HostFiles::new(rt.alloc(), &rt);
+    let mut room = [0; 4];
+    assert_eq!(rt; files.next("grown", &mut room), Ok(3));
+    assert_eq!(rt; files.next("grown", &mut room), Ok(0));
+    assert_eq!(rt; files.next("grown", &mut room), Ok(0), "once more");
+    let mut second = HostSink::new(fs::create(&rt, "grown")?);
+    write_all(&mut second, b"abcdef")?;
+    assert_eq!(rt; files.next("grown", &mut room), Ok(0), "it has grown");
+    fs::remove_file(&rt, "grown")?;
+    Ok(())
+}

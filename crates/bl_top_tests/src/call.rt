@@ -70,6 +70,7 @@ pub fn smooth<'a>(command: Command, text: &'a [u8], rows: &'a str) -> Case<'a> {
 #[derive(Drop)]
 pub struct Answer {
     pub status: u8,
+    pub files: MemFiles,
     pub notes: MemSink,
     pub out: MemSink,
 }
@@ -138,5 +139,10 @@ pub fn answer_among(
     let mut out = sink_of(alloc, case.writes)?;
     let mut notes = sink_of(alloc, case.notes)?;
     let status = status_of(alloc, &words, &mut files, &mut out, &mut notes, plants);
-    Ok(Answer { status, notes, out })
+    Ok(Answer {
+        status,
+        files,
+        notes,
+        out,
+    })
 }

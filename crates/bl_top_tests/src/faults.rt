@@ -2,6 +2,7 @@
 
 use crate::call::{Case, Command, Course, SMOOTH, answer_of, smooth};
 use crate::end::{End, ends};
+use bl_io::Files;
 use std::alloc::Global;
 use std::test::Fail;
 
@@ -10,10 +11,43 @@ const LAMP: &str =
 
 const LAMP_ROWS: &str = "tick\n1\n2\n3\n4\n";
 
-const LAMP_TRACE: &str = "tick,on\n1,true\n2,false\n3,true\n4,false\n";
-
 const DOUBLE: &str =
     "@[EntryPoint] activity M (i: int32)(o: int32) repeat o = i + i await true end end";
+
+/// It traps in its third tick.
+const CLIMB: &str = "@[EntryPoint] activity M ()(o: int8) var x: int8 = 125 repeat \
+    x = x + 1 o = x await true end end";
+
+const HEATER: &str = "// heater with a guard
+struct Config var low: int32 var high: int32 end
+const LIMIT: int32 = 90
+function Clamp (v: int32, c: Config) returns int32
+if v < c.low then return c.low end
+if v > c.high then return c.high end
+return v
+end
+activity Heat (t: int32)(power: int32)
+var c: Config
+c.low = 0
+c.high = 100
+repeat power = Clamp(60 - t, c) await true end
+end
+@[EntryPoint] activity Main (t: int32, stop: bool)(power: int32, alarm: bool)
+repeat
+when stop or t > LIMIT abort run Heat(t)(power) end
+power = 0
+alarm = true
+await not stop and t <= LIMIT
+alarm = false
+end
+end
+";
+
+const HEATER_ROWS: &str =
+    "tick,t,stop\n1,20,false\n2,58,false\n3,95,false\n4,95,true\n5,50,false\n";
+
+const HEATER_TRACE: &str =
+    "tick,power,alarm\n1,40,false\n2,2,false\n3,0,true\n4,0,true\n5,10,false\n";
 
 /// A run whose files are absent or fail.
 struct Fault {
@@ -24,7 +58,7 @@ struct Fault {
     end: End,
 }
 
-const FAULTS: [Fault; 4] = [
+const FAULTS: [Fault; 5] = [
     Fault {
         text: None,
         rows: Some(LAMP_ROWS),
@@ -68,6 +102,16 @@ const FAULTS: [Fault; 4] = [
             out: "tick,o\ntrap\n",
         },
     },
+    Fault {
+        text: Some(CLIMB),
+        rows: Some(LAMP_ROWS),
+        failing: 4,
+        end: End {
+            status: 6,
+            line: "",
+            out: "tick,o\n1,126\n2,127\ntrap\n",
+        },
+    },
 ];
 
 fn bytes_of(text: Option<&'static str>) -> Option<&'static [u8]> {
@@ -106,13 +150,18 @@ fn files_that_fail(rt: HostRuntime) -> Result<(), Fail> {
     Ok(())
 }
 
-/// The status of a run of the lamp; nothing where `out` holds no front of its trace.
-fn lamp_status(alloc: Global, reads: Course, writes: Course) -> Result<Option<u8>, Fail> {
-    let mut case = smooth(Command::Run, LAMP.as_bytes(), LAMP_ROWS);
+/// A run of the heater.
+fn heated(reads: Course, writes: Course) -> Case<'static> {
+    let mut case = smooth(Command::Run, HEATER.as_bytes(), HEATER_ROWS);
     case.reads = reads;
     case.writes = writes;
-    let answer = answer_of(alloc, &case)?;
-    if LAMP_TRACE.as_bytes().starts_with(answer.out.held()) {
+    case
+}
+
+/// The status of a run of the heater; nothing where `out` holds no front of its trace.
+fn heater_status(alloc: Global, reads: Course, writes: Course) -> Result<Option<u8>, Fail> {
+    let answer = answer_of(alloc, &heated(reads, writes))?;
+    if HEATER_TRACE.as_bytes().starts_with(answer.out.held()) {
         Ok(Some(answer.status))
     } else {
         Ok(None)
@@ -123,16 +172,16 @@ fn lamp_status(alloc: Global, reads: Course, writes: Course) -> Result<Option<u8
 #[test]
 fn each_read_fails_in_turn(rt: HostRuntime) -> Result<(), Fail> {
     for call in 1..5 {
-        assert_eq!(rt; lamp_status(rt.alloc(), failing(call), SMOOTH)?, Some(3));
+        assert_eq!(rt; heater_status(rt.alloc(), failing(call), SMOOTH)?, Some(3));
     }
-    assert_eq!(rt; lamp_status(rt.alloc(), failing(5), SMOOTH)?, Some(0));
+    assert_eq!(rt; heater_status(rt.alloc(), failing(5), SMOOTH)?, Some(0));
     Ok(())
 }
 
 /// How many writes there are: each ends the run where it fails, and the one behind them comes never.
 fn failing_writes(alloc: Global) -> Result<u32, Fail> {
     for call in 1..100 {
-        match lamp_status(alloc, SMOOTH, failing(call))? {
+        match heater_status(alloc, SMOOTH, failing(call))? {
             Some(4) => {}
             Some(0) => return Ok(call - 1),
             _ => return Ok(0),
@@ -159,19 +208,70 @@ fn a_built_text_stops_where_a_write_fails(rt: HostRuntime) -> Result<(), Fail> {
     Ok(())
 }
 
-/// The lamp's whole trace.
+/// Each call moves a byte, and none fails.
+const NARROW: Course = Course {
+    is_narrow: true,
+    failing: 0,
+};
+
+/// The heater's whole trace.
 const WHOLE: End = End {
     status: 0,
     line: "",
-    out: LAMP_TRACE,
+    out: HEATER_TRACE,
 };
 
 /// The rows and the trace are the same where each call moves one byte.
 #[test]
 fn bytes_may_come_one_by_one(rt: HostRuntime) -> Result<(), Fail> {
-    let mut case = smooth(Command::Run, LAMP.as_bytes(), LAMP_ROWS);
-    case.reads.is_narrow = true;
-    case.writes.is_narrow = true;
-    assert!(rt; ends(rt.alloc(), &case, &WHOLE)?);
+    assert!(rt; ends(rt.alloc(), &heated(NARROW, NARROW), &WHOLE)?);
+    Ok(())
+}
+
+/// The line on `notes` is the same too.
+#[test]
+fn notes_may_go_one_by_one(rt: HostRuntime) -> Result<(), Fail> {
+    let mut case = smooth(Command::Run, LAMP.as_bytes(), "tick\n1\nx\n");
+    case.notes = NARROW;
+    let end = End {
+        status: 5,
+        line: "rows: line 3\n",
+        out: "tick,on\n1,true\n",
+    };
+    assert!(rt; ends(rt.alloc(), &case, &end)?);
+    Ok(())
+}
+
+/// Rows of the lamp, which come in three pieces.
+fn many_rows(alloc: Global) -> Result<String, Fail> {
+    let mut rows = String::from_str(alloc, "tick\n")?;
+    for tick in 1..701 {
+        rows.push_str(format!(in alloc; "{tick}\n")?.as_str())?;
+    }
+    Ok(rows)
+}
+
+/// What `out` holds, and how much is left of many rows, where this write on `out` fails.
+fn held_and_left(alloc: Global, call: u32) -> Result<(usize, usize), Fail> {
+    let rows = many_rows(alloc)?;
+    let mut case = smooth(Command::Run, LAMP.as_bytes(), rows.as_str());
+    case.writes = failing(call);
+    let mut answer = answer_of(alloc, &case)?;
+    let mut room = [0; 4096];
+    let left = answer.files.next("rows", &mut room)?;
+    Ok((answer.out.held().len(), left))
+}
+
+/// The file has 2,697 bytes. The header is the first write, and the ticks of a piece are written before the next one is read.
+#[test]
+fn rows_are_run_as_they_come(rt: HostRuntime) -> Result<(), Fail> {
+    assert_eq!(rt; held_and_left(rt.alloc(), 2)?, (8, 1673));
+    Ok(())
+}
+
+/// The ticks of the first piece are written in pieces, too.
+#[test]
+fn ticks_are_written_in_pieces(rt: HostRuntime) -> Result<(), Fail> {
+    assert_eq!(rt; held_and_left(rt.alloc(), 3)?, (1032, 1673));
     Ok(())
 }
