@@ -1,5 +1,4 @@
 pub mod Ordering
 pub mod Passing
 pub mod Placed
-pub mod Running
 pub mod Standing

@@ -6,7 +6,6 @@
 
 ghost use Rattle.std.specs.Prelude.{[]};
 ghost use Rattle.bl_ctree.specs.Reaches.{NeverStuck};
-ghost use Rattle.bl_ctree_laws_traces.specs.Bounded.Bounds.{RunsStandApart};
 ghost use Rattle.bl_ctree_laws_examples.specs.Traces.{TicksEndAlike, units};
 ghost use Rattle.bl_ctree_laws_traces.specs.Ready.Ordered.{ActivitiesAreOrdered};
 ghost use Rattle.bl_ctree_laws_traces.specs.Traces.OneTrace.{HasOneTrace};
@@ -29,11 +28,6 @@ pub fn it_is_typed()
 /// None of the rules Pause, Conflict, Alias and Instant fails for it.
 pub fn no_rule_on_effects_fails()
     ensures { Passes units }
-{}
-
-/// It has no `run`, so no two of them stand at one place.
-pub fn its_runs_stand_apart()
-    ensures { RunsStandApart units }
 {}
 
 /// Its tick graph has an order: the declarations, the tests of the pauses, the heads of the loops, `x = i + 1`, `y = x * 2`, `o = y`
@@ -64,7 +58,6 @@ pub fn it_has_one_trace()
 {
     it_is_typed();
     no_rule_on_effects_fails();
-    its_runs_stand_apart();
     its_tick_graph_has_an_order();
     ordered_programs_have_one_trace();
 }

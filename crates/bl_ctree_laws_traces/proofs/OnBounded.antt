@@ -1,5 +1,6 @@
 pub mod Ahead
 pub mod Bounding
+pub mod ByPlace
 pub mod Callees
 pub mod Calls
 pub mod Counting
@@ -7,6 +8,8 @@ pub mod Differing
 pub mod Listed
 pub mod Lists
 pub mod Onward
-pub mod Passes
+pub mod Passing
+pub mod Standing
 pub mod Statements
 pub mod Stepping
+pub mod Tied

@@ -12,9 +12,7 @@ use crate::ready::{ordered_programs_are_never_stuck, orders_give_ranks};
 use bl_ctree::laws::{lists_of_steps, points_are_steps};
 use bl_ctree_laws_confluence::deeds::accepted_programs_are_orderly;
 use bl_ctree_laws_confluence::independent::accepted_programs_have_at_most_one_trace;
-use bl_limits_measures_laws::laws::ordered_runs_stand_apart;
 use bl_types_laws::kept::what_is_typed_keeps;
-use bl_types_laws::order::statements_begin_in_order;
 
 /// Where ticks are bounded every list of steps of a tick goes on to a maximal one.
 pub fn bounded_lists_go_on()
@@ -45,8 +43,7 @@ pub fn ordered_programs_are_numbered()
     accepted_programs_are_orderly();
 }
 
-/// A typed program that passes the rules has exactly one trace, where the tick graph of each activity has an order and
-/// `run` statements stand at places of their own.
+/// A typed program that passes the rules has exactly one trace, where the tick graph of each activity has an order.
 pub fn ordered_programs_have_one_trace()
     ensures { OrderedHaveOneTrace }
 {
@@ -63,7 +60,5 @@ pub fn typed_programs_have_one_trace()
     ensures { TypedHaveOneTrace }
 {
     what_is_typed_keeps();
-    statements_begin_in_order();
-    ordered_runs_stand_apart();
     ordered_programs_have_one_trace();
 }

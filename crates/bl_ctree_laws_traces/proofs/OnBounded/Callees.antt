@@ -11,8 +11,6 @@ use Rattle.std.proofs.Common.{
   ◌&&◌,
   inl,
   inr,
-  cond,
-  not,
   List,
   [],
   ◌∷◌,
@@ -35,32 +33,33 @@ use Rattle.std.proofs.Common.{
   eqb-true,
 }
 use Rattle.std.specs.List.{list_all}
-use Rattle.std.specs.Prelude.{All, AllPairs, Contains, filter, nat_eq, option_and_then, slice_get}
-use Rattle.std.proofs.lemmas.List.Elements.{All-head, All-tail}
+use Rattle.std.specs.Prelude.{Contains, nat_eq, option_and_then, slice_get}
 use Rattle.std.proofs.lemmas.List.Quantifiers.{position-Some}
-use Rattle.bl_tree.specs.declared.place.Place.{Place}
 use Rattle.bl_tree.specs.declared.tree.StructDef.{StructDef}
 use Rattle.bl_tree.specs.declared.tree.Unit.{Unit as UnitDef}
 use Rattle.bl_tree.specs.Apart.{is_apart}
 use Rattle.bl_tree.specs.Depths.{is_shallow}
-use Rattle.bl_tree.specs.Program.{names_of, parameters_of, roles_stand, unit_stands, units_stand_after}
+use Rattle.bl_tree.specs.Program.{IsWellTyped, names_of, parameters_of, roles_stand, unit_stands, units_stand_after}
 use Rattle.bl_tree.specs.Reduce.{all_of, joined}
 use Rattle.bl_tree.specs.Returns.{unit_returns}
 use Rattle.bl_tree.specs.Rules.{same_place}
 use Rattle.bl_tree.specs.Types.{type_stands}
 use Rattle.bl_tree.specs.Typing.{fits, site_of}
+use Rattle.bl_tree.specs.Within.{StandsIn}
 use Rattle.bl_tree.specs.Words.{are_distinct, is_name}
-use Rattle.bl_effects.proofs.EntryLemmas.{same_place_is, same_place_refl}
+use Rattle.bl_effects.proofs.EntryLemmas.{same_place_is}
 use Rattle.bl_graph_nodes.specs.Plain.{plain_body}
 use Rattle.bl_ctree.specs.declared.instance.Instance.{Instance}
 use Rattle.bl_ctree.specs.declared.instance.Origin.{Origin}
 use Rattle.bl_ctree.specs.declared.instance.Run.{Run}
-use Rattle.bl_ctree.specs.Instances.{Setting, begins_at, one_a_place, runs_in, runs_of, setting_of, unit_at, unit_of}
+use Rattle.bl_ctree.specs.Instances.{Setting, begins_at, runs_in, runs_of, setting_of, unit_at, unit_of}
 use Rattle.bl_ctree_laws.specs.Trees.{Call}
 use Rattle.bl_ctree_laws_confluence.specs.Deeds.Origins.{CalledBy, HasCaller, InstancesHaveCallers}
+use Rattle.bl_ctree_laws_confluence.proofs.OnDeeds.Accepted.{contains_at}
 use Rattle.bl_ctree_laws_confluence.proofs.OnDeeds.Activities.{AllOf, and_left, and_right}
+use Rattle.bl_ctree_laws_confluence.proofs.OnApart.Placed.{RunAs, runs_listed, same_unit}
 use Rattle.bl_ctree_laws_traces.proofs.OnProgress.Earlier.{RunsUnit, body_runs}
-use Rattle.bl_ctree_laws_traces.specs.Bounded.Bounds.{RunsStandApart}
+use Rattle.bl_ctree_laws_traces.proofs.OnBounded.ByPlace.{once_among}
 use Rattle.bl_ctree_laws_traces.proofs.OnBounded.Calls.{CalleesAreNamed, calls_in, run_of}
 use Rattle.bl_ctree_laws_traces.proofs.OnBounded.Lists.{Among, among_got, among_map}
 use Rattle.bl_ctree_laws_traces.proofs.OnBounded.Listed.{CallsEarlier}
@@ -110,51 +109,13 @@ taken_before (u ∷ units) zero k unit e = absurd cc
 taken_before (u ∷ units) (suc n) zero unit e = omega arith
 taken_before (u ∷ units) (suc n) (suc k) unit e = let more = taken_before units n k unit e in omega arith
 
--- ---- places
+-- ---- `run` statements of one place
 
-abbrev pub Apart : Run → Run → Type 0
-Apart one other = same_place one.place other.place ≡ false
-
-pub first_apart : (run : Run) (rest : List Run) (x : Run) →
-    ((k : ℕ) (d : Run) → k < length rest → same_place run.place (get_or rest k d).place ≡ false) →
-    Among x rest → same_place run.place x.place ≡ false
-first_apart run [] x each at = elim at [ ]
-first_apart run (y ∷ rest) x each (inl is) = ap (λ r. same_place run.place r.place) is ∙ each zero y (omega arith)
-first_apart run (y ∷ rest) x each (inr at) = first_apart run rest x (λ k d within. each (suc k) d (omega arith)) at
-
-clash : (one other : Place) → same_place one other ≡ false → one ≡ other → ⊥
-clash one other apart is =
-    let itself : same_place one one ≡ false = ap (same_place one) is ∙ apart in
-    cc (itself, same_place_refl one)
-
--- of `run` statements at places of their own one stands at a place
-pub same_run : (runs : List Run) (one other : Run) → AllPairs Apart runs → Among one runs → Among other runs → one.place ≡ other.place →
-    one ≡ other
-same_run [] one other apart at there same = elim at [ ]
-same_run (run ∷ rest) one other apart (inl is) (inl is') same = is ∙ sym is'
-same_run (run ∷ rest) one other apart (inl is) (inr there) same =
-    absurd (clash run.place other.place
-    (first_apart run rest other (λ k d within. apart zero (suc k) d (omega arith) (omega arith)) there) (sym (ap (λ r. r.place) is) ∙ same))
-same_run (run ∷ rest) one other apart (inr at) (inl is) same =
-    absurd (clash run.place one.place
-    (first_apart run rest one (λ k d within. apart zero (suc k) d (omega arith) (omega arith)) at) (sym (ap (λ r. r.place) is) ∙ sym same))
-same_run (run ∷ rest) one other apart (inr at) (inr there) same =
-    same_run rest one other (λ i j d less within. apart (suc i) (suc j) d (omega arith) (omega arith)) at there same
-
-filter_all : {A : Type 0} (p : A → Bool) (xs : List A) → All (λ x. p x ≡ true) xs → filter p xs ≡ xs
-filter_all p [] all = refl
-filter_all p (x ∷ xs) all =
-    ap (λ b. cond b (x ∷ filter p xs) (filter p xs)) (All-head (λ x. p x ≡ true) x xs all)
-    ∙ ap (λ rest. x ∷ rest) (filter_all p xs (All-tail (λ x. p x ≡ true) x xs all))
-
--- at places of their own each counts
-pub each_once : (runs : List Run) → AllPairs Apart runs → one_a_place runs ≡ runs
-each_once [] apart = refl
-each_once (run ∷ rest) apart =
-    ap (λ found. run ∷ filter (λ (other : Run). not (same_place run.place other.place)) found)
-    (each_once rest (λ i j d less within. apart (suc i) (suc j) d (omega arith) (omega arith)))
-    ∙ ap (λ found. run ∷ found)
-    (filter_all (λ (other : Run). not (same_place run.place other.place)) rest (λ k d within. ap not (apart zero (suc k) d (omega arith) (omega arith))))
+-- they run one unit
+abbrev pub OneUnitEach : UnitDef → Type 0
+OneUnitEach unit =
+    (one other : Run) → Among one (joined (map runs_in unit.body)) → Among other (joined (map runs_in unit.body)) → one.place ≡ other.place →
+    one.unit ≡ other.unit
 
 -- ---- instances
 
@@ -184,8 +145,18 @@ calls_earlier structs units stand are k unit s there at =
     (subst (Among (run_of s)) (are k unit there) (among_map run_of s (calls_in (plain_body unit.body)) at)) in
     taken_before units k s.unit run.callee run.there
 
-module _ (callers : InstancesHaveCallers) (structs : List StructDef) (units : List UnitDef) (entry : ℕ) (apart : RunsStandApart units)
-    (are : CallsAreRuns units) where
+pub one_unit_each : (structs : List StructDef) (units : List UnitDef) (entry : ℕ) → IsWellTyped structs units entry → (k : ℕ) (unit : UnitDef) →
+    slice_get units k ≡ Some unit → OneUnitEach unit
+one_unit_each structs units entry keeps k unit there one other at at' places =
+    let first = all_among (RunAs (StandsIn unit.body)) (joined (map runs_in unit.body)) one (runs_listed unit) at in
+    let second = all_among (RunAs (StandsIn unit.body)) (joined (map runs_in unit.body)) other (runs_listed unit) at' in
+    sym first.names
+    ∙ same_unit structs units entry keeps unit first.statement second.statement (contains_at units k unit there) first.among second.among first.runs
+    second.runs (first.placed ∙ places ∙ sym second.placed)
+    ∙ second.names
+
+module _ (callers : InstancesHaveCallers) (structs : List StructDef) (units : List UnitDef) (entry : ℕ)
+    (one_unit : (k : ℕ) (unit : UnitDef) → slice_get units k ≡ Some unit → OneUnitEach unit) (are : CallsAreRuns units) where
   abbrev W : Setting
   W = setting_of structs units entry
 
@@ -210,13 +181,11 @@ module _ (callers : InstancesHaveCallers) (structs : List StructDef) (units : Li
       let one = unit_found i caller found in
       let runs : List Run = joined (map runs_in caller.body) in
       let run_there : Among called.run runs =
-      subst (Among called.run) (each_once runs (apart one.number caller one.there))
-      (among_got called.run (runs_of caller) (subst (λ u. Contains (runs_of u) called.run) same called.runs)) in
+      once_among runs called.run (among_got called.run (runs_of caller) (subst (λ u. Contains (runs_of u) called.run) same called.runs)) in
       let call_there : Among (run_of s) runs =
       subst (Among (run_of s)) (are one.number caller one.there) (among_map run_of s (calls_in (plain_body caller.body)) at) in
-      let equal : run_of s ≡ called.run =
-      same_run runs (run_of s) called.run (apart one.number caller one.there) call_there run_there (sym is ∙ called.place) in
-      ap (slice_get units) (ap (λ r. r.unit) equal ∙ sym called.names) ∙ sym (ap (option_and_then (unit_of W)) there)
+      let equal : s.unit ≡ called.run.unit = one_unit one.number caller one.there (run_of s) called.run call_there run_there (sym is ∙ called.place) in
+      ap (slice_get units) (equal ∙ sym called.names) ∙ sym (ap (option_and_then (unit_of W)) there)
 
   pub callees_are_named : CalleesAreNamed W
   callees_are_named i caller s callee found at begins =

@@ -1,4 +1,4 @@
--- The labels of a unit's steps are no more than its instances' statements come to.
+-- The passes of a tick are no more than its instances may be passed.
 use Rattle.std.proofs.Common.{
   ◌≡◌,
   ℕ,
@@ -9,171 +9,245 @@ use Rattle.std.proofs.Common.{
   ◌≤◌,
   Bool,
   true,
-  false,
   List,
   [],
   ◌∷◌,
+  ◌++◌,
   map,
-  length,
   Option,
   Some,
   None,
+  inl,
+  inr,
   refl,
+  sym,
   ap,
   ◌∙◌,
+  subst,
   arith,
 }
-use Rattle.std.specs.Prelude.{option_map, slice_get, unwrap_or}
-use Rattle.std.proofs.lemmas.List.{length-append, length-map}
-use Rattle.std.proofs.Math.Nat.{add-mul}
+use Rattle.std.specs.Prelude.{option_map, slice_get, unwrap_or, ⊤}
+use Rattle.bl_tree.specs.declared.tree.StructDef.{StructDef}
 use Rattle.bl_tree.specs.declared.tree.Unit.{Unit as UnitDef}
 use Rattle.bl_tree.specs.Reduce.{joined, total}
-use Rattle.bl_graph_nodes.specs.Nodes.{nodes_in}
-use Rattle.bl_graph_nodes.specs.Plain.{plain_body}
-use Rattle.bl_graph_nodes.specs.Steps.{Here, Inside, StepLabel}
-use Rattle.bl_ctree.specs.declared.instance.Instance.{Instance}
+use Rattle.bl_effects.proofs.EntryLemmas.{same_place_is}
+use Rattle.bl_graph_nodes.specs.Plain.{Block, plain_body}
 use Rattle.bl_ctree.specs.declared.instance.Run.{Run}
-use Rattle.bl_ctree.specs.Instances.{Setting, called_from, expanded, instances_below, runs_of, unit_of}
-use Rattle.bl_ctree.specs.Measure.{step_statements_of}
-use Rattle.bl_ctree_laws.specs.Trees.{Call}
-use Rattle.bl_ctree_laws_traces.proofs.OnBounded.Calls.{calls_in}
-use Rattle.bl_ctree_laws_traces.proofs.OnBounded.Listed.{body_labels, call_labels, labels, node_at}
-use Rattle.bl_ctree_laws_traces.proofs.OnBounded.Lists.{joined_long, total_append, total_both, total_of}
+use Rattle.bl_ctree.specs.Instances.{Setting, expanded, one_a_place, runs_in, runs_of}
+use Rattle.bl_ctree.specs.Measure.{count_at}
+use Rattle.bl_ctree_laws.specs.Trees.{Call, Tree, Trees, Nil, Wait, Test, Idle, Do, Seq, Par, Guard, Run as RunTree, beside, no_tree}
+use Rattle.bl_ctree_laws_traces.specs.Bounded.TickPasses.{Below, Pass, unit_of_pass}
+use Rattle.bl_ctree_laws_traces.proofs.OnBounded.ByPlace.{PlacesDiffer, by_distinct_places, by_places, few_at, once_among, once_placed}
+use Rattle.bl_ctree_laws_traces.proofs.OnBounded.Callees.{CallsAreRuns, OneUnitEach}
+use Rattle.bl_ctree_laws_traces.proofs.OnBounded.Calls.{calls_in, run_of}
+use Rattle.bl_ctree_laws_traces.proofs.OnBounded.Listed.{begun_passes, body_passes, node_at, stood_passes, tick_passes}
+use Rattle.bl_ctree_laws_traces.proofs.OnBounded.Lists.{
+  Among,
+  among_either,
+  among_map,
+  among_mapped,
+  total_append,
+  total_both,
+  total_of,
+  totals_less,
+}
+use Rattle.bl_ctree_laws_traces.proofs.OnBounded.Passing.{fresh_opened, fresh_sum, is_opened, opened, whole_opened, whole_sum}
+use Rattle.bl_ctree_laws_traces.proofs.OnBounded.Standing.{InnerTree, inner_tree, runs_in_tree, runs_in_trees}
+use Rattle.bl_ctree_laws_traces.proofs.OnBounded.Tied.{Elsewhere, Tied, TiedEach}
 
--- what a unit's plain body comes to: its calls are its `run` statements, and its nodes with two more steps a call are at most six a statement
-pub record Counted (unit : UnitDef) : Type 0 where
-  pub units : map (λ (s : Call). s.unit) (calls_in (plain_body unit.body)) ≡ map (λ (run : Run). run.unit) (runs_of unit)
-  pub few : length (nodes_in (plain_body unit.body)) + 2 * length (calls_in (plain_body unit.body)) ≤ 6 * step_statements_of unit
+-- ---- the `run`s of a tree
 
-abbrev pub unit_of_call : Call → ℕ
-unit_of_call s = s.unit
+-- the `run` is one of the body, and what is left in it is tied to the body of its unit
+record InnerTied (w : Setting) (body : Block) (r : InnerTree) : Type 0 where
+  unit : UnitDef
+  is : slice_get w.units r.call.unit ≡ Some unit
+  call : Among r.call (calls_in body)
+  tied : Tied w (plain_body unit.body) r.tree
 
-abbrev pub unit_of_run : Run → ℕ
-unit_of_run run = run.unit
+module _ (w : Setting) where
+  mutual
+    inner_tied : (body : Block) (c : Tree) → Tied w body c → (r : InnerTree) → Among r (runs_in_tree c) → InnerTied w body r
+    inner_tied body Nil tied r at = elim at [ ]
+    inner_tied body (Wait s) tied r at = elim at [ ]
+    inner_tied body (Test s) tied r at = elim at [ ]
+    inner_tied body (Idle block) tied r at = elim at [ ]
+    inner_tied body (Do s) tied r at = elim at [ ]
+    inner_tied body (Seq c rest) tied r at = inner_tied body c tied r at
+    inner_tied body (Par s stood branches) tied r at = all_inner_tied body branches tied r at
+    inner_tied body (Guard s phase stood c) tied r at = inner_tied body c tied r at
+    inner_tied body (RunTree s callee phase stood c) tied r (inl same) =
+        let one : InnerTied w body (inner_tree s c) = record { unit = tied.0; is = tied.2; call = tied.3; tied = tied.4 } in
+        subst (InnerTied w body) (sym same) one
+    inner_tied body (RunTree s callee phase stood c) tied r (inr none) = elim none [ ]
 
--- ---- the labels of a body
+    all_inner_tied : (body : Block) (branches : Trees) → TiedEach w body branches → (r : InnerTree) → Among r (runs_in_trees branches) →
+        InnerTied w body r
+    all_inner_tied body no_tree tied r at = elim at [ ]
+    all_inner_tied body (beside weak c rest) tied r at = elim (among_either r (runs_in_tree c) (runs_in_trees rest) at) [
+      | inl one ↦ inner_tied body c tied.0 r one
+      | inr more ↦ all_inner_tied body rest tied.1 r more
+    ]
 
-calls_long : (f : Call → ℕ) (g : ℕ → ℕ) → ((s : Call) → f s ≡ 2 + g s.unit) → (calls : List Call) →
-    total (map f calls) ≡ 2 * length calls + total (map g (map unit_of_call calls))
-calls_long f g is [] = refl
-calls_long f g is (s ∷ calls) = let one = is s in let more = calls_long f g is calls in omega arith
+-- no two of them stand at one place
+abbrev CallsDiffer : List InnerTree → Type 0
+CallsDiffer [] = ⊤
+CallsDiffer (r ∷ rest) = ((q : InnerTree) → Among q rest → r.call.place ≡ q.call.place → ⊥) × CallsDiffer rest
 
-body_long : (alone : Bool → ℕ → List StepLabel) (stood : Bool) (unit : UnitDef) (g : ℕ → ℕ) → Counted unit →
-    ((s : Call) → length (call_labels alone stood s) ≡ 2 + g s.unit) →
-    length (body_labels alone stood (plain_body unit.body)) ≤ 6 * step_statements_of unit + total (map g (map unit_of_run (runs_of unit)))
-body_long alone stood unit g counted each =
-    let own = length-map (nodes_in (plain_body unit.body)) Here in
-    let both = length-append (map Here (nodes_in (plain_body unit.body))) (joined (map (call_labels alone stood) (calls_in (plain_body unit.body)))) in
-    let inside = joined_long (call_labels alone stood) (calls_in (plain_body unit.body)) in
-    let all = calls_long (λ s. length (call_labels alone stood s)) g each (calls_in (plain_body unit.body)) in
-    let few = counted.few in
-    let same : total (map g (map unit_of_call (calls_in (plain_body unit.body)))) ≡ total (map g (map unit_of_run (runs_of unit))) =
-    ap (λ units. total (map g units)) counted.units in
-    omega arith
+both_differ : (xs ys : List InnerTree) → CallsDiffer xs → CallsDiffer ys → Elsewhere xs ys → CallsDiffer (xs ++ ys)
+both_differ [] ys one other apart = other
+both_differ (x ∷ xs) ys one other apart = (
+  λ q at same. elim (among_either q xs ys at) [
+    | inl here ↦ one.0 q here same
+    | inr there ↦ apart x q (inl refl) there same
+  ],
+  both_differ xs ys one.1 other (λ a b here there. apart a b (inr here) there),
+)
 
-fresh_call : (alone : Bool → ℕ → List StepLabel) (s : Call) → length (call_labels alone false s) ≡ 2 + length (alone false s.unit)
-fresh_call alone s =
-    let both = length-append (map (Inside (node_at false s) s.unit) (alone false s.unit)) [] in
-    let one = length-map (alone false s.unit) (Inside (node_at false s) s.unit) in
-    omega arith
+module _ (w : Setting) (body : Block) where
+  mutual
+    calls_differ : (c : Tree) → Tied w body c → CallsDiffer (runs_in_tree c)
+    calls_differ Nil tied = tt
+    calls_differ (Wait s) tied = tt
+    calls_differ (Test s) tied = tt
+    calls_differ (Idle block) tied = tt
+    calls_differ (Do s) tied = tt
+    calls_differ (Seq c rest) tied = calls_differ c tied
+    calls_differ (Par s stood branches) tied = all_calls_differ branches tied
+    calls_differ (Guard s phase stood c) tied = calls_differ c tied
+    calls_differ (RunTree s callee phase stood c) tied = (λ q none same. elim none [ ], tt)
 
-whole_call : (alone : Bool → ℕ → List StepLabel) (s : Call) →
-    length (call_labels alone true s) ≡ 2 + (length (alone false s.unit) + length (alone true s.unit))
-whole_call alone s =
-    let both = length-append (map (Inside (node_at false s) s.unit) (alone false s.unit)) (map (Inside (node_at true s) s.unit) (alone true s.unit)) in
-    let one = length-map (alone false s.unit) (Inside (node_at false s) s.unit) in
-    let other = length-map (alone true s.unit) (Inside (node_at true s) s.unit) in
-    omega arith
+    all_calls_differ : (branches : Trees) → TiedEach w body branches → CallsDiffer (runs_in_trees branches)
+    all_calls_differ no_tree tied = tt
+    all_calls_differ (beside weak c rest) tied =
+        both_differ (runs_in_tree c) (runs_in_trees rest) (calls_differ c tied.0) (all_calls_differ rest tied.1) tied.2
 
--- ---- instances
+-- a `run` of a tree as the measure of instances sees it
+abbrev run_there : InnerTree → Run
+run_there r = run_of r.call
 
-below_total : (weight : Instance → ℕ) (g : ℕ → ℕ) (alone : ℕ → List Instance) →
-    ((n : ℕ) (run : Run) → g run.unit ≤ total (map weight (map (called_from n run) (alone run.unit)))) → (n : ℕ) (runs : List Run) →
-    total (map g (map unit_of_run runs)) ≤ total (map weight (instances_below alone n runs))
-below_total weight g alone each n [] = omega arith
-below_total weight g alone each n (run ∷ rest) =
-    let inner : List Instance = map (called_from n run) (alone run.unit) in
-    let one = each n run in
-    let more = below_total weight g alone each (n + length inner) rest in
-    let both = total_append weight inner (instances_below alone (n + length inner) rest) in
-    omega arith
+places_differ : (rs : List InnerTree) → CallsDiffer rs → PlacesDiffer (map run_there rs)
+places_differ [] differ = tt
+places_differ (r ∷ rest) differ = (
+  λ y at same. let one = among_mapped run_there y rest at in differ.0 one.one one.among (same ∙ ap (λ (run : Run). run.place) one.is),
+  places_differ rest differ.1,
+)
 
-module _ (w : Setting) (counted : (k : ℕ) (unit : UnitDef) → slice_get w.units k ≡ Some unit → Counted unit) where
-  -- the statements of an instance, once
-  abbrev fresh : Instance → ℕ
-  fresh x = 6 * unwrap_or (option_map step_statements_of (slice_get w.units x.unit)) 0
+-- ---- weights
 
-  -- and once more for each of its callers
-  abbrev whole : Instance → ℕ
-  whole x = 6 * (x.depth + 1) * unwrap_or (option_map step_statements_of (unit_of w x)) 0
+module _ (weight : ℕ → ℕ) where
+  -- what passes come to
+  abbrev pub weigh : List Pass → ℕ
+  weigh passes = total (map (λ pass. weight (unit_of_pass pass)) passes)
 
-  deeper : (n : ℕ) (run : Run) (x : Instance) → whole (called_from n run x) ≡ whole x + fresh x
-  deeper n run x =
-      let once : 6 * (suc x.depth + 1) ≡ 6 * (x.depth + 1) + 6 = omega arith in
-      ap (λ m. m * unwrap_or (option_map step_statements_of (slice_get w.units x.unit)) 0) once
-      ∙ add-mul (6 * (x.depth + 1)) 6 (unwrap_or (option_map step_statements_of (slice_get w.units x.unit)) 0)
+  weigh_joined : {A : Type 0} (f : A → List Pass) (g : A → ℕ) → ((x : A) → weigh (f x) ≡ g x) → (xs : List A) →
+      weigh (joined (map f xs)) ≡ total (map g xs)
+  weigh_joined f g is [] = refl
+  weigh_joined f g is (x ∷ xs) =
+      total_append (λ pass. weight (unit_of_pass pass)) (f x) (joined (map f xs)) ∙ (λ i. is x i + weigh_joined f g is xs i)
 
-  abbrev fresh_sum : ℕ → ℕ → ℕ
-  fresh_sum longest k = total (map fresh (expanded w.units longest k))
+  weigh_body : (alone : ℕ → List Pass) (again : InnerTree → List Pass) (k : ℕ) (body : Block) (old : List InnerTree) →
+      weigh (body_passes alone again k body old)
+      ≡ weight k + (total (map (λ (s : Call). weigh (alone s.unit)) (calls_in body)) + total (map (λ r. weigh (again r)) old))
+  weigh_body alone again k body old =
+      ap (λ m. weight k + m)
+      (total_append (λ pass. weight (unit_of_pass pass)) (joined (map (begun_passes alone) (calls_in body))) (joined (map (stood_passes again) old))
+      ∙ (λ i. weigh_joined (begun_passes alone) (λ (s : Call). weigh (alone s.unit))
+      (λ s. total_of (λ pass. weight (unit_of_pass pass)) (Below (node_at Bool.false s) s.unit) (alone s.unit)) (calls_in body) i
+      + weigh_joined (stood_passes again) (λ r. weigh (again r))
+      (λ r. total_of (λ pass. weight (unit_of_pass pass)) (Below (node_at true r.call) r.call.unit) (again r)) old i))
 
-  abbrev whole_sum : ℕ → ℕ → ℕ
-  whole_sum longest k = total (map whole (expanded w.units longest k))
+-- ---- units
 
-  -- what a unit that is found expands to
-  abbrev opened : ℕ → ℕ → Option UnitDef → List Instance
-  opened longest k found =
-      unwrap_or (option_map (λ unit. record { unit = k; depth = 0; origin = None } ∷ instances_below (expanded w.units longest) 1 (runs_of unit)) found) []
+module _ (structs : List StructDef) (units : List UnitDef) (are : CallsAreRuns units)
+    (one_unit : (k : ℕ) (unit : UnitDef) → slice_get units k ≡ Some unit → OneUnitEach unit) (weight : ℕ → ℕ) where
+  abbrev fresh_of : ℕ → ℕ → ℕ
+  fresh_of longest k = fresh_sum structs units weight (expanded units longest k)
 
-  fresh_below : (longest : ℕ) → ((k : ℕ) → length (labels w.units longest false k) ≤ fresh_sum longest k) → (n : ℕ) (run : Run) →
-      length (labels w.units longest false run.unit) ≤ total (map fresh (map (called_from n run) (expanded w.units longest run.unit)))
-  fresh_below longest inner n run =
-      let less = inner run.unit in
-      let same = total_of fresh (called_from n run) (expanded w.units longest run.unit) in
-      omega arith
+  abbrev whole_of : ℕ → ℕ → ℕ
+  whole_of longest k = whole_sum structs units weight (expanded units longest k)
 
-  whole_below : (longest : ℕ) → ((k : ℕ) → length (labels w.units longest false k) ≤ fresh_sum longest k) →
-      ((k : ℕ) → length (labels w.units longest true k) ≤ whole_sum longest k) → (n : ℕ) (run : Run) →
-      length (labels w.units longest false run.unit) + length (labels w.units longest true run.unit)
-      ≤ total (map whole (map (called_from n run) (expanded w.units longest run.unit)))
-  whole_below longest fresh_inner whole_inner n run =
-      let one = fresh_inner run.unit in
-      let other = whole_inner run.unit in
-      let same = total_of whole (called_from n run) (expanded w.units longest run.unit) in
-      let both = total_both whole fresh (λ x. whole (called_from n run x)) (deeper n run) (expanded w.units longest run.unit) in
-      omega arith
+  -- a sum over the `run` statements of a body, place by place
+  calls_by_place : (k : ℕ) (unit : UnitDef) → slice_get units k ≡ Some unit → (g : ℕ → ℕ) →
+      total (map (λ (s : Call). g s.unit) (calls_in (plain_body unit.body)))
+      ≤ total (map (λ (r : Run). count_at r.place (joined (map runs_in unit.body)) * g r.unit) (runs_of unit))
+  calls_by_place k unit is g =
+      let runs : List Run = joined (map runs_in unit.body) in
+      let first = total_of (λ (x : Run). g x.unit) run_of (calls_in (plain_body unit.body)) in
+      let same : total (map (λ (x : Run). g x.unit) (map run_of (calls_in (plain_body unit.body)))) ≡ total (map (λ (x : Run). g x.unit) runs) =
+      ap (λ (runs : List Run). total (map (λ (x : Run). g x.unit) runs)) (are k unit is) in
+      let less = by_places g runs (one_a_place runs) (once_placed runs)
+      (λ x r at at' same. one_unit k unit is x r at (once_among runs r at') (same_place_is x.place r.place same)) in
+      omega (arith, first, same, less)
 
-  abbrev opened_labels : ℕ → Bool → Option UnitDef → List StepLabel
-  opened_labels longest stood found =
-      unwrap_or (option_map (λ unit. body_labels (labels w.units longest) stood (plain_body unit.body)) found) []
+  -- a sum over the `run`s of a tree
+  tree_by_place : (w : Setting) (k : ℕ) (unit : UnitDef) (c : Tree) → slice_get units k ≡ Some unit → Tied w (plain_body unit.body) c → (g : ℕ → ℕ) →
+      total (map (λ (r : InnerTree). g r.call.unit) (runs_in_tree c)) ≤ total (map (λ (r : Run). g r.unit) (runs_of unit))
+  tree_by_place w k unit c is tied g =
+      let runs : List Run = joined (map runs_in unit.body) in
+      let first = total_of (λ (x : Run). g x.unit) run_there (runs_in_tree c) in
+      let less = by_distinct_places g (map run_there (runs_in_tree c)) (one_a_place runs) (λ x at. once_placed runs x (inside x at))
+      (λ x r at at' same. one_unit k unit is x r (inside x at) (once_among runs r at') (same_place_is x.place r.place same))
+      (few_at (map run_there (runs_in_tree c)) (places_differ (runs_in_tree c) (calls_differ w (plain_body unit.body) c tied))) in
+      omega (arith, first, less)
+    where
+      inside : (x : Run) → Among x (map run_there (runs_in_tree c)) → Among x (joined (map runs_in unit.body))
+      inside x at =
+          let one = among_mapped run_there x (runs_in_tree c) at in
+          subst (Among x) (are k unit is)
+          (subst (λ x. Among x (map run_of (calls_in (plain_body unit.body)))) (sym one.is)
+          (among_map run_of one.one.call (calls_in (plain_body unit.body)) (inner_tied w (plain_body unit.body) c tied one.one one.among).call))
 
-  fresh_found : (longest k : ℕ) → ((j : ℕ) → length (labels w.units longest false j) ≤ fresh_sum longest j) → (found : Option UnitDef) →
-      slice_get w.units k ≡ found → length (opened_labels longest false found) ≤ total (map fresh (opened longest k found))
+  -- what a unit that is found passes
+  abbrev passed : ℕ → ℕ → List InnerTree → UnitDef → List Pass
+  passed longest k old unit =
+      body_passes (λ u. tick_passes units longest u []) (λ (r : InnerTree). tick_passes units longest r.call.unit (runs_in_tree r.tree)) k
+      (plain_body unit.body) old
+
+  -- below a unit that begins
+  begun_few : (longest k : ℕ) (unit : UnitDef) → slice_get units k ≡ Some unit →
+      ((j : ℕ) → weigh weight (tick_passes units longest j []) ≤ fresh_of longest j) →
+      total (map (λ (s : Call). weigh weight (tick_passes units longest s.unit [])) (calls_in (plain_body unit.body)))
+      ≤ total (map (λ (r : Run). count_at r.place (joined (map runs_in unit.body)) * fresh_of longest r.unit) (runs_of unit))
+  begun_few longest k unit is inner =
+      let less = totals_less (λ (s : Call). weigh weight (tick_passes units longest s.unit [])) (λ (s : Call). fresh_of longest s.unit)
+      (calls_in (plain_body unit.body)) (λ s at. inner s.unit) in
+      let more = calls_by_place k unit is (fresh_of longest) in
+      omega (arith, less, more)
+
+  fresh_found : (longest k : ℕ) → ((j : ℕ) → weigh weight (tick_passes units longest j []) ≤ fresh_of longest j) → (found : Option UnitDef) →
+      slice_get units k ≡ found → weigh weight (unwrap_or (option_map (passed longest k []) found) [])
+      ≤ fresh_sum structs units weight (unwrap_or (option_map (opened structs units longest k) found) [])
   fresh_found longest k inner None is = omega arith
   fresh_found longest k inner (Some unit) is =
-      let own : unwrap_or (option_map step_statements_of (slice_get w.units k)) 0 ≡ step_statements_of unit = ap (λ o. unwrap_or (option_map step_statements_of o) 0) is in
-      let long = body_long (labels w.units longest) false unit (λ u. length (labels w.units longest false u)) (counted k unit is)
-      (fresh_call (labels w.units longest)) in
-      let below = below_total fresh (λ u. length (labels w.units longest false u)) (expanded w.units longest) (fresh_below longest inner) 1 (runs_of unit) in
-      omega arith
+      let weighed = weigh_body weight (λ u. tick_passes units longest u [])
+      (λ (r : InnerTree). tick_passes units longest r.call.unit (runs_in_tree r.tree)) k (plain_body unit.body) [] in
+      let below = begun_few longest k unit is inner in
+      let all = fresh_opened structs units weight longest k unit is in
+      omega (arith, weighed, below, all)
 
-  whole_found : (longest k : ℕ) → ((j : ℕ) → length (labels w.units longest false j) ≤ fresh_sum longest j) →
-      ((j : ℕ) → length (labels w.units longest true j) ≤ whole_sum longest j) → (found : Option UnitDef) → slice_get w.units k ≡ found →
-      length (opened_labels longest true found) ≤ total (map whole (opened longest k found))
-  whole_found longest k fresh_inner whole_inner None is = omega arith
-  whole_found longest k fresh_inner whole_inner (Some unit) is =
-      let own : unwrap_or (option_map step_statements_of (slice_get w.units k)) 0 ≡ step_statements_of unit = ap (λ o. unwrap_or (option_map step_statements_of o) 0) is in
-      let long = body_long (labels w.units longest) true unit
-      (λ u. length (labels w.units longest false u) + length (labels w.units longest true u)) (counted k unit is)
-      (whole_call (labels w.units longest)) in
-      let below = below_total whole (λ u. length (labels w.units longest false u) + length (labels w.units longest true u)) (expanded w.units longest)
-      (whole_below longest fresh_inner whole_inner) 1 (runs_of unit) in
-      omega arith
-
-  few_fresh : (longest k : ℕ) → length (labels w.units longest false k) ≤ fresh_sum longest k
+  few_fresh : (longest k : ℕ) → weigh weight (tick_passes units longest k []) ≤ fresh_of longest k
   few_fresh zero k = omega arith
-  few_fresh (suc longest) k = fresh_found longest k (λ j. few_fresh longest j) (slice_get w.units k) refl
+  few_fresh (suc longest) k = fresh_found longest k (λ j. few_fresh longest j) (slice_get units k) refl
 
-  -- all labels of a unit are no more than the steps of its instances
-  pub few_whole : (longest k : ℕ) → length (labels w.units longest true k) ≤ whole_sum longest k
-  few_whole zero k = omega arith
-  few_whole (suc longest) k = whole_found longest k (λ j. few_fresh longest j) (λ j. few_whole longest j) (slice_get w.units k) refl
+  -- the passes of a unit are no more than those of its instances
+  pub few_whole : (w : Setting) → w.units ≡ units → (longest k : ℕ) (unit : UnitDef) (c : Tree) → slice_get units k ≡ Some unit →
+      Tied w (plain_body unit.body) c → weigh weight (tick_passes units longest k (runs_in_tree c)) ≤ whole_of longest k
+  few_whole w its zero k unit c is tied = omega arith
+  few_whole w its (suc longest) k unit c is tied =
+      let again : InnerTree → List Pass = λ (r : InnerTree). tick_passes units longest r.call.unit (runs_in_tree r.tree) in
+      let found : weigh weight (tick_passes units (suc longest) k (runs_in_tree c)) ≡ weigh weight (passed longest k (runs_in_tree c) unit) =
+      ap (λ found. weigh weight (unwrap_or (option_map (passed longest k (runs_in_tree c)) found) [])) is in
+      let weighed = weigh_body weight (λ u. tick_passes units longest u []) again k (plain_body unit.body) (runs_in_tree c) in
+      let below = begun_few longest k unit is (few_fresh longest) in
+      let inside = totals_less (λ (r : InnerTree). weigh weight (again r)) (λ (r : InnerTree). whole_of longest r.call.unit) (runs_in_tree c)
+      (λ r at. let one = inner_tied w (plain_body unit.body) c tied r at in
+      few_whole w its longest r.call.unit one.unit r.tree
+      (subst (λ units. slice_get units r.call.unit ≡ Some one.unit) its one.is) one.tied) in
+      let places = tree_by_place w k unit c is tied (whole_of longest) in
+      let both = total_both (λ (r : Run). count_at r.place (joined (map runs_in unit.body)) * fresh_of longest r.unit)
+      (λ (r : Run). whole_of longest r.unit)
+      (λ (r : Run). count_at r.place (joined (map runs_in unit.body)) * fresh_of longest r.unit + whole_of longest r.unit) (λ r. refl) (runs_of unit) in
+      let all = whole_opened structs units weight longest k unit is in
+      let same : whole_of (suc longest) k ≡ whole_sum structs units weight (opened structs units longest k unit) =
+      ap (whole_sum structs units weight) (is_opened structs units longest k unit is) in
+      omega (arith, found, weighed, below, inside, places, both, all, same)

@@ -2,6 +2,7 @@
 use Rattle.std.proofs.Common.{
   ◌≡◌,
   ℕ,
+  zero,
   suc,
   ◌+◌,
   ◌<◌,
@@ -40,6 +41,18 @@ abbrev pub EachOf : {A : Type 0} → (A → Type 0) → List A → Type 0
 EachOf P [] = ⊤
 EachOf P (x ∷ xs) = P x × EachOf P xs
 
+pub each_append : {A : Type 0} (P : A → Type 0) (xs ys : List A) → EachOf P xs → EachOf P ys → EachOf P (xs ++ ys)
+each_append P [] ys each more = more
+each_append P (x ∷ xs) ys each more = (each.0, each_append P xs ys each.1 more)
+
+pub each_map : {A B : Type 0} (P : B → Type 0) (f : A → B) (xs : List A) → EachOf (λ x. P (f x)) xs → EachOf P (map f xs)
+each_map P f [] each = tt
+each_map P f (x ∷ xs) each = (each.0, each_map P f xs each.1)
+
+pub each_more : {A : Type 0} (P Q : A → Type 0) → ((x : A) → P x → Q x) → (xs : List A) → EachOf P xs → EachOf Q xs
+each_more P Q so [] each = tt
+each_more P Q so (x ∷ xs) each = (so x each.0, each_more P Q so xs each.1)
+
 pub among_left : {A : Type 0} (x : A) (xs ys : List A) → Among x xs → Among x (xs ++ ys)
 among_left x [] ys at = elim at [ ]
 among_left x (y ∷ xs) ys (inl is) = inl is
@@ -62,6 +75,19 @@ among_map f x [] at = elim at [ ]
 among_map f x (y ∷ xs) (inl is) = inl (ap f is)
 among_map f x (y ∷ xs) (inr at) = inr (among_map f x xs at)
 
+-- what stands behind a member of a mapped list
+pub record Mapped {A B : Type 0} (f : A → B) (y : B) (xs : List A) : Type 0 where
+  pub one : A
+  pub among : Among one xs
+  pub is : y ≡ f one
+
+pub among_mapped : {A B : Type 0} (f : A → B) (y : B) (xs : List A) → Among y (map f xs) → Mapped f y xs
+among_mapped f y [] at = elim at [ ]
+among_mapped f y (x ∷ xs) (inl is) = record { one = x; among = inl refl; is = is }
+among_mapped f y (x ∷ xs) (inr at) =
+    let more = among_mapped f y xs at in
+    record { one = more.one; among = inr more.among; is = more.is }
+
 pub among_joined : {A B : Type 0} (f : A → List B) (x : A) (y : B) (xs : List A) → Among x xs → Among y (f x) → Among y (joined (map f xs))
 among_joined f x y [] at inside = elim at [ ]
 among_joined f x y (z ∷ xs) (inl is) inside = among_left y (f z) (joined (map f xs)) (subst (λ z. Among y (f z)) is inside)
@@ -79,6 +105,14 @@ among_got x (y ∷ xs) h = elim (Contains-append_cases (y ∷ []) xs x h) [
   ]
   | inr later ↦ inr (among_got x xs later)
 ]
+
+pub among_contains : {A : Type 0} (x : A) (xs : List A) → Among x xs → Contains xs x
+among_contains x [] at = elim at [ ]
+among_contains x (y ∷ xs) (inl is) = (zero, omega arith, sym is)
+among_contains x (y ∷ xs) (inr at) =
+    let there = among_contains x xs at in
+    let below = there.1 in
+    (suc there.0, omega arith, there.2)
 
 -- ---- a list without doubles is no longer than one that has all of it
 
@@ -131,4 +165,11 @@ joined_long f [] = refl
 joined_long f (x ∷ xs) =
     let both = length-append (f x) (joined (map f xs)) in
     let more = joined_long f xs in
+    omega arith
+
+pub totals_less : {A : Type 0} (f g : A → ℕ) (xs : List A) → ((x : A) → Among x xs → f x ≤ g x) → total (map f xs) ≤ total (map g xs)
+totals_less f g [] each = omega arith
+totals_less f g (x ∷ xs) each =
+    let one = each x (inl refl) in
+    let more = totals_less f g xs (λ y at. each y (inr at)) in
     omega arith

@@ -1,4 +1,4 @@
--- The plain statements of a typed body have its `run` statements, and with two more steps a call at most six nodes a statement.
+-- The plain statements of a typed body have its `run` statements, and with two more steps a call at most five nodes a statement.
 use Rattle.std.proofs.Common.{
   ◌≡◌,
   ℕ,
@@ -77,10 +77,10 @@ use Rattle.bl_ctree_laws.specs.Trees.{Call}
 use Rattle.bl_ctree_laws_confluence.proofs.OnDeeds.Activities.{and_left, and_right}
 use Rattle.bl_ctree_laws_traces.proofs.OnBounded.Calls.{calls_in, calls_in_each, calls_of, run_of}
 
--- these calls are these runs, and with these nodes they are at most six a statement
+-- these calls are these runs, and with these nodes they are at most five a statement
 pub record Few (calls : List Call) (nodes : List Node) (runs : List Run) (statements : ℕ) : Type 0 where
   pub are : map run_of calls ≡ runs
-  pub few : length nodes + 2 * length calls ≤ 6 * statements
+  pub few : length nodes + 2 * length calls ≤ 5 * statements
 
 abbrev FewOf : Plain → List Run → ℕ → Type 0
 FewOf s runs statements = Few (calls_of s) (nodes_of s) runs statements

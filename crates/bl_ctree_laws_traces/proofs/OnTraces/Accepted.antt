@@ -18,8 +18,8 @@ ordered_are_numbered give orderly structs units entry keeps passes ordered =
 
 pub ordered_have_one_trace : BoundedHaveMeanings → UnstuckShowTraces → OrderedAreNumbered → OrderedNeverStuck → AcceptedIsBounded →
     AcceptedTracesAreOne → OrderedHaveOneTrace
-ordered_have_one_trace meanings traces numbered never bounded at_most structs units entry keeps passes apart ordered =
-    let limit = bounded structs units entry keeps passes apart (numbered structs units entry keeps passes ordered) in
+ordered_have_one_trace meanings traces numbered never bounded at_most structs units entry keeps passes ordered =
+    let limit = bounded structs units entry keeps passes (numbered structs units entry keeps passes ordered) in
     let unstuck = never structs units entry keeps passes ordered in
     record {
       each = λ rows.

@@ -1,10 +1,8 @@
 -- No tick has more steps than the number that its program's statements and instances come to.
-use Rattle.std.specs.Prelude.{◌≡◌, ℕ, suc, false, List, map, Some, AllPairs, slice_get}
+use Rattle.std.specs.Prelude.{ℕ, List}
 use Rattle.bl_tree.specs.declared.tree.StructDef.{StructDef}
 use Rattle.bl_tree.specs.declared.tree.Unit.{Unit as UnitDef}
 use Rattle.bl_tree.specs.Program.{IsWellTyped}
-use Rattle.bl_tree.specs.Reduce.{joined}
-use Rattle.bl_tree.specs.Rules.{same_place}
 use Rattle.bl_parse_tree.specs.declared.item.RawItem.{RawItem}
 use Rattle.bl_parse_tree.specs.WellFormed.{RawIsWellFormed}
 use Rattle.bl_names_scopes.specs.Rules.{Passes as NamesPass}
@@ -12,29 +10,15 @@ use Rattle.bl_names.specs.Named.{named_program}
 use Rattle.bl_types.specs.Programs.{typed_program}
 use Rattle.bl_types.specs.Rules.{Passes as TypesPass}
 use Rattle.bl_effects.specs.Rules.{Passes}
-use Rattle.bl_ctree.specs.declared.instance.Instance.{Instance}
-use Rattle.bl_ctree.specs.declared.instance.Run.{Run}
-use Rattle.bl_ctree.specs.Instances.{instances_of, runs_in, setting_of}
-use Rattle.bl_ctree.specs.Measure.{passes, steps}
+use Rattle.bl_ctree.specs.Instances.{setting_of}
+use Rattle.bl_ctree.specs.Measure.{steps}
 use Rattle.bl_ctree.specs.Reaches.{Bounded}
 use Rattle.bl_ctree_laws_traces.specs.Bounded.Differ.{AllNumbered}
 
--- the `run` statements of each unit stand at distinct places
-abbrev pub RunsStandApart : List UnitDef → Type 0
-RunsStandApart units =
-    (k : ℕ) (unit : UnitDef) → slice_get units k ≡ Some unit →
-    AllPairs (λ (one : Run) (other : Run). same_place one.place other.place ≡ false) (joined (map runs_in unit.body))
-
--- an instance is passed once for itself and once for each of its callers, where no `run` statement is copied
-abbrev pub PassesAreDepths : Type 0
-PassesAreDepths =
-    (structs : List StructDef) (units : List UnitDef) (entry i : ℕ) (instance : Instance) → RunsStandApart units →
-    slice_get (instances_of units entry) i ≡ Some instance → passes (setting_of structs units entry) instance.depth instance ≡ suc instance.depth
-
--- an accepted program with distinct `run` places and node numbers that rise along control edges has bounded ticks
+-- an accepted program with node numbers that rise along control edges has bounded ticks
 abbrev pub AcceptedIsBounded : Type 0
 AcceptedIsBounded =
-    (structs : List StructDef) (units : List UnitDef) (entry : ℕ) → IsWellTyped structs units entry → Passes units → RunsStandApart units →
+    (structs : List StructDef) (units : List UnitDef) (entry : ℕ) → IsWellTyped structs units entry → Passes units →
     AllNumbered (setting_of structs units entry) → Bounded (steps structs units entry) structs units entry
 
 -- the program of a raw tree in which no rule fails has bounded ticks, if its nodes are numbered

@@ -15,7 +15,6 @@ use Rattle.bl_ctree.specs.Instances.{setting_of}
 use Rattle.bl_ctree.specs.Means.{Means, ShownTrace, shown_trace}
 use Rattle.bl_ctree.specs.Measure.{steps}
 use Rattle.bl_ctree.specs.Reaches.{Bounded, NeverStuck}
-use Rattle.bl_ctree_laws_traces.specs.Bounded.Bounds.{RunsStandApart}
 use Rattle.bl_ctree_laws_traces.specs.Bounded.Differ.{AllNumbered}
 use Rattle.bl_ctree_laws_traces.specs.Ready.Ordered.{ActivitiesAreOrdered}
 
@@ -37,11 +36,11 @@ OrderedAreNumbered =
     (structs : List StructDef) (units : List UnitDef) (entry : ℕ) → IsWellTyped structs units entry → Passes units → ActivitiesAreOrdered units →
     AllNumbered (setting_of structs units entry)
 
--- a program that passes the rules, with orders of its tick graphs and distinct `run` places, has exactly one trace
+-- a program that passes the rules, with orders of its tick graphs, has exactly one trace
 abbrev pub OrderedHaveOneTrace : Type 0
 OrderedHaveOneTrace =
-    (structs : List StructDef) (units : List UnitDef) (entry : ℕ) → IsWellTyped structs units entry → Passes units → RunsStandApart units →
-    ActivitiesAreOrdered units → HasOneTrace structs units entry
+    (structs : List StructDef) (units : List UnitDef) (entry : ℕ) → IsWellTyped structs units entry → Passes units → ActivitiesAreOrdered units →
+    HasOneTrace structs units entry
 
 -- the program of a raw tree in which no rule fails has exactly one trace, if its tick graphs have orders
 abbrev pub TypedHaveOneTrace : Type 0

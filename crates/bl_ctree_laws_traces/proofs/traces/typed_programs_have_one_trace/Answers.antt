@@ -6,4 +6,4 @@ pub returns : goal.returns
 returns c = λ items bytes raw names types passes ordered.
     let typed = typed_program (named_program items bytes) in
     c.ordered_programs_have_one_trace.ensures typed.structs typed.units typed.entry (c.what_is_typed_keeps.ensures.keeps items bytes raw names types)
-    passes (c.ordered_runs_stand_apart.ensures typed.units (c.statements_begin_in_order.ensures items bytes raw names types)) ordered
+    passes ordered
