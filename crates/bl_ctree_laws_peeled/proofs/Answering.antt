@@ -122,7 +122,7 @@ joined_answers one more = record {
   soon = λ test j. one.soon test j || (one.instant j && more.soon test j);
 }
 
-module _ {H : Node → Label → Type 0} where
+module _ {H : Node → Plain → Type 0} where
   mutual
     pub block_answers : {body body' : Block} → Unrolls H body body' → SameBlockAnswers body body'
     block_answers no_more = record { instant = refl; soon = λ test. refl }

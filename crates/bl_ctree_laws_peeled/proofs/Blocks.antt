@@ -5,7 +5,6 @@ use Rattle.bl_graph_nodes.specs.Nodes.{Node, are_instant, is_instant}
 use Rattle.bl_graph_nodes.specs.Plain.{
   Block,
   Bodies,
-  Label,
   Plain,
   Act,
   Again,
@@ -66,7 +65,7 @@ soon_before test (Then s rest) after =
     ap (λ b. soon test s || (is_instant s && b)) (soon_before test rest after)
     ∙ or_spread (soon test s) (is_instant s) (soon_in test rest) (are_instant rest) (soon_in test after)
 
-module _ {H : Node → Label → Type 0} where
+module _ {H : Node → Plain → Type 0} where
   pub unrolls_before : {body body' after after' : Block} → Unrolls H body body' → Unrolls H after after' → Unrolls H (before body after) (before body' after')
   unrolls_before no_more more = more
   unrolls_before (first_alike alike rest) more = first_alike alike (unrolls_before rest more)
@@ -99,7 +98,7 @@ module _ {H : Node → Label → Type 0} where
     bodies_same (BodyOf weak body rest) = one_body (block_same body) (bodies_same rest)
 
 -- where more heads may fall away
-module _ {H K : Node → Label → Type 0} (more : (n : Node) (l : Label) → H n l → K n l) where
+module _ {H K : Node → Plain → Type 0} (more : (n : Node) (s : Plain) → H n s → K n s) where
   mutual
     pub unrolls_more : {body body' : Block} → Unrolls H body body' → Unrolls K body body'
     unrolls_more no_more = no_more

@@ -1,15 +1,16 @@
 mod Answering
-mod Blocks
+pub mod Blocks
 mod Calls
+pub mod Heads
 mod Lining
 mod Moving
-mod Peeling
+pub mod Peeling
 mod Places
-mod Programs
+pub mod Programs
 mod Relating
-mod Running
+pub mod Running
 mod Shapes
-mod Stepping
+pub mod Stepping
 mod Stilling
 mod Waking
 mod Whole

@@ -1,8 +1,8 @@
 -- What is asked of a tree is told by its line.
-use Rattle.std.proofs.Common.{◌≡◌, ℕ, Bool, true, false, not, ◌&&◌, ◌||◌, refl, sym, ap, ◌∙◌, subst}
+use Rattle.std.proofs.Common.{◌≡◌, ℕ, Bool, true, false, ◌&&◌, ◌||◌, refl, sym, ap, ◌∙◌, subst}
 use Rattle.bl_tree.specs.declared.static_path.Static.{Static}
 use Rattle.bl_graph_nodes.specs.Nodes.{Node, are_instant}
-use Rattle.bl_graph_nodes.specs.Plain.{Block, Label, Plain, Done, Then}
+use Rattle.bl_graph_nodes.specs.Plain.{Block, Plain, Done, Then}
 use Rattle.bl_ctree_laws.specs.Pending.{may_end, may_write_path, soon_in}
 use Rattle.bl_ctree_laws.specs.Trees.{
   Tree,
@@ -52,7 +52,7 @@ line_seq (Par p stood branches) rest k = line_followed (Par p stood branches) re
 line_seq (Guard p phase stood c) rest k = line_followed (Guard p phase stood c) rest k
 line_seq (Run p callee phase stood c) rest k = line_followed (Run p callee phase stood c) rest k
 
-module _ {H : ℕ → Node → Label → Type 0} where
+module _ {H : ℕ → Node → Plain → Type 0} where
   pub relined : {i : ℕ} {L M L' M' : Line} → L ≡ M → L' ≡ M' → Lined H i M M' → Lined H i L L'
   relined {i} {L} {M} {L'} {M'} e f lined = subst (λ one. Lined H i one L') (sym e) (subst (Lined H i M) (sym f) lined)
 

@@ -1,6 +1,6 @@
 -- The steps of a tree are those of its line's head.
-use Rattle.std.proofs.Common.{◌≡◌, ℕ, Bool, true, false, ◌&&◌, refl, ap, ◌∙◌}
-use Rattle.bl_graph_nodes.specs.Plain.{Block, Done, Then, plain_body}
+use Rattle.std.proofs.Common.{◌≡◌, ℕ, Bool, true, refl, ◌∙◌}
+use Rattle.bl_graph_nodes.specs.Plain.{Block, Done}
 use Rattle.bl_graph_nodes.specs.Steps.{StepLabel}
 use Rattle.bl_ctree.specs.Instances.{Setting}
 use Rattle.bl_ctree_laws.specs.Pending.{Deed}

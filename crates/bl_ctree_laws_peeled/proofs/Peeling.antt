@@ -1,6 +1,6 @@
 -- The body of a unit, and the body in which loops that begin branches have first turns: the second is the first one unrolled.
 use Rattle.std.proofs.Common.{◌≡◌, ℕ, suc, Bool, true, false, List, [], ◌∷◌, ◌++◌, map, refl, sym, ap, ◌∙◌, subst}
-use Rattle.std.specs.Prelude.{if◌then◌else◌, Option}
+use Rattle.std.specs.Prelude.{if◌then◌else◌}
 use Rattle.std.proofs.lemmas.List.Elements.{All-head, All-tail}
 use Rattle.bl_tree.specs.declared.place.Place.{Place}
 use Rattle.bl_tree.specs.declared.tree.Arm.{Arm, fold-Arm, fold_out-Arm, out-Arm, out-roll-Arm}
@@ -13,46 +13,10 @@ use Rattle.bl_tree.specs.declared.tree.StmtKind.TheOpen.{StmtKind-F}
 use Rattle.bl_tree.proofs.StmtInduction.{Cases, Each, EachArm, EachBranch, induct}
 use Rattle.bl_graph_nodes.specs.Laws.{stmt}
 use Rattle.bl_graph_nodes.specs.Nodes.{Node}
-use Rattle.bl_graph_nodes.specs.Plain.{
-  Block,
-  Label,
-  Plain,
-  Position,
-  Act,
-  Again,
-  Await,
-  Done,
-  If,
-  Repeat,
-  Run,
-  Then,
-  Until,
-  While,
-  block_from,
-  inside,
-  label_at,
-  plain_stmt,
-  plain_block,
-  plain_body,
-}
+use Rattle.bl_graph_nodes.specs.Plain.{Block, Label, Plain, Position, Again, Done, Repeat, Then, Until, While, block_from, inside, label_at, plain_stmt, plain_block}
 use Rattle.bl_graph_nodes.proofs.Equations.{plain_statements}
 use Rattle.bl_ctree_laws.specs.Trees.{before}
-use Rattle.bl_peel.specs.Peeled.{
-  ArmPeeling,
-  BranchPeeling,
-  Peeling,
-  arm_peeling,
-  branch_peeling,
-  deep_of,
-  front_of,
-  kind_peeling,
-  made_arm,
-  made_if,
-  peeled,
-  peeling,
-  place_of_expr,
-  stmt_peeling,
-}
+use Rattle.bl_peel.specs.Peeled.{ArmPeeling, BranchPeeling, Peeling, arm_peeling, branch_peeling, deep_of, front_of, kind_peeling, made_arm, made_if, peeled, peeling, stmt_peeling}
 use Rattle.bl_ctree_laws_peeled.specs.Bodies.{PeeledUnrolls}
 use Rattle.bl_ctree_laws_peeled.specs.Unrolls.{
   PlainUnrolls,
@@ -128,13 +92,13 @@ split [] other k q rest = refl
 split (s ∷ one) other k q rest = ap (Then (plain_stmt s (q ++ k ∷ []))) (split one other (suc k) q rest)
 
 -- a statement becomes another outside of first turns, and others where it begins a branch, wherever all stand
-pub record Becomes (H : Node → Label → Type 0) (s : Stmt) (made : Peeling) : Type 0 where
+pub record Becomes (H : Node → Plain → Type 0) (s : Stmt) (made : Peeling) : Type 0 where
   pub deep : (p q : Position) → PlainUnrolls H (plain_stmt s p) (plain_stmt made.deep q)
   pub front : (p q : Position) (k : ℕ) (rest rest' : Block) → Unrolls H rest rest' →
       Unrolls H (Then (plain_stmt s p) rest) (before (block_from (map plain_stmt made.front) k q) rest')
 
 -- each head may fall away
-module _ {H : Node → Label → Type 0} (any : (n : Node) (l : Label) → H n l) where
+module _ {H : Node → Plain → Type 0} (any : (n : Node) (s : Plain) → H n s) where
   abbrev P : Stmt → Type 0
   P s = Becomes H s (peeling s)
 
@@ -379,4 +343,4 @@ module _ {H : Node → Label → Type 0} (any : (n : Node) (l : Label) → H n l
   body_becomes body = deep_block body (each_becomes body)
 
 pub peeled_unrolls : PeeledUnrolls
-peeled_unrolls i body = body_becomes (λ n l. tt) body 0 0 [] []
+peeled_unrolls i body = body_becomes (λ n s. tt) body 0 0 [] []

@@ -90,11 +90,11 @@ vars_same kept = refl
 vars_same (is_peeled activity) = refl
 
 -- a unit on both sides, or on neither
-data BothPeel : Option UnitDef → Option UnitDef → Type 0 where
+pub data BothPeel : Option UnitDef → Option UnitDef → Type 0 where
   neither : BothPeel None None
   both : {unit tree : UnitDef} → UnitPeels unit tree → BothPeel (Some unit) (Some tree)
 
-unit_there : {units trees : List UnitDef} → UnitsPeel units trees → (k : ℕ) → BothPeel (slice_get units k) (slice_get trees k)
+pub unit_there : {units trees : List UnitDef} → UnitsPeel units trees → (k : ℕ) → BothPeel (slice_get units k) (slice_get trees k)
 unit_there no_units zero = neither
 unit_there no_units (suc k) = neither
 unit_there (more_units one more) zero = both one

@@ -1,17 +1,17 @@
 -- Related trees have the same answers.
-use Rattle.std.proofs.Common.{◌≡◌, ℕ, Bool, true, false, not, ◌&&◌, ◌||◌, cond, List, map, refl, sym, ap, ◌∙◌, subst}
+use Rattle.std.proofs.Common.{◌≡◌, ℕ, Bool, true, false, not, ◌&&◌, ◌||◌, cond, List, map, refl, sym, ap, ◌∙◌}
 use Rattle.std.specs.List.{list_any}
 use Rattle.bl_tree.specs.declared.static_path.Static.{Static}
 use Rattle.bl_tree.specs.Effects.{reads, target_static}
 use Rattle.bl_tree.specs.Reduce.{joined}
 use Rattle.bl_tree.specs.Static.{mentions, static_of}
 use Rattle.bl_graph_nodes.specs.Nodes.{Node}
-use Rattle.bl_graph_nodes.specs.Plain.{Label}
+use Rattle.bl_graph_nodes.specs.Plain.{Plain}
 use Rattle.bl_ctree.specs.Actions.{Effect, Acts, Asks, Copies, Gives, Silent, effect_reads}
 use Rattle.bl_ctree.specs.Control.{Phase, Body, Check}
 use Rattle.bl_ctree.specs.Instances.{Setting}
 use Rattle.bl_ctree.specs.Pending.{is_reset_kind}
-use Rattle.bl_ctree.specs.Store.{Location, home, homes, overlap}
+use Rattle.bl_ctree.specs.Store.{Location, homes, overlap}
 use Rattle.bl_ctree_laws.specs.Pending.{
   Deed,
   any_meets,
@@ -98,7 +98,7 @@ joins_same : (weak : Bool) (c t : Tree) (rest rest' : Trees) → may_end c ≡ m
 joins_same weak c t rest rest' one more true = λ j. (weak || one j) && more true j
 joins_same weak c t rest rest' one more false = λ j. one j || more false j
 
-module _ {H : ℕ → Node → Label → Type 0} where
+module _ {H : ℕ → Node → Plain → Type 0} where
   mutual
     pub line_answers : {i : ℕ} {L L' : Line} → Lined H i L L' → SameLineAnswers L L'
     line_answers both_over = record { ended = refl; settled = refl; ends = refl; writes = λ test. refl }
@@ -166,7 +166,7 @@ module _ {H : ℕ → Node → Label → Type 0} where
 
 -- ---- what a step reads, and what meets it
 
-module _ {H : ℕ → Node → Label → Type 0} {w w' : Setting} (same : SameProgram H w w') where
+module _ {H : ℕ → Node → Plain → Type 0} {w w' : Setting} (same : SameProgram H w w') where
   leads_same : (i : ℕ) (at : Location) → leads_over w i at ≡ leads_over w' i at
   leads_same i at = λ j path. overlap at (same.homes (record { instance = i; path = path }) j)
 

@@ -1,5 +1,5 @@
 -- Plain statements of statements of one kind whose blocks are unrolled.
-use Rattle.std.proofs.Common.{◌≡◌, ℕ, suc, Bool, List, [], ◌∷◌, ◌++◌, map, refl, sym, ap, ◌∙◌, subst}
+use Rattle.std.proofs.Common.{◌≡◌, ℕ, suc, Bool, List, [], ◌∷◌, map, refl, sym, ap, ◌∙◌, subst}
 use Rattle.bl_tree.specs.declared.place.Place.{Place}
 use Rattle.bl_tree.specs.declared.tree.Arm.{Arm, out-Arm, out-roll-Arm}
 use Rattle.bl_tree.specs.declared.tree.Branch.{Branch, out-Branch}
@@ -47,17 +47,17 @@ use Rattle.bl_ctree_laws_peeled.specs.Unrolls.{
 }
 
 -- a block becomes another, wherever both stand
-abbrev pub BlockBecomes : (Node → Label → Type 0) → List Stmt → List Stmt → Type 0
+abbrev pub BlockBecomes : (Node → Plain → Type 0) → List Stmt → List Stmt → Type 0
 BlockBecomes H one other = (j k : ℕ) (p q : Position) → Unrolls H (block_from (map plain_stmt one) j p) (block_from (map plain_stmt other) k q)
 
 -- arms with the same tests, whose blocks become others
-pub data ArmsBecome (H : Node → Label → Type 0) : List Arm → List Arm → Type 0 where
+pub data ArmsBecome (H : Node → Plain → Type 0) : List Arm → List Arm → Type 0 where
   no_arms : ArmsBecome H [] []
   one_arm : {arm made : Arm} {arms others : List Arm} → (out-Arm arm).test ≡ (out-Arm made).test →
       BlockBecomes H (out-Arm arm).body (out-Arm made).body → ArmsBecome H arms others → ArmsBecome H (arm ∷ arms) (made ∷ others)
 
 -- branches that are weak alike, whose blocks become others
-pub data BranchesBecome (H : Node → Label → Type 0) : List Branch → List Branch → Type 0 where
+pub data BranchesBecome (H : Node → Plain → Type 0) : List Branch → List Branch → Type 0 where
   no_branches : BranchesBecome H [] []
   one_branch : {branch made : Branch} {branches others : List Branch} → (out-Branch branch).weak ≡ (out-Branch made).weak →
       BlockBecomes H (out-Branch branch).body (out-Branch made).body → BranchesBecome H branches others →
@@ -69,7 +69,7 @@ if_without_arms : (place : Place) (body : List Stmt) (p : Position) →
     ≡ If (label_at p) place (never place) (plain_block body (inside (label_at p) 0)) (plain_block body (inside (label_at p) 1))
 if_without_arms place body p = rw (fold-roll-Stmt, fold-roll-StmtKind) refl
 
-module _ {H : Node → Label → Type 0} where
+module _ {H : Node → Plain → Type 0} where
   pub alike_by : {s t s' t' : Plain} → s ≡ s' → t ≡ t' → PlainUnrolls H s' t' → PlainUnrolls H s t
   alike_by {t = t} {s'} e f alike = subst (λ one. PlainUnrolls H one t) (sym e) (subst (PlainUnrolls H s') (sym f) alike)
 

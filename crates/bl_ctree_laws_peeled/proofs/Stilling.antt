@@ -4,11 +4,11 @@ use Rattle.std.specs.Prelude.{position}
 use Rattle.bl_tree.specs.declared.place.Place.{Place}
 use Rattle.bl_tree.specs.declared.tree.Unit.{Unit as UnitDef}
 use Rattle.bl_graph_nodes.specs.Nodes.{Node}
-use Rattle.bl_graph_nodes.specs.Plain.{Block, Label, Plain, Done}
-use Rattle.bl_graph_nodes.specs.Steps.{StepLabel, Gives as EndOf, Here, end_node, run_node}
+use Rattle.bl_graph_nodes.specs.Plain.{Block, Plain, Done}
+use Rattle.bl_graph_nodes.specs.Steps.{StepLabel}
 use Rattle.bl_ctree.specs.Actions.{Asks, Copies, Gives, Silent}
 use Rattle.bl_ctree.specs.Control.{Body}
-use Rattle.bl_ctree.specs.Instances.{Setting, begins_at, callee_of, unit_at}
+use Rattle.bl_ctree.specs.Instances.{Setting, begins_at, callee_of}
 use Rattle.bl_ctree_laws.specs.Pending.{Deed, any_meets, deed, meets}
 use Rattle.bl_ctree_laws.specs.Steps.{
   Moves,
@@ -105,7 +105,7 @@ record UnitThere (unit : Option UnitDef) : Type 0 where
 no_some : {A : Type 0} (unit : UnitDef) → None ≡ Some unit → A
 no_some unit e = absurd cc
 
-unit_there : {H : Node → Label → Type 0} {one other : Option UnitDef} {unit : UnitDef} → UnitUnrolls H one other → other ≡ Some unit → UnitThere one
+unit_there : {H : Node → Plain → Type 0} {one other : Option UnitDef} {unit : UnitDef} → UnitUnrolls H one other → other ≡ Some unit → UnitThere one
 unit_there {unit = unit} no_unit e = no_some unit e
 unit_there (one_unit unrolls) e = record { there = _; is = refl }
 
@@ -125,7 +125,7 @@ silently : {w : Setting} {i : ℕ} {c : Tree} {d e : Bool} {a b : Deed} {n : Ste
     StepsBack w i c d a
 silently move silent = record { answer = _; deed = _; label = _; after = _; moves = move; does = inl silent }
 
-module _ {H : ℕ → Node → Label → Type 0} {w w' : Setting} (same : SameProgram H w w') where
+module _ {H : ℕ → Node → Plain → Type 0} {w w' : Setting} (same : SameProgram H w w') where
   called : (i : ℕ) (at : Place) {callee : ℕ} → callee_of w' i at ≡ Some callee → callee_of w i at ≡ Some callee
   called i at at_callee = ap (λ all. position (λ instance. begins_at i at instance.origin) all) same.instances ∙ at_callee
 
@@ -242,5 +242,9 @@ module _ {H : ℕ → Node → Label → Type 0} {w w' : Setting} (same : SamePr
     back_each (first move free) (one_branch (related chain chain' lined) rest) = first_back (whole_back chain (back_at move Done lined)) free rest
     back_each (later move free) (one_branch inner rest) = later_back (back_each move rest) free inner
 
+pub still_steps : {H : ℕ → Node → Plain → Type 0} {w w' : Setting} {i : ℕ} {c t : Tree} {d : Bool} {a : Deed} {n : StepLabel} {t' : Tree} →
+    SameProgram H w w' → Related H i c t → Moves Unmet w' i t d a n t' → StepsBack w i c d a
+still_steps same (related chain chain' lined) move = whole_back same chain (back_at same move Done lined)
+
 pub still_is_related : StillIsRelated
-still_is_related w w' i c t d a n t' same (related chain chain' lined) move = whole_back same chain (back_at same move Done lined)
+still_is_related w w' i c t d a n t' same inner move = still_steps same inner move

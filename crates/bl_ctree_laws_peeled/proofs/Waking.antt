@@ -1,7 +1,7 @@
 -- Related trees are woken to related trees.
-use Rattle.std.proofs.Common.{◌≡◌, ℕ, Bool, true, refl}
+use Rattle.std.proofs.Common.{◌≡◌, ℕ, true, refl}
 use Rattle.bl_graph_nodes.specs.Nodes.{Node}
-use Rattle.bl_graph_nodes.specs.Plain.{Block, Label, Done}
+use Rattle.bl_graph_nodes.specs.Plain.{Block, Plain, Done}
 use Rattle.bl_ctree_laws.specs.Trees.{Tree, Trees, Nil, Wait, Test, Idle, Do, Seq, Par, Guard, Run, all_woken, woken}
 use Rattle.bl_ctree_laws.proofs.Tests.{and_both, and_first, and_second}
 use Rattle.bl_ctree_laws_peeled.specs.Lines.{
@@ -54,7 +54,7 @@ woken_chain (Par p stood branches) chain = refl
 woken_chain (Guard p phase stood c) chain = refl
 woken_chain (Run p callee phase stood c) chain = refl
 
-module _ {H : ℕ → Node → Label → Type 0} where
+module _ {H : ℕ → Node → Plain → Type 0} where
   mutual
     wake_lined : {i : ℕ} {L L' : Line} → Lined H i L L' → Lined H i (woken_line L) (woken_line L')
     wake_lined both_over = both_over
@@ -80,5 +80,8 @@ module _ {H : ℕ → Node → Label → Type 0} where
 pub waking_is_related : WakingIsRelated
 waking_is_related i c t inner = wake_related inner
 
+pub related_idle : {H : ℕ → Node → Plain → Type 0} {i : ℕ} {body body' : Block} → Unrolls (H i) body body' → Related H i (Idle body) (Idle body')
+related_idle unrolls = related refl refl (both_stand (both_idle unrolls) no_more)
+
 pub idle_is_related : IdleIsRelated
-idle_is_related i body body' unrolls = related refl refl (both_stand (both_idle unrolls) no_more)
+idle_is_related i body body' unrolls = related_idle unrolls

@@ -1,7 +1,7 @@
 -- Steps of related trees: each step of the first is one of the second or a head that falls away.
 use Rattle.std.specs.Prelude.{ℕ, Bool, ◌⊎◌, ◌≡◌}
 use Rattle.bl_graph_nodes.specs.Nodes.{Node}
-use Rattle.bl_graph_nodes.specs.Plain.{Block, Label}
+use Rattle.bl_graph_nodes.specs.Plain.{Block, Plain}
 use Rattle.bl_graph_nodes.specs.Steps.{StepLabel}
 use Rattle.bl_ctree.specs.Actions.{Silent}
 use Rattle.bl_ctree.specs.Instances.{Setting}
@@ -14,13 +14,13 @@ use Rattle.bl_ctree_laws_peeled.specs.Settings.{SameProgram}
 use Rattle.bl_ctree_laws_peeled.specs.Unrolls.{AnyHead, Unrolls}
 
 -- a head falls away: the step does nothing, and what it leaves is related to the tree that doesn't move
-pub record FallsAway (H : ℕ → Node → Label → Type 0) (i : ℕ) (c' t : Tree) (d : Bool) (a : Deed) : Type 0 where
+pub record FallsAway (H : ℕ → Node → Plain → Type 0) (i : ℕ) (c' t : Tree) (d : Bool) (a : Deed) : Type 0 where
   pub answer : d ≡ Bool.true
   pub silent : a.effect ≡ Silent
   pub stays : Related H i c' t
 
 -- the second tree takes the step too, with the same answer and deed, to a related tree
-pub record StepsAlong (T : Bool → Type 0) (H : ℕ → Node → Label → Type 0) (w' : Setting) (i : ℕ) (c' t : Tree) (d : Bool) (a : Deed) : Type 0 where
+pub record StepsAlong (T : Bool → Type 0) (H : ℕ → Node → Plain → Type 0) (w' : Setting) (i : ℕ) (c' t : Tree) (d : Bool) (a : Deed) : Type 0 where
   pub deed : Deed
   pub label : StepLabel
   pub after : Tree

@@ -36,26 +36,26 @@ opened (Until l at body e) = turn body (Again l at body e)
 opened s = Then s Done
 
 -- each head may fall away, in each instance, whatever stands in its loop's place
-abbrev pub AnyHead : ℕ → Node → Label → Type 0
-AnyHead i n l = ⊤
+abbrev pub AnyHead : ℕ → Node → Plain → Type 0
+AnyHead i n s = ⊤
 
--- H n l says that the head of the loop with label l may fall away where the node n begins what stands in its place.
+-- H n s says that the head of the loop s may fall away where the node n begins what stands in its place.
 mutual
   -- two blocks, where the second has first turns of the first one's loops unrolled; labels are free in it, and places but for a `run`'s
-  pub data Unrolls (H : Node → Label → Type 0) : Block → Block → Type 0 where
+  pub data Unrolls (H : Node → Plain → Type 0) : Block → Block → Type 0 where
     -- nothing is left of either
     no_more : Unrolls H Done Done
     -- the first statements are alike
     first_alike : {s t : Plain} {rest rest' : Block} → PlainUnrolls H s t → Unrolls H rest rest' → Unrolls H (Then s rest) (Then t rest')
     -- the first turn of a `repeat` stands in its place
-    first_repeat : {l : Label} {at : Place} {body rest : Block} {t : Plain} {rest' : Block} → H (entry t) l →
+    first_repeat : {l : Label} {at : Place} {body rest : Block} {t : Plain} {rest' : Block} → H (entry t) (Repeat l at body) →
         Unrolls H (before (opened (Repeat l at body)) rest) (Then t rest') → Unrolls H (Then (Repeat l at body) rest) (Then t rest')
     -- the first turn of a `repeat .. until`, and the test at its end
-    first_until : {l : Label} {at : Place} {body : Block} {e : Expr} {rest : Block} {t : Plain} {rest' : Block} → H (entry t) l →
+    first_until : {l : Label} {at : Place} {body : Block} {e : Expr} {rest : Block} {t : Plain} {rest' : Block} → H (entry t) (Until l at body e) →
         Unrolls H (before (opened (Until l at body e)) rest) (Then t rest') → Unrolls H (Then (Until l at body e) rest) (Then t rest')
 
   -- two statements of one form, with unrolled blocks in the second; or a loop's test and the `if` that does its next turn
-  pub data PlainUnrolls (H : Node → Label → Type 0) : Plain → Plain → Type 0 where
+  pub data PlainUnrolls (H : Node → Plain → Type 0) : Plain → Plain → Type 0 where
     acts_alike : {l m : Label} {s : Stmt} → PlainUnrolls H (Act l s) (Act m s)
     awaits_alike : {l m : Label} {at at' : Place} {e : Expr} → PlainUnrolls H (Await l at e) (Await m at' e)
     runs_alike : {l m : Label} {at : Place} {target : Option Path} {a : ℕ} {inputs : List Expr} {outputs : List Path} →
@@ -81,7 +81,7 @@ mutual
         PlainUnrolls H (Again l at body e) (If m at' e Done other)
 
   -- two lists of branches, branch by branch, each weak where the other is
-  pub data EachUnrolls (H : Node → Label → Type 0) : Bodies → Bodies → Type 0 where
+  pub data EachUnrolls (H : Node → Plain → Type 0) : Bodies → Bodies → Type 0 where
     no_body : EachUnrolls H Last Last
     one_body : {weak : Bool} {body body' : Block} {rest rest' : Bodies} → Unrolls H body body' → EachUnrolls H rest rest' →
         EachUnrolls H (BodyOf weak body rest) (BodyOf weak body' rest')

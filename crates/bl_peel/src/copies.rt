@@ -1,13 +1,14 @@
-//! Copies of types, expressions, paths and statements without blocks.
+//! Copies of types, expressions, paths and statements. Each fails only for want of memory.
 
 ghost use Rattle.std.specs.Prelude.{◌≡◌, IfOk, IsTrue};
 ghost use Rattle.bl_peel.specs.inner.Parts.{has_no_block};
 
-use bl_tree::tree::{Expr, ExprKind, Part, Path, StmtKind, Ty};
+use bl_tree::tree::{Arm, Branch, Expr, ExprKind, Part, Path, Stmt, StmtKind, Ty};
 use bl_tree::{Box, List, NoMemory};
 use std::alloc::Global;
 
-fn ty_of(alloc: Global, ty: &Ty) -> Result<Ty, NoMemory>
+/// The same type once more.
+pub fn ty_of(alloc: Global, ty: &Ty) -> Result<Ty, NoMemory>
     ensures { IfOk result (λ copy. copy ≡ ty.now) }
 {
     match ty {
@@ -20,7 +21,7 @@ fn ty_of(alloc: Global, ty: &Ty) -> Result<Ty, NoMemory>
     }
 }
 
-/// The same expression once more. Fails only for want of memory.
+/// The same expression once more.
 #[cycle(copies)]
 pub fn expr(alloc: Global, e: &Expr) -> Result<Expr, NoMemory>
     ensures { IfOk result (λ copy. copy ≡ e.now) }
@@ -159,7 +160,7 @@ fn run(
     Ok(StmtKind::Run(target, callee, inputs, paths(alloc, outputs)?))
 }
 
-/// The same once more, of a statement that has no blocks. Fails only for want of memory.
+/// The same once more, of a statement that has no blocks.
 pub fn without_block(alloc: Global, what: &StmtKind) -> Result<StmtKind, NoMemory>
     requires { IsTrue (has_no_block what.now) }
     ensures { IfOk result (λ copy. copy ≡ what.now) }
@@ -182,4 +183,101 @@ pub fn without_block(alloc: Global, what: &StmtKind) -> Result<StmtKind, NoMemor
         StmtKind::Until(_, _) => unreachable!(),
         StmtKind::While(_, _) => unreachable!(),
     }
+}
+
+/// The same statements once more, with what stands in them.
+#[cycle(blocks)]
+pub fn block(alloc: Global, body: &[Stmt]) -> Result<List<Stmt>, NoMemory>
+    ensures { IfOk result (λ copies. copies ≡ body.now) }
+{
+    let mut copies = List::new(alloc);
+    for s in body {
+        copies.push(statement(alloc, s)?)?;
+    }
+    Ok(copies)
+}
+
+#[cycle(blocks)]
+fn statement(alloc: Global, s: &Stmt) -> Result<Stmt, NoMemory>
+    ensures { IfOk result (λ copy. copy ≡ s.now) }
+{
+    let what = kind(alloc, &s.what)?;
+    Ok(Stmt {
+        place: s.place,
+        what,
+    })
+}
+
+#[cycle(blocks)]
+fn kind(alloc: Global, what: &StmtKind) -> Result<StmtKind, NoMemory>
+    ensures { IfOk result (λ copy. copy ≡ what.now) }
+{
+    match what {
+        StmtKind::Declare(_, _)
+        | StmtKind::Assign(_, _)
+        | StmtKind::Call(_, _, _)
+        | StmtKind::Await(_)
+        | StmtKind::Run(_, _, _, _)
+        | StmtKind::Return(_) => without_block(alloc, what),
+        StmtKind::If(arms, other) => {
+            let arms = copies_of_arms(alloc, arms)?;
+            Ok(StmtKind::If(arms, block(alloc, other)?))
+        }
+        StmtKind::Cobegin(branches) => Ok(StmtKind::Cobegin(copies_of_branches(alloc, branches)?)),
+        StmtKind::When(guard, e, body) => {
+            let e = expr(alloc, e)?;
+            Ok(StmtKind::When(*guard, e, block(alloc, body)?))
+        }
+        StmtKind::Repeat(body) => Ok(StmtKind::Repeat(block(alloc, body)?)),
+        StmtKind::Until(body, e) => {
+            let e = expr(alloc, e)?;
+            Ok(StmtKind::Until(block(alloc, body)?, e))
+        }
+        StmtKind::While(e, body) => {
+            let e = expr(alloc, e)?;
+            Ok(StmtKind::While(e, block(alloc, body)?))
+        }
+    }
+}
+
+#[cycle(blocks)]
+fn copies_of_arms(alloc: Global, arms: &[Arm]) -> Result<List<Arm>, NoMemory>
+    ensures { IfOk result (λ copies. copies ≡ arms.now) }
+{
+    let mut copies = List::new(alloc);
+    for arm in arms {
+        copies.push(copy_of_arm(alloc, arm)?)?;
+    }
+    Ok(copies)
+}
+
+#[cycle(blocks)]
+fn copy_of_arm(alloc: Global, arm: &Arm) -> Result<Arm, NoMemory>
+    ensures { IfOk result (λ copy. copy ≡ arm.now) }
+{
+    let test = expr(alloc, &arm.test)?;
+    let body = block(alloc, &arm.body)?;
+    Ok(Arm { test, body })
+}
+
+#[cycle(blocks)]
+fn copies_of_branches(alloc: Global, branches: &[Branch]) -> Result<List<Branch>, NoMemory>
+    ensures { IfOk result (λ copies. copies ≡ branches.now) }
+{
+    let mut copies = List::new(alloc);
+    for branch in branches {
+        copies.push(copy_of_branch(alloc, branch)?)?;
+    }
+    Ok(copies)
+}
+
+#[cycle(blocks)]
+fn copy_of_branch(alloc: Global, branch: &Branch) -> Result<Branch, NoMemory>
+    ensures { IfOk result (λ copy. copy ≡ branch.now) }
+{
+    let body = block(alloc, &branch.body)?;
+    Ok(Branch {
+        weak: branch.weak,
+        body,
+    })
 }

@@ -1,0 +1,5 @@
+pub mod Deciding
+pub mod Judged
+pub mod KeptUnits
+pub mod Results
+pub mod Trees

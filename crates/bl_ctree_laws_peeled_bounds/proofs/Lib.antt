@@ -1,0 +1,10 @@
+mod Beginning
+mod Bounding
+mod Heads
+mod Listing
+mod Marking
+mod Numbers
+mod Pigeons
+mod Rising
+mod Sizes
+mod Turns

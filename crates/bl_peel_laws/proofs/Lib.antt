@@ -1,0 +1,11 @@
+mod Aliases
+mod Conflicts
+mod Deciding
+mod Declaring
+mod Effects
+mod Failures
+mod Inheriting
+mod Lists
+mod Loops
+mod Origins
+mod Owners

@@ -1,0 +1,9 @@
+pub mod Callees
+pub mod Copying
+pub mod Fitting
+pub mod Flags
+pub mod Namings
+pub mod Nesting
+pub mod Parting
+pub mod Returning
+pub mod Units
