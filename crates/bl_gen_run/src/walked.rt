@@ -1,9 +1,8 @@
 //! The generated program judged, and walked.
 
-ghost use Rattle.std.specs.Prelude.{◌≡◌, ◌<◌, ◌≤◌, ◌^◌, length, IfErr, IfOk, OnOk};
+ghost use Rattle.std.specs.Prelude.{◌≡◌, ◌<◌, ◌≤◌, ◌^◌, ℕ, length, IfErr, IfOk, OnOk};
 ghost use Rattle.bl_ctree.specs.Instances.{instances_of};
 ghost use Rattle.bl_ctree.specs.Means.{Means, shown_trace};
-ghost use Rattle.bl_ctree.specs.Measure.{steps};
 ghost use Rattle.bl_ctree.specs.Reaches.{Bounded, NeverStuck};
 ghost use Rattle.bl_gen.specs.Outputs.{input_rows};
 ghost use Rattle.bl_gen.specs.Text.{most_stages, program_text};
@@ -14,7 +13,7 @@ use crate::text::{Run, text_of};
 use crate::unrun::Unrun;
 use bl_gen::{GenFault, input_rows, program};
 use bl_rules::laws::programs_of_texts_are_of_trees;
-use bl_rules::{Accepted, accept};
+use bl_rules::{AcceptedSource, accept};
 use bl_rules_laws::traces::{accepted_trees_have_few_instances, accepted_trees_have_one_trace};
 use bl_tree::{List, NoMemory, Refusal, Trace};
 use std::alloc::Global;
@@ -36,7 +35,7 @@ pub fn run(alloc: Global, stages: u32) -> Result<Run, Unrun>
 }
 
 /// The program of so many stages, where no rule refuses it.
-fn accepted_of(alloc: Global, stages: u32) -> Result<Accepted, Unrun>
+fn accepted_of(alloc: Global, stages: u32) -> Result<AcceptedSource, Unrun>
     requires { 1 ≤ stages }
     ensures within { OnOk result (stages ≤ most_stages) }
     ensures program { IfOk result (λ accepted. HasProgram (program_text stages) accepted.program) }
@@ -54,7 +53,7 @@ fn accepted_of(alloc: Global, stages: u32) -> Result<Accepted, Unrun>
 }
 
 /// Runs the program of so many stages.
-fn run_of(alloc: Global, stages: u32, accepted: &Accepted) -> Result<Run, NoMemory>
+fn run_of(alloc: Global, stages: u32, accepted: &AcceptedSource) -> Result<Run, NoMemory>
     requires within { stages ≤ most_stages }
     requires program { HasProgram (program_text stages) accepted.now.program }
     ensures { IfOk result (λ run. IsGeneratedRun stages run.text.items run.last) }
@@ -62,6 +61,7 @@ fn run_of(alloc: Global, stages: u32, accepted: &Accepted) -> Result<Run, NoMemo
     programs_of_texts_are_of_trees();
     accepted_trees_have_one_trace();
     accepted_trees_have_few_instances();
+    accepted.is_accepted();
     let trace = trace_of(alloc, accepted)?;
     let text = text_of(alloc, stages, &trace)?;
     Ok(Run {
@@ -71,15 +71,15 @@ fn run_of(alloc: Global, stages: u32, accepted: &Accepted) -> Result<Run, NoMemo
 }
 
 /// A trace of the program over the rows.
-fn trace_of(alloc: Global, accepted: &Accepted) -> Result<Trace, NoMemory>
+fn trace_of(alloc: Global, accepted: &AcceptedSource) -> Result<Trace, NoMemory>
+    ghost most: { ℕ }
     requires few { length (instances_of accepted.now.program.units accepted.now.program.entry) < 2 ^ 32 }
-    requires bounded { Bounded (steps accepted.now.program.structs accepted.now.program.units accepted.now.program.entry)
-        accepted.now.program.structs accepted.now.program.units accepted.now.program.entry }
+    requires bounded { Bounded most accepted.now.program.structs accepted.now.program.units accepted.now.program.entry }
     requires never_stuck { NeverStuck accepted.now.program.structs accepted.now.program.units accepted.now.program.entry }
     ensures { IfOk result (λ trace. Means accepted.now.program.structs accepted.now.program.units accepted.now.program.entry
         input_rows (shown_trace trace)) }
 {
     let rows = input_rows(alloc)?;
     let mut places = List::new(alloc);
-    bl_walk::walk(alloc, accepted, rows.as_slice(), 0, &mut places)
+    bl_walk::walk(alloc, accepted.program(), rows.as_slice(), 0, &mut places)
 }

@@ -1,9 +1,11 @@
--- The program of a source text, or of a tree, that is accepted.
+-- The program of a source text, or of a raw tree, that is accepted.
 use Rattle.std.specs.Prelude.{ℕ, List}
+use Rattle.bl_cause.specs.Accepted.{AcceptedProgram}
+use Rattle.bl_cause_trees.specs.Trees.{IsTreeOf}
 use Rattle.bl_types_program.specs.Programs.{IsProgramOf}
 use Rattle.bl_parse_tree.specs.declared.raw.Raw.{Raw}
 use Rattle.bl_parse_tree.specs.WellFormed.{RawIsWellFormed}
-use Rattle.bl_rules.specs.Rules.{Parses, Passes, TreePasses}
+use Rattle.bl_rules.specs.Rules.{Parses, Passes, ProgramPasses, TreePasses}
 use Rattle.bl_tree.specs.declared.program.Program.{Program}
 
 -- no rule fails for the text, and this is its tree
@@ -23,3 +25,15 @@ pub record IsOfTree (program : Program) : Type 0 where
   pub well_formed : RawIsWellFormed raw.items
   pub passes : TreePasses raw
   pub is : IsProgramOf raw program
+
+-- what contracts see of an accepted source
+pub record SeenSource : Type 0 where
+  -- the program of the source
+  pub program : Program
+  -- the program of the trees of its units, accepted by itself: C is made of it
+  pub tree : AcceptedProgram
+
+-- no rule fails for the program of a source, and the other program is that of the trees of its units
+pub record IsAcceptedSource (source : SeenSource) : Type 0 where
+  pub passes : ProgramPasses source.program.structs source.program.units source.program.entry
+  pub is_tree : IsTreeOf source.program source.tree.program

@@ -1,13 +1,18 @@
 //! Texts and trees judged by the rules in their order.
 
-ghost use Rattle.std.specs.Prelude.{◌≡◌, IfErr, IfOk, OnOk};
+ghost use Rattle.std.specs.Prelude.{◌≡◌, IfErr, IfOk, OnOk, unwrap_or};
+ghost use Rattle.bl_cause_trees.specs.Trees.{TreesAreTyped};
+ghost use Rattle.bl_limits.specs.Rules.{Fails as LimitsFail, Passes as LimitsPass};
 ghost use Rattle.bl_types_program.specs.Programs.{IsProgramOf};
 ghost use Rattle.bl_parse_tree.specs.WellFormed.{RawIsWellFormed};
 ghost use Rattle.bl_rules.specs.Accepted.{HasProgram};
 ghost use Rattle.bl_rules.specs.Rules.{Fails, Passes, ProgramFails, ProgramPasses, TreeFails, TreePasses};
 ghost use Rattle.bl_tree.specs.Rules.{IsCause};
 
-use bl_cause::Accepted;
+use crate::accepted::AcceptedSource;
+use crate::laws::{trees_keep_the_rules, trees_stay_typed};
+use bl_cause_trees::Scheduled;
+use bl_cause_trees::laws::units_have_one_list_of_trees;
 use bl_lex::laws::tokens_are_one;
 use bl_parse_laws::kept::what_is_spelled_keeps;
 use bl_parse_laws::spelled::a_text_has_one_tree;
@@ -17,7 +22,7 @@ use bl_tree::{Program, Refusal};
 use std::alloc::Global;
 
 /// Judges the rules of a source text (docs/LANGUAGE.md, "Rules"), from Size to Cells, and makes its program.
-pub fn accept(alloc: Global, text: &[u8]) -> Result<Accepted, Refusal>
+pub fn accept(alloc: Global, text: &[u8]) -> Result<AcceptedSource, Refusal>
     ensures passes { OnOk result (Passes text.now) }
     ensures program { IfOk result (λ accepted. HasProgram text.now accepted.program) }
     ensures cause { IfErr result (IsCause (Fails text.now)) }
@@ -42,12 +47,13 @@ pub fn accept(alloc: Global, text: &[u8]) -> Result<Accepted, Refusal>
 
 /// Judges those of a tree, from Duplicate on, and makes its program. The tree is one that a text spells: it keeps what
 /// such trees keep.
-pub fn accept_raw(alloc: Global, raw: &Raw) -> Result<Accepted, Refusal>
+pub fn accept_raw(alloc: Global, raw: &Raw) -> Result<AcceptedSource, Refusal>
     requires keeps { RawIsWellFormed raw.now.items }
     ensures passes { OnOk result (TreePasses raw.now) }
     ensures program { IfOk result (λ accepted. IsProgramOf raw.now accepted.program) }
     ensures cause { IfErr result (IsCause (TreeFails raw.now)) }
 {
+    trees_stay_typed();
     let program = match bl_types_program::check(alloc, raw) {
         Ok(program) => program,
         Err(refusal) => return Err(refusal),
@@ -58,22 +64,41 @@ pub fn accept_raw(alloc: Global, raw: &Raw) -> Result<Accepted, Refusal>
     }
 }
 
-/// Judges those of a typed program, from Pause on, and gives its schedule.
-pub fn accept_program(alloc: Global, program: Program) -> Result<Accepted, Refusal>
+/// Judges those of a typed program, from Pause on, and gives the program of the trees of its units with its schedule. Who calls this knows
+/// that the program of the trees is typed too: bodies with first turns of loops nest deeper than their sources, and keep the places of
+/// these.
+pub fn accept_program(alloc: Global, program: Program) -> Result<AcceptedSource, Refusal>
+    requires typed { TreesAreTyped program.structs program.units program.entry }
     ensures passes { OnOk result (ProgramPasses program.structs program.units program.entry) }
     ensures program { IfOk result (λ accepted. accepted.program ≡ program) }
     ensures cause { IfErr result (IsCause (ProgramFails program.structs program.units program.entry)) }
 {
+    units_have_one_list_of_trees();
+    trees_keep_the_rules();
     match bl_conflict::check(alloc, &program) {
         Ok(()) => {}
         Err(refusal) => return Err(refusal),
     }
-    let schedule = match bl_cause::check(alloc, &program) {
-        Ok(schedule) => schedule,
+    let scheduled = match bl_cause_trees::check(alloc, &program) {
+        Ok(scheduled) => scheduled,
         Err(refusal) => return Err(refusal),
     };
-    match bl_limits::check(alloc, &program) {
-        Ok(()) => Ok(Accepted::new(program, schedule)),
+    let Scheduled { tree, schedule } = scheduled;
+    match check_limits(alloc, &program, &tree) {
+        Ok(()) => Ok(AcceptedSource::new(program, tree, schedule)),
         Err(refusal) => Err(refusal),
+    }
+}
+
+/// Judges Frames and Cells, on the program of the trees. Without one the program itself is that.
+fn check_limits(alloc: Global, program: &Program, tree: &Option<Program>) -> Result<(), Refusal>
+    ensures passes { OnOk result (LimitsPass (unwrap_or tree.now program.now).structs (unwrap_or tree.now program.now).units
+        (unwrap_or tree.now program.now).entry) }
+    ensures cause { IfErr result (IsCause (LimitsFail (unwrap_or tree.now program.now).structs (unwrap_or tree.now program.now).units
+        (unwrap_or tree.now program.now).entry)) }
+{
+    match tree {
+        Some(tree) => bl_limits::check(alloc, tree),
+        None => bl_limits::check(alloc, program),
     }
 }

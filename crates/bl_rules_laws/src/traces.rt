@@ -1,19 +1,28 @@
 //! Trees in which no rule fails have exactly one trace (`specs/Traces/OneTrace.antt`). There is no code here. Laws, as
 //! contracts of functions that do nothing: where neither of the rules Twice and Cycle fails the tick graph of each activity
-//! has an order. So the program of a tree in which no rule fails has, over all rows, exactly one trace that the parallel
-//! meaning allows; no tick has more steps than the program's number of them, and none is stuck. It
-//! expands to 4,096 activity instances at most (`specs/Traces/Instances.antt`).
+//! has an order. So the program of the trees of units has exactly one trace, and the source's program has the same: over
+//! all rows, exactly one trace that the parallel meaning allows. No tick has more steps than the number of steps of the
+//! program of the trees, and none is stuck. It expands to 4,096 activity instances at most (`specs/Traces/Instances.antt`).
 
 ghost use Rattle.bl_rules_laws.specs.Traces.Instances.{TreesHaveFewInstances};
 ghost use Rattle.bl_rules_laws.specs.Traces.OneTrace.{TreesHaveOneTrace, UnitsAreOrdered};
+ghost use Rattle.bl_rules_laws.specs.Traces.Trees.{AcceptedKeepOnTrees, TreesMeanTheSame};
 
 use bl_cause::laws::rules_leave_no_walk;
 use bl_cause_laws::{bodies_have_graphs, graphs_without_walks_have_ranks};
-use bl_ctree_laws_traces::traces::typed_programs_have_one_trace;
-use bl_limits_measures_laws::laws::typed_instances_are_counted;
+use bl_cause_trees::laws::{trees_are_peeled, units_have_one_list_of_trees};
+use bl_ctree_laws_confluence::deeds::accepted_programs_are_orderly;
+use bl_ctree_laws_peeled::bodies::{peeled_programs_are_alike, peeled_programs_run_alike};
+use bl_ctree_laws_peeled_bounds::bounds::peeled_programs_are_bounded;
+use bl_ctree_laws_traces::traces::{
+    bounded_programs_have_meanings, ordered_programs_are_numbered, ordered_programs_have_one_trace,
+};
+use bl_limits_measures_laws::laws::{instances_are_counted, units_use_earlier_ones};
+use bl_rules::laws::{trees_keep_the_rules, trees_stay_typed};
 use bl_types_laws::kept::what_is_typed_keeps;
+use bl_types_laws::order::statements_begin_in_order;
 
-/// Where neither Twice nor Cycle fails the tick graph of each activity has an order.
+/// Where neither Twice nor Cycle fails by the tick graphs of units themselves, that of each activity has an order.
 pub fn accepted_programs_are_ordered()
     ensures { UnitsAreOrdered }
 {
@@ -22,18 +31,51 @@ pub fn accepted_programs_are_ordered()
     graphs_without_walks_have_ranks();
 }
 
+/// Where no rule fails for a tree, its program and the program of the trees of its units are typed and pass the rules.
+pub fn accepted_trees_keep()
+    ensures { AcceptedKeepOnTrees }
+{
+    accepted_programs_are_ordered();
+    statements_begin_in_order();
+    trees_are_peeled();
+    trees_keep_the_rules();
+    trees_stay_typed();
+    what_is_typed_keeps();
+}
+
+/// Where no rule fails for a tree, its program means what the program of the trees of its units means.
+pub fn accepted_trees_mean_the_same()
+    ensures { TreesMeanTheSame }
+{
+    accepted_trees_keep();
+    accepted_programs_are_orderly();
+    bounded_programs_have_meanings();
+    ordered_programs_are_numbered();
+    ordered_programs_have_one_trace();
+    peeled_programs_are_bounded();
+    peeled_programs_run_alike();
+}
+
 /// Where no rule fails for a tree its program has exactly one trace.
 pub fn accepted_trees_have_one_trace()
     ensures { TreesHaveOneTrace }
 {
-    accepted_programs_are_ordered();
-    typed_programs_have_one_trace();
+    accepted_trees_keep();
+    accepted_programs_are_orderly();
+    bounded_programs_have_meanings();
+    ordered_programs_are_numbered();
+    ordered_programs_have_one_trace();
+    peeled_programs_are_bounded();
+    peeled_programs_run_alike();
 }
 
 /// Where no rule fails for a tree its program expands to few activity instances.
 pub fn accepted_trees_have_few_instances()
     ensures { TreesHaveFewInstances }
 {
-    what_is_typed_keeps();
-    typed_instances_are_counted();
+    accepted_trees_keep();
+    instances_are_counted();
+    peeled_programs_are_alike();
+    units_have_one_list_of_trees();
+    units_use_earlier_ones();
 }

@@ -13,7 +13,7 @@ ghost use Rattle.bl_top_args.specs.Jobs.{build};
 
 use crate::emitted::c_file;
 use bl_io::{Files, Sink};
-use bl_rules::Accepted;
+use bl_rules::AcceptedSource;
 use bl_rules::laws::programs_of_texts_are_of_trees;
 use bl_top_commands::outcome::Outcome;
 use bl_top_commands::source::accepted_of;
@@ -40,7 +40,7 @@ pub fn build<F: Files, O: Sink>(alloc: Global, source: &str, files: &mut F, out:
 }
 
 /// Writes the C text of the accepted program of a tree.
-fn write_c<O: Sink>(alloc: Global, accepted: &Accepted, out: &mut O) -> Outcome
+fn write_c<O: Sink>(alloc: Global, accepted: &AcceptedSource, out: &mut O) -> Outcome
     requires { IsOfTree accepted.now.program }
     ensures writes { WritesResult (IsBuiltOfProgram accepted.now.program.structs accepted.now.program.units accepted.now.program.entry)
         (output_of (O.faults out.old) (O.faults out.new) (O.held out.old) (O.held out.new)) result.status }
@@ -55,7 +55,7 @@ fn write_c<O: Sink>(alloc: Global, accepted: &Accepted, out: &mut O) -> Outcome
 }
 
 /// The C text of it.
-fn c_text(alloc: Global, accepted: &Accepted) -> Result<Vec<u8>, NoMemory>
+fn c_text(alloc: Global, accepted: &AcceptedSource) -> Result<Vec<u8>, NoMemory>
     requires { IsOfTree accepted.now.program }
     ensures { IfOk result (λ text. IsBuiltOfProgram accepted.now.program.structs accepted.now.program.units accepted.now.program.entry text.items) }
 {

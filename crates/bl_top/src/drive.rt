@@ -14,7 +14,7 @@ use crate::run::runner_of;
 use bl_io::{Files, IoFault, Sink, write_all};
 use bl_plant::Plant;
 use bl_plant_drive_report::{End, Report, run};
-use bl_rules::Accepted;
+use bl_rules::AcceptedSource;
 use bl_rules::laws::programs_of_texts_are_of_trees;
 use bl_top_commands::answer::Answer;
 use bl_top_commands::outcome::Outcome;
@@ -57,7 +57,7 @@ pub fn drive<F: Files, O: Sink>(
 /// Drives the C file of the accepted program of a tree, and tells what came of it.
 fn report_of(
     alloc: Global,
-    accepted: &Accepted,
+    accepted: &AcceptedSource,
     ticks: u32,
     names: &[u32],
     plants: &mut Vec<Box<dyn Plant>>,

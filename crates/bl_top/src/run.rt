@@ -17,7 +17,7 @@ use crate::emitted::c_file;
 use bl_crun::{LoadFault, Runner};
 use bl_io::{Files, Sink};
 use bl_rows_stream::laws::{rows_of_bytes_fit, rows_of_lines_fit};
-use bl_rules::Accepted;
+use bl_rules::AcceptedSource;
 use bl_rules::laws::programs_of_texts_are_of_trees;
 use bl_top_commands::laws::{
     faults_count_from_before, kept_files_are_within_limits, programs_run_as_their_source,
@@ -60,7 +60,7 @@ pub fn run<F: Files, O: Sink>(
 }
 
 /// The C file of the accepted program of a tree, loaded.
-pub fn runner_of(alloc: Global, accepted: &Accepted) -> Result<Runner, NoMemory>
+pub fn runner_of(alloc: Global, accepted: &AcceptedSource) -> Result<Runner, NoMemory>
     requires { IsOfTree accepted.now.program }
     ensures one_trace { IfOk result (λ runner. OneTrace accepted.now.program.structs accepted.now.program.units accepted.now.program.entry
         (behaviour_of runner.parts)) }

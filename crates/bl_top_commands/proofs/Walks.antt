@@ -45,17 +45,21 @@ use Rattle.bl_top_commands.specs.Walk.{WalkEnds, ran, steps, stopped, unwritten,
 use Rattle.bl_top_commands.specs.declared.answer.Answer.{Answer}
 use Rattle.bl_top_commands.specs.declared.outcome.Outcome.{Outcome}
 use Rattle.bl_top_commands.specs.declared.status.Status.TheVariants as status
+use Rattle.bl_cause_trees.specs.Trees.{AreTrees}
 use Rattle.bl_ctree.specs.Control.{Idle}
 use Rattle.bl_ctree.specs.Instances.{setting_of}
 use Rattle.bl_ctree.specs.Means.{Means, ShownTrace, entry_items, shown_trace}
+use Rattle.bl_ctree.specs.Measure.{steps as steps_within}
+use Rattle.bl_ctree.specs.Reaches.{Bounded}
 use Rattle.bl_ctree.specs.Store.{first_store}
-use Rattle.bl_ctree_laws_traces.specs.Traces.OneTrace.{HasOneTrace}
 use Rattle.bl_io.specs.Count.{Rose}
 use Rattle.bl_io.specs.Held.{Appends, AppendsPart}
 use Rattle.bl_io.specs.Left.{IsKept}
 use Rattle.bl_rows.specs.Reading.{empty_reading, fault_in, rows_in, rows_of}
 use Rattle.bl_rows.specs.Text.{header_text, last_text, line_text, lines_from, text_of}
 use Rattle.bl_rows.specs.declared.fault.RowFault.{RowFault}
+use Rattle.bl_rules.specs.Accepted.{IsAcceptedSource, SeenSource}
+use Rattle.bl_rules_laws.specs.Traces.OneTrace.{SourceHasOneTrace}
 use Rattle.bl_rows_stream.specs.Gathered.{Gathers, LeadsTo, broken, finish_over, whole}
 use Rattle.bl_rows_stream.specs.Streams.{AppendsFront, AreLeft, Course, HasRead, Streamed, all, finish_of, text_over, unread}
 use Rattle.bl_rows_stream.specs.declared.finish.Finish.{Finish}
@@ -179,7 +183,8 @@ not_unwritten finish.ReadFault outcome other ends = λ e. let same : status.Read
 not_unwritten finish.WriteFault outcome other ends = absurd (other refl)
 not_unwritten finish.NoMemory outcome other ends = λ e. let same : status.NoMemory ≡ status.WriteFault = sym ends ∙ e in cc
 
-module _ (structs : List StructDef) (units : List UnitDef) (entry : ℕ) (one : HasOneTrace structs units entry) (unit : UnitDef) where
+module _ (structs : List StructDef) (units : List UnitDef) (entry : ℕ) (trees : List UnitDef) (one : SourceHasOneTrace structs units entry trees)
+    (unit : UnitDef) where
   abbrev trace_over : List (List ℤ) → Trace
   trace_over rows = (one.each rows).trace
 
@@ -194,8 +199,8 @@ module _ (structs : List StructDef) (units : List UnitDef) (entry : ℕ) (one : 
     text = λ rows. text_of (trace_over rows) outs;
   }
 
-  pub walk_has_course : slice_get units entry ≡ Some unit → BytesFit → LinesFit → HasCourse structs units entry walk_course
-  walk_has_course is_entry fit so_far = record {
+  pub walk_has_course : AreTrees units trees → slice_get units entry ≡ Some unit → BytesFit → LinesFit → HasCourse structs units entry walk_course
+  walk_has_course are is_entry fit so_far = record {
     unit = unit;
     is_entry = is_entry;
     inputs = refl;
@@ -208,6 +213,8 @@ module _ (structs : List StructDef) (units : List UnitDef) (entry : ℕ) (one : 
     shows = λ rows. refl;
     fit = λ bytes. fit bytes (input_columns unit);
     fit_so_far = λ bytes. so_far bytes (input_columns unit);
+    trees = trees;
+    are_trees = are;
     bounded = one.bounded;
     never_stuck = one.never_stuck;
   }
@@ -322,16 +329,16 @@ entry_from : (found : Option UnitDef) → is_entry found ≡ true → (unit : Un
 entry_from (Some unit) e = (unit, refl)
 entry_from None e = absurd cc
 
-module _ (c : Call) (source rows : Word) (seed : ℕ) (program : Program) (is : IsProgramOfSource (c.left source) program)
-    (one : HasOneTrace program.structs program.units program.entry) (fit : BytesFit) (so_far : LinesFit) (between : Word → Option (List ℕ))
-    (behind : LeftBehind source_limit source c.left between) where
+module _ (c : Call) (source rows : Word) (seed : ℕ) (program : Program) (trees : List UnitDef) (are : AreTrees program.units trees)
+    (is : IsProgramOfSource (c.left source) program) (one : SourceHasOneTrace program.structs program.units program.entry trees) (fit : BytesFit)
+    (so_far : LinesFit) (between : Word → Option (List ℕ)) (behind : LeftBehind source_limit source c.left between) where
   abbrev course_at : UnitDef → Course
-  course_at unit = walk_course program.structs program.units program.entry one unit
+  course_at unit = walk_course program.structs program.units program.entry trees one unit
 
   runs : (unit : UnitDef) → slice_get program.units program.entry ≡ Some unit → RunsAs (c.left source) (course_at unit)
   runs unit is_entry =
       runs_as_program (c.left source) program (course_at unit) is
-      (walk_has_course program.structs program.units program.entry one unit is_entry fit so_far)
+      (walk_has_course program.structs program.units program.entry trees one unit are is_entry fit so_far)
 
   -- memory was refused before anything was written
   pub walk_refused : (answer : Answer) → IsTrue (is_entry (slice_get program.units program.entry)) → c.out.after ≡ c.out.before →
@@ -357,12 +364,12 @@ module _ (c : Call) (source rows : Word) (seed : ℕ) (program : Program) (is : 
     streamed : Appends c.out.before text c.out.after → Streamed (course_at walk.unit) (between rows) (c.rest rows) c.out.before c.out.after how
     streamed grew =
         subst (λ h. Streamed (course_at walk.unit) (between rows) (c.rest rows) c.out.before c.out.after h) (sym walk.walks.how_is)
-        (walk_streamed program.structs program.units program.entry one walk.unit closed fronts (between rows) (c.rest rows) c.out walk.gathered
+        (walk_streamed program.structs program.units program.entry trees one walk.unit closed fronts (between rows) (c.rest rows) c.out walk.gathered
         walk.walks.trace means walk.end walk.gathers (subst (λ t. Appends c.out.before t c.out.after) walk.walks.text_is grew))
 
     part : AppendsPart c.out.before text c.out.after → RanInPart (course_at walk.unit) (between rows) c.out
     part grew =
-        walk_part program.structs program.units program.entry one walk.unit closed fronts (between rows) (c.rest rows) c.out walk.gathered
+        walk_part program.structs program.units program.entry trees one walk.unit closed fronts (between rows) (c.rest rows) c.out walk.gathered
         walk.walks.trace means walk.end walk.gathers (subst (λ t. AppendsPart c.out.before t c.out.after) walk.walks.text_is grew)
 
     no_fault_of_out : how ≡ finish.WriteFault → ⊥
@@ -407,6 +414,18 @@ walk_stopped c source rows seed answer outcome same lines why kept =
     (subst (λ (o : Outcome). WalkEnds c source rows seed o.status (line_in outcome)) (sym same) (stopped why kept))
 
 -- ---- the parts of a walk
+
+-- the bound on ticks is asked of the program of the trees
+pub bounded_by : (accepted : SeenSource) → IsAcceptedSource accepted →
+    SourceHasOneTrace accepted.program.structs accepted.program.units accepted.program.entry accepted.tree.program.units →
+    Bounded (steps_within accepted.tree.program.structs accepted.tree.program.units accepted.tree.program.entry) accepted.program.structs
+    accepted.program.units accepted.program.entry
+bounded_by accepted is one =
+    let program = accepted.program in
+    let tree = accepted.tree.program in
+    subst (λ structs. Bounded (steps_within structs tree.units tree.entry) program.structs program.units program.entry) (sym is.is_tree.structs)
+    (subst (λ entry. Bounded (steps_within program.structs tree.units entry) program.structs program.units program.entry) (sym is.is_tree.entry)
+    one.bounded)
 
 -- rows that were gathered for the columns of the program's inputs, and walked
 pub is_walk : (structs : List StructDef) (units : List UnitDef) (entry : ℕ) (left rest : Option (List ℕ)) (seed : ℕ) (ins out_columns : List Column)
@@ -457,6 +476,13 @@ few_begun bound structs units entry seed rows gathered trace before after none s
     let every : length after ≡ length walked.lists = ap length grew in
     let long : length rows ≡ length gathered = ap length same in
     omega (arith, most, every, long, few)
+
+-- lists that were appended for a program were appended for the same program
+pub walked_by : (program same : Program) → program ≡ same → (seed : ℕ) (rows : List (List ℤ)) (trace : Trace) (before after : List (List Place)) →
+    Appended program.structs program.units program.entry seed rows trace before after →
+    Appended same.structs same.units same.entry seed rows trace before after
+walked_by program same is seed rows trace before after walked =
+    subst (λ (p : Program). Appended p.structs p.units p.entry seed rows trace before after) is walked
 
 -- the text and the lines of a walk
 pub walks_rows : (structs : List StructDef) (units : List UnitDef) (entry seed : ℕ) (rows gathered : List (List ℤ)) (end : RowsEnd)

@@ -12,7 +12,7 @@ use crate::outcome::Outcome;
 use crate::refusal::line;
 use crate::status::Status;
 use bl_io::{Files, IoFault, read_up_to};
-use bl_rules::{Accepted, accept};
+use bl_rules::{AcceptedSource, accept};
 use bl_tree::Refusal;
 use std::alloc::Global;
 
@@ -24,7 +24,7 @@ pub fn accepted_of<F: Files>(
     alloc: Global,
     source: &str,
     files: &mut F,
-) -> Result<Accepted, Outcome>
+) -> Result<AcceptedSource, Outcome>
     ensures program { IfOk result (λ accepted. IsProgramOfSource (F.left files.old source.now) accepted.program) }
     ensures behind { OnOk result (LeftBehind source_limit source.now (F.left files.old) (F.left files.new)) }
     ensures stopped { IfErr result (λ outcome. IsNotAccepted (F.left files.old source.now)

@@ -1,6 +1,6 @@
 //! The command `walk P ROWS SEED`.
 
-ghost use Rattle.std.specs.Prelude.{◌≡◌, ◌<◌, ◌≤◌, ◌^◌, length, IfOk, Some};
+ghost use Rattle.std.specs.Prelude.{◌≡◌, ◌<◌, ◌≤◌, ◌^◌, ℕ, length, IfOk, Some};
 ghost use Rattle.bl_top_commands.specs.Calls.{Output, call_of, output_of};
 ghost use Rattle.bl_top_commands.specs.inner.Outcomes.{lines_in};
 ghost use Rattle.bl_top_commands.specs.inner.Walked.{ArePorts, IsWalk, WalksRows, WritesWalk};
@@ -23,7 +23,7 @@ use bl_io::{Files, IoFault, Sink, write_all};
 use bl_rows::{input_columns, output_columns, text};
 use bl_rows_stream::laws::{rows_of_bytes_fit, rows_of_lines_fit};
 use bl_rows_stream::{Finish, Gathering, finish_over, gather};
-use bl_rules::Accepted;
+use bl_rules::AcceptedSource;
 use bl_rules::laws::programs_of_texts_are_of_trees;
 use bl_rules_laws::traces::{accepted_trees_have_few_instances, accepted_trees_have_one_trace};
 use bl_tree::{Column, List, NoMemory, Program};
@@ -79,6 +79,7 @@ pub fn walk<F: Files, O: Sink>(
         Ok(accepted) => accepted,
         Err(outcome) => return Answer::alone(alloc, outcome),
     };
+    accepted.is_accepted();
     match walk_file(alloc, &accepted, rows, seed, files) {
         Ok(walk) => write_walk(alloc, walk, out),
         Err(_) => Answer::alone(alloc, Outcome::plain(alloc, Status::NoMemory)),
@@ -88,13 +89,13 @@ pub fn walk<F: Files, O: Sink>(
 /// Walks an accepted program over the rows of the named file.
 fn walk_file<F: Files>(
     alloc: Global,
-    accepted: &Accepted,
+    accepted: &AcceptedSource,
     rows: &str,
     seed: u64,
     files: &mut F,
 ) -> Result<Walked, NoMemory>
     requires few { length (instances_of accepted.now.program.units accepted.now.program.entry) < 2 ^ 32 }
-    requires bounded { Bounded (steps accepted.now.program.structs accepted.now.program.units accepted.now.program.entry)
+    requires bounded { Bounded (steps accepted.now.tree.program.structs accepted.now.tree.program.units accepted.now.tree.program.entry)
         accepted.now.program.structs accepted.now.program.units accepted.now.program.entry }
     requires never_stuck { NeverStuck accepted.now.program.structs accepted.now.program.units accepted.now.program.entry }
     ensures walk { IfOk result (λ w. IsWalk accepted.now.program.structs accepted.now.program.units accepted.now.program.entry
@@ -124,14 +125,14 @@ fn ports_of(alloc: Global, program: &Program) -> Result<Ports, NoMemory>
 /// Walks an accepted program over gathered rows.
 fn walk_rows(
     alloc: Global,
-    accepted: &Accepted,
+    accepted: &AcceptedSource,
     outs: &List<Column>,
     gathering: &Gathering,
     seed: u64,
 ) -> Result<Walked, NoMemory>
+    ghost most: { ℕ }
     requires few { length (instances_of accepted.now.program.units accepted.now.program.entry) < 2 ^ 32 }
-    requires bounded { Bounded (steps accepted.now.program.structs accepted.now.program.units accepted.now.program.entry)
-        accepted.now.program.structs accepted.now.program.units accepted.now.program.entry }
+    requires bounded { Bounded most accepted.now.program.structs accepted.now.program.units accepted.now.program.entry }
     requires never_stuck { NeverStuck accepted.now.program.structs accepted.now.program.units accepted.now.program.entry }
     requires few_rows { length gathering.now.rows.items ≤ 1000000 }
     ensures { IfOk result (λ w. WalksRows accepted.now.program.structs accepted.now.program.units accepted.now.program.entry seed
@@ -141,7 +142,7 @@ fn walk_rows(
     let mut places = List::new(alloc);
     let trace = bl_walk::walk(
         alloc,
-        accepted,
+        accepted.program(),
         gathering.rows.as_slice(),
         seed,
         &mut places,

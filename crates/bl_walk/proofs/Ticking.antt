@@ -32,7 +32,6 @@ use Rattle.bl_walk.specs.inner.Ticks.{
   ends,
   fails,
   goes,
-  most_steps,
   pauses,
   rests,
   traps as tick_traps,
@@ -148,10 +147,10 @@ module _ (w : Setting) (s : RunState) where
     steps = subst (λ (s : RunState). Steps w s.control s.store actions end) begun.is steps;
   }
 
-  pub few_steps : Steady w → Begun w s → PicksAreSteps → (choice now : Choice) (t : RunState) (places : List Place) → StepsTo w choice s now t places →
-      length places ≤ most_steps w
-  few_steps steady begun are_steps choice now t places stands =
-      let few : length stands.actions ≤ most_steps w =
+  pub few_steps : (most : ℕ) → Steady most w → Begun w s → PicksAreSteps → (choice now : Choice) (t : RunState) (places : List Place) →
+      StepsTo w choice s now t places → length places ≤ most
+  few_steps most steady begun are_steps choice now t places stands =
+      let few : length stands.actions ≤ most =
       steady.bounded begun.rows begun.row stands.actions (Rests t.control t.store)
       (reaches begun stands.actions (Rests t.control t.store)
       (are_steps w choice now s.control s.store stands.actions (Rests t.control t.store) stands.picks)) in
@@ -159,9 +158,9 @@ module _ (w : Setting) (s : RunState) where
       omega (arith, few, same)
 
   -- where no point may act nothing is left to do
-  pub settled_there : Steady w → Begun w s → PicksAreSteps → StillIsUnlisted → (choice now : Choice) (t : RunState) (places : List Place) →
+  pub settled_there : (most : ℕ) → Steady most w → Begun w s → PicksAreSteps → StillIsUnlisted → (choice now : Choice) (t : RunState) (places : List Place) →
       StepsTo w choice s now t places → points w 0 t.control ≡ [] → is_settled t.control ≡ true
-  settled_there steady begun are_steps still choice now t places stands none =
+  settled_there most steady begun are_steps still choice now t places stands none =
       steady.never_stuck begun.rows begun.row stands.actions t.control t.store
       (reaches begun stands.actions (Rests t.control t.store)
       (are_steps w choice now s.control s.store stands.actions (Rests t.control t.store) stands.picks))

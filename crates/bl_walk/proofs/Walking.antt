@@ -49,7 +49,6 @@ use Rattle.bl_ctree.specs.Means.{
   stays_open as allows_none,
   traps as allows_trap,
 }
-use Rattle.bl_ctree.specs.Measure.{steps as steps_within}
 use Rattle.bl_ctree.specs.Reaches.{Bounded, NeverStuck, after_tick, at_first}
 use Rattle.bl_ctree.specs.Store.{Store, first_store, outputs_row}
 use Rattle.bl_ctree.specs.Ticks.{Tick, End}
@@ -157,9 +156,9 @@ unsettled_on still structs units entry never rows row actions c store inside non
 -- ---- over rows
 
 -- what is known of a program is known of its setting
-pub steady_at : (structs : List StructDef) (units : List UnitDef) (entry : ℕ) → Bounded (steps_within structs units entry) structs units entry →
-    NeverStuck structs units entry → (w : Setting) → w ≡ setting_of structs units entry → Steady w
-steady_at structs units entry bounded never w e = subst Steady (sym e) (record { bounded = bounded; never_stuck = never })
+pub steady_at : (most : ℕ) (structs : List StructDef) (units : List UnitDef) (entry : ℕ) → Bounded most structs units entry →
+    NeverStuck structs units entry → (w : Setting) → w ≡ setting_of structs units entry → Steady most w
+steady_at most structs units entry bounded never w e = subst (Steady most) (sym e) (record { bounded = bounded; never_stuck = never })
 
 -- a walk from where a run stands is one from where it began
 pub record Onward (w : Setting) (choice : Choice) (rows : List (List ℤ)) (s : RunState) (lists : List (List Place)) (now : Choice)

@@ -1,9 +1,8 @@
 //! The walk over all rows.
 
-ghost use Rattle.std.specs.Prelude.{◌≡◌, ◌<◌, ◌^◌, length, slice_get, IfOk};
+ghost use Rattle.std.specs.Prelude.{◌≡◌, ◌<◌, ◌^◌, ℕ, length, slice_get, IfOk};
 ghost use Rattle.bl_ctree.specs.Instances.{instances_of};
 ghost use Rattle.bl_ctree.specs.Means.{Means, shown_trace};
-ghost use Rattle.bl_ctree.specs.Measure.{steps as steps_within};
 ghost use Rattle.bl_ctree.specs.Reaches.{Bounded, NeverStuck};
 ghost use Rattle.bl_ctree_run.specs.Outputs.{outputs_of_unit};
 ghost use Rattle.bl_walk.specs.Walks.{Appended};
@@ -11,42 +10,23 @@ ghost use Rattle.bl_walk.specs.Walks.{Appended};
 use crate::choice::Choice;
 use crate::laws::walks_are_allowed;
 use crate::tick::tick;
-use bl_cause::Accepted;
 use bl_ctree_run::Tree;
 use bl_tree::{Last, List, NoMemory, Place, Program, Row, Trace};
 use std::alloc::Global;
 
-/// Runs an accepted program over rows in one of its interleavings, and appends a list of places for each tick begun. Asks
-/// that ticks end and none is stuck, as of each program that no rule refuses. After want of memory `steps` may hold
-/// further lists.
+/// Runs a program over rows in one of its interleavings, and appends a list of places for each tick begun. Asks that no list
+/// of steps of a tick is longer than some number, and that none is stuck, as of each program that no rule refuses. After want
+/// of memory `steps` may hold further lists.
 pub fn walk(
-    alloc: Global,
-    a: &Accepted,
-    rows: &[Row],
-    seed: u64,
-    steps: &mut List<List<Place>>,
-) -> Result<Trace, NoMemory>
-    requires few { length (instances_of a.now.program.units a.now.program.entry) < 2 ^ 32 }
-    requires bounded { Bounded (steps_within a.now.program.structs a.now.program.units a.now.program.entry)
-        a.now.program.structs a.now.program.units a.now.program.entry }
-    requires never_stuck { NeverStuck a.now.program.structs a.now.program.units a.now.program.entry }
-    ensures means { IfOk result (λ trace. Means a.now.program.structs a.now.program.units a.now.program.entry rows.now (shown_trace trace)) }
-    ensures walked { IfOk result (λ trace. Appended a.now.program.structs a.now.program.units a.now.program.entry seed rows.now trace
-        steps.old steps.new) }
-{
-    walk_program(alloc, a.program(), rows, seed, steps)
-}
-
-fn walk_program(
     alloc: Global,
     program: &Program,
     rows: &[Row],
     seed: u64,
     steps: &mut List<List<Place>>,
 ) -> Result<Trace, NoMemory>
+    ghost most: { ℕ }
     requires few { length (instances_of program.now.units program.now.entry) < 2 ^ 32 }
-    requires bounded { Bounded (steps_within program.now.structs program.now.units program.now.entry)
-        program.now.structs program.now.units program.now.entry }
+    requires bounded { Bounded most program.now.structs program.now.units program.now.entry }
     requires never_stuck { NeverStuck program.now.structs program.now.units program.now.entry }
     ensures means { IfOk result (λ trace. Means program.now.structs program.now.units program.now.entry rows.now (shown_trace trace)) }
     ensures walked { IfOk result (λ trace. Appended program.now.structs program.now.units program.now.entry seed rows.now trace

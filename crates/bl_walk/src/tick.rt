@@ -1,6 +1,6 @@
 //! Ticks of a walk, and their steps.
 
-ghost use Rattle.std.specs.Prelude.{◌≡◌, ◌<◌, [], length, if◌then◌else◌, IfOk, OnOk};
+ghost use Rattle.std.specs.Prelude.{◌≡◌, ◌<◌, ℕ, [], length, if◌then◌else◌, IfOk, OnOk};
 ghost use Rattle.bl_ctree.specs.Control.{is_nil};
 ghost use Rattle.bl_ctree.specs.Points.{points};
 ghost use Rattle.bl_ctree.specs.Store.{outputs_row};
@@ -28,7 +28,8 @@ pub fn tick(
     outs: &mut List<Row>,
     steps: &mut List<List<Place>>,
 ) -> Result<Last, NoMemory>
-    requires steady { Steady (setting tree.old) }
+    ghost most: { ℕ }
+    requires steady { Steady most (setting tree.old) }
     requires between { WalkBetweenTicks (setting tree.old) (state tree.old) }
     requires width { width ≡ count_of_outputs (setting tree.old) }
     ensures setting { setting tree.new ≡ setting tree.old }
@@ -53,7 +54,8 @@ pub fn tick(
 
 // Does steps until none may be done, or one traps. Then nothing is left to do, since no tick is stuck.
 fn react(tree: &mut Tree, choice: &mut Choice, places: &mut List<Place>) -> Result<Did, NoMemory>
-    requires steady { Steady (setting tree.old) }
+    ghost most: { ℕ }
+    requires steady { Steady most (setting tree.old) }
     requires begun { Begun (setting tree.old) (state tree.old) }
     requires none { places.old ≡ [] }
     ensures setting { setting tree.new ≡ setting tree.old }

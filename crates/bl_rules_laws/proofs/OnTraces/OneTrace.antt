@@ -1,17 +1,23 @@
--- What passes the rules of a tree has exactly one trace.
-use Rattle.std.proofs.Common.{sym, subst}
+-- What passes the rules of a tree has exactly one trace: that of the program of the trees of its units.
+use Rattle.std.proofs.Common.{◌≡◌, ◌∙◌, ℕ, ℤ, List, sym, subst}
+use Rattle.std.specs.Prelude.{◌↔◌}
 use Rattle.bl_tree.specs.declared.rule.Rule.TheVariants as rule
-use Rattle.bl_parse_tree.specs.declared.raw.Raw.{Raw}
-use Rattle.bl_names_scopes.specs.Rules.{Passes as NamesPass}
-use Rattle.bl_types.specs.Rules.{Passes as TypesPass}
-use Rattle.bl_types_program.specs.Programs.{named_of, typed_of}
-use Rattle.bl_effects.specs.Rules.{Passes as UnitsPass}
+use Rattle.bl_tree.specs.declared.tree.StructDef.{StructDef}
+use Rattle.bl_tree.specs.declared.tree.Unit.{Unit as UnitDef}
 use Rattle.bl_cause.specs.Laws.{RulesLeaveNoWalk}
-use Rattle.bl_cause.specs.Rules.{Passes as GraphsPass}
 use Rattle.bl_cause_laws.specs.Orders.{BodiesHaveGraphs, UnwalkedHaveRanks}
-use Rattle.bl_rules.specs.Rules.{in_graphs, in_names, in_program, in_types, in_units}
-use Rattle.bl_ctree_laws_traces.specs.Traces.OneTrace.{HasOneTrace, TypedHaveOneTrace}
-use Rattle.bl_rules_laws.specs.Traces.OneTrace.{TreesHaveOneTrace, UnitsAreOrdered}
+use Rattle.bl_ctree.specs.Instances.{setting_of}
+use Rattle.bl_ctree.specs.Means.{Means, ShownTrace, shown_trace}
+use Rattle.bl_ctree.specs.Measure.{steps}
+use Rattle.bl_ctree.specs.Reaches.{Bounded, NeverStuck}
+use Rattle.bl_ctree_laws.specs.Fitted.{Fitted}
+use Rattle.bl_ctree_laws_confluence.specs.Deeds.Orderly.{AcceptedIsOrderly}
+use Rattle.bl_ctree_laws_peeled.specs.Bodies.{PeeledIsNeverStuck, PeeledMeans}
+use Rattle.bl_ctree_laws_peeled_bounds.specs.Bounds.{PeeledIsBounded}
+use Rattle.bl_ctree_laws_traces.specs.Traces.Maximal.{BoundedHaveMeanings}
+use Rattle.bl_ctree_laws_traces.specs.Traces.OneTrace.{HasOneTrace, OneTrace, OrderedAreNumbered, OrderedHaveOneTrace}
+use Rattle.bl_rules_laws.specs.Traces.OneTrace.{SourceHasOneTrace, TreesHaveOneTrace, UnitsAreOrdered}
+use Rattle.bl_rules_laws.specs.Traces.Trees.{AcceptedKeepOnTrees, KeepsOnTrees, TreesMeanTheSame}
 
 pub units_are_ordered : BodiesHaveGraphs → RulesLeaveNoWalk → UnwalkedHaveRanks → UnitsAreOrdered
 units_are_ordered graphs walks ranks units passes unit there activity =
@@ -23,15 +29,65 @@ units_are_ordered graphs walks ranks units passes unit there activity =
     (record { unit = unit; is_there = there; activity = activity; graph = has.graph; of_unit = has.is_graph; fails = fails }))) in
     record { nodes = has.graph.nodes; edges = has.graph.edges; is_graph = has.is_graph; ranks = order.ranks; rises = order.rises }
 
-pub trees_have_one_trace : UnitsAreOrdered → TypedHaveOneTrace → TreesHaveOneTrace
-trees_have_one_trace ordered traces program of =
-    let raw : Raw = of.raw in
-    let names : NamesPass raw.items = λ r p a f. of.passes r p a (in_names f) in
-    let types : TypesPass (named_of raw) = λ r p a f. of.passes r p a (in_types names f) in
-    let units : UnitsPass (typed_of raw).units = λ r p a f. of.passes r p a (in_program names types (in_units f)) in
-    let graphs : GraphsPass (typed_of raw).units = λ r p a f. of.passes r p a (in_program names types (in_graphs units f)) in
-    let one : HasOneTrace (typed_of raw).structs (typed_of raw).units (typed_of raw).entry =
-    traces raw.items raw.bytes of.well_formed names types units (ordered (typed_of raw).units graphs) in
-    subst (λ structs. HasOneTrace structs program.units program.entry) (sym of.is.structs)
-    (subst (λ units. HasOneTrace (typed_of raw).structs units program.entry) (sym of.is.units)
-    (subst (λ entry. HasOneTrace (typed_of raw).structs (typed_of raw).units entry) (sym of.is.entry) one))
+-- the laws that the proof stands on
+pub record TraceLaws : Type 0 where
+  pub orderly : AcceptedIsOrderly
+  pub meanings : BoundedHaveMeanings
+  pub numbered : OrderedAreNumbered
+  pub ordered : OrderedHaveOneTrace
+  pub bounded : PeeledIsBounded
+  pub means : PeeledMeans
+  pub stuck : PeeledIsNeverStuck
+
+module _ (given : TraceLaws) (structs : List StructDef) (units : List UnitDef) (entry : ℕ) (trees : List UnitDef)
+    (keeps : KeepsOnTrees structs units entry trees) where
+  fitted : Fitted (setting_of structs units entry)
+  fitted = (given.orderly structs units entry keeps.well_typed keeps.passes).fitted
+
+  trees_fitted : Fitted (setting_of structs trees entry)
+  trees_fitted = (given.orderly structs trees entry keeps.trees_typed keeps.trees_pass).fitted
+
+  trees_one : HasOneTrace structs trees entry
+  trees_one = given.ordered structs trees entry keeps.trees_typed keeps.trees_pass keeps.ordered
+
+  source_bounded : Bounded (steps structs trees entry) structs units entry
+  source_bounded =
+      given.bounded structs units trees entry keeps.peels fitted keeps.trees_typed keeps.trees_pass
+      (given.numbered structs trees entry keeps.trees_typed keeps.trees_pass keeps.ordered)
+
+  source_stuck : NeverStuck structs units entry
+  source_stuck = given.stuck structs units trees entry keeps.peels fitted trees_fitted trees_one.never_stuck
+
+  module _ (rows : List (List ℤ)) where
+    to_trees : (shows : ShownTrace) → Means structs units entry rows shows → Means structs trees entry rows shows
+    to_trees shows means = given.means structs units trees entry rows shows keeps.peels fitted trees_fitted means
+
+    -- a source has a trace, which is that of its trees
+    source_means : Means structs units entry rows (shown_trace (trees_one.each rows).trace)
+    source_means =
+        let has = given.meanings (steps structs trees entry) structs units entry source_bounded rows in
+        subst (Means structs units entry rows) ((trees_one.each rows).only has.shows (to_trees has.shows has.means)) has.means
+
+    source_one : OneTrace structs units entry rows
+    source_one = record {
+      trace = (trees_one.each rows).trace;
+      means = source_means;
+      only = λ shows means. (trees_one.each rows).only shows (to_trees shows means);
+    }
+
+    pub both_mean : (shows : ShownTrace) → Means structs units entry rows shows ↔ Means structs trees entry rows shows
+    both_mean shows = (
+      to_trees shows,
+      λ means. subst (Means structs units entry rows) (sym ((trees_one.each rows).only shows means)) source_means,
+    )
+
+  pub source_has_one : SourceHasOneTrace structs units entry trees
+  source_has_one = record { each = source_one; bounded = source_bounded; never_stuck = source_stuck }
+
+pub trees_mean : AcceptedKeepOnTrees → TraceLaws → TreesMeanTheSame
+trees_mean keep given program trees of are rows shows =
+    both_mean given program.structs program.units program.entry trees (keep program trees of are) rows shows
+
+pub trees_have_one_trace : AcceptedKeepOnTrees → TraceLaws → TreesHaveOneTrace
+trees_have_one_trace keep given program trees of are =
+    source_has_one given program.structs program.units program.entry trees (keep program trees of are)

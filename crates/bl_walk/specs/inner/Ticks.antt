@@ -1,15 +1,13 @@
 -- How a tick of a walk stands, and how its steps leave it.
-use Rattle.std.specs.Prelude.{ℕ, ℤ, ◌≤◌, true, List, [], ◌∷◌, ◌++◌, length, map, Some, None, ◌≡◌}
+use Rattle.std.specs.Prelude.{ℕ, ℤ, ◌≤◌, true, List, [], ◌∷◌, ◌++◌, length, Some, None, ◌≡◌}
 use Rattle.bl_tree.specs.declared.place.Place.{Place}
 use Rattle.bl_tree.specs.declared.row.Last.{Last}
 use Rattle.bl_tree.specs.declared.row.Last.TheVariants as last
-use Rattle.bl_tree.specs.Reduce.{total}
 use Rattle.bl_eval.specs.declared.values.Did.{Did}
 use Rattle.bl_eval.specs.declared.values.Did.TheVariants.{Done, Trap}
 use Rattle.bl_ctree.specs.Actions.{Action}
 use Rattle.bl_ctree.specs.Control.{Control, is_settled, woken}
 use Rattle.bl_ctree.specs.Instances.{Setting}
-use Rattle.bl_ctree.specs.Measure.{instance_steps}
 use Rattle.bl_ctree.specs.Points.{Point}
 use Rattle.bl_ctree.specs.Reaches.{Reaches, ReachesInside}
 use Rattle.bl_ctree.specs.Steps.{IsStill}
@@ -19,14 +17,10 @@ use Rattle.bl_ctree_run.specs.Running.{RunState, stepped_by}
 use Rattle.bl_walk.specs.declared.choice.Choice.{Choice}
 use Rattle.bl_walk.specs.Walks.{IsPicked, PickedTick, Picks, places_of}
 
--- the most steps of a tick
-abbrev pub most_steps : Setting → ℕ
-most_steps w = total (map (instance_steps w) w.instances)
-
--- ticks of the program end, and none is stuck
-pub record Steady (w : Setting) : Type 0 where
+-- no list of steps of a tick of the program is longer than the number, and no tick is stuck
+pub record Steady (most : ℕ) (w : Setting) : Type 0 where
   pub bounded : (rows : List (List ℤ)) (row : List ℤ) (actions : List Action) (end : End) → ReachesInside w rows row actions end →
-      length actions ≤ most_steps w
+      length actions ≤ most
   pub never_stuck : (rows : List (List ℤ)) (row : List ℤ) (actions : List Action) (c : Control) (store : Store) →
       ReachesInside w rows row actions (Rests c store) → IsStill w c → is_settled c ≡ true
 

@@ -1,7 +1,13 @@
 -- The first rule that fails of a typed program, judge by judge.
-use Rattle.bl_rules.proofs.Causes.{units_cause}
+use Rattle.std.specs.Prelude.{unwrap_or}
+use Rattle.bl_rules.proofs.Causes.{tree_limits_cause, units_cause}
 use Rattle.bl_rules.proofs.judge.accept_program.Goals as goal
 
 pub returns-in-Err-clause-cause : goal.returns-in-Err-clause-cause
 returns-in-Err-clause-cause c =
     units_cause c.args.program.structs c.args.program.units c.args.program.entry c.in-Err.refusal c.in-Err.ensures.cause
+
+pub returns-in-Err-check_limits-clause-cause : goal.returns-in-Err-check_limits-clause-cause
+returns-in-Err-check_limits-clause-cause c =
+    tree_limits_cause c.units_have_one_list_of_trees.ensures.one c.args.program (unwrap_or c.in-Ok-check.scheduled.tree c.args.program)
+    c.in-Ok-check.ensures.tree c.in-Err-check_limits.refusal c.in-Ok.ensures.passes c.in-Ok-check.ensures.passes c.in-Err-check_limits.ensures.cause

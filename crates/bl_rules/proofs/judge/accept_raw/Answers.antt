@@ -5,6 +5,13 @@ use Rattle.bl_rules.proofs.judge.accept_raw.Goals as goal
 pub returns-in-Err-clause-cause : goal.returns-in-Err-clause-cause
 returns-in-Err-clause-cause c = typing_cause c.args.raw.now c.in-Err.refusal c.in-Err.ensures.cause
 
+pub accept_program-requires : goal.accept_program-requires
+accept_program-requires c =
+    let program = c.in-Ok.program in
+    record {
+      typed = c.trees_stay_typed.ensures program.structs program.units program.entry program.keeps c.in-Ok.ensures.shallow c.in-Ok.ensures.ordered;
+    }
+
 pub returns-in-Ok-accept_program-clause-passes : goal.returns-in-Ok-accept_program-clause-passes
 returns-in-Ok-accept_program-clause-passes c =
     program_passes c.args.raw.now c.in-Ok.program c.in-Ok.ensures.typed c.in-Ok.ensures.names c.in-Ok.ensures.types

@@ -1,10 +1,23 @@
--- What is asked of the program, and what the file shows of it.
-use Rattle.bl_top.proofs.Texts.{file_of_tree, tree_declares}
+-- What is asked of the program of the trees, and what its file shows of the source's.
+use Rattle.std.proofs.Common.{subst, sym}
+use Rattle.std.proofs.lemmas.Result.{IfOk-weaker}
+use Rattle.bl_cause.specs.Accepted.{AcceptedProgram}
+use Rattle.bl_ctext_semantics.specs.Parts.{parts_of}
+use Rattle.bl_emit_file.specs.Shows.{ShowsProgram}
+use Rattle.bl_machine_prevs.specs.Declared.{FromText}
+use Rattle.bl_top.proofs.Texts.{file_of_source}
 use Rattle.bl_top.proofs.emitted.c_file.Goals as goal
 
-pub c_file-requires : goal.c_file-requires
-c_file-requires c = tree_declares c.args.accepted.now c.is_accepted.ensures c.requires c.accepted_trees_declare.ensures
+pub file_of-requires : goal.file_of-requires
+file_of-requires c =
+    let accepted = c.args.accepted.now in
+    subst (λ (a : AcceptedProgram). FromText a.program.units) (sym c.tree.ensures)
+    (c.accepted_trees_declare.ensures.trees accepted.program accepted.tree.program.units c.requires c.is_accepted.ensures.is_tree.units)
 
-pub returns-in-Ok : goal.returns-in-Ok
-returns-in-Ok c =
-    file_of_tree c.args.accepted.now c.in-Ok.file c.is_accepted.ensures c.requires c.accepted_trees_have_one_trace.ensures c.in-Ok.ensures.shows
+pub returns : goal.returns
+returns c =
+    IfOk-weaker c.file_of.result _ _
+    (λ file shows. file_of_source c.args.accepted.now file c.is_accepted.ensures c.requires c.accepted_trees_have_one_trace.ensures
+    c.accepted_trees_mean_the_same.ensures
+    (subst (λ (a : AcceptedProgram). ShowsProgram a.program.structs a.program.units a.program.entry (parts_of file)) c.tree.ensures shows))
+    c.file_of.ensures
