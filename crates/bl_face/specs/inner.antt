@@ -1,0 +1,3 @@
+pub mod Reader
+pub mod States
+pub mod Stops

@@ -1,0 +1,4 @@
+pub mod Chunks
+pub mod Digits
+pub mod Pieces
+pub mod Printed
