@@ -30,7 +30,8 @@ pub record IsSchedule (units : List UnitDef) (effects : List Effect) (graphs : L
   pub each_graph : AreGraphs units graphs
   pub each_order : AreOrders graphs orders
 
--- the tree of a program, of which the machine is to be made: the program itself, since no first turn of a loop is copied
+-- the tree of a program, of which its machine is made: the program itself. Where loops have first turns of their own, `bl_cause_trees` gives the
+-- program of the trees, and this is said of that program
 abbrev pub IsTreeOf : Program → Program → Type 0
 IsTreeOf program tree = tree ≡ program
 

@@ -1,5 +1,5 @@
-//! Stores in which every value is one of its variable's type (`specs/Fits.antt`), and what instances see of them (`views`). None of these
-//! functions does anything: the contract is the law.
+//! Laws of typed stores: stores in which every value has the type of its variable (`specs/Fits.antt`, `StoreFits`). In a typed program each
+//! instance sees well-typed values of its variables, wherever their homes are (`views`, with `specs/Views.antt`, `ViewsAreTyped`).
 #![tactic(auto)]
 
 pub mod views;

@@ -46,7 +46,7 @@ made_known accepted plain merged made is_accepted text countable one two are_mer
     let to : List Activity = merged.activities in
     let of_tree : AreMergedFrom tree.units from to = subst (λ (of : Program). AreMergedFrom of.units from to) one are_merged in record {
       known = record {
-        well_typed = tree.keeps;
+        well_typed = tree.well_typed;
         passes = is_accepted.tree_passes;
         limits = subst (λ (of : Program). KeepsLimits of.structs of.units of.entry) (sym is_accepted.is_tree) is_accepted.limits;
         text = text;

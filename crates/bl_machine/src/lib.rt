@@ -1,7 +1,7 @@
 //! Machines: the intermediate form of an accepted program, from which its C text is made. For each activity, a machine
 //! has the nodes of its tick graph in the order of one pass. Some of them are joined into blocks. Each place where the
 //! activity may rest between ticks has a number: a counter, and the counter's value while the activity rests there
-//! (docs/LANGUAGE.md, "Machines"). `Machine::of` makes the machine of an accepted program, with blocks of one node. It
+//! (docs/INTERNALS.md, "Machines"). `Machine::of` makes the machine of an accepted program, with blocks of one node. It
 //! fails for want of memory alone.
 //!
 //! The invariant of machines is `IsMachine` (`specs/Machines.antt`). Every node of an activity stands once, before all

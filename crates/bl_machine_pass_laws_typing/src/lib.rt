@@ -1,4 +1,6 @@
-//! Passes by rules keep stores typed, and what instances see of writes. Lemmas only.
+//! Laws of types in passes: a pass by rules keeps its store and its copies well-typed (`fits`, with `specs/Fits.antt`, `PassesKeepTypes`). An
+//! instance sees what is written at the homes of its paths, and all else as before (`seen`, with `PutsAreSeen` and `ActsAreSeen`). The stores
+//! with which runs and ticks begin are well-typed (`starts`, with `AllStartsFit`). Each law is the contract of a function with an empty body.
 #![tactic(auto)]
 
 pub mod fits;

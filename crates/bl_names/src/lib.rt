@@ -1,4 +1,4 @@
-//! Source programs with positions in place of names (docs/LANGUAGE.md, "Named trees"). `resolve` answers as `check` of
+//! Source programs with positions in place of names (docs/INTERNALS.md, "Named trees"). `resolve` answers as `check` of
 //! `bl_names_scopes` does, and its tree is the definition `named_program` (`specs/Named.antt`): each use has the position of
 //! the declaration to which it is bound, and each position is that of something that is declared before its use
 //! (`IsPlaced` of `bl_names_tree`). It is a second walk, which opens the same scopes.

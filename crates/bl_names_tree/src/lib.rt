@@ -1,5 +1,5 @@
 //! Source programs whose names are resolved: positions stand for the names of structs, constants, units and variables
-//! (docs/LANGUAGE.md, "Named trees"). There are types alone, and the definition of where each position stands for
+//! (docs/INTERNALS.md, "Named trees"). There are types alone, and the definition of where each position stands for
 //! something that is declared before its use (`specs/Placed.antt`, `IsPlaced`).
 //! The trees have a `drop` of their own, as those of `bl_tree` have.
 #![tactic(auto)]

@@ -1,5 +1,5 @@
 //! The typed tree of a source program. What a number names is a position: of a struct or unit in the program's
-//! lists, of a field in its struct, of a variable in its unit (docs/LANGUAGE.md, "Programs").
+//! lists, of a field in its struct, of a variable in its unit (docs/INTERNALS.md, "Programs").
 
 use crate::place::Place;
 use crate::scalar::{Op, Scalar};

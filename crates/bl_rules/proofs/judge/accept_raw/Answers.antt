@@ -9,7 +9,7 @@ pub accept_program-requires : goal.accept_program-requires
 accept_program-requires c =
     let program = c.in-Ok.program in
     record {
-      typed = c.trees_stay_typed.ensures program.structs program.units program.entry program.keeps c.in-Ok.ensures.shallow c.in-Ok.ensures.ordered;
+      typed = c.trees_stay_typed.ensures program.structs program.units program.entry program.well_typed c.in-Ok.ensures.shallow c.in-Ok.ensures.ordered;
     }
 
 pub returns-in-Ok-accept_program-clause-passes : goal.returns-in-Ok-accept_program-clause-passes

@@ -60,7 +60,7 @@ returns-clause-ends g c = λ notes.
     (c.accepted_trees_have_one_trace.ensures c.in-Ok.accepted.program c.in-Ok.accepted.tree.program.units
     (c.programs_of_texts_are_of_trees.ensures.accepted is.source c.in-Ok.accepted.program is.has) c.is_accepted.ensures.is_tree.units)
     c.rows_of_bytes_fit.ensures c.rows_of_lines_fit.ensures (g.F.Files.left c.accepted_of.new.files) c.in-Ok.ensures.behind c.alone-in-Err-walk_file.result
-    c.in-Ok.accepted.program.keeps.entry_stands refl
+    c.in-Ok.accepted.program.well_typed.entry_stands refl
     (ap (λ (o : Outcome). o.status) c.alone-in-Err-walk_file.ensures.outcome ∙ c.plain.ensures) c.alone-in-Err-walk_file.ensures.told
 
 pub returns-clause-reads : goal.returns-clause-reads

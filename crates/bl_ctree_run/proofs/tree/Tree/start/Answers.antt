@@ -11,7 +11,7 @@ pub invariant_of-result : goal.invariant_of-result
 invariant_of-result c =
     let w = setting_in c.in_ok-setting.setting in
     let stands : units_stand_after w.structs [] w.units ≡ true =
-    subst (λ (w : Setting). units_stand_after w.structs [] w.units ≡ true) (sym c.in_ok-setting.ensures) c.args.program.now.keeps.units_stand
+    subst (λ (w : Setting). units_stand_after w.structs [] w.units ≡ true) (sym c.in_ok-setting.ensures) c.args.program.now.well_typed.units_stand
     in
     record {
       lists = refl;

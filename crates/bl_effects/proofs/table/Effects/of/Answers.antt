@@ -19,4 +19,4 @@ pub returns : goal.returns
 returns c =
     subst (TableTellsEffects c.loop-unit.effects) c.deref-unit-items.ensures
     (told_all c.deref-unit-items.result.now c.loop-unit.unit-index c.loop-unit.effects c.loop-unit-test.false c.loop-unit.invariant
-    (subst PlacesDecide (sym c.deref-unit-items.ensures) c.args.program.now.keeps.places_decide))
+    (subst PlacesDecide (sym c.deref-unit-items.ensures) c.args.program.now.well_typed.places_decide))
