@@ -1,0 +1,128 @@
+-- The trees that runs reach between ticks are left of their bodies, with all that is called.
+use Rattle.std.proofs.Common.{◌≡◌, ◌⊎◌, inl, inr, ℕ, suc, ◌+◌, ◌<◌, Bool, true, false, List, [], ◌∷◌, ◌++◌, Option, Some, None, refl, sym}
+use Rattle.std.proofs.Common.{ap, ◌∙◌, subst, arith}
+use Rattle.std.specs.Prelude.{ℤ, option_and_then, option_map, slice_get, unwrap_or}
+use Rattle.bl_tree.specs.declared.tree.StructDef.{StructDef}
+use Rattle.bl_tree.specs.declared.tree.Unit.{Unit as UnitDef}
+use Rattle.bl_tree.specs.Program.{IsWellTyped, is_entry}
+use Rattle.bl_effects.specs.Rules.{Passes as UnitsPass}
+use Rattle.bl_graph_nodes.specs.Nodes.{Node}
+use Rattle.bl_graph_nodes.specs.Plain.{Block, plain_body}
+use Rattle.bl_ctree.specs.declared.instance.Instance.{Instance}
+use Rattle.bl_ctree.specs.Control as control
+use Rattle.bl_ctree.specs.Control.{Control}
+use Rattle.bl_ctree.specs.Instances.{Setting, expanded, instances_below, runs_of, setting_of, unit_at, unit_of}
+use Rattle.bl_ctree.specs.Means.{entry_items}
+use Rattle.bl_ctree.specs.Positions.{body_items}
+use Rattle.bl_ctree.specs.Reaches.{Reaches, after_tick, at_first}
+use Rattle.bl_ctree.specs.Store.{Store}
+use Rattle.bl_ctree.specs.Ticks.{Paused, Rests, Tick, Trapped, outcome_at, resting_outcome}
+use Rattle.bl_ctree_laws.specs.Bridge.{plain_items, plain_tree}
+use Rattle.bl_ctree_laws.specs.Ends as ends
+use Rattle.bl_ctree_laws.specs.Ends.{PlainTreeEnd}
+use Rattle.bl_ctree_laws.specs.Laws.{AnswersArePlain, StatementsArePlain}
+use Rattle.bl_ctree_laws.specs.Runs.{SameEnd, TicksEndAlikeByPlain, entry_block}
+use Rattle.bl_ctree_laws.specs.Trees.{Tree, do_block, is_nil, woken}
+use Rattle.bl_ctree_laws_confluence.specs.Deeds.Orderly.{AcceptedIsOrderly}
+use Rattle.bl_ctree_laws_confluence.specs.Independent.Accepted.{AcceptedIsIndependent}
+use Rattle.bl_machine.specs.Uses.{Slots}
+use Rattle.bl_machine_laws.specs.Passes.Orders.{Orders}
+use Rattle.bl_machine_laws.specs.Passes.Ticks.{TickPasses, TickTraps, TicksArePasses}
+use Rattle.bl_machine_pass.specs.SlotLayout.{SlotsAreDistinct}
+use Rattle.bl_machine_pass_laws.specs.Same.Laws.{StaysResidual}
+use Rattle.bl_machine_pass_laws.specs.Turns.Laws.{StaysPlaced}
+use Rattle.bl_machine_pass_laws_counters.proofs.Calls.{After, begun, pass_left, woken_after}
+
+-- ---- the entry
+
+entry_found : (found : Option UnitDef) → is_entry found ≡ true → (unit : UnitDef) × (found ≡ Some unit)
+entry_found None is = absurd cc
+entry_found (Some unit) is = (unit, refl)
+
+abbrev root : ℕ → Instance
+root entry = record { unit = entry; depth = 0; origin = None }
+
+-- the entry is the unit of the first instance
+entry_at : (structs : List StructDef) (units : List UnitDef) (entry : ℕ) (unit : UnitDef) → slice_get units entry ≡ Some unit →
+    unit_at (setting_of structs units entry) 0 ≡ Some unit
+entry_at structs units entry unit there =
+    let one : entry + 1 ≡ suc entry = omega arith in
+    let first : slice_get (setting_of structs units entry).instances 0 ≡ Some (root entry) =
+    ap (λ n. slice_get (expanded units n entry) 0) one
+    ∙ ap (λ (o : Option UnitDef). slice_get (unwrap_or (option_map (λ (unit : UnitDef). root entry
+    ∷ instances_below (expanded units entry) 1 (runs_of unit)) o) []) 0) there in
+    ap (option_and_then (unit_of (setting_of structs units entry))) first ∙ there
+
+-- an accepted program has an instance of its entry
+pub entry_there : (structs : List StructDef) (units : List UnitDef) (entry : ℕ) → IsWellTyped structs units entry →
+    (unit : UnitDef) × (unit_at (setting_of structs units entry) 0 ≡ Some unit)
+entry_there structs units entry keeps =
+    let found = entry_found (slice_get units entry) keeps.entry_stands in (found.0, entry_at structs units entry found.0 found.1)
+
+pub entry_is : StatementsArePlain → (w : Setting) (unit : UnitDef) → unit_at w 0 ≡ Some unit → entry_block w ≡ plain_body unit.body
+entry_is plain w unit is =
+    ap (λ (found : Option UnitDef). plain_items (unwrap_or (option_map (λ it. body_items it.body) found) [])) is ∙ sym (plain.blocks unit.body [])
+
+-- ---- ends of ticks
+
+rests_at : (c d : Tree) (store left : Store) → ends.Rests c store ≡ ends.Rests d left → c ≡ d
+rests_at c d store left e = cc
+
+rests_untrapped : {A : Type 0} (c : Tree) (store : Store) → ends.Rests c store ≡ ends.Trapped → A
+rests_untrapped c store e = absurd (cc)
+
+not_ended : (nil settled : Bool) → resting_outcome nil settled ≡ Paused → nil ≡ false
+not_ended true settled e = absurd (cc)
+not_ended false settled e = refl
+
+-- ---- reached trees
+
+module _ (plain : StatementsArePlain) (answers : AnswersArePlain) (alike : TicksEndAlikeByPlain) (orderly : AcceptedIsOrderly)
+    (independent : AcceptedIsIndependent) (have : TicksArePasses) (placed : StaysPlaced) (residual : StaysResidual) (structs : List StructDef)
+    (units : List UnitDef) (entry : ℕ) (rank : ℕ → Node → ℕ) (slots : ℕ → Slots) (unit : UnitDef) (keeps : IsWellTyped structs units entry)
+    (passes : UnitsPass units) (orders : Orders (setting_of structs units entry) rank)
+    (laid : (i : ℕ) (unit : UnitDef) → unit_at (setting_of structs units entry) i ≡ Some unit → SlotsAreDistinct (slots i) (plain_body unit.body))
+    (is : unit_at (setting_of structs units entry) 0 ≡ Some unit) where
+  abbrev W : Setting
+  W = setting_of structs units entry
+
+  -- a tree that a run has reached by a tick
+  pub record Between (c : Tree) : Type 0 where
+    pub after : After W slots 0 unit c
+    pub unended : is_nil c ≡ false
+
+  woken_stands : (c : Control) → (c ≡ control.Idle (entry_items W)) ⊎ Between (plain_tree c) → After W slots 0 unit (woken (plain_tree c))
+  woken_stands c (inl first) =
+      subst (λ (x : Control). After W slots 0 unit (woken (plain_tree x))) (sym first)
+      (subst (λ (body : Block). After W slots 0 unit (do_block body)) (sym (entry_is plain W unit is))
+      (begun residual placed W rank slots laid 0 unit is))
+  woken_stands c (inr between) = woken_after residual placed W rank slots laid 0 unit (plain_tree c) between.after
+
+  by_tick : (before : List (List ℤ)) (row : List ℤ) (c : Control) (store : Store) (c' : Control) (store' : Store) → Reaches W before c store →
+      Tick W row c store (Rests c' store') → outcome_at (Rests c' store') ≡ Paused → After W slots 0 unit (woken (plain_tree c)) →
+      TickPasses W rank row c store ⊎ TickTraps W rank row c store → Between (plain_tree c')
+  by_tick before row c store c' store' reached tick paused from (inl one) =
+      let own = orderly structs units entry keeps passes in
+      let same : SameEnd (Rests c' store') (Rests one.after one.pass.left) =
+      alike W before before row c c store (Rests c' store') (Rests one.after one.pass.left) own.fitted own.paces
+      (independent structs units entry true keeps passes) reached reached refl tick (record { actions = one.actions; maximal = one.maximal }) in
+      let tree : plain_tree c' ≡ one.pass.tree = rests_at (plain_tree c') (plain_tree one.after) store' one.pass.left same.plain ∙ one.is in
+      record {
+        after = subst (λ (t : Tree). After W slots 0 unit t) (sym tree)
+            (pass_left residual placed W rank slots laid one.pass.passes unit is from);
+        unended = answers.ended c' ∙ not_ended (control.is_nil c') (control.is_settled c') paused;
+      }
+  by_tick before row c store c' store' reached tick paused from (inr trap) =
+      let own = orderly structs units entry keeps passes in
+      let same : SameEnd (Rests c' store') Trapped =
+      alike W before before row c c store (Rests c' store') Trapped own.fitted own.paces (independent structs units entry true keeps passes) reached
+      reached refl tick (record { actions = trap.actions; maximal = trap.maximal }) in
+      rests_untrapped (plain_tree c') store' same.plain
+
+  -- before the first tick a run stands at the entry's body, and then at trees that are left of it
+  pub reached_stands : {rows : List (List ℤ)} {c : Control} {store : Store} → Reaches W rows c store →
+      (c ≡ control.Idle (entry_items W)) ⊎ Between (plain_tree c)
+  reached_stands at_first = inl refl
+  reached_stands (after_tick {before = before} {row = row} {c = c} {store = store} {c' = c'} {store' = store'} reached tick paused is_rows) =
+      inr (by_tick before row c store c' store' reached tick paused (woken_stands c (reached_stands reached))
+      (have structs units entry rank keeps passes orders before row c store reached))
