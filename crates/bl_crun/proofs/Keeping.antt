@@ -1,27 +1,5 @@
 -- What is prepared after the start and after a tick.
-use Rattle.std.proofs.Common.{
-  ◌≡◌,
-  ℕ,
-  ◌+◌,
-  ◌≤◌,
-  ◌<◌,
-  ◌^◌,
-  ℤ,
-  pos,
-  true,
-  List,
-  [],
-  ◌∷◌,
-  length,
-  take,
-  drop,
-  ◌-◌,
-  replicate,
-  Option,
-  Some,
-  None,
-  refl,
-}
+use Rattle.std.proofs.Common.{◌≡◌, ℕ, ◌+◌, ◌≤◌, ◌<◌, ◌^◌, ℤ, pos, true, List, [], ◌∷◌, length, take, drop, ◌-◌, replicate}
 use Rattle.std.proofs.Common.{ap, sym, subst, ◌∙◌, arith}
 use Rattle.std.specs.Prelude.{codes, is_some, min}
 use Rattle.bl_crun_bytecode.specs.Code.{Code}

@@ -21,7 +21,7 @@ use Rattle.std.proofs.Common.{
   sym,
   subst,
 }
-use Rattle.std.proofs.Common.{◌∙◌, arith, length-set}
+use Rattle.std.proofs.Common.{◌∙◌, arith, length-set, length-take-le}
 use Rattle.std.proofs.lemmas.List.{length-map}
 use Rattle.bl_tree.specs.declared.scalar.Scalar.{Scalar}
 use Rattle.bl_tree.specs.Scalar.{in_range}
@@ -67,6 +67,13 @@ module _ (file : Parts) (p : Prepared) (keeps : PreparedInvariant file p) where
   pub cell-within : (k : ℕ) → k < length (cells_of file) → k < length p.machine.state.cells
   cell-within k h = let a = cells-long file keeps.runs.formed in let b = keeps.cells.room in omega arith
 
+  -- each cell has a number
+  pub numbers-whole : length (cells_of file) ≡ length (cell_numbers p)
+  numbers-whole =
+      let long : length p.kinds.items ≡ length (cells_of file) = ap length keeps.kinds ∙ kinds-long in
+      let a = cells-long file keeps.runs.formed in let b = keeps.cells.room in
+      sym (length-take-le (length p.kinds.items) p.machine.state.cells (omega arith) ∙ long)
+
   pub cell-number : (k : ℕ) (n : ℤ) → k < length (cells_of file) → slice_get p.machine.state.cells k ≡ Some n →
       slice_get (cell_numbers p) k ≡ Some n
   cell-number k n h there =
@@ -107,6 +114,9 @@ module _ (file : Parts) (p : Prepared) (keeps : PreparedInvariant file p) (ready
 
   pub shown-cells : p.base ≡ length (cells_of r.parts)
   shown-cells = subst (λ (s : Running). p.base ≡ length (cells_of s.parts)) is (cells-are file p keeps)
+
+  pub shown-whole : p.base ≡ length r.cells
+  shown-whole = subst (λ (s : Running). p.base ≡ length s.cells) is (cells-are file p keeps ∙ numbers-whole file p keeps)
 
   pub shown-number : (k : ℕ) (n : ℤ) → k < length (cells_of r.parts) → n ≡ cell_at p.machine.state.cells k → slice_get r.cells k ≡ Some n
   shown-number k n h at =

@@ -1,10 +1,11 @@
 -- What a runner keeps of its file.
-use Rattle.std.specs.Prelude.{◌≡◌, ◌≤◌, ℤ, List, length, take, option_map, codes}
+use Rattle.std.specs.Prelude.{◌≡◌, ◌≤◌, ℤ, Bool, List, length, take, option_map, codes}
 use Rattle.bl_crun_bytecode.specs.Laws.{code_of_file, entry_in_file}
 use Rattle.bl_crun_bytecode_compiler.specs.Entries.{entry_for}
 use Rattle.bl_ctext_semantics_laws.specs.Laws.{behind_objects}
 use Rattle.bl_ctext_semantics.specs.Cells.{inputs_of, outputs_of}
 use Rattle.bl_ctext_semantics.specs.Parts.{Parts}
+use Rattle.bl_ctext_semantics.specs.Trace.{start_succeeds}
 use Rattle.bl_crun_ports.specs.Layout.{kinds_of}
 use Rattle.bl_crun_ports.specs.Ports.{inputs_start, outputs_start}
 use Rattle.bl_crun.specs.Cause.{IsRunnable}
@@ -26,6 +27,11 @@ pub record PreparedInvariant (file : Parts) (p : Prepared) : Type 0 where
   pub numbers : length p.code.items ≤ p.machine.numbers
   pub calls : length file.funcs ≤ p.machine.calls
   pub cells : CellsKeep file p.machine.state.cells
+
+-- what a runner of the file keeps, where it says whether the start hasn't trapped
+pub record RunnerInvariant (file : Parts) (p : Prepared) (ready : Bool) : Type 0 where
+  pub prepared : PreparedInvariant file p
+  pub start : ready ≡ start_succeeds file
 
 -- the numbers of the cells
 abbrev pub cell_numbers : Prepared → List ℤ

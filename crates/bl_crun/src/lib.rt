@@ -2,8 +2,9 @@
 //! back with the cause (`specs/Cause.antt`, `IsCause`). That is the place at which it is ill formed, its number of
 //! cells if more than 1,000,000, or want of memory. `tick`, on a row that fits, answers as the file's tick does, and
 //! leaves its outputs and its cells (`specs/Running.antt`, `after_tick`; `Trace.antt` of `bl_ctext_semantics`,
-//! `tick_c`). `tick_counted` counts its statements too. The runner isn't live after the run's end or a trap. `cell` and
-//! `put` read and write the number of a cell, also where the start or a tick has trapped.
+//! `tick_c`). `tick_counted` counts its statements too. The runner isn't live after the run's end or a trap. It's ready
+//! iff the start of its file doesn't trap. `cell` and `put` read and write the number of a cell, also where the start
+//! or a tick has trapped.
 #![tactic(auto)]
 
 mod answer;

@@ -31,7 +31,7 @@ impl Model for Runner {
     ghost use Rattle.bl_tree.specs.contracts.c.CStmt as stmt;
     ghost use Rattle.bl_tree.specs.contracts.c.CStmtKind as kind;
     ghost use Rattle.bl_ctext_semantics.specs.Parts.{parts_of};
-    ghost use Rattle.bl_crun.specs.Prepared.{PreparedInvariant, cell_numbers};
+    ghost use Rattle.bl_crun.specs.Prepared.{RunnerInvariant, cell_numbers};
     ghost use Rattle.bl_crun.specs.Running.{Running};
 
     ghost Value = { Running };
@@ -40,11 +40,12 @@ impl Model for Runner {
 
     ghost view = { λ r. record { parts = parts_of r.file; cells = cell_numbers r.prepared; ready = r.ready; live = r.live } };
 
-    ghost invariant = { λ r. PreparedInvariant (parts_of r.file) r.prepared };
+    ghost invariant = { λ r. RunnerInvariant (parts_of r.file) r.prepared r.ready };
 }
 
 impl Runner {
     ghost use Rattle.bl_ctext_semantics.specs.Parts.{parts_of};
+    ghost use Rattle.bl_ctext_semantics.specs.Trace.{start_succeeds};
     ghost use Rattle.bl_crun.specs.Cause.{IsCause, IsRunnable};
     ghost use Rattle.bl_crun.specs.Running.{OutputsFit, after_tick, answer_of, count_after, loaded, outputs_after, reply_at, with_cell};
 
@@ -97,7 +98,8 @@ impl Runner {
 
     /// Whether the start hasn't trapped.
     pub fn ready(&self) -> bool
-        ensures { result ≡ self.now.ready }
+        ensures shown { result ≡ self.now.ready }
+        ensures start { result ≡ start_succeeds self.now.parts }
     {
         self.ready
     }
@@ -141,9 +143,10 @@ impl Runner {
         answer
     }
 
-    /// How many cells the three objects have.
+    /// How many cells the three objects have. Each has a number.
     pub fn cells(&self) -> u32
-        ensures { result ≡ length (cells_of self.now.parts) }
+        ensures count { result ≡ length (cells_of self.now.parts) }
+        ensures numbers { result ≡ length self.now.cells }
     {
         self.prepared.base
     }

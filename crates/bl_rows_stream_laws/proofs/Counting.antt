@@ -49,19 +49,19 @@ lines file true cells live n (ins ∷ rows) =
     (counts_from (tick_c file) rows t.cells) (c_trace_from file rows t.cells)
     (lines file true t.cells (is_row (answer_of t.reply)) (n + 1) rows)
 
-text : (file : Parts) (rows : List (List ℤ)) → report_of Counts (loaded file) rows ≡ counts_text (behaviour_of file) rows
-text file rows = ap (λ l. codes "tick,statements\n" ++ l) (lines file (start_succeeds file) (start_cells file) true 1 rows)
+pub counts-text : (file : Parts) (rows : List (List ℤ)) → report_of Counts (loaded file) rows ≡ counts_text (behaviour_of file) rows
+counts-text file rows = ap (λ l. codes "tick,statements\n" ++ l) (lines file (start_succeeds file) (start_cells file) true 1 rows)
 
 pub counts-told : (file : Parts) → CountsAreTold file
 counts-told file left rest before after now how (ran bytes are is grew has) =
-    all bytes are is (subst (λ t. Appends before t after) (text file (rows_of bytes (inputs_of file)).rows) grew)
+    all bytes are is (subst (λ t. Appends before t after) (counts-text file (rows_of bytes (inputs_of file)).rows) grew)
 counts-told file left rest before after now _ (broken b) =
     unread (record {
       read = b.read;
       handed_over = b.handed;
       good = b.good;
       running = b.running;
-      written = subst (λ t. Appends before t after) (text file (rows_so_far (loaded file) b.read)) b.written;
+      written = subst (λ t. Appends before t after) (counts-text file (rows_so_far (loaded file) b.read)) b.written;
     })
 counts-told file left rest before after now how (cut bytes are why grew) =
-    front bytes are why (subst (λ t. AppendsFront before t after) (text file (rows_of bytes (inputs_of file)).rows) grew)
+    front bytes are why (subst (λ t. AppendsFront before t after) (counts-text file (rows_of bytes (inputs_of file)).rows) grew)

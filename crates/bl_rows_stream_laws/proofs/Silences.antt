@@ -4,12 +4,10 @@ use Rattle.std.specs.Prelude.{Option, Some, None}
 use Rattle.bl_ctext_semantics.specs.Cells.{inputs_of}
 use Rattle.bl_ctext_semantics.specs.Parts.{Parts}
 use Rattle.bl_ctext_semantics.specs.Trace.{Reply, row, ended, trapped, c_trace_from, cells_after, tick_c, traced}
-use Rattle.bl_crun.specs.Running.{Running, after_tick, answer_of, is_row}
+use Rattle.bl_crun.specs.Running.{Running, answer_of, is_row}
 use Rattle.bl_rows.specs.Reading.{rows_of}
 use Rattle.bl_rows.specs.declared.fault.RowFault.{RowFault}
 use Rattle.bl_rows.specs.declared.fault.RowFault.TheVariants as fault
-use Rattle.bl_save.specs.States.{IsReady}
-use Rattle.bl_save_laws.specs.Laws.{StaysReady}
 use Rattle.bl_rows_stream.specs.Reports.{HasRun, after_rows}
 use Rattle.bl_rows_stream.specs.Streams.{AreLeft, broken}
 use Rattle.bl_rows_stream.specs.Streams.{cut, finish_of, ran, while_open}
@@ -42,10 +40,6 @@ after file (ins ∷ rows) cells is =
     let on = onward t.reply t.outputs (c_trace_from file rows t.cells) is in
     ap (λ reply. after_rows (ticked file reply t.cells) rows) on.0 ∙ after file rows t.cells on.1
 
-ready_after : (file : Parts) → StaysReady file → (rows : List (List ℤ)) (r : Running) → IsReady r → IsReady (after_rows r rows)
-ready_after file stays [] r ready = ready
-ready_after file stays (ins ∷ rows) r ready = ready_after file stays rows (after_tick r ins) (stays.ticked r ins ready)
-
 -- ---- how it ends
 
 -- a run that is open and done has no bad line
@@ -56,8 +50,7 @@ no_fault (Some (fault.BadRow line)) is = absurd (cc)
 no_fault (Some (fault.LongLine line)) is = absurd (cc)
 no_fault (Some fault.NoMemory) is = absurd (cc)
 
-module _ (file : Parts) (stays : StaysReady file) (numbers : List ℤ) (left rest : Option (List ℕ)) (now : Running)
-    (start_ready : IsReady (runner_from file numbers)) (bytes : List ℕ) (are : AreLeft left bytes) where
+module _ (file : Parts) (numbers : List ℤ) (left rest : Option (List ℕ)) (now : Running) (bytes : List ℕ) (are : AreLeft left bytes) where
   abbrev rows : List (List ℤ)
   rows = (rows_of bytes (inputs_of file)).rows
 
@@ -74,7 +67,6 @@ module _ (file : Parts) (stays : StaysReady file) (numbers : List ℤ) (left res
         good = good;
         going = is;
         live = ap (λ (r : Running). r.live) same;
-        ready = subst IsReady (sym (has.going is)) (ready_after file stays rows (runner_from file numbers) start_ready);
         parts = ap (λ (r : Running). r.parts) same;
         cells = ap (λ (r : Running). r.cells) same;
       }
@@ -118,12 +110,12 @@ module _ (file : Parts) (stays : StaysReady file) (numbers : List ℤ) (left res
   by_last Ended how is e has = rw e (silently_ended bytes are is (closed has (λ o. let bad : Ended ≡ Open = sym is ∙ o in cc)))
   by_last Trap how is e has = rw e (silently_trapped bytes are is)
 
-pub runs-silent : (file : Parts) → StaysReady file → RunsAreSilent file
-runs-silent file stays numbers left rest now how ready no_write (ran bytes are is grew has) =
-    by_last file stays numbers left rest now ready bytes are (c_trace_from file (rows_of bytes (inputs_of file)).rows numbers).last how refl is has
-runs-silent file stays numbers left rest now _ ready no_write (broken b) =
+pub runs-silent : (file : Parts) → RunsAreSilent file
+runs-silent file numbers left rest now how no_write (ran bytes are is grew has) =
+    by_last file numbers left rest now bytes are (c_trace_from file (rows_of bytes (inputs_of file)).rows numbers).last how refl is has
+runs-silent file numbers left rest now _ no_write (broken b) =
     unread (record { read = b.read; handed_over = b.handed; good = b.good; running = b.running; written = tt })
-runs-silent file stays numbers left rest now how ready no_write (cut bytes are why grew) = elim why [
+runs-silent file numbers left rest now how no_write (cut bytes are why grew) = elim why [
   | inl write ↦ absurd (no_write write)
   | inr memory ↦ rw memory no_memory
 ]

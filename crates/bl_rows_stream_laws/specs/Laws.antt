@@ -3,7 +3,6 @@ use Rattle.std.specs.Prelude.{◌≢◌, ℕ, ℤ, List, Option, None}
 use Rattle.bl_ctext_semantics.specs.Parts.{Parts}
 use Rattle.bl_ctext_semantics_laws_places.specs.Behaviour.{behaviour_of}
 use Rattle.bl_crun.specs.Running.{Running, loaded}
-use Rattle.bl_save.specs.States.{IsReady}
 use Rattle.bl_rows_stream.specs.Streams.{Reported, Streamed}
 use Rattle.bl_rows_stream.specs.declared.finish.Finish.{Finish}
 use Rattle.bl_rows_stream.specs.declared.finish.Finish.TheVariants as finish
@@ -18,5 +17,5 @@ CountsAreTold file = (left rest before after : Option (List ℕ)) (now : Running
 
 -- a silent run from numbers of the cells ends as the trace from them does
 abbrev pub RunsAreSilent : Parts → Type 0
-RunsAreSilent file = (numbers : List ℤ) (left rest : Option (List ℕ)) (now : Running) (how : Finish) → IsReady (runner_from file numbers) →
-    how ≢ finish.WriteFault → Reported Nothing (runner_from file numbers) left rest None None now how → RunsSilently file numbers left rest now how
+RunsAreSilent file = (numbers : List ℤ) (left rest : Option (List ℕ)) (now : Running) (how : Finish) → how ≢ finish.WriteFault →
+    Reported Nothing (runner_from file numbers) left rest None None now how → RunsSilently file numbers left rest now how

@@ -6,7 +6,6 @@ use Rattle.bl_ctext_semantics.specs.Trace.{c_trace_from, cells_after}
 use Rattle.bl_crun.specs.Running.{Running}
 use Rattle.bl_rows.specs.Reading.{rows_of}
 use Rattle.bl_rows.specs.Text.{text_of}
-use Rattle.bl_save.specs.States.{IsReady}
 use Rattle.bl_rows_stream.specs.Streams.{AreLeft, Course, Unread, last_over, while_open}
 use Rattle.bl_rows_stream.specs.declared.finish.Finish.{Finish}
 use Rattle.bl_rows_stream.specs.declared.finish.Finish.TheVariants as finish
@@ -32,14 +31,13 @@ silent_by file numbers = record {
   text = λ rows. [];
 }
 
--- the rows of a whole file leave the run open, and this runner has the cells that they leave and can be saved
+-- the rows of a whole file leave the run open, and this runner of the file has the cells that they leave
 pub record LeavesOpen (file : Parts) (numbers : List ℤ) (left : Option (List ℕ)) (now : Running) : Type 0 where
   pub bytes : List ℕ
   pub are_left : AreLeft left bytes
   pub good : (rows_of bytes (inputs_of file)).fault ≡ None
   pub going : last_over (silent_by file numbers) bytes ≡ Open
   pub live : now.live ≡ true
-  pub ready : IsReady now
   pub parts : now.parts ≡ file
   pub cells : now.cells ≡ cells_after file (rows_of bytes (inputs_of file)).rows numbers
 

@@ -40,11 +40,6 @@ OneMemory file = (numbers others : List ℤ) (bytes : List ℕ) → SavedState f
 
 -- ---- runners
 
--- a runner is ready to be saved and restored: its start hasn't trapped, and each of its cells has a number
-pub record IsReady (r : Running) : Type 0 where
-  pub starts : start_succeeds r.parts ≡ true
-  pub whole : length r.cells ≡ length (cells_of r.parts)
-
 -- a runner whose cells have other numbers
 abbrev pub with_numbers : Running → List ℤ → Running
 with_numbers r numbers = record { parts = r.parts; cells = numbers; ready = r.ready; live = r.live }

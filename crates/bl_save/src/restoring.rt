@@ -1,9 +1,8 @@
 //! A saved state, restored to a runner.
 
 ghost use Rattle.std.specs.Prelude.{◌≡◌, ◌≤◌, ◌++◌, List, drop, length, map, None, IfErr, IfNone, IfSome, OnErr, OnOk};
-ghost use Rattle.bl_ctext_semantics.specs.Cells.{cells_of};
 ghost use Rattle.bl_crun_ports.specs.Layout.{kinds_of};
-ghost use Rattle.bl_save.specs.States.{HasRestored, IsFaultOf, IsReady};
+ghost use Rattle.bl_save.specs.States.{HasRestored, IsFaultOf};
 ghost use Rattle.bl_save.specs.inner.Shapes.{Allowed, cells_shape, earlier, exactly, misfit, state_shape};
 ghost use Rattle.bl_save.specs.inner.Restored.{HasPut};
 
@@ -15,15 +14,17 @@ use bl_crun::Runner;
 /// How many bytes a state has in front of its cells.
 const HEADER: usize = 10;
 
-/// Sets the cells of a runner, whose start hasn't trapped, to the numbers of a saved state. Where the bytes are none,
-/// the runner is as before.
+/// Sets the cells of a runner to the numbers of a saved state. Where the bytes are none, the runner is as before. No
+/// bytes are one where the start of the runner's file traps.
 pub fn restore(runner: &mut Runner, bytes: &[u8]) -> Result<(), StateFault>
-    requires ready { IsReady runner.old }
     requires short { length bytes.now ≤ 8000011 }
     ensures restored { OnOk result (HasRestored runner.old bytes.now runner.new) }
     ensures bad { IfErr result (IsFaultOf runner.old.parts bytes.now) }
     ensures kept { OnErr result (runner.new ≡ runner.old) }
 {
+    if !runner.ready() {
+        return Err(StateFault::BadState { at: 0 });
+    }
     match state_misfit(runner, bytes) {
         Some(at) => Err(StateFault::BadState { at: at as u32 }),
         None => {
@@ -81,7 +82,6 @@ fn cells_misfit(runner: &Runner, bytes: &[u8]) -> Option<usize>
 
 // Sets all cells to the numbers of their bytes, which stand behind what a state begins with.
 fn put_cells(runner: &mut Runner, bytes: &[u8])
-    requires whole { length runner.old.cells ≡ length (cells_of runner.old.parts) }
     requires long { 10 ≤ length bytes.now }
     requires fits { misfit (cells_shape (kinds_of runner.old.parts)) (drop 10 bytes.now) ≡ None }
     ensures { HasPut runner.old (drop 10 bytes.now) runner.new }

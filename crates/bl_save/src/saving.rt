@@ -1,11 +1,11 @@
 //! The state of a runner, saved.
 
-ghost use Rattle.std.specs.Prelude.{◌≡◌, ◌++◌, true, length, IfOk, OnOk};
+ghost use Rattle.std.specs.Prelude.{◌≡◌, ◌++◌, true, IfOk, OnOk};
 ghost use Rattle.bl_tree.specs.Ports.{in_ranges};
-ghost use Rattle.bl_ctext_semantics.specs.Cells.{cells_of};
+ghost use Rattle.bl_ctext_semantics.specs.Trace.{start_succeeds};
 ghost use Rattle.bl_crun_ports.specs.Layout.{kinds_of};
 ghost use Rattle.bl_save.specs.Bytes.{cells_bytes, state_header};
-ghost use Rattle.bl_save.specs.States.{IsReady, SavedState};
+ghost use Rattle.bl_save.specs.States.{SavedState};
 
 use crate::cell::push;
 use bl_crun::Runner;
@@ -22,9 +22,9 @@ pub fn header(count: u32) -> [u8; 10]
     ]
 }
 
-/// The saved state of a runner whose start hasn't trapped (docs/FORMATS.md, "Saved states").
+/// The saved state of a runner that is ready: its file's start doesn't trap (docs/FORMATS.md, "Saved states").
 pub fn save(alloc: Global, runner: &Runner) -> Result<Vec<u8>, NoMemory>
-    requires { IsReady runner.now }
+    requires { start_succeeds runner.now.parts ≡ true }
     ensures { IfOk result (λ bytes. SavedState runner.now.parts runner.now.cells bytes.items) }
 {
     let mut bytes = Vec::new(alloc);
@@ -35,7 +35,6 @@ pub fn save(alloc: Global, runner: &Runner) -> Result<Vec<u8>, NoMemory>
 
 // Appends the bytes of all cells.
 fn push_cells(bytes: &mut Vec<u8>, runner: &Runner) -> Result<(), NoMemory>
-    requires { length runner.now.cells ≡ length (cells_of runner.now.parts) }
     ensures written { OnOk result (bytes.new.items ≡ bytes.old.items ++ cells_bytes (kinds_of runner.now.parts) runner.now.cells) }
     ensures fit { OnOk result (in_ranges (kinds_of runner.now.parts) runner.now.cells ≡ true) }
 {

@@ -1,22 +1,14 @@
 -- Saved states, and traces that go on from them.
 use Rattle.std.proofs.Common.{◌≡◌, ◌∙◌, refl, sym, ap, subst, arith, ℕ, ◌<◌, inl, inr, ℤ, Bool}
-use Rattle.std.proofs.Common.{true, false, suc, List, [], ◌∷◌, ◌++◌, length}
-use Rattle.std.specs.Prelude.{◌&&◌}
+use Rattle.std.proofs.Common.{true, List, [], ◌∷◌, ◌++◌}
 use Rattle.std.proofs.lemmas.Bool.{cases_lt}
-use Rattle.std.proofs.lemmas.List.{length-map}
 use Rattle.bl_tree.specs.declared.row.Trace.{Trace}
 use Rattle.bl_tree.specs.declared.row.Last.TheVariants.{Open}
-use Rattle.bl_tree.specs.Ports.{in_ranges}
-use Rattle.bl_tree.specs.Scalar.{in_range}
-use Rattle.bl_tree.specs.declared.scalar.Scalar.{Scalar}
-use Rattle.bl_ctext_semantics.specs.Cells.{cells_of}
 use Rattle.bl_ctext_semantics.specs.Parts.{Parts}
 use Rattle.bl_ctext_semantics.proofs.TraceLemmas.{goes-on}
 use Rattle.bl_ctext_semantics.specs.Trace.{c_trace, c_trace_from, cells_after, cells_if, start_cells, start_succeeds, tick_c, trace_after, trace_then}
-use Rattle.bl_crun_ports.specs.Layout.{kinds_of}
-use Rattle.bl_crun.specs.Running.{tick_if}
 use Rattle.bl_save.specs.States.{OneMemory, SavedState, ShowsBadState}
-use Rattle.bl_save_laws.specs.Laws.{OnePlace, OneState, StateGoesOn, StatesJoin, StaysReady, TraceGoesOn}
+use Rattle.bl_save_laws.specs.Laws.{OnePlace, OneState, StateGoesOn, StatesJoin, TraceGoesOn}
 
 -- a trace of a file whose start doesn't trap goes on from what the start leaves
 started-trace : (file : Parts) (rows : List (List ℤ)) → start_succeeds file ≡ true → c_trace file rows ≡ c_trace_from file rows (start_cells file)
@@ -64,34 +56,3 @@ one-place file bytes here there first second =
 
 pub one-state : (file : Parts) → OneState file
 one-state file numbers bytes others first second = first.written ∙ sym second.written
-
--- a tick leaves as many
-length-ticked : (ready : Bool) (file : Parts) (cells ins : List ℤ) → length cells ≡ length (cells_of file) →
-    length (tick_if ready file cells ins).cells ≡ length (cells_of file)
-unfolding tick_c
-length-ticked false file cells ins whole = whole
-length-ticked true file cells ins whole = length-map (cells_of file) _
-
--- the second of two tests that hold
-second-holds : (a b : Bool) → (a && b) ≡ true → b ≡ true
-second-holds true b holds = holds
-second-holds false b holds = absurd (cc)
-
--- numbers in ranges are as many as these
-length-ranges : (kinds : List Scalar) (ns : List ℤ) → in_ranges kinds ns ≡ true → length ns ≡ length kinds
-length-ranges [] [] range = refl
-length-ranges [] (n ∷ ns) range = absurd (cc)
-length-ranges (kind ∷ kinds) [] range = absurd (cc)
-length-ranges (kind ∷ kinds) (n ∷ ns) range = ap suc (length-ranges kinds ns (second-holds (in_range kind n) (in_ranges kinds ns) range))
-
--- those of a saved state are as many as the cells
-length-restored : (file : Parts) (numbers : List ℤ) → in_ranges (kinds_of file) numbers ≡ true → length numbers ≡ length (cells_of file)
-length-restored file numbers range = length-ranges (kinds_of file) numbers range ∙ length-map (cells_of file) _
-
-pub stays-ready : (file : Parts) → StaysReady file
-stays-ready file = record {
-  loaded = λ starts. record { starts = starts; whole = length-map (cells_of file) _ };
-  ticked = λ r ins ready. record { starts = ready.starts; whole = length-ticked r.ready r.parts r.cells ins ready.whole };
-  restored =
-      λ r numbers bytes saved. record { starts = saved.starts; whole = length-restored r.parts numbers saved.fit };
-}

@@ -5,8 +5,7 @@ use Rattle.bl_ctext_semantics.specs.Faults.{WellFormed}
 use Rattle.bl_ctext_semantics.specs.Parts.{Parts}
 use Rattle.bl_ctext_semantics.specs.Sizes.{cells_needed}
 use Rattle.bl_ctext_semantics.specs.Trace.{c_trace, c_trace_from, cells_after, start_cells, start_succeeds, trace_then}
-use Rattle.bl_crun.specs.Running.{Running, after_tick, loaded}
-use Rattle.bl_save.specs.States.{IsReady, SavedState, ShowsBadState, with_numbers}
+use Rattle.bl_save.specs.States.{SavedState, ShowsBadState}
 
 -- a memory of a file has at most one saved state
 abbrev pub OneState : Parts → Type 0
@@ -37,9 +36,3 @@ abbrev pub StatesJoin : Parts → Type 0
 StatesJoin file = (first rest : List (List ℤ)) (bytes further : List ℕ) (numbers : List ℤ) →
     SavedState file (cells_after file first (start_cells file)) bytes → SavedState file numbers bytes →
     SavedState file (cells_after file rest numbers) further → SavedState file (cells_after file (first ++ rest) (start_cells file)) further
-
--- a loaded runner is ready where the start doesn't trap. It stays ready after ticks and after its cells are set to a saved state
-pub record StaysReady (file : Parts) : Type 0 where
-  pub loaded : start_succeeds file ≡ true → IsReady (loaded file)
-  pub ticked : (r : Running) (ins : List ℤ) → IsReady r → IsReady (after_tick r ins)
-  pub restored : (r : Running) (numbers : List ℤ) (bytes : List ℕ) → SavedState r.parts numbers bytes → IsReady (with_numbers r numbers)

@@ -5,7 +5,7 @@
 #![tactic(auto)]
 
 ghost use Rattle.bl_ctext_semantics.specs.Parts.{Parts};
-ghost use Rattle.bl_save_laws.specs.Laws.{OnePlace, OneState, ShortStates, StateGoesOn, StatesJoin, StaysReady, TraceGoesOn};
+ghost use Rattle.bl_save_laws.specs.Laws.{OnePlace, OneState, ShortStates, StateGoesOn, StatesJoin, TraceGoesOn};
 
 use bl_save::laws::one_memory;
 
@@ -36,9 +36,3 @@ pub fn state_goes_on()
 {
     one_memory();
 }
-
-/// A state can be saved from a runner that was loaded, and from what comes of it, where the start of its file doesn't
-/// trap.
-pub fn stays_ready()
-    ensures { (file : Parts) → StaysReady file }
-{}

@@ -136,9 +136,9 @@ built_stops each left built c text rows _ _ is stands fits want kept = built_wan
 pub built_ends : OneBehaviour → EachBehaves → BytesFit → LinesFit → (left : Option (List ℕ)) (built : List ℕ) (c : Call) (text rows : Word)
     (ended : Status) (line : List ℕ) → IsTextOf left built → c.left text ≡ Some built → length built ≤ longest_text →
     ExecEnds c text rows ended line → BuiltEnds left c text rows ended line
-built_ends one each fit so_far left built c text rows ended line is stands fits (ran bytes behaviour source loads between behind streams) =
+built_ends one each fit so_far left built c text rows ended line is stands fits (ran bytes behaviour source loads between behind over) =
     let same = told_source (c.left text) built bytes stands source in
     built_ran (course_by behaviour)
-    (built_runs one fit so_far left built behaviour is (subst (λ b. Behaves b behaviour) (sym same) loads.behaves)) between behind streams
+    (built_runs one fit so_far left built behaviour is (subst (λ b. Behaves b behaviour) (sym same) loads.behaves)) between behind over
 built_ends one each fit so_far left built c text rows ended line is stands fits (stopped why kept) =
     built_stops each left built c text rows ended line is stands fits why kept

@@ -13,7 +13,7 @@ use Rattle.bl_top_commands.specs.Notes.{line_of}
 use Rattle.bl_top_commands.specs.Reads.{LeftBehind, source_limit}
 use Rattle.bl_top_commands.specs.Refusals.{IsNotAccepted, short as source_short}
 use Rattle.bl_top_commands.specs.Results.{WritesResult, fault, nothing, want, whole}
-use Rattle.bl_top_commands.specs.Rows.{Streams}
+use Rattle.bl_top_commands.specs.Rows.{IsInStep, Streams}
 use Rattle.bl_top_commands.specs.Sources.{IsProgramOfSource}
 use Rattle.bl_top_commands.specs.Save.{ResumeEnds, SaveEnds, SaveFromEnds}
 use Rattle.bl_top_commands.specs.Traces.{HasCourse}
@@ -62,10 +62,13 @@ pub run_ran : ProgramsRunAsTheirSource → FaultsCountFromBefore → (c : Call) 
     (between : Word → Option (List ℕ)) (second : ℕ) (ended : Status) (line : List ℕ) → IsProgramOfSource (c.left source) program →
     HasCourse program.structs program.units program.entry course → LeftBehind source_limit source c.left between → (c.file rows).before ≤ second →
     Streams course (between rows) (c.rest rows) (record { before = second; after = (c.file rows).after }) c.out ended line →
-    RunEnds c source rows ended line
-run_ran as_source from_before c source rows program course between second ended line built has behind below streams =
+    IsInStep course (between rows) (c.rest rows) c.out → RunEnds c source rows ended line
+run_ran as_source from_before c source rows program course between second ended line built has behind below streams in_step =
     ran course (as_source (c.left source) program course built has) between behind
-    (from_before course (between rows) (c.rest rows) (c.file rows).before second (c.file rows).after c.out ended line below streams)
+    (record {
+      streams = from_before course (between rows) (c.rest rows) (c.file rows).before second (c.file rows).after c.out ended line below streams;
+      in_step = in_step;
+    })
 
 pub run_stops : (c : Call) (source rows : Word) (ended : Status) (line : List ℕ) →
     IsNotAccepted (c.left source) (c.file source) ended line → IsKept c.out.before c.out.after → RunEnds c source rows ended line

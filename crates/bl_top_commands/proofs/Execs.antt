@@ -31,7 +31,7 @@ use Rattle.bl_top_commands.specs.inner.Texts.{HasBounds, HasLoaded, IsFileIn, Is
 use Rattle.bl_top_commands.specs.Notes.{line_of, not_subset_line, too_large_line}
 use Rattle.bl_top_commands.specs.Reads.{LeftBehind, longest_text, text_limit}
 use Rattle.bl_top_commands.specs.Results.{WritesResult}
-use Rattle.bl_top_commands.specs.Rows.{Streams}
+use Rattle.bl_top_commands.specs.Rows.{IsInStep, Streams}
 use Rattle.bl_top_commands.specs.declared.outcome.Outcome.{Outcome}
 use Rattle.bl_top_commands.specs.declared.status.Status.{Status}
 use Rattle.bl_top_commands.specs.declared.status.Status.TheVariants as status
@@ -177,11 +177,14 @@ has_bounds left file written of bounded runs told = record {
 pub text_ran : (c : Call) (text rows : Word) (course : Behaviour → Course) (parts : Parts) (between : Word → Option (List ℕ)) (second : ℕ)
     (ended : Status) (line : List ℕ) → HasLoaded (c.left text) parts → LeftBehind text_limit text c.left between → (c.file rows).before ≤ second →
     Streams (course (behaviour_of parts)) (between rows) (c.rest rows) (record { before = second; after = (c.file rows).after }) c.out ended line →
-    TextEnds c text rows course ended line
-text_ran c text rows course parts between second ended line has behind below streams =
+    IsInStep (course (behaviour_of parts)) (between rows) (c.rest rows) c.out → TextEnds c text rows course ended line
+text_ran c text rows course parts between second ended line has behind below streams in_step =
     ran has.text (behaviour_of parts) has.of_source has.loads between behind
-    (streams_from (course (behaviour_of parts)) (between rows) (c.rest rows) (c.file rows).before second (c.file rows).after c.out ended line below
-    streams)
+    (record {
+      streams = streams_from (course (behaviour_of parts)) (between rows) (c.rest rows) (c.file rows).before second (c.file rows).after c.out ended line
+          below streams;
+      in_step = in_step;
+    })
 
 pub text_stopped : (c : Call) (text rows : Word) (course : Behaviour → Course) (ended : Status) (line : List ℕ) →
     TextStops (c.left text) (c.file text) ended line → IsKept c.out.before c.out.after → TextEnds c text rows course ended line

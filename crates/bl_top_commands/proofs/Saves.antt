@@ -38,14 +38,13 @@ use Rattle.bl_top_commands.specs.Save.{
 use Rattle.bl_top_commands.specs.declared.outcome.Outcome.{Outcome}
 use Rattle.bl_top_commands.specs.declared.status.Status.{Status}
 use Rattle.bl_top_commands.specs.declared.status.Status.TheVariants as status
-use Rattle.bl_top_commands.specs.Rows.{Streams}
+use Rattle.bl_top_commands.specs.Rows.{IsInStep, RunsOver, Streams}
 use Rattle.bl_crun.specs.Running.{Running, loaded}
 use Rattle.bl_io.specs.Left.{GivesUpTo, IsKept}
 use Rattle.bl_rows.specs.Reading.{rows_of}
-use Rattle.bl_save.specs.States.{HasRestored, IsFaultOf, IsReady, SavedState, ShowsBadState}
+use Rattle.bl_save.specs.States.{HasRestored, IsFaultOf, SavedState, ShowsBadState}
 use Rattle.bl_save.specs.declared.fault.StateFault.{StateFault}
 use Rattle.bl_save.specs.declared.fault.StateFault.TheVariants as fault
-use Rattle.bl_save_laws.specs.Laws.{StaysReady}
 use Rattle.bl_rows_stream.specs.declared.finish.Finish.{Finish}
 use Rattle.bl_rows_stream.specs.declared.finish.Finish.TheVariants as finish
 use Rattle.bl_rows_stream.specs.Streams.{Reported, course_from}
@@ -72,18 +71,10 @@ are_read : (left : Option (List ℕ)) (got : List ℕ) (after : Option (List ℕ
 are_read None got after read = tt
 are_read (Some whole) got after read = read.front
 
--- a file whose start traps has no saved state, which any bytes show at once
+-- no test is both
 never : {A : Type 0} (b : Bool) → b ≡ false → b ≡ true → A
 never true e f = absurd (cc)
 never false e f = absurd (cc)
-
-pub shows_at_once : (file : Parts) (bytes : List ℕ) → start_succeeds file ≡ false → ShowsBadState file bytes 0
-shows_at_once file bytes traps = record {
-  none = λ numbers is. never (start_succeeds file) traps is.starts;
-  within = omega arith;
-  before = λ n below. absurd (omega (arith, below));
-  here = λ below begins. never (start_succeeds file) traps begins.saved.starts;
-}
 
 pub state_bad : (file : Parts) (left : Option (List ℕ)) (count : Count) (got : List ℕ) (after : Option (List ℕ)) (at : ℕ) (outcome : Outcome) →
     GivesUpTo state_limit left got after → ShowsBadState file got at → IsTold status.BadState (bad_state_line at) outcome →
@@ -122,9 +113,8 @@ stands_at left before got after now fresh read restored = record {
 }
 
 -- such a runner can be saved
-pub stands_ready : (left : Option (List ℕ)) (file : Parts) (now : Running) → StaysReady file → StandsAt left file now → IsReady now
-stands_ready left file now stays stands =
-    subst IsReady (sym stands.is) (stays.restored (runner_from file []) stands.numbers stands.holds.bytes stands.holds.saved)
+pub stands_ready : (left : Option (List ℕ)) (file : Parts) (now : Running) → StandsAt left file now → start_succeeds now.parts ≡ true
+stands_ready left file now stands = ap (λ (r : Running). start_succeeds r.parts) stands.is ∙ stands.holds.saved.starts
 
 pub stands_from : (left : Option (List ℕ)) (file : Parts) (now : Running) → StandsAt left file now → now ≡ runner_from now.parts now.cells
 stands_from left file now stands = stands.is ∙ ap (λ (r : Running). runner_from r.parts r.cells) (sym stands.is)
@@ -136,31 +126,28 @@ loaded_from now fresh ready =
 pub loaded_starts : (now : Running) (b : Bool) → now ≡ loaded now.parts → now.ready ≡ b → start_succeeds now.parts ≡ b
 loaded_starts now b fresh ready = sym (ap (λ (r : Running). r.ready) fresh) ∙ ready
 
-pub loaded_ready : (now : Running) → StaysReady now.parts → now ≡ loaded now.parts → now.ready ≡ true → IsReady now
-loaded_ready now stays fresh ready = subst IsReady (sym fresh) (stays.loaded (loaded_starts now true fresh ready))
-
 pub loaded_cells : (now : Running) → now ≡ loaded now.parts → now.cells ≡ start_cells now.parts
 loaded_cells now fresh = ap (λ (r : Running). r.cells) fresh
 
 -- ---- a state that is saved
 
 -- what a silent run of such a runner comes to
-pub silently : ((file : Parts) → RunsAreSilent file) → (r : Running) → r ≡ runner_from r.parts r.cells → IsReady r → (left rest : Option (List ℕ))
+pub silently : ((file : Parts) → RunsAreSilent file) → (r : Running) → r ≡ runner_from r.parts r.cells → (left rest : Option (List ℕ))
     (now : Running) (how : Finish) → how ≢ finish.WriteFault → Reported Nothing r left rest None None now how →
     RunsSilently r.parts r.cells left rest now how
-silently law r from ready left rest now how no_write reported =
-    law r.parts r.cells left rest now how (subst IsReady from ready) no_write
+silently law r from left rest now how no_write reported =
+    law r.parts r.cells left rest now how no_write
     (subst (λ runner. Reported Nothing runner left rest None None now how) from reported)
 
 -- a runner that went on can be saved
 pub open_ready : (file : Parts) (numbers : List ℤ) (left rest : Option (List ℕ)) (now : Running) (how : Finish) →
-    RunsSilently file numbers left rest now how → how ≡ finish.Done → now.live ≡ true → IsReady now
-open_ready file numbers left rest now _ (goes_on leaves) e live = leaves.ready
-open_ready file numbers left rest now _ (silent_ended bytes are is closed) e live = never now.live closed live
-open_ready file numbers left rest now _ (silent_trapped bytes are is) e live = absurd (cc)
-open_ready file numbers left rest now _ (silent_bad_rows n bytes are is why) e live = absurd (cc)
-open_ready file numbers left rest now _ (silent_unread why) e live = absurd (cc)
-open_ready file numbers left rest now _ silent_no_memory e live = absurd (cc)
+    RunsSilently file numbers left rest now how → how ≡ finish.Done → now.live ≡ true → start_succeeds file ≡ true → start_succeeds now.parts ≡ true
+open_ready file numbers left rest now _ (goes_on leaves) e live starts = ap start_succeeds leaves.parts ∙ starts
+open_ready file numbers left rest now _ (silent_ended bytes are is closed) e live starts = never now.live closed live
+open_ready file numbers left rest now _ (silent_trapped bytes are is) e live starts = absurd (cc)
+open_ready file numbers left rest now _ (silent_bad_rows n bytes are is why) e live starts = absurd (cc)
+open_ready file numbers left rest now _ (silent_unread why) e live starts = absurd (cc)
+open_ready file numbers left rest now _ silent_no_memory e live starts = absurd (cc)
 
 module _ (file : Parts) (numbers : List ℤ) (left rest : Option (List ℕ)) (rows : Count) (out : Output) (now : Running) where
   -- a run that went on
@@ -269,11 +256,13 @@ module _ (c : Call) (text state : Word) (Goes : Parts → List ℤ → (Word →
 -- over the rows behind a state
 pub resume_goes : (parts : Parts) (left : Option (List ℕ)) (now : Running) (stands : StandsAt left parts now) (held rest : Option (List ℕ))
     (first second last : ℕ) (out : Output) (ended : Status) (line : List ℕ) → first ≤ second →
-    Streams (course_from now) held rest (record { before = second; after = last }) out ended line →
-    Streams (resumed_by parts stands.numbers) held rest (record { before = first; after = last }) out ended line
-resume_goes parts left now stands held rest first second last out ended line below streams =
-    streams_from (resumed_by parts stands.numbers) held rest first second last out ended line below
-    (subst (λ (r : Running). Streams (course_from r) held rest (record { before = second; after = last }) out ended line) stands.is streams)
+    Streams (course_from now) held rest (record { before = second; after = last }) out ended line → IsInStep (course_from now) held rest out →
+    RunsOver (resumed_by parts stands.numbers) held rest (record { before = first; after = last }) out ended line
+resume_goes parts left now stands held rest first second last out ended line below streams in_step = record {
+  streams = streams_from (resumed_by parts stands.numbers) held rest first second last out ended line below
+      (subst (λ (r : Running). Streams (course_from r) held rest (record { before = second; after = last }) out ended line) stands.is streams);
+  in_step = subst (λ (r : Running). IsInStep (course_from r) held rest out) stands.is in_step;
+}
 
 pub save_goes : (parts : Parts) (left : Option (List ℕ)) (now : Running) (stands : StandsAt left parts now) (held rest : Option (List ℕ))
     (first second last : ℕ) (out : Output) (ended : Status) (line : List ℕ) → first ≤ second →

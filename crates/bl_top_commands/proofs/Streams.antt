@@ -1,22 +1,42 @@
 -- How a run over rows ends, by how the stream did.
-use Rattle.std.proofs.Common.{◌≡◌, ◌∙◌, ℕ, ◌≤◌, ◌<◌, ◌⊎◌, ◌++◌, List, length, refl, sym, ap, inl, inr, arith}
+use Rattle.std.proofs.Common.{◌≡◌, ◌∙◌, ℕ, ◌≤◌, ◌<◌, ◌⊎◌, ◌++◌, ℤ, List, length, refl, sym, ap, subst, inl, inr, arith}
 use Rattle.std.proofs.lemmas.List.{take_all}
 use Rattle.std.specs.Prelude.{Option, Some, None}
 use Rattle.bl_top_commands.specs.Calls.{Count, HasRisen, Output}
 use Rattle.bl_top_commands.specs.inner.Outcomes.{IsEndOf, line_in}
 use Rattle.bl_top_commands.specs.Notes.{line_of}
-use Rattle.bl_top_commands.specs.Rows.{Ran, RanInPart, Streams, bad_rows, done, no_memory, trapped, unread as unread_rows, unwritten}
+use Rattle.bl_top_commands.specs.Rows.{IsInStep, Ran, RanInPart, Streams, bad_rows, done, no_memory, trapped, unread as unread_rows, unwritten}
 use Rattle.bl_top_commands.specs.declared.outcome.Outcome.{Outcome}
 use Rattle.bl_top_commands.specs.declared.status.Status.{Status}
 use Rattle.bl_top_commands.specs.declared.status.Status.TheVariants as status
 use Rattle.bl_io.specs.Count.{Rose}
+use Rattle.bl_crun.specs.Running.{Running}
+use Rattle.bl_ctext_semantics.specs.Cells.{inputs_of}
 use Rattle.bl_io.specs.Held.{Appends}
-use Rattle.bl_rows.specs.Reading.{rows_of}
+use Rattle.bl_rows.specs.Reading.{empty_reading, rows_in, rows_of}
 use Rattle.bl_rows.specs.declared.fault.RowFault.{RowFault}
 use Rattle.bl_rows.specs.declared.fault.RowFault.TheVariants as fault
-use Rattle.bl_rows_stream.specs.Streams.{AppendsFront, Course, Streamed, all, finish_of, front, last_over, text_over, unread}
+use Rattle.bl_rows_stream.proofs.Texts.{trace-text}
+use Rattle.bl_rows_stream.specs.Reports.{report_of}
+use Rattle.bl_rows_stream.specs.Streams.{
+  AppendsFront,
+  Course,
+  Extends,
+  InStep,
+  Streamed,
+  all,
+  course_from,
+  finish_of,
+  front,
+  last_over,
+  rows_so_far,
+  text_over,
+  unread,
+}
 use Rattle.bl_rows_stream.specs.declared.finish.Finish.{Finish}
 use Rattle.bl_rows_stream.specs.declared.finish.Finish.TheVariants as finish
+use Rattle.bl_rows_stream.specs.declared.ticks.Report.{Report}
+use Rattle.bl_rows_stream.specs.declared.ticks.Report.TheVariants.{Trace}
 use Rattle.bl_tree.specs.declared.row.Last.{Last}
 use Rattle.bl_tree.specs.declared.row.Last.TheVariants.{Open, Ended, Trap}
 
@@ -74,6 +94,25 @@ streams_end course left rest rows out (finish.BadRows line) outcome is s r w = e
       (bad_rows line (ran course left rest out (finish.BadRows line) (λ why. elim why [ inl is ↦ cc | inr is ↦ cc ]) (λ is. cc) s))
   | inr none ↦ rw none (no_memory (in_part course left rest out (finish.BadRows line) (λ is. cc) s))
 ]
+
+-- a run is in step with its rows where what is reported of them is the course's text
+pub in_step : (report : Report) (r : Running) (course : Course) (left rest : Option (List ℕ)) (out : Output) → course.ins ≡ inputs_of r.parts →
+    ((rows : List (List ℤ)) → report_of report r rows ≡ course.text rows) → InStep report r left rest out.before out.after →
+    IsInStep course left rest out
+in_step report r course left rest out ins is (inl kept) = inl kept
+in_step report r course left rest out ins is (inr keeps) = inr (record {
+  told = keeps.read;
+  piece = keeps.piece;
+  handed_over = keeps.handed;
+  short = keeps.short;
+  grew = subst (λ text. Extends out.before text out.after)
+      (is (rows_so_far r keeps.read) ∙ ap (λ columns. course.text (rows_in (empty_reading columns) keeps.read)) (sym ins)) keeps.written;
+})
+
+-- and what is reported of a trace is its text
+pub trace_in_step : (r : Running) (left rest : Option (List ℕ)) (out : Output) → InStep Trace r left rest out.before out.after →
+    IsInStep (course_from r) left rest out
+trace_in_step r left rest out stands = in_step Trace r (course_from r) left rest out refl (trace-text r) stands
 
 pub rose_earlier : (first second last : ℕ) → first ≤ second → Rose second last → Rose first last
 rose_earlier first second last below rose = λ counts. let up : second < last = rose counts in omega (arith, below, up)

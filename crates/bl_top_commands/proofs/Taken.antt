@@ -121,5 +121,6 @@ states_taken each short c text state rows ended line built kept first stands hol
   | inl saves ↦ from_state each short c text state built kept first stands holds is _
       (λ file numbers left. saves_never file numbers (left rows) (c.rest rows) (c.file rows) c.out) ended line saves e
   | inr resumes ↦ from_state each short c text state built kept first stands holds is _
-      (λ file numbers left. shows_never (resumed_by file numbers) (left rows) (c.rest rows) (c.file rows) c.out) ended line resumes e
+      (λ file numbers left ended line over.
+      shows_never (resumed_by file numbers) (left rows) (c.rest rows) (c.file rows) c.out ended line over.streams) ended line resumes e
 ]

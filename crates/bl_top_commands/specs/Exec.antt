@@ -8,7 +8,7 @@ use Rattle.bl_ctext_semantics_laws_places.specs.Bytes.{Behaves}
 use Rattle.bl_top_commands.specs.Calls.{Call, Count, HasRisen}
 use Rattle.bl_top_commands.specs.Notes.{line_of, not_subset_line, too_large_line}
 use Rattle.bl_top_commands.specs.Reads.{LeftBehind, longest_text, text_limit}
-use Rattle.bl_top_commands.specs.Rows.{Streams}
+use Rattle.bl_top_commands.specs.Rows.{RunsOver}
 use Rattle.bl_top_commands.specs.Sources.{IsSource}
 use Rattle.bl_top_commands.specs.Traces.{course_by}
 use Rattle.bl_top_commands.specs.declared.status.Status.{Status}
@@ -69,7 +69,7 @@ pub data TextEnds (c : Call) (text rows : Word) (course : Behaviour → Course) 
   -- over the rows that are left once the text was read
   ran : {ended : Status} {line : List ℕ} (bytes : List ℕ) (behaviour : Behaviour) → IsSource (c.left text) bytes → Loads bytes behaviour →
       (between : Word → Option (List ℕ)) → LeftBehind text_limit text c.left between →
-      Streams (course behaviour) (between rows) (c.rest rows) (c.file rows) c.out ended line → TextEnds c text rows course ended line
+      RunsOver (course behaviour) (between rows) (c.rest rows) (c.file rows) c.out ended line → TextEnds c text rows course ended line
   stopped : {ended : Status} {line : List ℕ} → TextStops (c.left text) (c.file text) ended line → IsKept c.out.before c.out.after →
       TextEnds c text rows course ended line
 

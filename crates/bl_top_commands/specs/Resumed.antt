@@ -7,7 +7,7 @@ use Rattle.bl_top_commands.specs.Calls.{Call, HasRisen, Output}
 use Rattle.bl_top_commands.specs.Exec.{HasFile}
 use Rattle.bl_top_commands.specs.Notes.{line_of}
 use Rattle.bl_top_commands.specs.Reads.{LeftBehind, state_limit, text_limit}
-use Rattle.bl_top_commands.specs.Rows.{Streams}
+use Rattle.bl_top_commands.specs.Rows.{RunsOver}
 use Rattle.bl_top_commands.specs.Save.{ResumeEnds, SaveEnds, SaveFromEnds}
 use Rattle.bl_top_commands.specs.Sources.{IsTextOf, IsTextOfProgram, IsRawTreeOf}
 use Rattle.bl_top_commands.specs.declared.status.Status.{Status}
@@ -93,7 +93,7 @@ pub data ResumedEnds (source : Option (List ℕ)) (first : List (List ℤ)) (c :
   went : {ended : Status} {line : List ℕ} (course : Course) → GoesOnAs source first course →
       (between : Word → Option (List ℕ)) → LeftBehind text_limit text c.left between →
       (behind : Word → Option (List ℕ)) → LeftBehind state_limit state between behind →
-      Streams course (behind rows) (c.rest rows) (c.file rows) c.out ended line → ResumedEnds source first c text state rows ended line
+      RunsOver course (behind rows) (c.rest rows) (c.file rows) c.out ended line → ResumedEnds source first c text state rows ended line
   unread : HasRisen (c.file text) ⊎ HasRisen (c.file state) → IsKept c.out.before c.out.after →
       ResumedEnds source first c text state rows status.ReadFault (line_of status.ReadFault)
   want : IsKept c.out.before c.out.after → ResumedEnds source first c text state rows status.NoMemory (line_of status.NoMemory)

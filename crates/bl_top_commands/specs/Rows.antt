@@ -1,12 +1,14 @@
 -- How a run over a file of rows ends.
-use Rattle.std.specs.Prelude.{◌≡◌, ℕ, List, Option}
+use Rattle.std.specs.Prelude.{◌≡◌, ◌⊎◌, ℕ, ◌≤◌, List, ◌++◌, length, Option}
 use Rattle.bl_top_commands.specs.Calls.{Count, HasRisen, Output}
 use Rattle.bl_top_commands.specs.Notes.{bad_rows_line, line_of}
 use Rattle.bl_top_commands.specs.declared.status.Status.{Status}
 use Rattle.bl_top_commands.specs.declared.status.Status.TheVariants as status
 use Rattle.bl_io.specs.Held.{Appends}
+use Rattle.bl_io.specs.Left.{IsKept}
+use Rattle.bl_io.specs.declared.pieces.TheConstants.{PIECE}
 use Rattle.bl_rows.specs.Reading.{rows_of}
-use Rattle.bl_rows_stream.specs.Streams.{AppendsFront, AreLeft, Course, Unread, finish_of, last_over, text_over}
+use Rattle.bl_rows_stream.specs.Streams.{AppendsFront, AreLeft, Course, Extends, HasRead, Unread, finish_of, last_over, text_over, text_so_far}
 use Rattle.bl_rows_stream.specs.declared.finish.Finish.{Finish}
 use Rattle.bl_rows_stream.specs.declared.finish.Finish.TheVariants as finish
 
@@ -34,3 +36,22 @@ pub data Streams (course : Course) (left rest : Option (List ℕ)) (rows : Count
   unread : Unread course left rest out.before out.after → HasRisen rows → Streams course left rest rows out status.ReadFault (line_of status.ReadFault)
   unwritten : RanInPart course left out → HasRisen out.faults → Streams course left rest rows out status.WriteFault (line_of status.WriteFault)
   no_memory : RanInPart course left out → Streams course left rest rows out status.NoMemory (line_of status.NoMemory)
+
+-- ---- in step with the rows
+
+-- all pieces of the rows that were handed over but the last are told: the course's text of the rows in them has grown on `out`, and perhaps more
+pub record IsOnePieceAhead (course : Course) (left rest : Option (List ℕ)) (out : Output) : Type 0 where
+  pub told : List ℕ
+  pub piece : List ℕ
+  pub handed_over : HasRead left (told ++ piece) rest
+  pub short : length piece ≤ PIECE
+  pub grew : Extends out.before (text_so_far course told) out.after
+
+-- a run keeps in step with its rows: none of their bytes was handed over, or one piece at most that isn't told
+abbrev pub IsInStep : Course → Option (List ℕ) → Option (List ℕ) → Output → Type 0
+IsInStep course left rest out = IsKept left rest ⊎ IsOnePieceAhead course left rest out
+
+-- the status and line with which a course ends over the rows left of a file, in step with them
+pub record RunsOver (course : Course) (left rest : Option (List ℕ)) (rows : Count) (out : Output) (ended : Status) (line : List ℕ) : Type 0 where
+  pub streams : Streams course left rest rows out ended line
+  pub in_step : IsInStep course left rest out

@@ -9,7 +9,7 @@ use Rattle.bl_top_commands.specs.Exec.{Loads, TextStops}
 use Rattle.bl_top_commands.specs.Notes.{bad_rows_line, bad_state_line, line_of}
 use Rattle.bl_top_commands.specs.Reads.{LeftBehind, state_limit, text_limit}
 use Rattle.bl_top_commands.specs.Results.{WritesResult}
-use Rattle.bl_top_commands.specs.Rows.{Streams}
+use Rattle.bl_top_commands.specs.Rows.{RunsOver}
 use Rattle.bl_top_commands.specs.Sources.{IsSource}
 use Rattle.bl_top_commands.specs.declared.status.Status.{Status}
 use Rattle.bl_top_commands.specs.declared.status.Status.TheVariants as status
@@ -59,7 +59,7 @@ pub data FromStateEnds (c : Call) (text state : Word) (Goes : Parts → List ℤ
 -- `resume` shows the trace that goes on from the state
 abbrev pub ResumeEnds : Call → Word → Word → Word → Status → List ℕ → Type 0
 ResumeEnds c text state rows = FromStateEnds c text state
-    (λ file numbers left ended line. Streams (resumed_by file numbers) (left rows) (c.rest rows) (c.file rows) c.out ended line)
+    (λ file numbers left ended line. RunsOver (resumed_by file numbers) (left rows) (c.rest rows) (c.file rows) c.out ended line)
 
 -- ---- a state that is saved
 

@@ -5,7 +5,7 @@ ghost use Rattle.bl_ctext_semantics_laws_places.specs.Behaviour.{behaviour_of};
 ghost use Rattle.bl_top_commands.specs.Calls.{output_of};
 ghost use Rattle.bl_top_commands.specs.inner.Outcomes.{IsEndOf, line_in};
 ghost use Rattle.bl_top_commands.specs.Reads.{most_rows};
-ghost use Rattle.bl_top_commands.specs.Rows.{Streams};
+ghost use Rattle.bl_top_commands.specs.Rows.{IsInStep, Streams};
 ghost use Rattle.bl_crun.specs.Running.{loaded};
 ghost use Rattle.bl_io.specs.Count.{NeverFell};
 ghost use Rattle.bl_io.specs.Left.{KeepsOthers};
@@ -32,6 +32,8 @@ pub fn run_over<F: Files, O: Sink>(
     ensures streams { Streams (course_of runner.parts) (F.left files.old rows.now) (F.left files.new rows.now)
         (record { before = F.faults files.old rows.now; after = F.faults files.new rows.now })
         (output_of (O.faults out.old) (O.faults out.new) (O.held out.old) (O.held out.new)) result.status (line_in result) }
+    ensures in_step { IsInStep (course_of runner.parts) (F.left files.old rows.now) (F.left files.new rows.now)
+        (output_of (O.faults out.old) (O.faults out.new) (O.held out.old) (O.held out.new)) }
     ensures reads { ReadsLines most_rows (F.left files.old rows.now) (F.left files.new rows.now) }
     ensures others { KeepsOthers rows.now (F.left files.old) (F.left files.new) }
     ensures file_counts { NeverFell (F.faults files.old) (F.faults files.new) }
@@ -54,6 +56,8 @@ pub fn count_over<F: Files, O: Sink>(
     ensures streams { Streams (counts_by (behaviour_of runner.parts)) (F.left files.old rows.now) (F.left files.new rows.now)
         (record { before = F.faults files.old rows.now; after = F.faults files.new rows.now })
         (output_of (O.faults out.old) (O.faults out.new) (O.held out.old) (O.held out.new)) result.status (line_in result) }
+    ensures in_step { IsInStep (counts_by (behaviour_of runner.parts)) (F.left files.old rows.now) (F.left files.new rows.now)
+        (output_of (O.faults out.old) (O.faults out.new) (O.held out.old) (O.held out.new)) }
     ensures reads { ReadsLines most_rows (F.left files.old rows.now) (F.left files.new rows.now) }
     ensures others { KeepsOthers rows.now (F.left files.old) (F.left files.new) }
     ensures file_counts { NeverFell (F.faults files.old) (F.faults files.new) }
@@ -77,6 +81,8 @@ pub fn go_over<F: Files, O: Sink>(
     ensures streams { Streams (course_from runner) (F.left files.old rows.now) (F.left files.new rows.now)
         (record { before = F.faults files.old rows.now; after = F.faults files.new rows.now })
         (output_of (O.faults out.old) (O.faults out.new) (O.held out.old) (O.held out.new)) result.status (line_in result) }
+    ensures in_step { IsInStep (course_from runner) (F.left files.old rows.now) (F.left files.new rows.now)
+        (output_of (O.faults out.old) (O.faults out.new) (O.held out.old) (O.held out.new)) }
     ensures reads { ReadsLines most_rows (F.left files.old rows.now) (F.left files.new rows.now) }
     ensures others { KeepsOthers rows.now (F.left files.old) (F.left files.new) }
     ensures file_counts { NeverFell (F.faults files.old) (F.faults files.new) }

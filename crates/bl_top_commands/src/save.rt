@@ -13,7 +13,6 @@ use crate::state::{restore_from, save_over};
 use crate::status::Status;
 use crate::text::runner_of;
 use bl_io::{Files, Sink};
-use bl_save_laws::stays_ready;
 use std::alloc::Global;
 
 /// Runs the C text of a file over a file of rows, and writes the state after them.
@@ -32,7 +31,6 @@ pub fn save<F: Files, O: Sink>(
     ensures file_counts { NeverFell (F.faults files.old) (F.faults files.new) }
     ensures out_count { O.faults out.old ≤ O.faults out.new }
 {
-    stays_ready();
     let runner = match runner_of(alloc, text, files) {
         Ok(runner) => runner,
         Err(outcome) => return outcome,
@@ -60,7 +58,6 @@ pub fn save_from<F: Files, O: Sink>(
     ensures file_counts { NeverFell (F.faults files.old) (F.faults files.new) }
     ensures out_count { O.faults out.old ≤ O.faults out.new }
 {
-    stays_ready();
     let mut runner = match runner_of(alloc, text, files) {
         Ok(runner) => runner,
         Err(outcome) => return outcome,

@@ -2,6 +2,7 @@
 
 ghost use Rattle.std.specs.Prelude.{◌≡◌, ◌≤◌, ℤ, List, true, IfErr, OnOk};
 ghost use Rattle.bl_ctext_semantics.specs.Parts.{Parts};
+ghost use Rattle.bl_ctext_semantics.specs.Trace.{start_succeeds};
 ghost use Rattle.bl_top_commands.specs.Calls.{output_of};
 ghost use Rattle.bl_top_commands.specs.inner.Outcomes.{IsEndAtState, IsTold, line_in};
 ghost use Rattle.bl_top_commands.specs.inner.Texts.{StandsAt};
@@ -12,7 +13,7 @@ ghost use Rattle.bl_top_commands.specs.Save.{SavesOver, StateStops};
 ghost use Rattle.bl_crun.specs.Running.{loaded};
 ghost use Rattle.bl_io.specs.Count.{NeverFell};
 ghost use Rattle.bl_io.specs.Left.{KeepsOthers, StandsFurther};
-ghost use Rattle.bl_save.specs.States.{IsReady, SavedState};
+ghost use Rattle.bl_save.specs.States.{SavedState};
 ghost use Rattle.bl_rows_stream.specs.Streams.{ReadsLines};
 ghost use Rattle.bl_rows_stream_laws.specs.Resumed.{runner_from};
 
@@ -25,7 +26,6 @@ use bl_io::{Files, IoFault, Sink, read_up_to};
 use bl_rows_stream::{Finish, run_silently};
 use bl_rows_stream_laws::silent_runs;
 use bl_save::{StateFault, restore, save};
-use bl_save_laws::stays_ready;
 use std::alloc::Global;
 
 /// How far a saved state is read: one byte past the longest of a file that can be loaded.
@@ -53,10 +53,6 @@ pub fn restore_from<F: Files>(
         Err(IoFault::Failed) => return Err(Outcome::plain(alloc, Status::ReadFault)),
         Err(IoFault::NoMemory) => return Err(Outcome::plain(alloc, Status::NoMemory)),
     };
-    if !runner.ready() {
-        return Err(bad_state(alloc, 0));
-    }
-    stays_ready();
     match restore(runner, &bytes) {
         Ok(()) => Ok(()),
         Err(fault) => Err(end_at_state(alloc, fault)),
@@ -87,7 +83,7 @@ pub fn save_over<F: Files, O: Sink>(
     out: &mut O,
 ) -> Outcome
     requires stands { runner ≡ runner_from runner.parts runner.cells }
-    requires ready { IsReady runner }
+    requires ready { start_succeeds runner.parts ≡ true }
     ensures saves { SavesOver runner.parts runner.cells (F.left files.old rows.now) (F.left files.new rows.now)
         (record { before = F.faults files.old rows.now; after = F.faults files.new rows.now })
         (output_of (O.faults out.old) (O.faults out.new) (O.held out.old) (O.held out.new)) result.status (line_in result) }
@@ -96,7 +92,6 @@ pub fn save_over<F: Files, O: Sink>(
     ensures file_counts { NeverFell (F.faults files.old) (F.faults files.new) }
     ensures out_count { O.faults out.old ≤ O.faults out.new }
 {
-    stays_ready();
     silent_runs();
     let mut runner = runner;
     match run_silently(alloc, &mut runner, rows, files) {
@@ -112,7 +107,7 @@ pub fn save_over<F: Files, O: Sink>(
 }
 
 fn write_state<O: Sink>(alloc: Global, runner: &Runner, out: &mut O) -> Outcome
-    requires { IsReady runner.now }
+    requires { start_succeeds runner.now.parts ≡ true }
     ensures writes { WritesResult (SavedState runner.now.parts runner.now.cells)
         (output_of (O.faults out.old) (O.faults out.new) (O.held out.old) (O.held out.new)) result.status }
     ensures line { line_in result ≡ line_of result.status }

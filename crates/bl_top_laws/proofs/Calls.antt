@@ -93,9 +93,9 @@ module _ (one : OneTree) (c : Call) (name rows : Word) (source bytes : List ℕ)
     (behind : HoldsBehind c source_limit name rows bytes) (to : RunsTo source bytes trace) (none_source : ¬ HasRisen (c.file name))
     (none_rows : ¬ HasRisen (c.file rows)) (none_out : ¬ HasRisen c.out.faults) where
   run_due : (ended : Status) (line : List ℕ) → RunEnds c name rows ended line → IsDone ended (run_status trace.last to.fault)
-  run_due ended line (run_ran course runs between left streams) =
+  run_due ended line (run_ran course runs between left over) =
       course_due course (between rows) (c.rest rows) (c.file rows) c.out ended line bytes trace.last to.fault (behind between left) none_rows none_out
-      (source_to one (c.left name) source bytes trace course holds to runs) streams
+      (source_to one (c.left name) source bytes trace course holds to runs) over.streams
   run_due ended line (run_stopped why kept) =
       inl (source_accepted (c.left name) (c.file name) source ended line holds to.has.passes none_source why)
 
@@ -132,7 +132,7 @@ module _ (c : Call) (name : Word) (source : List ℕ) (holds : c.left name ≡ S
   build_fails ended line (build_stopped why kept) = stopped_due ended line why
 
   run_fails : (rows : Word) (ended : Status) (line : List ℕ) → RunEnds c name rows ended line → IsDone ended status.Refused
-  run_fails rows ended line (run_ran course runs between left streams) = absurd (never_accepted runs.raw runs.tree)
+  run_fails rows ended line (run_ran course runs between left over) = absurd (never_accepted runs.raw runs.tree)
   run_fails rows ended line (run_stopped why kept) = stopped_due ended line why
 
   walk_fails : (rows : Word) (seed : ℕ) (ended : Status) (line : List ℕ) → WalkEnds c name rows seed ended line → IsDone ended status.Refused
@@ -193,7 +193,7 @@ bound_due each c name text file ended line holds is none_read none_out (bound_st
 module _ (each : EachBehaves) (c : Call) (name : Word) (text : List ℕ) (due : Status) (is : IsRejected text due) (holds : c.left name ≡ Some text)
     (none : ¬ HasRisen (c.file name)) where
   text_rejects : (rows : Word) (course : Behaviour → Course) (ended : Status) (line : List ℕ) → TextEnds c name rows course ended line → IsDone ended due
-  text_rejects rows course ended line (text_ran read behaviour source loads between left streams) =
+  text_rejects rows course ended line (text_ran read behaviour source loads between left over) =
       let same = told_source (c.left name) text read holds source in
       absurd (never_loaded each read due behaviour (subst (λ t. IsRejected t due) same is) loads)
   text_rejects rows course ended line (text_stopped why kept) =

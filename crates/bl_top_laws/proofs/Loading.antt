@@ -115,10 +115,10 @@ module _ (each : EachBehaves) (course : Behaviour → Course) (follows : Follows
   pub text_due : (c : Call) (name rows : Word) (ended : Status) (line : List ℕ) → c.left name ≡ Some text →
       HoldsBehind c text_limit name rows bytes → ¬ HasRisen (c.file name) → ¬ HasRisen (c.file rows) → ¬ HasRisen c.out.faults →
       TextEnds c name rows course ended line → IsDone ended (run_status trace.last to.fault)
-  text_due c name rows ended line holds behind none_text none_rows none_out (ran read behaviour source loads between left streams) =
+  text_due c name rows ended line holds behind none_text none_rows none_out (ran read behaviour source loads between left over) =
       let same = told_source (c.left name) text read holds source in
       course_due (course behaviour) (between rows) (c.rest rows) (c.file rows) c.out ended line bytes trace.last to.fault (behind between left)
-      none_rows none_out (course_goes behaviour (subst (λ t. Behaves t behaviour) (sym same) loads.behaves)) streams
+      none_rows none_out (course_goes behaviour (subst (λ t. Behaves t behaviour) (sym same) loads.behaves)) over.streams
   text_due c name rows ended line holds behind none_text none_rows none_out (stopped why kept) =
       inl (text_stops each text to.file to.loadable (c.left name) (c.file name) ended line holds none_text why)
 

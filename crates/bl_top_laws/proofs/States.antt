@@ -237,8 +237,8 @@ module _ (each : EachBehaves) (one : (file : Parts) → OneMemory file) (c : Cal
   pub resume_due : (ended : Status) (line : List ℕ) → ResumeEnds c name state rows ended line → IsDone ended (run_status trace.last to.fault)
   resume_due ended line ends =
       from_due _ (run_status trace.last to.fault)
-      (λ file numbers left ended line there goes streams. course_due (resumed_by file numbers) (left rows) (c.rest rows) (c.file rows) c.out ended line
-      bytes trace.last to.fault there none_rows none_out goes streams) ended line ends
+      (λ file numbers left ended line there goes over. course_due (resumed_by file numbers) (left rows) (c.rest rows) (c.file rows) c.out ended line
+      bytes trace.last to.fault there none_rows none_out goes over.streams) ended line ends
 
   pub save_from_due : (ended : Status) (line : List ℕ) → SaveFromEnds c name state rows ended line → IsDone ended (save_status trace.last to.fault)
   save_from_due ended line ends =

@@ -2,4 +2,4 @@ use Rattle.bl_rows_stream_laws.proofs.Silences.{runs-silent}
 use Rattle.bl_rows_stream_laws.proofs.silent_runs.Goals as goal
 
 pub returns : goal.returns
-returns c = λ file. runs-silent file (c.stays_ready.ensures file)
+returns c = runs-silent

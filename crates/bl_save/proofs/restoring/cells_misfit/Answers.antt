@@ -44,14 +44,14 @@ loop-k-preserved c =
 pub returns-then-at-bytes-clause-place : goal.returns-then-at-bytes-clause-place
 returns-then-at-bytes-clause-place c =
     let count = count-kinds c.args.runner.now.parts in
-    let end = c.cells-k-end.ensures in
+    let end = c.cells-k-end.ensures.count in
     sym (c.loop-k.invariant.left
     ∙ cells-end-none (kinds_of c.args.runner.now.parts) c.args.bytes.now c.loop-k.k c.loop-k.at (omega arith) (omega arith))
 
 pub returns-else-at-bytes-clause-place : goal.returns-else-at-bytes-clause-place
 returns-else-at-bytes-clause-place c =
     let count = count-kinds c.args.runner.now.parts in
-    let end = c.cells-k-end.ensures in
+    let end = c.cells-k-end.ensures.count in
     let within = c.loop-k.invariant.within in
     let few : c.loop-k.at < length c.args.bytes.now = grind arith in
     sym (c.loop-k.invariant.left

@@ -34,7 +34,7 @@ loop-k-preserved c =
     let number = number-is c.kind-kind.result c.number.result (drop at bytes) c.number.ensures.range written in
     let passed : to_z w128 (of_z w128 c.number.result) ≡ c.number.result = to_z-of_z w128 _ (search rules) in
     let put = puts first c.loop-k.runner c.put.new.self k c.number.result _ inv.same passed c.put.ensures in
-    let within : k < length c.loop-k.runner.cells = omega (arith, inv.whole, c.cells-k-end.ensures) in
+    let within : k < length c.loop-k.runner.cells = omega (arith, inv.whole, c.cells-k-end.ensures.count) in
     record {
       same = put.same;
       whole = ap length put.cells ∙ length-set c.loop-k.runner.cells k c.number.result ∙ inv.whole;
@@ -69,7 +69,7 @@ returns c =
     let behind = drop 10 bytes in
     let all = are-cells kinds behind c.requires.fits in
     let count = count-kinds c.args.runner.now.parts in
-    let end = c.cells-k-end.ensures in
+    let end = c.cells-k-end.ensures.count in
     record {
       numbers = numbers_in kinds behind;
       fit = all.range;

@@ -1,16 +1,17 @@
-use Rattle.std.proofs.Common.{◌≡◌, sym, None}
+use Rattle.std.proofs.Common.{◌≡◌, ◌∙◌, sym, None}
 use Rattle.bl_crun_ports.specs.Layout.{kinds_of}
 use Rattle.bl_save.specs.inner.Shapes.{misfit, state_shape}
-use Rattle.bl_save.proofs.Faults.{bad-state, restored-state}
+use Rattle.bl_save.proofs.Faults.{bad-at-once, bad-state, restored-state}
 use Rattle.bl_save.proofs.States.{are-state}
 use Rattle.bl_save.proofs.restoring.restore.Goals as goal
 
+pub returns-then-not-ready-clause-bad : goal.returns-then-not-ready-clause-bad
+returns-then-not-ready-clause-bad c =
+    bad-at-once c.args.runner.now.parts c.args.bytes.now (sym c.ready.ensures.start ∙ c.if-not-ready.true)
+
 pub returns-in-Some-clause-bad : goal.returns-in-Some-clause-bad
 returns-in-Some-clause-bad c =
-    bad-state c.args.runner.now.parts c.args.bytes.now c.in-Some.at c.requires.ready.starts (sym c.in-Some.ensures.place)
-
-pub put_cells-requires-clause-whole : goal.put_cells-requires-clause-whole
-put_cells-requires-clause-whole c = c.requires.ready.whole
+    bad-state c.args.runner.now.parts c.args.bytes.now c.in-Some.at (sym c.ready.ensures.start ∙ c.if-not-ready.false) (sym c.in-Some.ensures.place)
 
 pub put_cells-requires-clause-long : goal.put_cells-requires-clause-long
 put_cells-requires-clause-long c =
@@ -31,6 +32,7 @@ returns-in-None-clause-restored c =
     let put = c.put_cells.ensures in
     record {
       numbers = put.numbers;
-      saved = restored-state c.args.runner.now.parts c.args.bytes.now put.numbers c.requires.ready.starts fits put.fit put.written;
+      saved = restored-state c.args.runner.now.parts c.args.bytes.now put.numbers
+          (sym c.ready.ensures.start ∙ c.if-not-ready.false) fits put.fit put.written;
       runner = put.runner;
     }

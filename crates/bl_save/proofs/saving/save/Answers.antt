@@ -8,9 +8,9 @@ pub returns : goal.returns
 returns c =
     let kinds = kinds_of c.args.runner.now.parts in
     let cells = c.args.runner.now.cells in
-    let count : c.cells.result ≡ length kinds = c.cells.ensures ∙ sym (count-kinds c.args.runner.now.parts) in
+    let count : c.cells.result ≡ length kinds = c.cells.ensures.count ∙ sym (count-kinds c.args.runner.now.parts) in
     record {
-      starts = c.requires.starts;
+      starts = c.requires;
       fit = c.in_ok-push_cells.ensures.fit;
       written = c.in_ok-push_cells.ensures.written
           ∙ ap (λ (front : List ℕ). front ++ cells_bytes kinds cells)

@@ -23,7 +23,7 @@ returns-in-Ok-runner_of-clause-ends g c = λ notes.
     run_ran c.programs_run_as_their_source.ensures c.faults_count_from_before.ensures _ _ _ c.in-Ok.accepted.program (course_of c.in-Ok-runner_of.runner.parts)
     (g.F.Files.left c.accepted_of.new.files) _ _ _
     c.in-Ok.ensures.program c.in-Ok-runner_of.ensures.course
-    c.in-Ok.ensures.behind (c.accepted_of.ensures.file_counts _) c.run_over.ensures.streams
+    c.in-Ok.ensures.behind (c.accepted_of.ensures.file_counts _) c.run_over.ensures.streams c.run_over.ensures.in_step
 
 pub returns-in-Ok-runner_of-clause-reads : goal.returns-in-Ok-runner_of-clause-reads
 returns-in-Ok-runner_of-clause-reads g c =

@@ -9,7 +9,7 @@ use Rattle.bl_top_commands.proofs.count.count.Goals as goal
 pub returns-in-Ok-clause-ends : goal.returns-in-Ok-clause-ends
 returns-in-Ok-clause-ends g c = λ notes.
     text_ran _ _ _ counts_by c.in-Ok.runner.parts (g.F.Files.left c.runner_of.new.files) _ _ _ c.in-Ok.ensures.loads c.in-Ok.ensures.behind
-    (c.runner_of.ensures.file_counts _) c.count_over.ensures.streams
+    (c.runner_of.ensures.file_counts _) c.count_over.ensures.streams c.count_over.ensures.in_step
 
 pub returns-in-Ok-clause-reads : goal.returns-in-Ok-clause-reads
 returns-in-Ok-clause-reads g c =

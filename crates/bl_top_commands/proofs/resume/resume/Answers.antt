@@ -18,7 +18,7 @@ returns-in-Ok-restore_from-clause-ends g c = λ notes.
     from_went _ _ _ _ c.in-Ok.runner.parts c.in-Ok.ensures.loads (g.F.Files.left c.runner_of.new.files) c.in-Ok.ensures.behind _
     c.in-Ok-restore_from.ensures.stands (g.F.Files.left c.restore_from.new.files) c.in-Ok-restore_from.ensures.behind _ _
     (resume_goes _ _ _ c.in-Ok-restore_from.ensures.stands _ _ _ _ _ _ _ _
-    (counts_rise _ _ _ (c.runner_of.ensures.file_counts _) (c.restore_from.ensures.file_counts _)) c.go_over.ensures.streams)
+    (counts_rise _ _ _ (c.runner_of.ensures.file_counts _) (c.restore_from.ensures.file_counts _)) c.go_over.ensures.streams c.go_over.ensures.in_step)
 
 pub returns-in-Ok-restore_from-clause-reads : goal.returns-in-Ok-restore_from-clause-reads
 returns-in-Ok-restore_from-clause-reads g c =

@@ -42,4 +42,4 @@ pub save_over-requires-clause-stands : goal.save_over-requires-clause-stands
 save_over-requires-clause-stands g c = stands_from _ _ _ c.in-Ok-restore_from.ensures.stands
 
 pub save_over-requires-clause-ready : goal.save_over-requires-clause-ready
-save_over-requires-clause-ready g c = stands_ready _ _ _ (c.stays_ready.ensures _) c.in-Ok-restore_from.ensures.stands
+save_over-requires-clause-ready g c = stands_ready _ _ _ c.in-Ok-restore_from.ensures.stands

@@ -1,9 +1,9 @@
 -- Why a job stops at its saved state, and where the runner stands.
-use Rattle.std.proofs.Common.{◌∙◌, Err, ap, subst, sym}
+use Rattle.std.proofs.Common.{Err, ap, subst}
 use Rattle.bl_top_commands.specs.Reads.{state_limit}
 use Rattle.bl_save.specs.States.{HasRestored, IsFaultOf}
 use Rattle.bl_top_commands.proofs.Cuts.{further_from_up_to, left_behind}
-use Rattle.bl_top_commands.proofs.Saves.{loaded_ready, loaded_starts, shows_at_once, stands_at, state_bad, state_faulty, state_unread, state_wanting}
+use Rattle.bl_top_commands.proofs.Saves.{stands_at, state_faulty, state_unread, state_wanting}
 use Rattle.bl_top_commands.proofs.state.restore_from.Goals as goal
 
 pub returns-in-Err-Failed-clause-stopped : goal.returns-in-Err-Failed-clause-stopped
@@ -11,14 +11,6 @@ returns-in-Err-Failed-clause-stopped g c = state_unread _ _ _ _ _ c.plain.ensure
 
 pub returns-in-Err-NoMemory-clause-stopped : goal.returns-in-Err-NoMemory-clause-stopped
 returns-in-Err-NoMemory-clause-stopped g c = state_wanting _ _ _ _ _ c.plain-in-Err-NoMemory.ensures
-
-pub returns-then-not-ready-clause-stopped : goal.returns-then-not-ready-clause-stopped
-returns-then-not-ready-clause-stopped g c =
-    state_bad _ _ _ c.in-Ok.bytes.items _ _ c.bad_state.result c.in-Ok.ensures.front
-    (shows_at_once _ c.in-Ok.bytes.items (loaded_starts _ _ c.requires.fresh (sym c.ready.ensures ∙ c.if-not-ready.true))) c.bad_state.ensures
-
-pub restore-requires-clause-ready : goal.restore-requires-clause-ready
-restore-requires-clause-ready g c = loaded_ready _ (c.stays_ready.ensures _) c.requires.fresh (sym c.ready.ensures ∙ c.if-not-ready.false)
 
 pub returns-in-Ok-restore-clause-stands : goal.returns-in-Ok-restore-clause-stands
 returns-in-Ok-restore-clause-stands g c =
@@ -33,11 +25,6 @@ returns-clause-stopped g c =
     state_faulty _ _ _ c.in-Ok.bytes.items _ c.in-Err.fault c.end_at_state.result c.in-Ok.ensures.front
     (subst (λ bytes. IsFaultOf c.args.runner.now.parts bytes c.in-Err.fault) c.deref.ensures.value c.in-Err.ensures.bad)
     c.end_at_state.ensures
-
-pub returns-then-not-ready-clause-further : goal.returns-then-not-ready-clause-further
-returns-then-not-ready-clause-further g c =
-    further_from_up_to state_limit (g.F.Files.left c.args.files.now c.args.state.now) c.in-Ok.bytes.items
-    (g.F.Files.left c.read_up_to.new.files c.args.state.now) c.in-Ok.ensures.front
 
 pub returns-in-Ok-restore-clause-further : goal.returns-in-Ok-restore-clause-further
 returns-in-Ok-restore-clause-further g c =
