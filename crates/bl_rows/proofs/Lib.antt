@@ -3,7 +3,9 @@ pub mod Cuts
 pub mod Numbers
 pub mod Pieces
 pub mod Plain
+pub mod PlainRows
 pub mod Records
+pub mod Room
 pub mod Scans
 pub mod Seq
 pub mod Traces

@@ -70,7 +70,7 @@ HasBegun st.InComment = ⊥
 HasBegun st.AfterCr = ⊥
 
 -- a comma ends a field
-comma : (s : State) (fields : List (List ℕ)) (field rest : List ℕ) → IsPlain s
+pub comma : (s : State) (fields : List (List ℕ)) (field rest : List ℕ) → IsPlain s
     → next_record default_config s fields field (44 ∷ rest) ≡ next_record default_config st.StartField (fields ++ field ∷ []) [] rest
 unfolding next_record
 comma st.StartRecord fields field rest h = refl
@@ -83,7 +83,7 @@ comma st.InComment fields field rest h = absurd h
 comma st.AfterCr fields field rest h = absurd h
 
 -- any other plain byte joins it
-other : (s : State) (b : ℕ) (fields : List (List ℕ)) (field rest : List ℕ) → IsPlain s → (b == 34) ≡ false → (b == 13) ≡ false →
+pub other : (s : State) (b : ℕ) (fields : List (List ℕ)) (field rest : List ℕ) → IsPlain s → (b == 34) ≡ false → (b == 13) ≡ false →
     (b == 10) ≡ false → (b == 44) ≡ false
     → next_record default_config s fields field (b ∷ rest) ≡ next_record default_config st.InField fields (field ++ b ∷ []) rest
 unfolding next_record
@@ -116,7 +116,7 @@ split_start line fields held e h = record {
   same = rw e refl;
 }
 
-none_taken : (n : ℕ) (xs : List ℕ) → take (n - n) xs ≡ []
+pub none_taken : (n : ℕ) (xs : List ℕ) → take (n - n) xs ≡ []
 none_taken n xs = let e : n - n ≡ 0 = omega arith in rw e refl
 
 pub split_comma : (line : List ℕ) (start i : ℕ) (fields fields2 : List (List ℕ)) (held held2 : List ℕ) →
@@ -136,7 +136,7 @@ split_comma line start i fields fields2 held held2 s inside byte pushed none = r
 }
 
 -- one byte more is in the field at hand
-field_more : (line : List ℕ) (start i : ℕ) → start ≤ i → i < length line →
+pub field_more : (line : List ℕ) (start i : ℕ) → start ≤ i → i < length line →
     take (i + 1 - start) (drop start line) ≡ take (i - start) (drop start line) ++ get_or line i 0 ∷ []
 field_more line start i h g =
     let n : i + 1 - start ≡ suc (i - start) = omega arith in
@@ -161,7 +161,7 @@ split_other line start i fields held s inside q r f c = record {
 }
 
 -- the end of a line ends its last field
-at_end : (s : State) (fields : List (List ℕ)) (field : List ℕ) → HasBegun s →
+pub at_end : (s : State) (fields : List (List ℕ)) (field : List ℕ) → HasBegun s →
     next_record default_config s fields field [] ≡ Some (fields ++ field ∷ [], st.StartRecord, [])
 unfolding next_record
 at_end st.StartRecord fields field h = absurd h
@@ -185,17 +185,22 @@ unmarked (a ∷ []) h = refl
 unmarked (a ∷ b ∷ []) h = refl
 unmarked (a ∷ b ∷ c ∷ rest) h = rw h refl
 
+-- a line whose fields come to an end with it
+pub line_read : (line : List ℕ) (fields : List (List ℕ)) → (get_or line 0 0 == 239) ≡ false
+    → next_record default_config st.StartRecord [] [] line ≡ Some (fields, st.StartRecord, []) → records_in line ≡ fields ∷ []
+unfolding records_in
+line_read line fields mark read = rw (unmarked line mark) (records_by line ∙ rw (read, no_more (length line)) refl)
+
 pub split_end : (line : List ℕ) (start i : ℕ) (fields fields2 : List (List ℕ)) (held : List ℕ) → Split line start i fields held →
     0 < length line → (get_or line 0 0 == 239) ≡ false → i ≡ length line
     → fields2 ≡ fields ++ (held ++ take (length line - start) (drop start line)) ∷ [] → records_in line ≡ fields2 ∷ []
-unfolding records_in
 split_end line start i fields fields2 held s some mark all pushed =
     let field : fields2 ≡ fields ++ take (i - start) (drop start line) ∷ [] = pushed ∙ rw (s.none, all) refl in
     let done : drop i line ≡ [] = drop_all i line (omega (arith, all)) in
     let read : next_record default_config st.StartRecord [] [] line ≡ Some (fields2, st.StartRecord, []) =
     sym s.same ∙ (ap (λ t. next_record default_config s.state fields (take (i - start) (drop start line)) t) done
     ∙ (at_end s.state fields (take (i - start) (drop start line)) (s.begun (omega (arith, all))) ∙ rw field refl)) in
-    rw (unmarked line mark) (records_by line ∙ rw (read, no_more (length line)) refl)
+    line_read line fields2 mark read
 
 -- a line without bytes has no record
 pub nothing_in : records_in [] ≡ []

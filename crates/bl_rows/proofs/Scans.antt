@@ -6,6 +6,7 @@ use Rattle.std.proofs.Common.{
   [],
   ◌∷◌,
   ◌++◌,
+  drop,
   refl,
   ap,
   sym,
@@ -26,6 +27,7 @@ use Rattle.std.proofs.Common.{
   Ok,
   Err,
   OnOk,
+  IfSome,
 }
 use Rattle.bl_tree.specs.declared.row.Column.{Column}
 use Rattle.bl_rows.specs.declared.fault.RowFault.{RowFault}
@@ -34,7 +36,7 @@ use Rattle.bl_rows.specs.declared.verdict.Verdict.TheVariants.{Passed, Header, N
 use Rattle.bl_rows.specs.declared.verdict.RowPlace.{RowPlace}
 use Rattle.bl_rows.specs.Lines.{Cut, cut, whole_lines, unfinished, has_feed}
 use Rattle.bl_rows.specs.Reading.{Reading, Scan, scan, scanned, verdict, overrun, place_after, led_by_line, earlier_fault, fault_in, rows_in, read_on, Front}
-use Rattle.bl_rows.specs.inner.Steps.{fault_of, rows_by, left_after_stop, with_rows}
+use Rattle.bl_rows.specs.inner.Steps.{TakesLine, fault_of, rows_by, left_after_stop, with_rows}
 use Rattle.bl_rows.proofs.Cuts.{cut_line, cut_none, feedless_append}
 
 -- what is left of the whole lines of a piece, for a reader in the midst of it
@@ -67,7 +69,7 @@ line_cut line front rest2 rest h g e = rw (e, ← append_assoc line front (10 �
 with_more : (a b : List (List ℤ)) (s : Scan) → with_rows a (with_rows b s) ≡ with_rows (a ++ b) s
 with_more a b s = rw append_assoc refl
 
-pub midst_line : (before : Reading) (piece : List ℕ) (was now now2 : List (List ℤ)) (s s2 : Reading) (rest front rest2 : List ℕ) →
+midst_line : (before : Reading) (piece : List ℕ) (was now now2 : List (List ℤ)) (s s2 : Reading) (rest front rest2 : List ℕ) →
     Midst before piece was now s rest → s.stop ≡ None
     → has_feed s.line ≡ false → has_feed front ≡ false → rest ≡ front ++ (10 ∷ rest2)
     → s2.stop ≡ fault_of (verdict s.columns s.at (s.line ++ front)) →
@@ -89,6 +91,24 @@ midst_line before piece was now now2 s s2 rest front rest2 m running feedless fr
       columns = columns2 ∙ m.columns;
       ended = ended2 ∙ m.ended;
     }
+
+midst_taken : (before : Reading) (piece : List ℕ) (was now now2 : List (List ℤ)) (s s2 : Reading) (rest rest2 : List ℕ) (taken : ℕ) →
+    Midst before piece was now s rest → s.stop ≡ None → has_feed s.line ≡ false → rest2 ≡ drop taken rest →
+    TakesLine s rest now taken now2 s2 → Midst before piece was now2 s2 rest2
+midst_taken before piece was now now2 s s2 rest rest2 taken m running feedless left t =
+    midst_line before piece was now now2 s s2 rest t.front rest2 m running feedless t.whole
+    (t.splits ∙ ap (λ l. t.front ++ (10 ∷ l)) (sym left)) t.stop t.at t.rows t.line t.columns t.ended
+
+pub midst_next : (before : Reading) (piece : List ℕ) (was now now2 : List (List ℤ)) (s s2 : Reading) (rest rest2 : List ℕ) (found : Option ℕ)
+    (taken : ℕ) → Midst before piece was now s rest → s.stop ≡ None → has_feed s.line ≡ false → rest2 ≡ drop taken rest →
+    IfSome found (λ n. TakesLine s rest now n now2 s2) → found ≡ Some taken → Midst before piece was now2 s2 rest2
+midst_next before piece was now now2 s s2 rest rest2 found taken m running feedless left t e =
+    let line : TakesLine s rest now taken now2 s2 = rw e at t in
+    midst_taken before piece was now now2 s s2 rest rest2 taken m running feedless left line
+
+pub midst_same : (before : Reading) (piece : List ℕ) (was now now2 : List (List ℤ)) (s s2 : Reading) (rest : List ℕ) →
+    Midst before piece was now s rest → s2 ≡ s → now2 ≡ now → Midst before piece was now2 s2 rest
+midst_same before piece was now now2 s s2 rest m e g = rw (e, g) m
 
 pub rows_of_scan : (before : Reading) (piece : List ℕ) → before.stop ≡ None → rows_in before piece ≡ (scanned before piece).rows
 unfolding rows_in

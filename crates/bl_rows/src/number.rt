@@ -5,8 +5,8 @@ ghost use Rattle.bl_rows.specs.Fields.{number_of, number_of_digits, value_of, is
 
 use bl_tree::Scalar;
 
-// The most digits that a number may have.
-const MOST_DIGITS: usize = 39;
+/// The most digits that a number may have.
+pub const MOST_DIGITS: usize = 39;
 
 // The number that 1 to 39 decimal digits write, where it is below 2 to the 64, as that of every type is.
 fn digits(text: &[u8]) -> Option<u64>

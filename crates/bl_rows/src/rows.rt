@@ -7,10 +7,11 @@ ghost use Rattle.bl_rows.specs.Lines.{has_feed};
 ghost use Rattle.bl_rows.specs.Fields.{records_in};
 ghost use Rattle.bl_rows.specs.Reading.{empty_reading, read_on, rows_in, rows_after, rows_of, fault_in, call_answer, overrun, over_limit as past_limit_at};
 ghost use Rattle.bl_rows.specs.Reading.{Unrefused, Front, led_by_rows, judged_line, place_after, fault_at_end, next_tick as tick_after, verdict as verdict_on};
-ghost use Rattle.bl_rows.specs.inner.Steps.{fault_of, rows_by};
+ghost use Rattle.bl_rows.specs.inner.Steps.{IsNextRow, TakesLine, fault_of, rows_by};
 
 use crate::fault::RowFault;
-use crate::record::{judge, over_limit};
+use crate::in_place::{PlainRow, plain_row};
+use crate::record::{LONGEST_LINE, MOST_LINES, judge, over_limit};
 use crate::verdict::{RowPlace, Verdict};
 use bl_tree::row::{Column, Row};
 use bl_tree::{List, NoMemory, Text};
@@ -148,15 +149,57 @@ impl Rows {
         let mut fields = ByteRecord::new(self.alloc);
         let mut rest = piece;
         'lines: while self.stop.is_none() {
-            match first_line(rest) {
-                Some((line, after)) => {
-                    self.take_line(line, &mut fields, into)?;
-                    rest = after;
-                }
+            match self.take_next(rest, &mut fields, into)? {
+                Some(taken) => rest = &rest[taken..],
                 None => return self.keep(rest),
             }
         }
         Ok(())
+    }
+
+    // Takes the first line of these bytes, where a line feed ends it, and gives how many bytes it takes with that.
+    fn take_next(
+        &mut self,
+        rest: &[u8],
+        fields: &mut ByteRecord,
+        into: &mut Vec<Row>,
+    ) -> Result<Option<usize>, NoMemory>
+        requires stop { self.old.stop ≡ None }
+        ensures taken { IfOk result (λ found. IfSome found (λ taken. TakesLine self.old rest.now into.old.items taken into.new.items self.new)) }
+        ensures feedless { IfOk result (λ found. found ≡ None → has_feed rest.now ≡ false) }
+        ensures same { IfOk result (λ found. found ≡ None → self.new ≡ self.old) }
+        ensures no_row { IfOk result (λ found. found ≡ None → into.new.items ≡ into.old.items) }
+        ensures none { OnErr result (into.new.items ≡ into.old.items) }
+        ensures columns { self.new.columns ≡ self.old.columns }
+        ensures ended { self.new.ended ≡ self.old.ended }
+    {
+        if let Some(found) = self.plain_row(rest)? {
+            self.apply(Verdict::Numbers(found.row), into)?;
+            return Ok(Some(found.end + 1));
+        }
+        match first_line(rest) {
+            Some((line, _)) => {
+                self.take_line(line, fields, into)?;
+                Ok(Some(line.len() + 1))
+            }
+            None => Ok(None),
+        }
+    }
+
+    // The row that the first line of these bytes gives, where a row is wanted and the line is plain.
+    fn plain_row(&self, rest: &[u8]) -> Result<Option<PlainRow>, NoMemory>
+        ensures { IfOk result (λ found. IfSome found (λ it. IsNextRow self.now rest.now it.row it.end)) }
+    {
+        let Some(ticks) = self.at.ticks else {
+            return Ok(None);
+        };
+        if self.has_begun_line() || self.at.lines >= MOST_LINES {
+            return Ok(None);
+        }
+        match plain_row(self.alloc, &self.columns, ticks + 1, rest)? {
+            Some(found) if found.end <= LONGEST_LINE => Ok(Some(found)),
+            _ => Ok(None),
+        }
     }
 
     // Keeps the bytes of an unfinished line, or stops where they are too many.

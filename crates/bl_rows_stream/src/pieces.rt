@@ -17,7 +17,7 @@ use crate::finish::{Finish, Progress, finish_by, progress_by};
 use crate::ticks::{Report, Ticks, run};
 use bl_crun::Runner;
 use bl_io::{Files, IoFault, PIECE, Sink, write_all};
-use bl_rows::{RowFault, Rows};
+use bl_rows::{RowFault, Rows, TraceText};
 use bl_tree::{Last, NoMemory, Row};
 use std::alloc::Global;
 
@@ -26,6 +26,8 @@ use std::alloc::Global;
 pub struct Session {
     pub reader: Rows,
     pub ticks: Ticks,
+    /// Room for what is written of the ticks of a piece.
+    pub text: TraceText,
 }
 
 /// Runs the rows of what is left of the file.
@@ -141,7 +143,7 @@ fn run_piece<O: Sink>(
     let Ok(fault) = feed(&mut session.reader, piece, &mut rows) else {
         return Progress::Over(Finish::NoMemory);
     };
-    match run_and_write(alloc, runner, &rows, &mut session.ticks, out) {
+    match run_and_write(runner, &rows, &mut session.ticks, &mut session.text, out) {
         Ok(last) => progress_by(last, fault),
         Err(finish) => Progress::Over(finish),
     }
@@ -167,7 +169,7 @@ fn run_last<O: Sink>(
     let Ok(fault) = finish(&mut session.reader, &mut rows) else {
         return Finish::NoMemory;
     };
-    match run_and_write(alloc, runner, &rows, &mut session.ticks, out) {
+    match run_and_write(runner, &rows, &mut session.ticks, &mut session.text, out) {
         Ok(last) => finish_by(last, fault),
         Err(ended) => ended,
     }
@@ -214,10 +216,10 @@ pub fn finish(reader: &mut Rows, rows: &mut Vec<Row>) -> Result<Option<RowFault>
 
 // Does the ticks of rows until one ends the run or traps, and writes what is to be written of them.
 fn run_and_write<O: Sink>(
-    alloc: Global,
     runner: &mut Runner,
     rows: &[Row],
     ticks: &mut Ticks,
+    text: &mut TraceText,
     out: &mut O,
 ) -> Result<Last, Finish>
     requires fit { RowsFit (inputs_of runner.old.parts) rows.now }
@@ -239,8 +241,8 @@ fn run_and_write<O: Sink>(
     ensures failed { IsErrOf result Finish.WriteFault → Rose (O.faults out.old) (O.faults out.new) }
     ensures count { O.faults out.old ≤ O.faults out.new }
 {
-    let mut text = Vec::new(alloc);
-    let Ok(last) = run(alloc, runner, rows, ticks, &mut text) else {
+    text.clear();
+    let Ok(last) = run(runner, rows, ticks, text) else {
         return Err(Finish::NoMemory);
     };
     match write(out, text.as_slice()) {

@@ -15,7 +15,7 @@ use crate::pieces::{Session, run_all, write};
 use crate::ticks::{Report, Ticks, heading};
 use bl_crun::Runner;
 use bl_io::{Files, IoFault, Sink};
-use bl_rows::Rows;
+use bl_rows::{Rows, TraceText};
 use bl_tree::{NoMemory, Row};
 use std::alloc::Global;
 
@@ -176,5 +176,6 @@ fn first_session(alloc: Global, runner: &Runner, report: Report) -> Result<Sessi
             done: 0,
             outputs: Row::new(alloc, outputs)?,
         },
+        text: TraceText::new(alloc),
     })
 }

@@ -9,7 +9,7 @@ ghost use Rattle.bl_rows_stream.specs.Reports.{after_rows, count_text, end_text,
 ghost use Rattle.bl_rows_stream.specs.inner.Ticks.{last_by};
 
 use bl_crun::{Runner, TickAnswer};
-use bl_rows::{header, line};
+use bl_rows::{TraceText, header};
 use bl_tree::{Column, Last, List, NoMemory, Row};
 use itoa::Buffer;
 use std::alloc::Global;
@@ -47,18 +47,17 @@ pub fn heading(alloc: Global, report: Report, outs: &List<Column>) -> Result<Vec
 
 /// Does the ticks of rows until one ends the run or traps, and appends what is written of them.
 pub fn run(
-    alloc: Global,
     runner: &mut Runner,
     rows: &[Row],
     ticks: &mut Ticks,
-    text: &mut Vec<u8>,
+    text: &mut TraceText,
 ) -> Result<Last, NoMemory>
     requires fit { RowsFit (inputs_of runner.old.parts) rows.now }
     requires live { runner.old.live ≡ true }
     requires long { length ticks.old.outputs ≡ length (outputs_of runner.old.parts) }
     requires few { ticks.old.done + length rows.now ≤ 1000000 }
     ensures last { IfOk result (λ last. last ≡ (trace_from runner.old rows.now).last) }
-    ensures text { OnOk result (text.new.items ≡ text.old.items ++ report_from ticks.old.report (ticks.old.done + 1) runner.old rows.now) }
+    ensures text { OnOk result (text.new ≡ text.old ++ report_from ticks.old.report (ticks.old.done + 1) runner.old rows.now) }
     ensures after { IfOk result (λ last. last ≡ Last.Open → runner.new ≡ after_rows runner.old rows.now) }
     ensures live { IfOk result (λ last. last ≡ Last.Open → runner.new.live ≡ true) }
     ensures over { IfOk result (λ last. (last ≡ Last.Open → ⊥) → runner.new.live ≡ false) }
@@ -68,7 +67,7 @@ pub fn run(
     ensures long { OnOk result (length ticks.new.outputs ≡ length (outputs_of runner.old.parts)) }
 {
     'rows: for row in rows {
-        let last = tick(alloc, runner, row, ticks, text)?;
+        let last = tick(runner, row, ticks, text)?;
         if last != Last::Open {
             return Ok(last);
         }
@@ -78,18 +77,17 @@ pub fn run(
 
 // Does a tick, and appends what is written of it.
 fn tick(
-    alloc: Global,
     runner: &mut Runner,
     ins: &Row,
     ticks: &mut Ticks,
-    text: &mut Vec<u8>,
+    text: &mut TraceText,
 ) -> Result<Last, NoMemory>
     requires fits { row_fits (inputs_of runner.old.parts) ins.now ≡ true }
     requires live { runner.old.live ≡ true }
     requires long { length ticks.old.outputs ≡ length (outputs_of runner.old.parts) }
     requires few { ticks.old.done < 1000000 }
     ensures last { IfOk result (λ last. last ≡ (trace_from runner.old (ins.now ∷ [])).last) }
-    ensures text { OnOk result (text.new.items ≡ text.old.items ++ report_from ticks.old.report (ticks.old.done + 1) runner.old (ins.now ∷ [])) }
+    ensures text { OnOk result (text.new ≡ text.old ++ report_from ticks.old.report (ticks.old.done + 1) runner.old (ins.now ∷ [])) }
     ensures after { OnOk result (runner.new ≡ after_tick runner.old ins.now) }
     ensures live { IfOk result (λ last. last ≡ Last.Open → runner.new.live ≡ true) }
     ensures over { IfOk result (λ last. (last ≡ Last.Open → ⊥) → runner.new.live ≡ false) }
@@ -100,7 +98,7 @@ fn tick(
     ticks.done += 1;
     let mut count = 0;
     let answer = runner.tick_counted(ins, &mut ticks.outputs, &mut count);
-    append_tick(alloc, runner.outputs(), ticks, answer, count, text)?;
+    append_tick(runner.outputs(), ticks, answer, count, text)?;
     Ok(last_of(answer))
 }
 
@@ -117,18 +115,17 @@ fn last_of(answer: TickAnswer) -> Last
 
 // Appends what is written of the last tick.
 fn append_tick(
-    alloc: Global,
     outs: &List<Column>,
     ticks: &Ticks,
     answer: TickAnswer,
     count: u128,
-    text: &mut Vec<u8>,
+    text: &mut TraceText,
 ) -> Result<(), NoMemory>
     requires fits { OutputsFit outs.now answer ticks.now.outputs }
-    ensures { OnOk result (text.new.items ≡ text.old.items ++ tick_text ticks.now.report ticks.now.done outs.now answer ticks.now.outputs count) }
+    ensures { OnOk result (text.new ≡ text.old ++ tick_text ticks.now.report ticks.now.done outs.now answer ticks.now.outputs count) }
 {
     match ticks.report {
-        Report::Trace => append_outputs(alloc, outs, ticks, answer, text),
+        Report::Trace => append_outputs(outs, ticks, answer, text),
         Report::Counts => append_count(ticks.done, count, answer, text),
         Report::Nothing => Ok(()),
     }
@@ -136,38 +133,30 @@ fn append_tick(
 
 // Appends the line of the last tick's outputs, and the word that follows it where the run doesn't go on.
 fn append_outputs(
-    alloc: Global,
     outs: &List<Column>,
     ticks: &Ticks,
     answer: TickAnswer,
-    text: &mut Vec<u8>,
+    text: &mut TraceText,
 ) -> Result<(), NoMemory>
     requires fits { OutputsFit outs.now answer ticks.now.outputs }
-    ensures { OnOk result (text.new.items ≡ text.old.items
+    ensures { OnOk result (text.new ≡ text.old
         ++ (unless_trap answer (line_text ticks.now.done outs.now ticks.now.outputs) ++ end_text answer)) }
 {
     match answer {
-        TickAnswer::Row => append_line(alloc, outs, ticks, text),
+        TickAnswer::Row => append_line(outs, ticks, text),
         TickAnswer::Ended => {
-            append_line(alloc, outs, ticks, text)?;
+            append_line(outs, ticks, text)?;
             append_end(answer, text)
         }
         TickAnswer::Trap => append_end(answer, text),
     }
 }
 
-fn append_line(
-    alloc: Global,
-    outs: &List<Column>,
-    ticks: &Ticks,
-    text: &mut Vec<u8>,
-) -> Result<(), NoMemory>
+fn append_line(outs: &List<Column>, ticks: &Ticks, text: &mut TraceText) -> Result<(), NoMemory>
     requires fits { row_fits outs.now ticks.now.outputs ≡ true }
-    ensures { OnOk result (text.new.items ≡ text.old.items ++ line_text ticks.now.done outs.now ticks.now.outputs) }
+    ensures { OnOk result (text.new ≡ text.old ++ line_text ticks.now.done outs.now ticks.now.outputs) }
 {
-    let written = line(alloc, ticks.done, outs, &ticks.outputs)?;
-    text.extend_from_slice(written.as_slice())?;
-    Ok(())
+    Ok(text.append_line(ticks.done, outs, &ticks.outputs)?)
 }
 
 // The same of its count.
@@ -175,24 +164,24 @@ fn append_count(
     tick: u32,
     count: u128,
     answer: TickAnswer,
-    text: &mut Vec<u8>,
+    text: &mut TraceText,
 ) -> Result<(), NoMemory>
-    ensures { OnOk result (text.new.items ≡ text.old.items ++ (count_text tick count ++ end_text answer)) }
+    ensures { OnOk result (text.new ≡ text.old ++ (count_text tick count ++ end_text answer)) }
 {
     let mut buffer = Buffer::new();
-    text.extend_from_slice(buffer.format(tick).as_bytes())?;
-    text.extend_from_slice(b",")?;
-    text.extend_from_slice(buffer.format(count).as_bytes())?;
-    text.extend_from_slice(b"\n")?;
+    text.append(buffer.format(tick).as_bytes())?;
+    text.append(b",")?;
+    text.append(buffer.format(count).as_bytes())?;
+    text.append(b"\n")?;
     append_end(answer, text)
 }
 
-fn append_end(answer: TickAnswer, text: &mut Vec<u8>) -> Result<(), NoMemory>
-    ensures { OnOk result (text.new.items ≡ text.old.items ++ end_text answer) }
+fn append_end(answer: TickAnswer, text: &mut TraceText) -> Result<(), NoMemory>
+    ensures { OnOk result (text.new ≡ text.old ++ end_text answer) }
 {
     match answer {
         TickAnswer::Row => Ok(()),
-        TickAnswer::Ended => Ok(text.extend_from_slice(b"ended\n")?),
-        TickAnswer::Trap => Ok(text.extend_from_slice(b"trap\n")?),
+        TickAnswer::Ended => Ok(text.append(b"ended\n")?),
+        TickAnswer::Trap => Ok(text.append(b"trap\n")?),
     }
 }

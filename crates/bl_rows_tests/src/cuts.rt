@@ -5,10 +5,10 @@ use bl_tree::{Column, List, NoMemory, Row, Scalar, Text, Width};
 use std::alloc::Global;
 use std::test::Fail;
 
-const BYTES: &[u8] = b"tick,i\n1,3\n2,-1\n3,40\n4,0";
+const BYTES: &[u8] = b"tick,i\n1,3\n2,\"-1\"\n3,-40\n4,0";
 
 /// The numbers of its rows.
-const NUMBERS: [i128; 4] = [3, -1, 40, 0];
+const NUMBERS: [i128; 4] = [3, -1, -40, 0];
 
 /// One input, a number of 32 bits.
 fn columns(alloc: Global) -> Result<List<Column>, NoMemory> {

@@ -1,24 +1,4 @@
-use Rattle.std.proofs.Common.{
-  ◌≡◌,
-  ℕ,
-  ◌+◌,
-  ◌-◌,
-  ◌≤◌,
-  List,
-  [],
-  length,
-  drop,
-  take,
-  min,
-  Bool,
-  true,
-  false,
-  refl,
-  arith,
-  ap,
-  ◌∙◌,
-  sym,
-}
+use Rattle.std.proofs.Common.{◌≡◌, ℕ, ◌+◌, ◌-◌, ◌≤◌, List, length, drop, take, min, Bool, true, false, refl, arith, ap, ◌∙◌, sym}
 use Rattle.std.proofs.Math.Seq.{take-nil}
 use Rattle.std.proofs.lemmas.List.{drop_all, length-drop, take_min}
 use Rattle.std.proofs.lemmas.Result.{IfOk-weaker}

@@ -4,6 +4,6 @@ use Rattle.bl_rows.proofs.trace.append_lines.Given as goal
 
 abbrev pub invariant-rows : goal.invariant-rows
 invariant-rows l = record {
-  text : l.text.items ++ lines_from l.tick l.outs (drop l.row-index l.rows) ≡ l.initial.text.items ++ lines_from 1 l.outs l.rows;
+  text : l.text ++ lines_from l.tick l.outs (drop l.row-index l.rows) ≡ l.initial.text ++ lines_from 1 l.outs l.rows;
   tick : l.tick ≡ l.row-index + 1;
 }

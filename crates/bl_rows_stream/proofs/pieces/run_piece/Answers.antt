@@ -29,7 +29,7 @@ run_and_write-requires-clause-few g c =
 pub returns-in-Ok-run_and_write-clause-left : goal.returns-in-Ok-run_and_write-clause-left
 returns-in-Ok-run_and_write-clause-left g c =
     let rows = rows_in c.args.session.now.reader c.args.piece.now in
-    let session : Session = record { reader = c.feed.new.reader; ticks = c.run_and_write.new.ticks } in
+    let session : Session = record { reader = c.feed.new.reader; ticks = c.run_and_write.new.ticks; text = c.run_and_write.new.text } in
     let ran = c.in-Ok-run_and_write.ensures in
     λ report start read before stands.
     subst (Leaves report start c.args.runner.now.parts (read ++ c.args.piece.now) before session c.run_and_write.new.runner
@@ -51,7 +51,7 @@ returns-in-Ok-run_and_write-clause-further g c = λ is.
 pub returns-clause-left : goal.returns-clause-left
 returns-clause-left g c =
     let rows = rows_in c.args.session.now.reader c.args.piece.now in
-    let session : Session = record { reader = c.feed.new.reader; ticks = c.run_and_write.new.ticks } in
+    let session : Session = record { reader = c.feed.new.reader; ticks = c.run_and_write.new.ticks; text = c.run_and_write.new.text } in
     λ report start read before stands rest.
     piece-failed report start read c.args.piece.now before _ _ c.args.session.now session c.args.runner.now c.run_and_write.new.runner stands
     c.deref.result.now

@@ -7,8 +7,8 @@ use Rattle.bl_rows_stream.proofs.ticks.run.Given as goal
 abbrev pub invariant-rows : goal.invariant-rows
 invariant-rows l = record {
   onward :
-      Onward l.initial.ticks.report l.initial.runner l.rows l.initial.ticks.done l.initial.text.items l.runner
-      (drop l.row-index l.rows) l.ticks.done l.text.items;
+      Onward l.initial.ticks.report l.initial.runner l.rows l.initial.ticks.done l.initial.text l.runner
+      (drop l.row-index l.rows) l.ticks.done l.text;
   parts : l.runner.parts ≡ l.initial.runner.parts;
   live : l.runner.live ≡ true;
   fit : RowsFit (inputs_of l.initial.runner.parts) (drop l.row-index l.rows);
