@@ -125,15 +125,15 @@ abbrev pub run_locals_told : List UnitDef → RunAt → List CLocal
 run_locals_told earlier run =
     scalar_local OfBool (ended_name run.number) ∷ given_local run.number (option_and_then (λ unit. unit.result) (slice_get earlier run.unit))
 
--- the locals of the activity's function: copies of counters, flags, marks, copies of variables, and those of each `run`
-abbrev pub locals_by : List UnitDef → UnitDef → Sizes → List NumberedTransition → List ℕ → List ℕ → List RunAt → List CLocal
-locals_by earlier unit sizes rules counters copied runs =
+-- the locals of the activity's function: copies of counters, flags of the first nodes of blocks, marks, copies of variables, and those of each `run`
+abbrev pub locals_by : List UnitDef → UnitDef → Sizes → List NumberedTransition → List (List ℕ) → List ℕ → List ℕ → List RunAt → List CLocal
+locals_by earlier unit sizes rules blocks counters copied runs =
     map (rested_local sizes) counters
-    ++ (flags_told rules ++ (marks_told rules ++ (map (copy_told unit) copied ++ joined (map (run_locals_told earlier) runs))))
+    ++ (flags_told rules blocks ++ (marks_told rules ++ (map (copy_told unit) copied ++ joined (map (run_locals_told earlier) runs))))
 
 -- the locals of the activity
 abbrev pub locals_told : ActivityInput → List CLocal
-locals_told a = locals_by a.earlier a.unit a.sizes a.rules (counters_told a.sizes a.rules) (copied_told a.unit) (runs_told a.rules)
+locals_told a = locals_by a.earlier a.unit a.sizes a.rules a.blocks (counters_told a.sizes a.rules) (copied_told a.unit) (runs_told a.rules)
 
 -- the node with the number waits where the first counter holds 0: the body begins
 abbrev pub entry_at : Sizes → ℕ → CStmt
@@ -178,5 +178,5 @@ function_told a = function_by a.structs a.unit (remembers_told a) (locals_told a
 -- a C function of the activity, as its blocks see it, where these counters are asked for, these variables copied and these are its `run`s
 abbrev pub function_viewed : ActivityInput → ActivityView → List ℕ → List ℕ → List RunAt → Bool → CFunc
 function_viewed a view counters copied runs remembers =
-    function_by a.structs a.unit remembers (locals_by a.earlier a.unit a.sizes a.rules counters copied runs)
+    function_by a.structs a.unit remembers (locals_by a.earlier a.unit a.sizes a.rules a.blocks counters copied runs)
     (code_by view a.rules a.blocks counters copied)

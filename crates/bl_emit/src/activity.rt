@@ -110,6 +110,7 @@ fn viewed(
         told.unit,
         told.sizes,
         told.rules,
+        told.blocks,
         counters,
         copied,
         runs,

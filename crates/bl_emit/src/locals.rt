@@ -120,22 +120,23 @@ fn add_runs(
     Ok(())
 }
 
-/// The locals of the function of an activity: what the counters held, flags, marks, copies of the variables, and those of each `run`.
+/// The locals of the function of an activity: what the counters held, flags of the first nodes of blocks, marks, copies of the variables, and those of each `run`.
 pub fn locals(
     alloc: Global,
     earlier: &[Unit],
     unit: &Unit,
     sizes: &[u32],
     rules: &[Transition],
+    blocks: &[List<u32>],
     counters: &[u32],
     copied: &[u32],
     runs: &[RunAt],
 ) -> Result<List<CLocal>, NoMemory>
-    ensures { IfOk result (λ made. made ≡ locals_by earlier.now unit.now sizes.now (map rule_in rules.now) counters.now copied.now
+    ensures { IfOk result (λ made. made ≡ locals_by earlier.now unit.now sizes.now (map rule_in rules.now) blocks.now counters.now copied.now
         (map run_in runs.now)) }
 {
     let mut made = all_rested(alloc, sizes, counters)?;
-    add_flags(alloc, rules, &mut made)?;
+    add_flags(alloc, rules, blocks, &mut made)?;
     add_marks(alloc, rules, &mut made)?;
     add_copies(alloc, unit, copied, &mut made)?;
     add_runs(alloc, earlier, runs, &mut made)?;

@@ -1,14 +1,15 @@
 //! The locals for flags and marks.
 
-ghost use Rattle.std.specs.Prelude.{◌≡◌, ◌++◌, OnOk, map};
+ghost use Rattle.std.specs.Prelude.{◌≡◌, ◌++◌, OnOk, map, option_map, slice_get};
 ghost use Rattle.bl_tree.specs.Reduce.{joined};
 ghost use Rattle.bl_machine_transitions.specs.Told.{rule_in};
-ghost use Rattle.bl_emit_tables.specs.Told.{asks_flag, flag_told, flags_told, mark_told, marks_told};
+ghost use Rattle.bl_emit_tables.specs.Told.{asks_flag, first_flag_told, flag_told, flag_where, flags_told, mark_told, marks_told};
 
 use crate::parts::local;
 use bl_emit_acts::parts::numbered;
 use bl_machine_transitions::{Change, Condition, Transition};
 use bl_tree::c::CLocal;
+use bl_tree::slices::element;
 use bl_tree::{List, NoMemory, Scalar};
 use std::alloc::Global;
 
@@ -33,16 +34,60 @@ fn add_flag(alloc: Global, rule: &Transition, locals: &mut List<CLocal>) -> Resu
     Ok(())
 }
 
-/// Appends the locals for the flags of all nodes.
+/// Appends the local for the flag of an optional node.
+fn add_flag_where(
+    alloc: Global,
+    rule: Option<&Transition>,
+    locals: &mut List<CLocal>,
+) -> Result<(), NoMemory>
+    ensures { OnOk result (locals.new ≡ locals.old ++ flag_where (option_map rule_in (option_map (λ rule. rule.now) rule.entry))) }
+{
+    match rule {
+        Some(rule) => add_flag(alloc, rule, locals),
+        None => Ok(()),
+    }
+}
+
+/// Appends the local for the flag of the node at the position.
+#[tactic(auto, using(crate::proofs::RuleLemmas::flag_is))]
+fn add_flag_at(
+    alloc: Global,
+    rules: &[Transition],
+    k: u32,
+    locals: &mut List<CLocal>,
+) -> Result<(), NoMemory>
+    ensures { OnOk result (locals.new ≡ locals.old ++ flag_where (slice_get (map rule_in rules.now) k)) }
+{
+    add_flag_where(alloc, element(rules, k as usize), locals)
+}
+
+/// Appends the local for the flag of the first node of a block.
+fn add_first_flag(
+    alloc: Global,
+    rules: &[Transition],
+    block: &[u32],
+    locals: &mut List<CLocal>,
+) -> Result<(), NoMemory>
+    ensures { OnOk result (locals.new ≡ locals.old ++ first_flag_told (map rule_in rules.now) block.now) }
+{
+    if block.is_empty() {
+        Ok(())
+    } else {
+        add_flag_at(alloc, rules, block[0], locals)
+    }
+}
+
+/// Appends the locals for the flags of the first nodes of blocks.
 pub fn add_flags(
     alloc: Global,
     rules: &[Transition],
+    blocks: &[List<u32>],
     locals: &mut List<CLocal>,
 ) -> Result<(), NoMemory>
-    ensures { OnOk result (locals.new ≡ locals.old ++ flags_told (map rule_in rules.now)) }
+    ensures { OnOk result (locals.new ≡ locals.old ++ flags_told (map rule_in rules.now) blocks.now) }
 {
-    for rule in rules {
-        add_flag(alloc, rule, locals)?;
+    for block in blocks {
+        add_first_flag(alloc, rules, block, locals)?;
     }
     Ok(())
 }

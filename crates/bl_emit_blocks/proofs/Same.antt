@@ -25,7 +25,7 @@ use Rattle.bl_emit_spec.specs.Blocks.{choice_code, layer_acted, name_in, rested_
 use Rattle.bl_emit_spec.specs.Names.{callee_frame, callee_memory, ended_place, frame_name, given_place}
 use Rattle.bl_emit_blocks.specs.Laws.{BlocksAlike}
 use Rattle.bl_emit_blocks.specs.Numbered.{numbered_aged, numbered_begun, numbered_change, numbered_changes}
-use Rattle.bl_emit_blocks.specs.Numbered.{numbered_guard, numbered_resumed, numbered_task, numbered_tested, numbered_turn}
+use Rattle.bl_emit_blocks.specs.Numbered.{numbered_control, numbered_guard, numbered_own, numbered_resumed, numbered_tested, numbered_turn}
 
 module _ (site : TypingContext) (copies : List Bool) (sizes : Sizes) (number other : Node → ℕ) (run same : Place → ℕ) (read seen held kept : ℕ → Bool)
     (runs : (at : Place) → run at ≡ same at) (reads : (k : ℕ) → read k ≡ seen k) (keeps : (k : ℕ) → held k ≡ kept k) where
@@ -136,22 +136,31 @@ module _ (site : TypingContext) (copies : List Bool) (sizes : Sizes) (number oth
       ap (λ on_true. choice_code test (spelled_truth test) on_true (numbered_changes v rule.on_false)) (changes_same rule.on_true)
       ∙ ap (λ other. choice_code test (spelled_truth test) (numbered_changes w rule.on_true) other) (changes_same rule.on_false)
 
-  task_same : (rule : NumberedTransition) (task : Task) → numbered_task v rule task ≡ numbered_task w rule task
-  task_same rule Nothing = changes_same rule.on_true
-  task_same rule (Acts s) = ap (λ code. code ++ numbered_changes v rule.on_true) (acted_same s) ∙ ap (λ code. acted w s ++ code) (changes_same rule.on_true)
-  task_same rule (Tests e) = tested_same (code_made site e) rule
-  task_same rule (Enters at a arguments) =
+  own_same : (task : Task) → numbered_own v task ≡ numbered_own w task
+  own_same Nothing = refl
+  own_same (Acts s) = acted_same s
+  own_same (Tests e) = refl
+  own_same (Enters at a arguments) = refl
+  own_same (Resumes at a arguments) = refl
+
+  control_same : (rule : NumberedTransition) (task : Task) → numbered_control v rule task ≡ numbered_control w rule task
+  control_same rule Nothing = changes_same rule.on_true
+  control_same rule (Acts s) = changes_same rule.on_true
+  control_same rule (Tests e) = tested_same (code_made site e) rule
+  control_same rule (Enters at a arguments) =
       begun_same (run at) a arguments rule.on_true ∙ ap (λ k. numbered_begun w k a arguments rule.on_true) (runs at)
-  task_same rule (Resumes at a arguments) =
+  control_same rule (Resumes at a arguments) =
       resumed_same (run at) a arguments rule.on_true ∙ ap (λ k. numbered_resumed w k a arguments rule.on_true) (runs at)
 
-  abbrev turn : CExpr → List CStmt → NodeCode
-  turn test code = record { test = test; code = code }
+  abbrev turn : CExpr → List CStmt → List CStmt → NodeCode
+  turn test own control = record { test = test; own = own; control = control }
 
   pub turn_same : (rule : NumberedTransition) → numbered_turn v rule ≡ numbered_turn w rule
   turn_same rule =
-      ap (λ (test : CExpr). turn test (numbered_task v rule rule.task)) (guard_same rule.number rule.condition)
-      ∙ ap (λ (code : List CStmt). turn (numbered_guard w rule.number rule.condition) code) (task_same rule rule.task)
+      ap (λ (test : CExpr). turn test (numbered_own v rule.task) (numbered_control v rule rule.task)) (guard_same rule.number rule.condition)
+      ∙ (ap (λ (own : List CStmt). turn (numbered_guard w rule.number rule.condition) own (numbered_control v rule rule.task)) (own_same rule.task)
+      ∙ ap (λ (control : List CStmt). turn (numbered_guard w rule.number rule.condition) (numbered_own w rule.task) control)
+      (control_same rule rule.task))
 
 -- the same of any two such views
 pub blocks_alike : BlocksAlike

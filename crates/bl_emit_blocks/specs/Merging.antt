@@ -3,17 +3,21 @@ use Rattle.std.specs.Prelude.{ℕ, List, [], ◌∷◌, ◌++◌, Option, Some, 
 use Rattle.bl_tree.specs.declared.c.CStmt.{CStmt}
 use Rattle.bl_emit_spec.specs.Blocks.{NodeCode, turn_code}
 
--- a turn with one more turn in it: the `if` of the second stands behind what the first does
+-- a turn with another one behind it: both do themselves what they do, the first asks, and the second tells how it goes on
+abbrev pub followed : NodeCode → NodeCode → NodeCode
+followed first next = record { test = first.test; own = first.own ++ next.own; control = next.control }
+
+-- an optional turn with another one behind it
 abbrev pub turn_with : Option NodeCode → NodeCode → NodeCode
 turn_with None turn = turn
-turn_with (Some made) turn = record { test = made.test; code = made.code ++ turn_code turn ∷ [] }
+turn_with (Some made) turn = followed made turn
 
--- a turn with an optional further turn in it
+-- an optional turn with an optional further one behind it
 abbrev pub turn_where : Option NodeCode → Option NodeCode → Option NodeCode
 turn_where made None = made
 turn_where made (Some turn) = Some (turn_with made turn)
 
--- a turn with the turns at these positions in it, one after another
+-- an optional turn with the turns at these positions behind it, one after another
 abbrev pub turns_at : List NodeCode → Option NodeCode → List ℕ → Option NodeCode
 turns_at turns made [] = made
 turns_at turns made (k ∷ block) = turns_at turns (turn_where made (slice_get turns k)) block

@@ -16,7 +16,7 @@ use Rattle.bl_machine_transitions.specs.declared.transition.Change.TheVariants a
 use Rattle.bl_machine_transitions.specs.declared.transition.Needed.{Needed}
 use Rattle.bl_machine_transitions.specs.Told.{Acts, Enters, Nothing, NumberedTransition, Resumes, Task, Tests}
 use Rattle.bl_emit_spec.specs.Blocks.{ActivityView, NodeCode, acted, all_tests, at_slot, choice_code, counter_value, forgotten, freed, name_in}
-use Rattle.bl_emit_spec.specs.Blocks.{rested_at, rested_in, run_code, some_test, spelled_truth, target_code, turn_code}
+use Rattle.bl_emit_spec.specs.Blocks.{rested_at, rested_in, run_code, some_test, spelled_truth, target_code}
 use Rattle.bl_emit_spec.specs.Names.{callee_frame, counter_place, ended_place, flag_place, frame_name, mark_place, over_place}
 
 -- ---- guards
@@ -81,18 +81,26 @@ numbered_resumed view k a arguments on_true =
     run_code view k a arguments
     ++ c_if (c_read (ended_place k)) (target_code view k arguments.target ++ numbered_changes view on_true) None ∷ []
 
--- what a block does, by what is done at its node
-abbrev pub numbered_task : ActivityView → NumberedTransition → Task → List CStmt
-numbered_task view rule Nothing = numbered_changes view rule.on_true
-numbered_task view rule (Acts s) = acted view s ++ numbered_changes view rule.on_true
-numbered_task view rule (Tests e) = numbered_tested view (code_made view.site e) rule
-numbered_task view rule (Enters at a arguments) = numbered_begun view (view.run at) a arguments rule.on_true
-numbered_task view rule (Resumes at a arguments) = numbered_resumed view (view.run at) a arguments rule.on_true
+-- what a node does itself, by what is done there
+abbrev pub numbered_own : ActivityView → Task → List CStmt
+numbered_own view Nothing = []
+numbered_own view (Acts s) = acted view s
+numbered_own view (Tests e) = []
+numbered_own view (Enters at a arguments) = []
+numbered_own view (Resumes at a arguments) = []
 
--- the turn of a rule: what is asked before its node, and what that does then
+-- how a node goes on, by what is done there
+abbrev pub numbered_control : ActivityView → NumberedTransition → Task → List CStmt
+numbered_control view rule Nothing = numbered_changes view rule.on_true
+numbered_control view rule (Acts s) = numbered_changes view rule.on_true
+numbered_control view rule (Tests e) = numbered_tested view (code_made view.site e) rule
+numbered_control view rule (Enters at a arguments) = numbered_begun view (view.run at) a arguments rule.on_true
+numbered_control view rule (Resumes at a arguments) = numbered_resumed view (view.run at) a arguments rule.on_true
+
+-- the turn of a rule: what is asked before its node, what that does itself, and how it goes on
 abbrev pub numbered_turn : ActivityView → NumberedTransition → NodeCode
-numbered_turn view rule = record { test = numbered_guard view rule.number rule.condition; code = numbered_task view rule rule.task }
-
--- the `if` of a rule's node
-abbrev pub numbered_block : ActivityView → NumberedTransition → CStmt
-numbered_block view rule = turn_code (numbered_turn view rule)
+numbered_turn view rule = record {
+  test = numbered_guard view rule.number rule.condition;
+  own = numbered_own view rule.task;
+  control = numbered_control view rule rule.task;
+}

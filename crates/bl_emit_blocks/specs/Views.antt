@@ -20,4 +20,4 @@ view_in view = record {
 
 -- a turn
 abbrev pub turn_in : KeptTurn → NodeCode
-turn_in turn = record { test = turn.test; code = turn.code }
+turn_in turn = record { test = turn.test; own = turn.own; control = turn.control }

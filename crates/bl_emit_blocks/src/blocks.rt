@@ -86,14 +86,23 @@ fn tested(
     chosen(alloc, test, on_true, on_false)
 }
 
-/// What a node does in its turn.
-fn done(alloc: Global, view: &ActivityView, rule: &Transition) -> Result<List<CStmt>, NoMemory>
+/// What a node does itself.
+fn own(alloc: Global, view: &ActivityView, task: &Task) -> Result<List<CStmt>, NoMemory>
+    ensures { IfOk result (λ code. code ≡ numbered.numbered_own (view_in view.entry.now) (task_in task.now)) }
+{
+    match task {
+        Task::Act(s) => acted(alloc, view, s),
+        Task::Nothing | Task::Test(_) | Task::Enter(_) | Task::Resume(_) => Ok(List::new(alloc)),
+    }
+}
+
+/// How a node goes on.
+fn control(alloc: Global, view: &ActivityView, rule: &Transition) -> Result<List<CStmt>, NoMemory>
     ensures { IfOk result (λ code. code
-        ≡ numbered.numbered_task (view_in view.entry.now) (rule_in rule.entry.now) (task_in rule.entry.now.task)) }
+        ≡ numbered.numbered_control (view_in view.entry.now) (rule_in rule.entry.now) (task_in rule.entry.now.task)) }
 {
     match &rule.task {
-        Task::Nothing => changes(alloc, view, &rule.on_true),
-        Task::Act(s) => joined(acted(alloc, view, s)?, changes(alloc, view, &rule.on_true)?),
+        Task::Nothing | Task::Act(_) => changes(alloc, view, &rule.on_true),
         Task::Test(e) => tested(alloc, view, e, rule),
         Task::Enter(run) => begun(alloc, view, run, &rule.on_true),
         Task::Resume(run) => resumed(alloc, view, run, &rule.on_true),
@@ -105,20 +114,14 @@ pub fn turn(alloc: Global, view: &ActivityView, rule: &Transition) -> Result<Nod
     ensures { IfOk result (λ made. turn_in made ≡ numbered.numbered_turn (view_in view.entry.now) (rule_in rule.entry.now)) }
 {
     let test = guard(alloc, view, rule.number, &rule.condition)?;
-    let code = done(alloc, view, rule)?;
-    Ok(NodeCode { test, code })
+    let own = own(alloc, view, &rule.task)?;
+    let control = control(alloc, view, rule)?;
+    Ok(NodeCode { test, own, control })
 }
 
 /// The `if` of a turn.
 pub fn turn_code(alloc: Global, turn: NodeCode) -> Result<CStmt, NoMemory>
     ensures { IfOk result (λ made. made ≡ turn_code (turn_in turn)) }
 {
-    choice(alloc, turn.test, turn.code, None)
-}
-
-/// The `if` of a rule's node. Fails only for want of memory.
-pub fn block(alloc: Global, view: &ActivityView, rule: &Transition) -> Result<CStmt, NoMemory>
-    ensures { IfOk result (λ made. made ≡ numbered.numbered_block (view_in view.entry.now) (rule_in rule.entry.now)) }
-{
-    turn_code(alloc, turn(alloc, view, rule)?)
+    choice(alloc, turn.test, joined(turn.own, turn.control)?, None)
 }

@@ -8,16 +8,28 @@ ghost use Rattle.bl_emit_spec.specs.Activities.{picked};
 ghost use Rattle.bl_emit_spec.specs.Blocks.{merged_code};
 ghost use Rattle.bl_machine_transitions.specs.Told.{rule_in};
 
-use crate::blocks::{block, turn, turn_code};
+use crate::blocks::{turn, turn_code};
 use crate::turn::NodeCode;
 use crate::view::ActivityView;
+use bl_emit_acts::parts::joined;
 use bl_machine_transitions::Transition;
 use bl_tree::NoMemory;
 use bl_tree::c::CStmt;
 use bl_tree::slices::element;
 use std::alloc::Global;
 
-/// One more node: its `if` stands behind what the first one does.
+/// A turn with another one behind it.
+fn followed(first: NodeCode, next: NodeCode) -> Result<NodeCode, NoMemory>
+    ensures { IfOk result (λ made. turn_in made ≡ merging.followed (turn_in first) (turn_in next)) }
+{
+    Ok(NodeCode {
+        test: first.test,
+        own: joined(first.own, next.own)?,
+        control: next.control,
+    })
+}
+
+/// One more node: it acts behind the first ones, and tells how the block goes on.
 fn turn_with(
     alloc: Global,
     view: &ActivityView,
@@ -27,16 +39,10 @@ fn turn_with(
     ensures { IfOk result (λ next. turn_in next
         ≡ merging.turn_with (option_map turn_in made) (numbered_turn (view_in view.entry.now) (rule_in rule.entry.now))) }
 {
+    let next = turn(alloc, view, rule)?;
     match made {
-        None => turn(alloc, view, rule),
-        Some(first) => {
-            let mut code = first.code;
-            code.push(block(alloc, view, rule)?)?;
-            Ok(NodeCode {
-                test: first.test,
-                code,
-            })
-        }
+        None => Ok(next),
+        Some(first) => followed(first, next),
     }
 }
 
@@ -71,7 +77,7 @@ fn turn_at(
     turn_where(alloc, view, made, element(rules, k as usize))
 }
 
-/// The turn of a block: that of its first node, with the `if`s of its other nodes in it.
+/// The turn of a block: it asks what its first node asks, does what its nodes do, and goes on as the last one does.
 fn turns_at(
     alloc: Global,
     view: &ActivityView,

@@ -31,10 +31,10 @@ use Rattle.bl_machine_pass.specs.Numbered.{slots_of}
 use Rattle.bl_machine_transitions.specs.Callees.{callees_in}
 use Rattle.bl_machine_transitions_laws.specs.Laws.{RulesAreListed}
 use Rattle.bl_machine_transitions.specs.Told.{all_told, task_at, told_change, told_condition, told_rule}
-use Rattle.bl_emit_spec.specs.Blocks.{ActivityView, NodeCode, acted, change_code, changes_code, choice_code, guard_of, name_in, node_code, run_code}
-use Rattle.bl_emit_spec.specs.Blocks.{node_turn, spelled_truth, target_code, turns_of}
+use Rattle.bl_emit_spec.specs.Blocks.{ActivityView, NodeCode, change_code, changes_code, choice_code, control_code, guard_of, name_in, node_turn}
+use Rattle.bl_emit_spec.specs.Blocks.{own_code, run_code, spelled_truth, target_code, turns_of}
 use Rattle.bl_emit_spec.specs.Names.{callee_frame, ended_place, frame_name}
-use Rattle.bl_emit_blocks.specs.Numbered.{numbered_change, numbered_changes, numbered_guard, numbered_task, numbered_turn}
+use Rattle.bl_emit_blocks.specs.Numbered.{numbered_change, numbered_changes, numbered_control, numbered_guard, numbered_own, numbered_turn}
 use Rattle.bl_emit_blocks_laws.specs.Laws.{BlocksAreNumbered, BodiesAreNumbered}
 
 module _ (view : ActivityView) where
@@ -79,30 +79,46 @@ module _ (view : ActivityView) where
   resumed_with unit k arguments on_true =
       run_code view k unit arguments ++ c_if (c_read (ended_place k)) (target_code view k arguments.target ++ on_true) None ∷ []
 
-  node_is : (unit : ℕ) (rule : nodes.Transition) (n : Node) →
-      node_code view unit rule n ≡ numbered_task view (told_rule view.number unit rule) (task_at view.number unit n)
-  node_is unit rule (ActAt l s) = ap (λ xs. acted view s ++ xs) (changes_are rule.on_true)
-  node_is unit rule (TestAt l at e) = test_is e _ _ _ _ (changes_are rule.on_true) (changes_are rule.on_false)
-  node_is unit rule (CheckAt l at e) = test_is e _ _ _ _ (changes_are rule.on_true) (changes_are rule.on_false)
-  node_is unit rule (EnterAt l at arguments) = ap (begun_with unit (view.run at) arguments) (changes_are rule.on_true)
-  node_is unit rule (ResumeAt l at arguments) = ap (resumed_with unit (view.run at) arguments) (changes_are rule.on_true)
-  node_is unit rule (PauseAt l at) = changes_are rule.on_true
-  node_is unit rule (HeadAt l at) = changes_are rule.on_true
-  node_is unit rule (StartAt l at) = changes_are rule.on_true
-  node_is unit rule (SurfaceEndAt l at) = changes_are rule.on_true
-  node_is unit rule (DepthEndAt l at) = changes_are rule.on_true
-  node_is unit rule (ForkAt l at) = changes_are rule.on_true
-  node_is unit rule (SurfaceJoinAt l at) = changes_are rule.on_true
-  node_is unit rule (DepthJoinAt l at) = changes_are rule.on_true
+  own_is : (unit : ℕ) (n : Node) → own_code view n ≡ numbered_own view (task_at view.number unit n)
+  own_is unit (ActAt l s) = refl
+  own_is unit (TestAt l at e) = refl
+  own_is unit (CheckAt l at e) = refl
+  own_is unit (EnterAt l at arguments) = refl
+  own_is unit (ResumeAt l at arguments) = refl
+  own_is unit (PauseAt l at) = refl
+  own_is unit (HeadAt l at) = refl
+  own_is unit (StartAt l at) = refl
+  own_is unit (SurfaceEndAt l at) = refl
+  own_is unit (DepthEndAt l at) = refl
+  own_is unit (ForkAt l at) = refl
+  own_is unit (SurfaceJoinAt l at) = refl
+  own_is unit (DepthJoinAt l at) = refl
 
-  abbrev turn : CExpr → List CStmt → NodeCode
-  turn test code = record { test = test; code = code }
+  control_is : (unit : ℕ) (rule : nodes.Transition) (n : Node) →
+      control_code view unit rule n ≡ numbered_control view (told_rule view.number unit rule) (task_at view.number unit n)
+  control_is unit rule (ActAt l s) = changes_are rule.on_true
+  control_is unit rule (TestAt l at e) = test_is e _ _ _ _ (changes_are rule.on_true) (changes_are rule.on_false)
+  control_is unit rule (CheckAt l at e) = test_is e _ _ _ _ (changes_are rule.on_true) (changes_are rule.on_false)
+  control_is unit rule (EnterAt l at arguments) = ap (begun_with unit (view.run at) arguments) (changes_are rule.on_true)
+  control_is unit rule (ResumeAt l at arguments) = ap (resumed_with unit (view.run at) arguments) (changes_are rule.on_true)
+  control_is unit rule (PauseAt l at) = changes_are rule.on_true
+  control_is unit rule (HeadAt l at) = changes_are rule.on_true
+  control_is unit rule (StartAt l at) = changes_are rule.on_true
+  control_is unit rule (SurfaceEndAt l at) = changes_are rule.on_true
+  control_is unit rule (DepthEndAt l at) = changes_are rule.on_true
+  control_is unit rule (ForkAt l at) = changes_are rule.on_true
+  control_is unit rule (SurfaceJoinAt l at) = changes_are rule.on_true
+  control_is unit rule (DepthJoinAt l at) = changes_are rule.on_true
+
+  abbrev turn : CExpr → List CStmt → List CStmt → NodeCode
+  turn test own control = record { test = test; own = own; control = control }
 
   turn_is : (unit : ℕ) (rule : nodes.Transition) → node_turn view unit rule ≡ numbered_turn view (told_rule view.number unit rule)
   turn_is unit rule =
-      ap (λ (guard : CExpr). turn guard (node_code view unit rule rule.node)) (guard_is rule.node rule.condition)
-      ∙ ap (λ (body : List CStmt). turn (numbered_guard view (view.number rule.node) (told_condition view.number rule.condition)) body)
-      (node_is unit rule rule.node)
+      let guard = numbered_guard view (view.number rule.node) (told_condition view.number rule.condition) in
+      ap (λ (test : CExpr). turn test (own_code view rule.node) (control_code view unit rule rule.node)) (guard_is rule.node rule.condition)
+      ∙ (ap (λ (own : List CStmt). turn guard own (control_code view unit rule rule.node)) (own_is unit rule.node)
+      ∙ ap (λ (control : List CStmt). turn guard (numbered_own view (task_at view.number unit rule.node)) control) (control_is unit rule rule.node))
 
   turns_are : (units : List ℕ) (rules : List nodes.Transition) →
       turns_of view units rules ≡ map (numbered_turn view) (all_told view.number units rules)

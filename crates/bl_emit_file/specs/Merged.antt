@@ -27,7 +27,8 @@ pub record IsOfMerged (program : Program) (file : Parts) : Type 0 where
   pub merged : AreMerged program.units machine
   pub is : file ≡ written_file program machine
 
--- a machine of the program has merged blocks. The function of each activity with an instance has as many `if`s directly in its body as the machine has blocks
+-- a machine of the program has merged blocks. The function of each activity with an instance has as many `if`s directly in its body as the machine has
+-- blocks, and one flag for each block whose first node waits by its flag
 pub record HasMergedBlocks (structs : List StructDef) (units : List UnitDef) (entry : ℕ) (file : Parts) : Type 0 where
   pub machine : List Activity
   pub agrees : AreActivitiesOf units machine

@@ -1,7 +1,8 @@
 //! The C file of an accepted program. `c_file` makes it. It has a spelling, is well formed, has the columns of the
 //! program's entry, and needs no more cells than rule Cells counts for the entry, so at most 1,000,000. Each activity
 //! with an instance has one function, which alone names its counters. It has as many counters as its width, and as many
-//! `if`s as a machine with merged blocks has blocks for it. Over all rows that fit, the file has the one trace that the
+//! `if`s as a machine with merged blocks has blocks for it. Only these `if`s ask for its flags, of which it has one for
+//! each block whose first node waits by one. Over all rows that fit, the file has the one trace that the
 //! semantics of the program allows (`specs/Shows.antt`, `ShowsProgram`). It is written of a machine of the program in
 //! which no two neighbouring blocks can be merged (`specs/Merged.antt`, `IsOfMerged`). The program must be made of a
 //! source text (`FromText` of `bl_machine_prevs`). One lemma combines those of the parts (`specs/Laws.antt`,

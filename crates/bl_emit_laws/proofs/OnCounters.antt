@@ -1,12 +1,15 @@
 pub mod Activities
 pub mod Blocks
+pub mod Decided
 pub mod Expressions
 pub mod Fine
+pub mod Flags
 pub mod Functions
 pub mod Guards
 pub mod Ifs
 pub mod Lists
 pub mod Once
+pub mod Paths
 pub mod Shapes
 pub mod Statements
 pub mod Whole

@@ -1,3 +1,4 @@
+pub mod Flags
 pub mod Ifs
 pub mod Laws
 pub mod Own

@@ -4,7 +4,9 @@
 //! `EachHasOneFunctionAndFrame`). A place that names a counter, a member `c` and digits, is `(*f).cN` in the function
 //! `a_A` whose `f` points to `struct f_A` (`CountersAreOwn`). So a counter of `struct f_A` is named in `a_A` alone
 //! (`CountersStandInOne`). The body of `a_A` is assignments, and then as many `if`s as the machine has blocks for A
-//! (`FilesHaveIfs`; `specs/Counters/Ifs.antt`, `HasIfForEach`).
+//! (`FilesHaveIfs`; `specs/Counters/Ifs.antt`, `HasIfForEach`). These `if`s ask for the flags of `a_A`, each for its
+//! own, and nothing in them asks for one. There is one flag for each block whose first node waits by its flag
+//! (`specs/Counters/Flags.antt`, `HasFlagForEach`).
 
 ghost use Rattle.bl_emit_laws.specs.Counters.Laws.{FilesHaveIfs, FilesOwn};
 
@@ -27,7 +29,8 @@ pub fn files_own(program: &Program)
     files_end(program);
 }
 
-/// In the body of the function of each activity stand as many `if`s as the machine has blocks for it.
+/// In the body of the function of each activity stand as many `if`s as the machine has blocks for it, and they ask for
+/// its flags.
 pub fn files_have_ifs(program: &Program)
     ensures { FilesHaveIfs program.now }
 {

@@ -7,12 +7,16 @@ use bl_emit_spec_laws_nodes::copied::{nodes_copied, runs_copied};
 use bl_emit_spec_laws_wellformed::counts::nodes_counted;
 use bl_emit_spec_laws_wellformed::machines::{machines_differ, machines_spell};
 use bl_emit_spec_laws_wellformed::needed::{needed_numbered, needed_small};
+use bl_graph::graphs_stay_within;
 use bl_limits_measures::laws::units_add_up;
 use bl_limits_measures_laws::laws::units_use_earlier_ones;
 use bl_machine_laws::rests::activities_count;
+use bl_machine_pass_laws::flags::{flags_are_asked, flags_are_reached, flags_come_from_before};
+use bl_machine_pass_laws::keys::nodes_have_keys;
 use bl_machine_pass_laws::numbers::trees_stay_placed;
 use bl_machine_pass_laws::spots::spots_differ;
 use bl_machine_prevs_laws::scalar::prevs_are_scalar;
+use bl_machine_transitions_laws::rules_are_listed;
 use bl_tree::Program;
 
 /// All is so that is asked of the units that the entry of an accepted program needs.
@@ -29,6 +33,12 @@ pub fn all_form(program: &Program)
     needed_numbered(program);
     spots_differ();
     trees_stay_placed();
+    nodes_have_keys();
+    rules_are_listed();
+    graphs_stay_within();
+    flags_come_from_before();
+    flags_are_asked();
+    flags_are_reached();
     nodes_copied();
     runs_copied();
     prevs_are_scalar();

@@ -78,6 +78,21 @@ body_of a = plain_body a.unit.body
 abbrev pub rules_at : Activity → List Transition
 rules_at a = rules a.slots (body_of a)
 
+-- the elements of a list at these positions
+abbrev pub picked : {X : Type 0} → List X → List ℕ → List X
+picked all [] = []
+picked all (k ∷ rest) = option_to_list (slice_get all k) ++ picked all rest
+
+-- the first positions of blocks, in order
+abbrev pub first_positions : List (List ℕ) → List ℕ
+first_positions [] = []
+first_positions ([] ∷ rest) = first_positions rest
+first_positions ((k ∷ block) ∷ rest) = k ∷ first_positions rest
+
+-- the rules of the nodes that stand first in their blocks, in the order of the blocks
+abbrev pub first_rules : Activity → List Transition
+first_rules a = picked (rules_at a) (first_positions a.blocks)
+
 -- which of the variables have a copy of their values at the start of the tick, in order
 abbrev pub copies_of : UnitDef → List Bool
 copies_of unit = map (λ k. list_any (nat_eq k) (prevs_of unit)) (up_to (length unit.vars))
@@ -245,11 +260,11 @@ abbrev pub run_locals : Activity → RunAt → List CLocal
 run_locals a run =
     scalar_local OfBool (ended_name run.number) ∷ given_local run.number (option_and_then (λ unit. unit.result) (slice_get a.earlier run.unit))
 
--- the locals: what counters held, flags, marks, copies, and those of each `run`
+-- the locals: what counters held, flags of the first nodes of blocks, marks, copies, and those of each `run`
 abbrev pub activity_locals : Activity → List CLocal
 activity_locals a =
     map (rested_local a.sizes) (counters_read a)
-    ++ (joined (map (flag_local (activity_view a).number) (rules_at a))
+    ++ (joined (map (flag_local (activity_view a).number) (first_rules a))
     ++ (joined (map (mark_locals (activity_view a).number) (rules_at a))
     ++ (map (copy_local a) (copied_in a) ++ joined (map (run_locals a) (runs_in_body a)))))
 
@@ -262,11 +277,6 @@ abbrev pub entry_code : ActivityView → Block → List CStmt
 entry_code view Done = []
 entry_code view (Then s rest) =
     c_set (flag_place (view.number (entry s))) (c_two Eq (c_read (counter_place 0)) (counter_value view.sizes 0 0)) ∷ []
-
--- the elements of a list at these positions
-abbrev pub picked : {X : Type 0} → List X → List ℕ → List X
-picked all [] = []
-picked all (k ∷ rest) = option_to_list (slice_get all k) ++ picked all rest
 
 -- the turns of nodes in source order
 abbrev pub turns_in_source : Activity → List NodeCode

@@ -1,4 +1,4 @@
--- The C of the blocks of a pass: one `if` for each block, with what its nodes do and what changes then, and in it one for each further node.
+-- The C of the blocks of a pass: one `if` for each block, with what its nodes do, and what changes behind the last of them.
 use Rattle.std.specs.Prelude.{ℕ, zero, suc, pos, Bool, true, false, List, [], ◌∷◌, ◌++◌, map, Option, Some, None, if◌then◌else◌}
 use Rattle.std.specs.Prelude.{◌&&◌, length, is_some, nat_eq, nat_le, slice_get, unwrap_or}
 use Rattle.bl_tree.specs.declared.text.Text.{Text}
@@ -275,32 +275,55 @@ resumed_code view k a arguments rule =
     run_code view k a arguments
     ++ c_if (c_read (ended_place k)) (target_code view k arguments.target ++ changes_code view rule.on_true) None ∷ []
 
--- what a node does in its turn, by its rule; of a `run` the number tells the activity that it calls
-abbrev pub node_code : ActivityView → ℕ → Transition → Node → List CStmt
-node_code view a rule (ActAt l s) = acted view s ++ changes_code view rule.on_true
-node_code view a rule (TestAt l at e) = test_code view (code_made view.site e) rule
-node_code view a rule (CheckAt l at e) = test_code view (code_made view.site e) rule
-node_code view a rule (EnterAt l at arguments) = begun_code view (view.run at) a arguments rule
-node_code view a rule (ResumeAt l at arguments) = resumed_code view (view.run at) a arguments rule
-node_code view a rule n = changes_code view rule.on_true
+-- what a node does itself, before it is decided which nodes have their turns next: an act is done
+abbrev pub own_code : ActivityView → Node → List CStmt
+own_code view (ActAt l s) = acted view s
+own_code view n = []
 
--- the turn of a node in C: what is asked before it, and what it does then
+-- how a node goes on, by its rule: changes, a test, or a `run`; of a `run` the number tells the activity that it calls
+abbrev pub control_code : ActivityView → ℕ → Transition → Node → List CStmt
+control_code view a rule (TestAt l at e) = test_code view (code_made view.site e) rule
+control_code view a rule (CheckAt l at e) = test_code view (code_made view.site e) rule
+control_code view a rule (EnterAt l at arguments) = begun_code view (view.run at) a arguments rule
+control_code view a rule (ResumeAt l at arguments) = resumed_code view (view.run at) a arguments rule
+control_code view a rule n = changes_code view rule.on_true
+
+-- what a node does in its turn, by its rule
+abbrev pub node_code : ActivityView → ℕ → Transition → Node → List CStmt
+node_code view a rule n = own_code view n ++ control_code view a rule n
+
+-- the turn of a node in C: what is asked before it, what it does itself, and how it goes on
 pub record NodeCode : Type 0 where
   pub test : CExpr
-  pub code : List CStmt
+  pub own : List CStmt
+  pub control : List CStmt
+
+-- all that a node does in its turn
+abbrev pub whole_code : NodeCode → List CStmt
+whole_code turn = turn.own ++ turn.control
 
 -- the `if` of one turn
 abbrev pub turn_code : NodeCode → CStmt
-turn_code turn = c_if turn.test turn.code None
+turn_code turn = c_if turn.test (whole_code turn) None
 
--- the `if` of a block: the turn of its first node, and in it the `if`s of its other nodes
+-- what the nodes of a block do, from one of them on: each does itself what it does, and the last one tells how it goes on. Each other one goes on with the
+-- node behind it, and with no other
+abbrev pub fused_code : NodeCode → List NodeCode → List CStmt
+fused_code last [] = whole_code last
+fused_code turn (next ∷ rest) = turn.own ++ fused_code next rest
+
+-- the `if` of a block: it asks what is asked before its first node, and in it stands what its nodes do
 abbrev pub merged_code : List NodeCode → List CStmt
 merged_code [] = []
-merged_code (first ∷ rest) = c_if first.test (first.code ++ map turn_code rest) None ∷ []
+merged_code (first ∷ rest) = c_if first.test (fused_code first rest) None ∷ []
 
 -- the turn of a rule's node; of a `run` the number tells the activity that it calls
 abbrev pub node_turn : ActivityView → ℕ → Transition → NodeCode
-node_turn view a rule = record { test = guard_of view rule.node rule.condition; code = node_code view a rule rule.node }
+node_turn view a rule = record {
+  test = guard_of view rule.node rule.condition;
+  own = own_code view rule.node;
+  control = control_code view a rule rule.node;
+}
 
 -- the `if` of a rule's node
 abbrev pub block_code : ActivityView → ℕ → Transition → CStmt

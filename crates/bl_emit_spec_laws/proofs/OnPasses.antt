@@ -1,3 +1,4 @@
 pub mod Blocks
 pub mod Passing
+pub mod Straight
 pub mod Turns

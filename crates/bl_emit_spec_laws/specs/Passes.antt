@@ -11,13 +11,14 @@ use Rattle.bl_ctree.specs.Instances.{Setting, setting_of, unit_at}
 use Rattle.bl_ctree.specs.Store.{Store}
 use Rattle.bl_ctree_laws_typing.specs.Fits.{StoreFits}
 use Rattle.bl_machine.specs.declared.machine.Activity.{Activity as InMachine}
-use Rattle.bl_machine_pass.specs.Transitions.{Change, Flagged, Transition}
+use Rattle.bl_machine.specs.Blocks.{goes_straight}
+use Rattle.bl_machine_pass.specs.Transitions.{Change, Flagged, SetsFlag, Transition}
 use Rattle.bl_machine_pass_laws_execution.specs.Executes.{HasRule, IsPoint, Performs, begun_registers, recopied}
 use Rattle.bl_machine_pass_laws.specs.Flags.{MayFlag}
 use Rattle.bl_machine_pass_laws_execution.specs.Frames.{Frames}
-use Rattle.bl_emit_spec.specs.Activities.{Activity, activity_view, picked, turns_in_source}
+use Rattle.bl_emit_spec.specs.Activities.{Activity, activity_view, first_rules, picked, turns_in_source}
 use Rattle.bl_emit_spec.specs.Blocks.{NodeCode, node_turn}
-use Rattle.bl_emit_spec_laws.specs.Calls.Built.{Activities, activity_at, cleared, rank_by, slots_by}
+use Rattle.bl_emit_spec_laws.specs.Calls.Built.{Activities, activity_at, cleared, last_rules, rank_by, registered, slots_by}
 use Rattle.bl_emit_spec_laws.specs.Calls.Laws.{BlocksSimulate, CalledAt, CompilationContext, GuardsChoose, PassesSimulate}
 use Rattle.bl_emit_spec_laws.specs.Within.{PassesStayWithin}
 
@@ -53,6 +54,13 @@ pub record RuleAt (w : Setting) (activities : Activities) (i : ℕ) (unit : Unit
   pub there : HasRule (slots_by w activities) i unit rule
   pub numbered : rank_by w activities i rule.node ≡ number
 
+-- the rule's node goes straight on with the one that has the next number: its turn sets the flag of that one, and nothing else changes
+pub record GoesStraight (number : Node → ℕ) (rule : Transition) : Type 0 where
+  pub goes : goes_straight rule.node ≡ true
+  pub to : Node
+  pub sets : rule.on_true ≡ SetsFlag to ∷ []
+  pub next : number to ≡ suc (number rule.node)
+
 -- turns stand in the order of their nodes' numbers, one for each rule, in the function of each instance's activity
 pub record BlocksPlaced (structs : List StructDef) (units : List UnitDef) (entry : ℕ) (machine : List InMachine) (activities : Activities) : Type 0 where
   pub of_rule : (i : ℕ) (unit : UnitDef) (rule : Transition) → let w = setting_of structs units entry in
@@ -74,6 +82,21 @@ pub record BlocksPlaced (structs : List StructDef) (units : List UnitDef) (entry
   pub begins : (i : ℕ) (unit : UnitDef) (number : ℕ) → let w = setting_of structs units entry in
       CompilationContext structs units entry machine activities → unit_at w i ≡ Some unit → IsBehind (activity_at w activities i) number →
       (begun_registers (rank_by w activities) i unit).flags number ≡ false
+  -- a node with another one behind it in its block goes straight on with that one
+  pub straight : (i : ℕ) (unit : UnitDef) (rule : Transition) → let w = setting_of structs units entry in
+      CompilationContext structs units entry machine activities → unit_at w i ≡ Some unit → HasRule (slots_by w activities) i unit rule →
+      IsBehind (activity_at w activities i) (suc (rank_by w activities i rule.node)) → GoesStraight (rank_by w activities i) rule
+  -- a rule whose node stands behind no other one is that of a block's first node, and one whose node has none behind it that of a block's last node
+  pub first : (i : ℕ) (unit : UnitDef) (rule : Transition) → let w = setting_of structs units entry in
+      CompilationContext structs units entry machine activities → unit_at w i ≡ Some unit → HasRule (slots_by w activities) i unit rule →
+      (IsBehind (activity_at w activities i) (rank_by w activities i rule.node) → ⊥) → Contains (first_rules (activity_at w activities i)) rule
+  pub last : (i : ℕ) (unit : UnitDef) (rule : Transition) → let w = setting_of structs units entry in
+      CompilationContext structs units entry machine activities → unit_at w i ≡ Some unit → HasRule (slots_by w activities) i unit rule →
+      (IsBehind (activity_at w activities i) (suc (rank_by w activities i rule.node)) → ⊥) → Contains (last_rules (activity_at w activities i)) rule
+  -- the flag of a node behind the first of its block is no register
+  pub free : (i : ℕ) (unit : UnitDef) (number : ℕ) → let w = setting_of structs units entry in
+      CompilationContext structs units entry machine activities → unit_at w i ≡ Some unit → IsBehind (activity_at w activities i) number →
+      (registered (activity_at w activities i)).flags number ≡ false
 
 -- ---- passes
 

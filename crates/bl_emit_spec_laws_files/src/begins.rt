@@ -9,6 +9,7 @@ ghost use Rattle.bl_emit_spec_laws_files.specs.Begins.{FunctionsBeginInContext, 
 use bl_ctree_laws_confluence::deeds::accepted_programs_are_orderly;
 use bl_emit_acts_laws_simulation::{copies_begin, frames_apart};
 use bl_emit_functions_laws_simulation::calls::{calls_keep, hands_over};
+use bl_emit_spec_laws::own::entries_are_own;
 use bl_emit_spec_laws::registers::{guards_show, registers_apart};
 use bl_tree::Program;
 
@@ -49,4 +50,5 @@ pub fn functions_begin(program: &Program)
     guards_show();
     frames_apart();
     copies_begin();
+    entries_are_own();
 }

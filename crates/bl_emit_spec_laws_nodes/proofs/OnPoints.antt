@@ -13,5 +13,6 @@ pub mod Results
 pub mod ReturnBlocks
 pub mod Returned
 pub mod Sets
+pub mod Shown
 pub mod Silent
 pub mod Tests

@@ -1,12 +1,12 @@
 //! The C of nodes at which only registers change. Lemmas only (`specs/Points/Laws.antt`). In the middle of a pass,
 //! memory represents the changed registers after the C of changes, and all else as before (`ChangesSimulateInPass`). An
-//! `if` by the guard of a rule is taken iff the rule is due (`GuardsSimulate`). So a block whose rule is due does what
-//! the C of its node does (`BlocksChoose`). The blocks of nodes with changes alone simulate them
-//! (`SilentNodesSimulate`). Rules must use only registers of their activity (`RulesOwn`). Only a `return` may end a
-//! body with a result (`ReturnsEnd`), and an activity must remember what its callees remember (`Remembering`).
+//! `if` by the guard of a block's first node is taken iff the rule of that node is due (`GuardsSimulate`). The C of
+//! nodes with changes alone simulates them (`SilentNodesSimulate`). Rules must use only registers of their activity
+//! (`RulesOwn`). Only a `return` may end a body with a result (`ReturnsEnd`), and an activity must remember what its
+//! callees remember (`Remembering`).
 
 ghost use Rattle.bl_emit_spec_laws_nodes.specs.Points.Acts.{ActNodesSimulate, ReturnNodesSimulate};
-ghost use Rattle.bl_emit_spec_laws_nodes.specs.Points.Laws.{BlocksChoose, ChangesSimulateInPass, GuardsSimulate, SilentNodesSimulate};
+ghost use Rattle.bl_emit_spec_laws_nodes.specs.Points.Laws.{ChangesSimulateInPass, GuardsSimulate, SilentNodesSimulate};
 ghost use Rattle.bl_emit_spec_laws_nodes.specs.Points.Nodes.{TestNodesSimulate};
 ghost use Rattle.bl_emit_spec_laws_nodes.specs.Points.Points.{BodiesEnd, PointsSimulate};
 
@@ -22,16 +22,9 @@ pub fn changes_stand()
     registers_apart();
 }
 
-/// An `if` by the guard of a rule does what stands in it where the rule is due, and else nothing.
+/// An `if` by the guard of a block's first node does what stands in it where the rule of that node is due, and else nothing.
 pub fn guards_choose()
     ensures { GuardsSimulate }
-{
-    guards_show();
-}
-
-/// A block whose rule is due does what the C of its node does.
-pub fn blocks_choose()
-    ensures { BlocksChoose }
 {
     guards_show();
 }
@@ -41,7 +34,6 @@ pub fn silent_nodes_simulate()
     ensures { SilentNodesSimulate }
 {
     changes_stand();
-    blocks_choose();
 }
 
 /// The blocks of nodes at which a condition is tested do what a pass by rules does there.
@@ -49,7 +41,6 @@ pub fn test_nodes_simulate(program: &Program)
     ensures { TestNodesSimulate program.now.structs program.now.units program.now.entry }
 {
     changes_stand();
-    blocks_choose();
     frames_apart();
     expressions_simulate(program);
 }
@@ -59,7 +50,6 @@ pub fn act_nodes_simulate(program: &Program)
     ensures { ActNodesSimulate program.now.structs program.now.units program.now.entry }
 {
     changes_stand();
-    blocks_choose();
     frames_apart();
     registers_apart();
     acts_simulate(program);
@@ -75,7 +65,6 @@ pub fn return_nodes_simulate(program: &Program)
     ensures { ReturnNodesSimulate program.now.structs program.now.units program.now.entry }
 {
     changes_stand();
-    blocks_choose();
     frames_apart();
     expressions_simulate(program);
 }

@@ -7,7 +7,7 @@ ghost use Rattle.bl_emit_spec_laws_simulation.specs.Compiled.{ProgramsCompile, R
 
 use bl_ctree_laws_confluence::deeds::accepted_programs_are_orderly;
 use bl_emit_functions_laws_wellformed::numbered::units_counted;
-use bl_emit_spec_laws::own::{asked_are_own, changes_are_own, registers_are_few};
+use bl_emit_spec_laws::own::{asked_are_own, changes_are_own, nodes_are_few, registers_are_few};
 use bl_emit_spec_laws_wellformed::closed::instances_needed;
 use bl_emit_spec_laws_wellformed::counts::nodes_counted;
 use bl_emit_spec_laws_wellformed::needed::needed_small;
@@ -21,6 +21,7 @@ pub fn programs_compile(program: &Program)
 {
     units_counted(program);
     nodes_counted(program);
+    nodes_are_few();
     registers_are_few();
 }
 

@@ -11,7 +11,7 @@ use bl_emit_acts_laws_simulation::{frames_apart, places_simulate, writes_encode}
 use bl_emit_spec_laws::cleared::clearing_is_inside;
 use bl_emit_spec_laws::registers::registers_apart;
 use bl_emit_spec_laws::within::passes_stay_within;
-use bl_emit_spec_laws_nodes::points::{blocks_choose, changes_stand, returns_end};
+use bl_emit_spec_laws_nodes::points::{changes_stand, returns_end};
 use bl_machine_pass_laws::keys::nodes_have_keys;
 use bl_machine_pass_laws::numbers::trees_stay_placed;
 use bl_machine_pass_laws_typing::fits::turns_fit;
@@ -29,7 +29,6 @@ pub fn runs_simulate(program: &Program)
     writes_encode(program);
     registers_apart();
     clearing_is_inside();
-    blocks_choose();
     changes_stand();
     returns_end(program);
     turns_fit();

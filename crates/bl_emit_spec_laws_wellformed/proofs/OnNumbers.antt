@@ -1,3 +1,4 @@
+pub mod Firsts
 pub mod Injective
 pub mod Marks
 pub mod Whole

@@ -6,8 +6,8 @@ use Rattle.bl_tree.specs.Reduce.{joined}
 use Rattle.bl_tree.specs.Words.{are_distinct}
 use Rattle.bl_graph_nodes.specs.Nodes.{Node}
 use Rattle.bl_machine_pass.specs.Transitions.{Change, SetsMark, Transition}
-use Rattle.bl_emit_spec.specs.Activities.{Activity, activity_locals, activity_params, activity_view, frame_struct, is_flagged, remembered, rules_at}
-use Rattle.bl_emit_spec.specs.Activities.{runs_in_body}
+use Rattle.bl_emit_spec.specs.Activities.{Activity, activity_locals, activity_params, activity_view, first_rules, frame_struct, is_flagged, remembered}
+use Rattle.bl_emit_spec.specs.Activities.{rules_at, runs_in_body}
 
 -- whether 64 bits hold some numbers, and no two are the same
 abbrev pub are_numbers : List ℕ → Bool
@@ -31,7 +31,7 @@ mark_numbers number rule = joined (map (mark_number number) rule.on_true)
 pub record NumbersDiffer (a : Activity) : Type 0 where
   pub variables : length a.unit.vars ≤ 2 ^ 64
   pub counters : length a.sizes ≤ 2 ^ 64
-  pub flags : are_numbers (joined (map (flag_number (activity_view a).number) (rules_at a))) ≡ true
+  pub flags : are_numbers (joined (map (flag_number (activity_view a).number) (first_rules a))) ≡ true
   pub marks : are_numbers (joined (map (mark_numbers (activity_view a).number) (rules_at a))) ≡ true
   pub runs : are_numbers (map (λ run. run.number) (runs_in_body a)) ≡ true
 

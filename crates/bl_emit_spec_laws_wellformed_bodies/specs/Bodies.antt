@@ -15,7 +15,8 @@ use Rattle.bl_tree.specs.Program.{IsWellTyped, parameters_of}
 use Rattle.bl_tree.specs.Reduce.{all_of}
 use Rattle.bl_tree.specs.Types.{scalar_in}
 use Rattle.bl_tree.specs.Typing.{is_activity, is_function}
-use Rattle.bl_graph_nodes.specs.Nodes.{ActAt, CheckAt, EnterAt, Node, ResumeAt, TestAt}
+use Rattle.bl_graph_nodes.specs.Nodes.{ActAt, CheckAt, EnterAt, Node, ResumeAt, TestAt, entry}
+use Rattle.bl_graph_nodes.specs.Plain.{Block, Plain, Then}
 use Rattle.bl_machine_pass.specs.Transitions.{Transition}
 use Rattle.bl_ctext_semantics.specs.Faults.{Signature, Variable, bool_type, context_in}
 use Rattle.bl_ctext_semantics.specs.Tables.{Table}
@@ -33,7 +34,9 @@ use Rattle.bl_emit_spec.specs.Activities.{
   activity_code,
   activity_function,
   activity_view,
+  body_of,
   copies_of,
+  first_rules,
   frame_struct,
   remembered_struct,
   rules_at,
@@ -42,8 +45,9 @@ use Rattle.bl_emit_spec.specs.Activities.{
 use Rattle.bl_emit_spec.specs.Blocks.{name_in}
 use Rattle.bl_emit_spec.specs.Names.{frame_name}
 use Rattle.bl_emit_spec_laws.specs.Registers.Laws.{asks_its_own, changes_its_own}
-use Rattle.bl_emit_spec_laws.specs.Calls.Built.{registered}
+use Rattle.bl_emit_spec_laws.specs.Calls.Built.{last_rules, registered}
 use Rattle.bl_emit_spec_laws_wellformed.specs.Names.{NumbersDiffer}
+use Rattle.bl_emit_spec_laws_wellformed.specs.Numbers.{EachStandsOnce}
 use Rattle.bl_emit_spec_laws_wellformed.specs.Spelled.{CanSpell}
 
 -- ---- what a call of an activity's function is given
@@ -84,11 +88,15 @@ pub record ActivityStands (units : List UnitDef) (a : Activity) (table : Table (
 
 -- ---- what is asked of an activity
 
--- the rules of an activity ask for and change only registers that its function has, and there is a counter
+-- Each node of an activity stands once in its blocks, and there is a counter. The rules of nodes that stand first in their blocks ask for registers that its
+-- function has, and those of nodes that stand last change only such
 pub record OwnsRules (a : Activity) : Type 0 where
-  pub asks : (rule : Transition) → Contains (rules_at a) rule → asks_its_own (activity_view a) (registered a) rule.node rule.condition ≡ true
-  pub on_true : (rule : Transition) → Contains (rules_at a) rule → list_all (changes_its_own (activity_view a).number (registered a)) rule.on_true ≡ true
-  pub on_false : (rule : Transition) → Contains (rules_at a) rule → list_all (changes_its_own (activity_view a).number (registered a)) rule.on_false ≡ true
+  pub once : EachStandsOnce a
+  pub asks : (rule : Transition) → Contains (first_rules a) rule → asks_its_own (activity_view a) (registered a) rule.node rule.condition ≡ true
+  pub on_true : (rule : Transition) → Contains (last_rules a) rule → list_all (changes_its_own (activity_view a).number (registered a)) rule.on_true ≡ true
+  pub on_false : (rule : Transition) → Contains (last_rules a) rule → list_all (changes_its_own (activity_view a).number (registered a)) rule.on_false ≡ true
+  -- the node at which the body begins has a flag
+  pub begins : (s : Plain) (rest : Block) → body_of a ≡ Then s rest → (registered a).flags ((activity_view a).number (entry s)) ≡ true
   pub some : 0 < length a.sizes
   pub read : (c : ℕ) → (activity_view a).is_read c ≡ true → c < length a.sizes
 

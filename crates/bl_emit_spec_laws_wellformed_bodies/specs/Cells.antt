@@ -19,6 +19,7 @@ use Rattle.bl_emit_spec.specs.Activities.{Activity, activity_function, frame_str
 use Rattle.bl_emit_spec.specs.Names.{frame_name}
 use Rattle.bl_emit_spec.specs.Programs.{needs_of}
 use Rattle.bl_emit_spec_laws_wellformed.specs.Chains.{IsOfUnit}
+use Rattle.bl_emit_spec_laws_wellformed.specs.Numbers.{EachStandsOnce}
 
 -- the `run`s in the C of an activity of a typed program call what the activity runs, in order
 abbrev pub BodiesRun : List StructDef → List UnitDef → ℕ → Type 0
@@ -45,14 +46,15 @@ abbrev pub cells_of_activity : Sizes → (ℕ → ℕ) → Activity → ℕ
 cells_of_activity known reach a =
     total (map (size_of_member known) (frame_struct a).members) + total (map (size_of_member known) (remembered a)) + cells_reached known reach a
 
--- the premises for counting the cells of an activity. The table and the reach of callees are within their counts, and there are no more counters than the body
--- takes
+-- the premises for counting the cells of an activity. The table and the reach of callees are within their counts, there are no more counters than the body
+-- takes, and each node stands once in the blocks
 pub record Sized (structs : List StructDef) (units : List UnitDef) (k : ℕ) (unit : UnitDef) (a : Activity) (known : Sizes) (reach : ℕ → ℕ) :
     Type 0 where
   pub of_unit : IsOfUnit units k unit a
   pub structures : a.structs ≡ structs
   pub active : is_activity unit.kind ≡ true
   pub counters : length a.sizes ≤ width_in (plain_body unit.body)
+  pub once : EachStandsOnce a
   pub sizes : SizesKnown structs units known
   pub calls : (f : ℕ) → Contains (calls_of unit) f → reach f ≤ cells_at structs units f
   pub runs : (u : ℕ) (callee : UnitDef) → Contains (activities_by_place unit) u → slice_get units u ≡ Some callee → IsSized structs units known reach u callee

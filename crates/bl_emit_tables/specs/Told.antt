@@ -1,5 +1,5 @@
 -- What the rules of an activity tell, by numbers, of the registers of its passes.
-use Rattle.std.specs.Prelude.{ℕ, Bool, true, false, List, [], ◌∷◌, map, nat_eq, if◌then◌else◌}
+use Rattle.std.specs.Prelude.{ℕ, Bool, true, false, List, [], ◌∷◌, ◌++◌, map, nat_eq, Option, Some, None, slice_get, if◌then◌else◌}
 use Rattle.std.specs.List.{list_any}
 use Rattle.bl_tree.specs.declared.c.CLocal.{CLocal}
 use Rattle.bl_tree.specs.declared.scalar.Scalar.TheVariants.{Bool as OfBool}
@@ -56,9 +56,20 @@ asks_flag (Ended age needed) = false
 abbrev pub flag_told : NumberedTransition → List CLocal
 flag_told rule = if asks_flag rule.condition then scalar_local OfBool (flag_name rule.number) ∷ [] else []
 
--- the locals for the flags of all nodes that wait by one
-abbrev pub flags_told : List NumberedTransition → List CLocal
-flags_told rules = joined (map flag_told rules)
+-- the local for the flag of an optional node
+abbrev pub flag_where : Option NumberedTransition → List CLocal
+flag_where (Some rule) = flag_told rule
+flag_where None = []
+
+-- the local for the flag of the first node of a block, which has nodes by their positions
+abbrev pub first_flag_told : List NumberedTransition → List ℕ → List CLocal
+first_flag_told rules [] = []
+first_flag_told rules (k ∷ block) = flag_where (slice_get rules k)
+
+-- the locals for the flags of the first nodes of blocks
+abbrev pub flags_told : List NumberedTransition → List (List ℕ) → List CLocal
+flags_told rules [] = []
+flags_told rules (block ∷ rest) = first_flag_told rules block ++ flags_told rules rest
 
 -- the local for a mark that a change sets
 abbrev pub mark_told : Change → List CLocal

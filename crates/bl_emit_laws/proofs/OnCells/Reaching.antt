@@ -50,6 +50,7 @@ use Rattle.bl_emit_spec.specs.Activities.{Activity, activity_function, frame_str
 use Rattle.bl_emit_spec.specs.Names.{frame_name}
 use Rattle.bl_emit_spec.specs.Programs.{activity_of, needed_units, needs_of}
 use Rattle.bl_emit_spec_laws_wellformed.specs.Chains.{ActivitiesCallFew}
+use Rattle.bl_emit_spec_laws_wellformed.specs.Numbers.{EachStandsOnce}
 use Rattle.bl_emit_spec_laws_wellformed_bodies.specs.Cells.{ActivityCells, Sized, cells_reached, ports_of}
 use Rattle.bl_emit_spec_laws_wellformed_bodies.proofs.OnStructs.Lists.{below_or_last, get_taken}
 use Rattle.bl_emit_laws.proofs.OnCells.Numbers.{among_greatest, index_front, index_last, index_more, index_under}
@@ -192,6 +193,7 @@ module _ (structs : List StructDef) (units : List UnitDef) (entry : ℕ) (keeps 
     module _ (list : List ℕ) (chains : Table ℕ) (k : ℕ) (unit : UnitDef) (remember : List Bool) (one : InMachine)
         (there : slice_get units k ≡ Some unit) (active : is_activity unit.kind ≡ true) (st : Reached list chains k)
         (counters : length (activity_of structs (take k units) remember unit one).sizes ≤ width_in (plain_body unit.body))
+        (once : EachStandsOnce (activity_of structs (take k units) remember unit one))
         (callees : (u : ℕ) (callee : UnitDef) → Contains (activities_by_place unit) u → slice_get units u ≡ Some callee →
         (u < k) × (is_activity callee.kind ≡ true) × Needed u)
         (frame : entry_or 0 K (frame_name unit.name)
@@ -208,6 +210,7 @@ module _ (structs : List StructDef) (units : List UnitDef) (entry : ℕ) (keeps 
           structures = refl;
           active = active;
           counters = counters;
+          once = once;
           sizes = sizes;
           calls = λ f has. st.low f;
           runs = λ u callee has at. let c = callees u callee has at in (st.fits u callee c.0 at c.2 c.1).0;

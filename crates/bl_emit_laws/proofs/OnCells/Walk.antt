@@ -262,11 +262,11 @@ module _ (structs : List StructDef) (units : List UnitDef) (entry : ℕ) (keeps 
           let memory = own_memory T a later.structs at.1 other is in
           let runs = callees k unit one remember there act need own.0 in
           let r : ℕ = reached structs units entry keeps differ K sizes cells follow grow few before down list chains k unit remember one there act st
-          (counters unit one own.0) runs frame memory in
+          (counters unit one own.0) own.0.order.all runs frame memory in
           let less = chain_less structs units entry keeps differ K sizes cells follow grow few before down list chains k unit remember one there act st
-          (counters unit one own.0) runs frame memory in
+          (counters unit one own.0) own.0.order.all runs frame memory in
           let next = activity_step structs units entry keeps differ K sizes cells follow grow few before down list chains k unit remember one there act
-          st (counters unit one own.0) runs frame memory in
+          st (counters unit one own.0) own.0.order.all runs frame memory in
           then_walked list chains k r _ later.funcs need st.long less
           (behind remember' machine (list ++ r ∷ []) _ (sizes_after T (frame_struct a ∷ remembered_struct a)) own.1 next
           (still_fresh T k unit (frame_struct a ∷ remembered_struct a) there

@@ -61,12 +61,14 @@ use Rattle.bl_emit_spec.specs.Blocks.{
   arg_where,
   begun_code,
   changes_code,
+  control_code,
   counter_value,
+  fused_code,
   has_result,
   layer_acted,
   merged_code,
   name_in,
-  node_code,
+  own_code,
   resumed_code,
   run_args,
   run_code,
@@ -74,7 +76,6 @@ use Rattle.bl_emit_spec.specs.Blocks.{
   choice_code,
   spelled_truth,
   test_code,
-  turn_code,
   turns_of,
 }
 use Rattle.bl_emit_spec.specs.Names.{
@@ -219,24 +220,39 @@ module _ (P : CPath → Type 0) (plain : (place : CPath) → names_counter place
 
   -- ---- blocks
 
-  node_fine : (a : ℕ) (rule : Transition) (m : Node) → CodeFine P plain (node_code view a rule m)
-  node_fine a rule (ActAt l s) = then_code P plain (acted view s) (changes_code view rule.on_true) (acted_fine s) (changes_fine P plain own view rule.on_true)
-  node_fine a rule (TestAt l at e) = tested_fine e rule
-  node_fine a rule (CheckAt l at e) = tested_fine e rule
-  node_fine a rule (EnterAt l at arguments) = begun_fine (view.run at) a arguments rule
-  node_fine a rule (ResumeAt l at arguments) = resumed_fine (view.run at) a arguments rule
-  node_fine a rule (PauseAt l at) = changes_fine P plain own view rule.on_true
-  node_fine a rule (HeadAt l at) = changes_fine P plain own view rule.on_true
-  node_fine a rule (StartAt l at) = changes_fine P plain own view rule.on_true
-  node_fine a rule (SurfaceEndAt l at) = changes_fine P plain own view rule.on_true
-  node_fine a rule (DepthEndAt l at) = changes_fine P plain own view rule.on_true
-  node_fine a rule (ForkAt l at) = changes_fine P plain own view rule.on_true
-  node_fine a rule (SurfaceJoinAt l at) = changes_fine P plain own view rule.on_true
-  node_fine a rule (DepthJoinAt l at) = changes_fine P plain own view rule.on_true
+  own_fine : (m : Node) → CodeFine P plain (own_code view m)
+  own_fine (ActAt l s) = acted_fine s
+  own_fine (TestAt l at e) = tt
+  own_fine (CheckAt l at e) = tt
+  own_fine (EnterAt l at arguments) = tt
+  own_fine (ResumeAt l at arguments) = tt
+  own_fine (PauseAt l at) = tt
+  own_fine (HeadAt l at) = tt
+  own_fine (StartAt l at) = tt
+  own_fine (SurfaceEndAt l at) = tt
+  own_fine (DepthEndAt l at) = tt
+  own_fine (ForkAt l at) = tt
+  own_fine (SurfaceJoinAt l at) = tt
+  own_fine (DepthJoinAt l at) = tt
+
+  control_fine : (a : ℕ) (rule : Transition) (m : Node) → CodeFine P plain (control_code view a rule m)
+  control_fine a rule (ActAt l s) = changes_fine P plain own view rule.on_true
+  control_fine a rule (TestAt l at e) = tested_fine e rule
+  control_fine a rule (CheckAt l at e) = tested_fine e rule
+  control_fine a rule (EnterAt l at arguments) = begun_fine (view.run at) a arguments rule
+  control_fine a rule (ResumeAt l at arguments) = resumed_fine (view.run at) a arguments rule
+  control_fine a rule (PauseAt l at) = changes_fine P plain own view rule.on_true
+  control_fine a rule (HeadAt l at) = changes_fine P plain own view rule.on_true
+  control_fine a rule (StartAt l at) = changes_fine P plain own view rule.on_true
+  control_fine a rule (SurfaceEndAt l at) = changes_fine P plain own view rule.on_true
+  control_fine a rule (DepthEndAt l at) = changes_fine P plain own view rule.on_true
+  control_fine a rule (ForkAt l at) = changes_fine P plain own view rule.on_true
+  control_fine a rule (SurfaceJoinAt l at) = changes_fine P plain own view rule.on_true
+  control_fine a rule (DepthJoinAt l at) = changes_fine P plain own view rule.on_true
 
   -- what a turn asks and does
   abbrev TurnFine : NodeCode → Type 0
-  TurnFine turn = ExprFine P plain turn.test × CodeFine P plain turn.code
+  TurnFine turn = ExprFine P plain turn.test × (CodeFine P plain turn.own × CodeFine P plain turn.control)
 
   -- each of some turns
   abbrev EachFine : List NodeCode → Type 0
@@ -247,7 +263,7 @@ module _ (P : CPath → Type 0) (plain : (place : CPath) → names_counter place
   each_fine [] listed = tt
   each_fine (a ∷ callees) [] = tt
   each_fine (a ∷ callees) (rule ∷ listed) =
-      ((guard_fine P plain own view rule.node rule.condition, node_fine a rule rule.node), each_fine callees listed)
+      ((guard_fine P plain own view rule.node rule.condition, (own_fine rule.node, control_fine a rule rule.node)), each_fine callees listed)
 
   append_fine : (turns more : List NodeCode) → EachFine turns → EachFine more → EachFine (turns ++ more)
   append_fine [] more all rest = rest
@@ -266,17 +282,15 @@ module _ (P : CPath → Type 0) (plain : (place : CPath) → names_counter place
   alone_fine : (test : CExpr) (code : List CStmt) → ExprFine P plain test → CodeFine P plain code → StmtFine P plain (c_if test code None)
   alone_fine test code is block = if-fine P plain test code None is block tt
 
-  turns_fine : (turns : List NodeCode) → EachFine turns → CodeFine P plain (map turn_code turns)
-  turns_fine [] all = tt
-  turns_fine (turn ∷ rest) all =
-      first_stmt P plain (turn_code turn) (map turn_code rest) (alone_fine turn.test turn.code all.0.0 all.0.1) (turns_fine rest all.1)
+  fused_fine : (turn : NodeCode) (turns : List NodeCode) → TurnFine turn → EachFine turns → CodeFine P plain (fused_code turn turns)
+  fused_fine last [] one all = then_code P plain last.own last.control one.1.0 one.1.1
+  fused_fine turn (next ∷ rest) one all = then_code P plain turn.own (fused_code next rest) one.1.0 (fused_fine next rest all.0 all.1)
 
   merged_fine : (turns : List NodeCode) → EachFine turns → CodeFine P plain (merged_code turns)
   merged_fine [] all = tt
   merged_fine (first ∷ rest) all =
-      one_stmt P plain (c_if first.test (first.code ++ map turn_code rest) None)
-      (alone_fine first.test (first.code ++ map turn_code rest) all.0.0
-      (then_code P plain first.code (map turn_code rest) all.0.1 (turns_fine rest all.1)))
+      one_stmt P plain (c_if first.test (fused_code first rest) None)
+      (alone_fine first.test (fused_code first rest) all.0.0 (fused_fine first rest all.0 all.1))
 
   blocks_fine : (turns : List NodeCode) (blocks : List (List ℕ)) → EachFine turns → CodeFine P plain (blocks_code turns blocks)
   blocks_fine turns [] all = tt

@@ -1,8 +1,10 @@
--- The function of each activity of a written file has one `if` for each block that the machine has for it.
-use Rattle.std.proofs.Common.{◌≡◌, ⊎_elim, ℕ, suc, ◌<◌, true, List, [], ◌∷◌, Contains, length, Some, refl, sym, ap, subst, ◌∙◌, arith}
+-- The function of each activity of a written file has one `if` for each block that the machine has for it, and the flags that these ask for.
+use Rattle.std.proofs.Common.{◌≡◌, ⊎_elim, ℕ, suc, ◌<◌, true, List, [], ◌∷◌, Contains, length, map, Some, refl, sym, ap, subst, ◌∙◌, arith}
 use Rattle.std.proofs.lemmas.Slice.Eq.{bytes_eq-Decides}
-use Rattle.std.specs.Prelude.{bytes_eq, option_and_then, slice_get}
+use Rattle.std.specs.List.{list_all}
+use Rattle.std.specs.Prelude.{IsPermutation, bytes_eq, filter, option_and_then, slice_get}
 use Rattle.bl_tree.specs.declared.c.CFunc.{CFunc}
+use Rattle.bl_tree.specs.declared.c.CStmt.{CStmt}
 use Rattle.bl_tree.specs.declared.program.Program.{Program}
 use Rattle.bl_tree.specs.declared.text.Text.{Text}
 use Rattle.bl_tree.specs.declared.tree.Unit.{Unit as UnitDef}
@@ -20,7 +22,7 @@ use Rattle.bl_ctree_laws_confluence.specs.Deeds.Orderly.{AcceptedIsOrderly, Orde
 use Rattle.bl_ctext_semantics.specs.Faults.{WellFormed}
 use Rattle.bl_ctext_semantics.specs.Parts.{Parts}
 use Rattle.bl_machine.specs.declared.machine.Activity.{Activity as InMachine}
-use Rattle.bl_machine.specs.Blocks.{Ordered}
+use Rattle.bl_machine.specs.Blocks.{Ordered, up_to}
 use Rattle.bl_machine.specs.Machines.{AreActivitiesOf, IsActivityOf}
 use Rattle.bl_machine_pass.specs.Numbered.{slots_of}
 use Rattle.bl_machine_pass.specs.Transitions.{Transition, rules}
@@ -28,18 +30,24 @@ use Rattle.bl_machine_pass_laws.specs.Turns.Laws.{StaysPlaced}
 use Rattle.bl_machine_transitions.specs.Callees.{callees_in}
 use Rattle.bl_machine_transitions_laws.specs.Laws.{RulesAreListed}
 use Rattle.bl_emit_acts.specs.Types.{unit_name}
-use Rattle.bl_emit_spec.specs.Activities.{Activity, activity_function, activity_view, blocks_code, blocks_in_order, turns_in_source}
+use Rattle.bl_emit_spec.specs.Activities.{Activity, activity_code, activity_function, activity_view, blocks_code, blocks_in_order, body_of, first_rules}
+use Rattle.bl_emit_spec.specs.Activities.{first_positions, is_flagged, picked, rules_at, turns_in_source}
 use Rattle.bl_emit_spec.specs.Blocks.{ActivityView, NodeCode, turns_of}
 use Rattle.bl_emit_spec_laws.specs.Calls.Built.{Activities, AreBuilt, MadeOf}
 use Rattle.bl_emit_spec_laws_wellformed.specs.Closed.{InstancesNeeded}
 use Rattle.bl_emit_spec_laws.proofs.OnPlaced.Lists.{mapped_many, number_below, some_is, stands_at}
+use Rattle.bl_emit_spec_laws.proofs.OnRemember.Entering.{callees_in_many}
 use Rattle.bl_emit_spec_laws.specs.Tables.Laws.{ActivitiesBuilt}
 use Rattle.bl_emit_laws.specs.Kept.{FileEnds, FilesEnd, activities_in, written_file}
 use Rattle.bl_emit_laws.proofs.OnKept.Lists.{first_or, none_has}
-use Rattle.bl_emit_laws.specs.Counters.Ifs.{FunctionHasIfs}
+use Rattle.bl_emit_spec_laws_wellformed.proofs.OnNumbers.Whole.{many-rules}
+use Rattle.bl_emit_laws.specs.Counters.Flags.{HasFlagForEach, decides, flags_asked, inside, rules_first}
+use Rattle.bl_emit_laws.specs.Counters.Ifs.{FunctionHasIfs, ifs_in}
 use Rattle.bl_emit_laws.specs.Counters.Laws.{FilesHaveIfs}
 use Rattle.bl_emit_laws.specs.Counters.Own.{functions_named}
-use Rattle.bl_emit_laws.proofs.OnCounters.Ifs.{blocks_many, body_has}
+use Rattle.bl_emit_laws.proofs.OnCounters.Decided.{turns_decide}
+use Rattle.bl_emit_laws.proofs.OnCounters.Flags.{asked_many, blocks_ask, blocks_decide, locals_are}
+use Rattle.bl_emit_laws.proofs.OnCounters.Ifs.{blocks_many, body_has, ifs_are}
 use Rattle.bl_emit_laws.proofs.OnCounters.Once.{function_alone}
 use Rattle.bl_emit_laws.proofs.OnCounters.Whole.{function_there}
 
@@ -82,6 +90,37 @@ module _ (placed : StaysPlaced) (listed : RulesAreListed) (a : Activity) (unit :
         within k at =
             let stands = stands_at (joined one.blocks) k at in
             subst (λ n. k < n) (sym many_turns) (number_below (length (nodes_in body)) (joined one.blocks) ordered.all k stands.0 stands.1)
+
+    -- the rules of first nodes are those of the machine's blocks
+    first_are : a.blocks ≡ one.blocks → first_rules a ≡ rules_first unit one
+    first_are blocks_are =
+        ap (λ (u : UnitDef). picked (rules a.slots (plain_body u.body)) (first_positions a.blocks)) unit_is
+        ∙ ap (λ slots. picked (rules slots body) (first_positions a.blocks)) slots_are
+        ∙ ap (λ (blocks : List (List ℕ)). picked (rules (slots_of body one.slots) body) (first_positions blocks)) blocks_are
+
+    flags_have : a.blocks ≡ one.blocks → Ordered body one.blocks → HasFlagForEach unit one (activity_function a) (ifs_in (activity_code a))
+    flags_have blocks_are ordered =
+        let view : ActivityView = activity_view a in
+        let callees : List ℕ = callees_in (body_of a) in
+        let many : length callees ≡ length (rules_at a) = callees_in_many (body_of a) ∙ sym (many-rules a) in
+        let own = locals_are a in
+        record {
+          asked = ap (λ (ifs : List CStmt). joined (map flags_asked ifs)) (ifs_are a) ∙ blocks_ask view callees (rules_at a) many a.blocks within ∙ sym own;
+          many = ap (λ (names : List Text). length names) own ∙ asked_many view.number (first_rules a)
+              ∙ ap (λ (some : List Transition). length (filter (λ (rule : Transition). is_flagged rule.condition) some)) (first_are blocks_are);
+          decided = ap (λ (ifs : List CStmt). list_all decides (joined (map inside ifs))) (ifs_are a)
+              ∙ blocks_decide (turns_in_source a) a.blocks (turns_decide view callees (rules_at a));
+        }
+      where
+        once : IsPermutation (up_to (length (nodes_in (body_of a)))) (joined a.blocks)
+        once =
+            subst (λ (u : UnitDef). IsPermutation (up_to (length (nodes_in (plain_body u.body)))) (joined a.blocks)) (sym unit_is)
+            (subst (λ (blocks : List (List ℕ)). IsPermutation (up_to (length (nodes_in body))) (joined blocks)) (sym blocks_are) ordered.all)
+
+        within : (k : ℕ) → Contains (joined a.blocks) k → k < length (rules_at a)
+        within k at =
+            let stands = stands_at (joined a.blocks) k at in
+            subst (λ n. k < n) (sym (many-rules a)) (number_below (length (nodes_in (body_of a))) (joined a.blocks) once k stands.0 stands.1)
 
 -- ---- functions
 
@@ -150,6 +189,7 @@ module _ (program : Program) (machine : List InMachine) (unit : UnitDef) (ends :
       body =
           body_has (activities k) made.one.blocks
           (many_ifs placed listed (activities k) activity made.one same made.slots made.blocks part.order);
+      flags = flags_have placed listed (activities k) activity made.one same made.slots made.blocks part.order;
     }
 
 pub files_have_ifs : (program : Program) → AcceptedIsOrderly → ActivitiesBuilt → StaysPlaced → RulesAreListed →

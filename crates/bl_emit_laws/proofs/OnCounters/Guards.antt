@@ -54,7 +54,7 @@ use Rattle.bl_emit_laws.proofs.OnCounters.Statements.{CodeFine, StmtFine, first_
 abbrev pub own_counter : Text → CPath
 own_counter counter = record { through = true; name = codes "f"; members = counter ∷ [] }
 
-counter-names : (k : ℕ) → places_in_place (counter_place k) ≡ own_counter (counter_name k) ∷ []
+pub counter-names : (k : ℕ) → places_in_place (counter_place k) ≡ own_counter (counter_name k) ∷ []
 counter-names k =
     place-names true (codes "f") (c_step (counter_name k) ∷ [])
     ∙ ap (λ (step : StepParts). own_counter step.member ∷ (step.inside ++ [])) (step-passes (counter_name k))

@@ -22,7 +22,7 @@ use Rattle.bl_emit_acts.specs.Types.{copy_name}
 use Rattle.bl_emit_functions.specs.Trees.{c_if}
 use Rattle.bl_emit_spec.specs.Activities.{Activity, activity_code, blocks_code, blocks_in_order, body_of, copied_in, counters_read, entry_code, picked}
 use Rattle.bl_emit_spec.specs.Activities.{activity_view, rested_code, turns_in_source}
-use Rattle.bl_emit_spec.specs.Blocks.{ActivityView, NodeCode, counter_value, merged_code, turn_code}
+use Rattle.bl_emit_spec.specs.Blocks.{ActivityView, NodeCode, counter_value, fused_code, merged_code}
 use Rattle.bl_emit_spec.specs.Names.{counter_place, flag_place, rested_place}
 use Rattle.bl_emit_spec_laws.proofs.OnPlaced.Lists.{there_at}
 use Rattle.bl_emit_laws.proofs.OnKept.Lists.{further, here}
@@ -120,7 +120,7 @@ blocks_alone turns (block ∷ rest) = by (picked turns block) (blocks_alone turn
     by : (list : List NodeCode) → ifs_in (blocks_code turns rest) ≡ blocks_code turns rest →
         ifs_in (merged_code list ++ blocks_code turns rest) ≡ merged_code list ++ blocks_code turns rest
     by [] more = more
-    by (first ∷ others) more = first_if first.test (first.code ++ map turn_code others) (blocks_code turns rest) more
+    by (first ∷ others) more = first_if first.test (fused_code first others) (blocks_code turns rest) more
 
 -- one for each block, where none is empty and each number is that of a turn
 pub blocks_many : (turns : List NodeCode) (blocks : List (List ℕ)) → ((block : List ℕ) → Contains blocks block → 0 < length block) →
@@ -144,7 +144,7 @@ body_stands a =
     ap (λ (rest : List CStmt). rested ++ rest) (sym (append_assoc begun copied (blocks_in_order a)))
     ∙ sym (append_assoc rested (begun ++ copied) (blocks_in_order a))
 
-ifs_are : (a : Activity) → ifs_in (activity_code a) ≡ blocks_in_order a
+pub ifs_are : (a : Activity) → ifs_in (activity_code a) ≡ blocks_in_order a
 ifs_are a =
     ap ifs_in (body_stands a) ∙ filter-append is_if (before a) (blocks_in_order a)
     ∙ ap (λ (ifs : List CStmt). ifs ++ ifs_in (blocks_in_order a)) (before_sets a).none ∙ blocks_alone (turns_in_source a) a.blocks

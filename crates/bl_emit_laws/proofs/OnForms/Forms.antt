@@ -2,7 +2,8 @@
 use Rattle.std.proofs.Common.{◌≡◌, ℕ, suc, ◌+◌, ◌^◌, ◌<◌, ◌≤◌, arith, Bool, true, false, List, [], ◌∷◌, ◌++◌}
 use Rattle.std.proofs.Common.{map, take, drop, length, Some, cond, refl, sym, ap, ◌∙◌, subst, append_assoc}
 use Rattle.std.proofs.lemmas.List.{length-append}
-use Rattle.std.specs.Prelude.{slice_get, if◌then◌else◌}
+use Rattle.std.specs.List.{list_all}
+use Rattle.std.specs.Prelude.{Contains, slice_get, if◌then◌else◌}
 use Rattle.bl_tree.specs.declared.tree.StructDef.{StructDef}
 use Rattle.bl_tree.specs.declared.tree.Unit.{Unit as UnitDef}
 use Rattle.bl_tree.specs.declared.tree.UnitKind.{UnitKind}
@@ -19,8 +20,9 @@ use Rattle.bl_limits_measures.specs.Runs.{activities_by_place}
 use Rattle.bl_limits_measures.specs.Statements.{cell_statements_of}
 use Rattle.bl_limits_measures.specs.Units.{cells_at, cells_with, variables_of}
 use Rattle.bl_limits_measures_laws.specs.Laws.{UnitsUseEarlierOnes}
-use Rattle.bl_graph_nodes.specs.Nodes.{nodes_in}
-use Rattle.bl_graph_nodes.specs.Plain.{Block, plain_body}
+use Rattle.bl_graph.specs.Edges.{Entry}
+use Rattle.bl_graph_nodes.specs.Nodes.{Node, entry as entry_of, nodes_in}
+use Rattle.bl_graph_nodes.specs.Plain.{Block, Plain, Then, plain_body}
 use Rattle.bl_machine.specs.declared.machine.Activity.{Activity as InMachine}
 use Rattle.bl_machine.specs.Layout.{places_in}
 use Rattle.bl_machine.specs.Machines.{IsActivityOf}
@@ -30,8 +32,10 @@ use Rattle.bl_machine_pass.specs.Transitions.{Transition, rules}
 use Rattle.bl_machine_pass_laws.specs.Spots.{SpotsDiffer}
 use Rattle.bl_machine_prevs_laws.specs.Scalar.{PrevsAreScalar}
 use Rattle.bl_emit_functions_laws_wellformed.specs.Formed.{IsNumbered}
-use Rattle.bl_emit_spec.specs.Activities.{Activity}
+use Rattle.bl_emit_spec.specs.Activities.{Activity, activity_view}
 use Rattle.bl_emit_spec.specs.Programs.{activity_of, needed_units, parts_of_function, parts_of_next}
+use Rattle.bl_emit_spec_laws.specs.Calls.Built.{last_rules, registered}
+use Rattle.bl_emit_spec_laws.specs.Registers.Laws.{changes_its_own}
 use Rattle.bl_emit_spec_laws_wellformed_bodies.specs.Bodies.{OwnsRules}
 use Rattle.bl_emit_spec_laws_nodes.specs.Copied.{NodesCopied, RunsCopied}
 use Rattle.bl_emit_spec_laws_wellformed.specs.Counts.{NodesCounted}
@@ -39,7 +43,8 @@ use Rattle.bl_emit_spec_laws_wellformed_bodies.specs.Lists.{ActivityConditions, 
 use Rattle.bl_emit_spec_laws_wellformed.specs.Machines.{IsModest, MachinesDiffer, MachinesSpell}
 use Rattle.bl_emit_spec_laws_wellformed.specs.Needed.{NeededNumbered, NeededSmall}
 use Rattle.bl_emit_spec_laws.proofs.OnOwn.Members.{contains_at}
-use Rattle.bl_emit_spec_laws.proofs.OnOwn.Owning.{asks_on, changes_on, copied_below}
+use Rattle.bl_emit_spec_laws.proofs.OnOwn.Owning.{asks_on, changes_on, copied_below, entry_rule, flag_on}
+use Rattle.bl_emit_spec_laws.proofs.OnPlaced.Placing.{Laws as PlacingLaws, entry_first, first_among, flags_first, last_among}
 use Rattle.bl_emit_laws.proofs.OnForms.Copying.{copies-suffice}
 use Rattle.bl_emit_laws.specs.Forms.{UnitsMeetConditions}
 
@@ -70,6 +75,7 @@ pub record Promised (structs : List StructDef) (units : List UnitDef) (entry : �
   pub small : NeededSmall structs units entry
   pub numbered : NeededNumbered structs units entry
   pub spots : SpotsDiffer
+  pub placing : PlacingLaws
   pub nodes : (slots : Slots) (body : Block) → map (λ (rule : Transition). rule.node) (rules slots body) ≡ nodes_in body
   pub copied : NodesCopied
   pub runs : RunsCopied
@@ -113,11 +119,30 @@ module _ (structs : List StructDef) (units : List UnitDef) (entry : ℕ) (laws :
           places_small (places_in (plain_body unit.body)) (cell_statements_of unit) (cells_at structs units k)
           (laws.nodes_counted k unit keeps there).places (statements_less k unit there) modest.cells
 
+      changes : (rule : Transition) → Contains (last_rules a) rule →
+          (list_all (changes_its_own (activity_view a).number (registered a)) rule.on_true ≡ true)
+          × (list_all (changes_its_own (activity_view a).number (registered a)) rule.on_false ≡ true)
+      changes rule last =
+          changes_on a one.slots laws.spots refl refl own.counters rule (last_among laws.placing a unit one refl refl refl refl own.order rule last)
+          (λ change among other may has. flags_first laws.placing a unit one refl refl refl refl own.order rule other change last among may has)
+
+      begins : (s : Plain) (rest : Block) → plain_body unit.body ≡ Then s rest → (registered a).flags ((activity_view a).number (entry_of s)) ≡ true
+      begins s rest is =
+          let at : Entry (plain_body unit.body) (entry_of s) = subst (λ (body : Block). Entry body (entry_of s)) (sym is) refl in
+          let flag = entry_rule a one.slots laws.spots refl refl own.counters (entry_of s) at in
+          flag_on a one.slots laws.spots refl refl own.counters (entry_of s) flag
+          (entry_first laws.placing a unit one refl refl refl refl own.order flag.rule flag.there
+          (subst (λ (n : Node). Entry (plain_body unit.body) n) (sym flag.is) at))
+
       owns : OwnsRules a
       owns = record {
-        asks = λ rule has. asks_on a one.slots laws.spots refl refl own.counters few_places rule has;
-        on_true = λ rule has. (changes_on a one.slots laws.spots refl refl own.counters rule has).0;
-        on_false = λ rule has. (changes_on a one.slots laws.spots refl refl own.counters rule has).1;
+        once = own.order.all;
+        asks = λ rule first.
+            asks_on a one.slots laws.spots refl refl own.counters few_places rule
+            (first_among laws.placing a unit one refl refl refl refl own.order rule first) first;
+        on_true = λ rule last. (changes rule last).0;
+        on_false = λ rule last. (changes rule last).1;
+        begins = begins;
         some = laws.counted structs units entry unit one keeps passes (contains_at units k unit there) active own;
         read = λ c on. copied_below a one.slots laws.spots refl refl own.counters c on;
       }

@@ -1,7 +1,7 @@
 -- What the list of rules tells of an activity is what the rules of its nodes do.
-use Rattle.std.proofs.Common.{◌≡◌, ℕ, Bool, true, false, ◌||◌, List, [], ◌∷◌, ◌++◌, length, map, filter}
-use Rattle.std.proofs.Common.{refl, sym, ap, ap₂, ◌∙◌, arith}
-use Rattle.std.specs.Prelude.{codes, if◌then◌else◌, nat_lt}
+use Rattle.std.proofs.Common.{◌≡◌, ℕ, zero, suc, Bool, true, false, ◌||◌, List, [], ◌∷◌, ◌++◌, length, map, filter, Option, Some, None}
+use Rattle.std.proofs.Common.{append-nil, refl, sym, ap, ap₂, ◌∙◌, arith}
+use Rattle.std.specs.Prelude.{codes, if◌then◌else◌, nat_lt, option_to_list, slice_get}
 use Rattle.bl_tree.specs.declared.c.CFunc.{CFunc}
 use Rattle.bl_tree.specs.declared.c.CLocal.{CLocal}
 use Rattle.bl_tree.specs.declared.c.CMember.{CMember}
@@ -26,8 +26,8 @@ use Rattle.bl_machine_transitions.specs.Runs.{begins_run, run_number}
 use Rattle.bl_machine_transitions.specs.Told.{NumberedTransition, all_told, task_at, told_change, told_condition}
 use Rattle.bl_machine_transitions_laws.specs.Laws.{RulesAreListed, entries, first_number}
 use Rattle.bl_emit_functions.specs.Functions.{params_from, struct_of}
-use Rattle.bl_emit_spec.specs.Activities.{Activity, RunAt, activity_function, blocks_code, entry_code, flag_local, is_flagged, is_read_by}
-use Rattle.bl_emit_spec.specs.Activities.{mark_local, mark_locals, memory_params, reads_counter, remembered, rested_code}
+use Rattle.bl_emit_spec.specs.Activities.{Activity, RunAt, activity_function, blocks_code, entry_code, first_rules, first_positions, flag_local, is_flagged}
+use Rattle.bl_emit_spec.specs.Activities.{is_read_by, mark_local, mark_locals, memory_params, picked, reads_counter, remembered, rested_code}
 use Rattle.bl_emit_spec.specs.Activities.{enters_at, one_a_place, rested_local, run_at, run_number_in}
 use Rattle.bl_emit_spec.specs.Activities.{activity_view, over_param, pointer_param, result_params, runs_at, runs_in_body, scalar_local}
 use Rattle.bl_emit_spec.specs.Blocks.{ActivityView, NodeCode, Sizes}
@@ -37,7 +37,7 @@ use Rattle.bl_emit_acts.specs.Acts.{c_copied}
 use Rattle.bl_emit_blocks.specs.Laws.{Alike, BlocksAlike}
 use Rattle.bl_emit_blocks.specs.Numbered.{numbered_turn}
 use Rattle.bl_emit_blocks_laws.specs.Laws.{BodiesAreNumbered}
-use Rattle.bl_emit_tables.specs.Told.{asks_counter, asks_flag, flags_told, mark_told, marks_told, read_told, run_told}
+use Rattle.bl_emit_tables.specs.Told.{asks_counter, asks_flag, flag_where, flags_told, mark_told, marks_told, read_told, run_told}
 use Rattle.bl_emit_tables.specs.Told.{all_runs_told, runs_told}
 use Rattle.bl_emit.specs.Activities.{ActivityInput, code_told, copied_told, copy_told, counters_told, entry_at, entry_told, frame_by, function_by}
 use Rattle.bl_emit.specs.Activities.{function_told, locals_told, memory_params_told, params_told, remembered_by, remembers_told}
@@ -84,15 +84,30 @@ module _ (number : Node → ℕ) where
   asked_is (RestedIn slots) = refl
   asked_is (Ended age needed) = refl
 
-  flags_are : (units : List ℕ) (rules : List nodes.Transition) → length units ≡ length rules →
-      joined (map (flag_local number) rules) ≡ flags_told (all_told number units rules)
-  flags_are [] [] same = refl
-  flags_are [] (rule ∷ rules) same = absurd (omega (arith, same))
-  flags_are (unit ∷ units) [] same = refl
-  flags_are (unit ∷ units) (rule ∷ rules) same =
-      ap₂ (λ (b : Bool) (more : List CLocal). (if b then scalar_local OfBool (flag_name (number rule.node)) ∷ [] else []) ++ more)
-      (asked_is rule.condition)
-      (flags_are units rules (omega (arith, same)))
+  -- the local for the flag of the node at a position
+  flag_at : (units : List ℕ) (rules : List nodes.Transition) → length units ≡ length rules → (k : ℕ) →
+      joined (map (flag_local number) (option_to_list (slice_get rules k))) ≡ flag_where (slice_get (all_told number units rules) k)
+  flag_at [] [] same k = refl
+  flag_at [] (rule ∷ rules) same k = absurd (omega (arith, same))
+  flag_at (unit ∷ units) [] same k = refl
+  flag_at (unit ∷ units) (rule ∷ rules) same zero =
+      append-nil (flag_local number rule)
+      ∙ ap (λ (b : Bool). if b then scalar_local OfBool (flag_name (number rule.node)) ∷ [] else []) (asked_is rule.condition)
+  flag_at (unit ∷ units) (rule ∷ rules) same (suc k) = flag_at units rules (omega (arith, same)) k
+
+  flags_both : (found : Option nodes.Transition) (rest : List nodes.Transition) →
+      joined (map (flag_local number) (option_to_list found ++ rest))
+      ≡ joined (map (flag_local number) (option_to_list found)) ++ joined (map (flag_local number) rest)
+  flags_both None rest = refl
+  flags_both (Some rule) rest =
+      ap (λ (flags : List CLocal). flags ++ joined (map (flag_local number) rest)) (sym (append-nil (flag_local number rule)))
+
+  flags_are : (units : List ℕ) (rules : List nodes.Transition) → length units ≡ length rules → (blocks : List (List ℕ)) →
+      joined (map (flag_local number) (picked rules (first_positions blocks))) ≡ flags_told (all_told number units rules) blocks
+  flags_are units rules same [] = refl
+  flags_are units rules same ([] ∷ rest) = flags_are units rules same rest
+  flags_are units rules same ((k ∷ block) ∷ rest) =
+      flags_both (slice_get rules k) (picked rules (first_positions rest)) ∙ ap₂ ◌++◌ (flag_at units rules same k) (flags_are units rules same rest)
 
   mark_is : (change : nodes.Change) → mark_local number change ≡ mark_told (told_change number change)
   mark_is (SetsFlag n) = refl
@@ -173,8 +188,9 @@ module _ (law : RulesAreListed) (bodies : BodiesAreNumbered) (alike : BlocksAlik
   runs_so : runs_told t.rules ≡ runs_in_body a
   runs_so = sym (ap one_a_place (runs_are number calls rules ∙ ap all_runs_told told_is))
 
-  flags_so : flags_told t.rules ≡ joined (map (flag_local number) rules)
-  flags_so = sym (flags_are number calls rules each ∙ ap flags_told told_is)
+  flags_so : flags_told t.rules t.blocks ≡ joined (map (flag_local number) (first_rules a))
+  flags_so =
+      sym (flags_are number calls rules each t.blocks ∙ ap (λ (rules : List NumberedTransition). flags_told rules t.blocks) told_is)
 
   marks_so : marks_told t.rules ≡ joined (map (mark_locals number) rules)
   marks_so = sym (marks_are number calls rules each ∙ ap marks_told told_is)
@@ -219,7 +235,7 @@ module _ (law : RulesAreListed) (bodies : BodiesAreNumbered) (alike : BlocksAlik
       ++ (marks_told t.rules ++ (map (copy_told unit) (copied_told unit) ++ joined (map (run_locals_told earlier) (runs_told t.rules))))))
       counters_so flags_so
       ∙ ap₂ (λ (marks : List CLocal) (runs : List RunAt). map (rested_local t.sizes) (filter (is_read_by rules) (up_to (length t.sizes)))
-      ++ (joined (map (flag_local number) rules)
+      ++ (joined (map (flag_local number) (first_rules a))
       ++ (marks ++ (map (copy_told unit) (copied_told unit) ++ joined (map (run_locals_told earlier) runs))))) marks_so runs_so
 
   remembers_so : remembers_told t ≡ nat_lt 0 (length (remembered a))

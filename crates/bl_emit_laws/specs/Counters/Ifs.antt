@@ -12,6 +12,7 @@ use Rattle.bl_ctree.specs.Instances.{setting_of}
 use Rattle.bl_ctext_semantics.specs.Parts.{Parts}
 use Rattle.bl_machine.specs.declared.machine.Activity.{Activity as InMachine}
 use Rattle.bl_emit_acts.specs.Types.{unit_name}
+use Rattle.bl_emit_laws.specs.Counters.Flags.{HasFlagForEach}
 use Rattle.bl_emit_laws.specs.Counters.Own.{functions_named}
 
 -- ---- forms of statements
@@ -51,15 +52,17 @@ pub record HasIfForEach (blocks : List (List ℕ)) (body : List CStmt) : Type 0 
   pub is : body ≡ before ++ ifs_in body
   pub many : length (ifs_in body) ≡ length blocks
 
--- the file has one function `a_A` of the activity A, with one `if` in its body for each block of the machine's part
+-- the file has one function `a_A` of the activity A, with one `if` in its body for each block of the machine's part, and one flag for each block whose first
+-- node waits by its flag
 pub record FunctionHasIfs (activity : UnitDef) (part : Option InMachine) (file : Parts) : Type 0 where
   pub one : InMachine
   pub is : part ≡ Some one
   pub function : CFunc
   pub functions : functions_named (unit_name activity.name) file ≡ function ∷ []
   pub body : HasIfForEach one.blocks function.body
+  pub flags : HasFlagForEach activity one function (ifs_in function.body)
 
--- the activity of each instance has one function in the file, with one `if` in its body for each of the machine's blocks
+-- the activity of each instance has one function in the file, with one `if` in its body for each of the machine's blocks, and the flags that these ask for
 abbrev pub EachFunctionHasIfs : List StructDef → List UnitDef → ℕ → List InMachine → Parts → Type 0
 EachFunctionHasIfs structs units entry machine file =
     (i : ℕ) (instance : Instance) (activity : UnitDef) → slice_get (setting_of structs units entry).instances i ≡ Some instance →

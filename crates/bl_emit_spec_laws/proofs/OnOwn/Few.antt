@@ -17,9 +17,10 @@ use Rattle.bl_machine_pass.specs.Transitions.{Change, Transition}
 use Rattle.bl_machine_pass.specs.Transitions.{ClearsBoth, ClearsCounter, EndsWhen, Finishes, SetsCounter, SetsFlag, SetsMark}
 use Rattle.bl_machine_pass_laws.specs.Turns.Laws.{StaysPlaced}
 use Rattle.bl_machine_pass_laws.specs.Spots.{SpotsDiffer}
-use Rattle.bl_emit_spec.specs.Activities.{Activity, activity_view, is_flagged, rules_at}
+use Rattle.bl_emit_spec.specs.Activities.{Activity, activity_view, first_rules, first_positions, is_flagged, rules_at}
 use Rattle.bl_emit_spec_laws.specs.Registers.Registers.{FewRegisters}
 use Rattle.bl_emit_spec_laws.specs.Calls.Built.{asks_flag, registered, sets_mark}
+use Rattle.bl_emit_spec_laws.proofs.OnPlaced.Lists.{picked_from}
 use Rattle.bl_emit_spec_laws.proofs.OnOwn.Counting.{get_up_to}
 use Rattle.bl_emit_spec_laws.proofs.OnOwn.Fitting.{ChangeFits}
 use Rattle.bl_emit_spec_laws.proofs.OnOwn.Members.{any_found, both_second, both_true, contains_at, contains_mapped, every_at, where_within}
@@ -62,10 +63,11 @@ module _ (a : Activity) (list : List Slot) (spots : SpotsDiffer) (slots_are : a.
 
     flag_below : (k : ℕ) → (registered a).flags k ≡ true → k < length a.order
     flag_below k on =
-        let found = any_found (asks_flag number k) (rules_at a) on in
+        let found = any_found (asks_flag number k) (first_rules a) on in
+        let from = picked_from (rules_at a) (first_positions a.blocks) found.one found.there in
         let same : k ≡ number found.one.node =
         eqb-true k (number found.one.node) (both_second (is_flagged found.one.condition) (nat_eq k (number found.one.node)) found.on) in
-        subst (λ n. n < length a.order) (sym same) (rule_below found.one found.there)
+        subst (λ n. n < length a.order) (sym same) (rule_below found.one (contains_at (rules_at a) from.0 found.one from.2))
 
     change_below : (k : ℕ) (change : Change) →
         ChangeFits a.slots (rules_at a) (Listed a list spots slots_are sizes_are counters) change → sets_mark number k change ≡ true →
@@ -88,6 +90,9 @@ module _ (a : Activity) (list : List Slot) (spots : SpotsDiffer) (slots_are : a.
         (every_at (ChangeFits a.slots (rules_at a) (Listed a list spots slots_are sizes_are counters)) found.one.on_true change.one
         (rule_fits a list spots slots_are sizes_are counters found.one found.there).on_true change.there)
         change.on
+
+    pub node_few : length a.order ≤ 2 ^ 64 → (n : Node) → Contains nodes n → number n < 2 ^ 64
+    node_few ordered n there = let below = number_below n there in omega (arith, below, ordered)
 
     pub registers_few : length a.order ≤ 2 ^ 64 → length a.sizes ≤ 2 ^ 64 → FewRegisters (registered a)
     registers_few ordered sized = record {

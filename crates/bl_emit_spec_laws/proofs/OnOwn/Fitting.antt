@@ -242,7 +242,7 @@ module _ (slots : Slots) (all : List Transition) (S : Slot → Type 0) where
   test_of n on_true on_false there =
       record { rule = record { node = n; condition = Flagged; on_true = on_true; on_false = on_false }; there = there; condition = refl; is = refl }
 
-  entry_flag : (s : Plain) (next : Change) → There (rules_of slots s next) → HasFlag (entry s)
+  pub entry_flag : (s : Plain) (next : Change) → There (rules_of slots s next) → HasFlag (entry s)
   entry_flag (Act l s) next there = flag_of (ActAt l s) (next ∷ []) there.0
   entry_flag (Await l at e) next there = flag_of (PauseAt l at) (SetsCounter (slots.rest l) ∷ []) there.0
   entry_flag (RunOf l at target a inputs outputs) next there =

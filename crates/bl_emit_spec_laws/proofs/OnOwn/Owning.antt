@@ -1,5 +1,5 @@
 -- What fits is told by registers of the activity.
-use Rattle.std.proofs.Common.{◌≡◌, ℕ, ◌+◌, ◌<◌, ◌≤◌, ◌^◌, Bool, true, false, ◌&&◌, List, []}
+use Rattle.std.proofs.Common.{◌≡◌, ◌⊎◌, inl, inr, ℕ, ◌+◌, ◌<◌, ◌≤◌, ◌^◌, Bool, true, false, ◌&&◌, List, []}
 use Rattle.std.proofs.Common.{Contains, Some, nat_eq, refl, sym, ap}
 use Rattle.std.proofs.Common.{subst, ◌∙◌, arith, length, pos, unwrap_or, eq-eqb, eqb-true, lt-ltb, if◌then◌else◌}
 use Rattle.std.proofs.lemmas.Bool.{le-leb, leb-true}
@@ -11,26 +11,28 @@ use Rattle.bl_tree.specs.declared.scalar.Scalar.TheVariants.{Nat}
 use Rattle.bl_tree.specs.declared.scalar.Width.TheVariants.{W8, W16, W32}
 use Rattle.bl_tree.specs.Scalar.{in_range}
 use Rattle.bl_graph_nodes.specs.Nodes.{Node}
-use Rattle.bl_graph_nodes.specs.Plain.{Block, plain_body}
+use Rattle.bl_graph.specs.Edges.{Entry}
+use Rattle.bl_graph_nodes.specs.Plain.{Block, Done, Then, plain_body}
 use Rattle.bl_machine.specs.declared.slots.Slot.{Slot}
 use Rattle.bl_machine.specs.Layout.{places_in}
 use Rattle.bl_machine.specs.Slots.{Counters}
 use Rattle.bl_machine_pass.specs.SlotLayout.{EndOf, RestOf, Spot, slot_at, spots_in}
 use Rattle.bl_machine_pass.specs.Numbered.{no_slot, sizes_of, slots_of}
-use Rattle.bl_machine_pass.specs.Transitions.{Age, Change, Condition, Transition}
+use Rattle.bl_machine_pass.specs.Transitions.{Age, Change, Condition, Transition, enter, rules, rules_in, rules_of}
 use Rattle.bl_machine_pass.specs.Transitions.{ClearsBoth, ClearsCounter, Ended, EndsWhen, Finishes, Flagged, IsAny, IsNew, IsOld, Rested, RestedIn, SetsCounter, SetsFlag, SetsMark}
+use Rattle.bl_machine_pass_laws.specs.Flags.{MayFlag}
 use Rattle.bl_machine_pass_laws.specs.Spots.{SpotsDiffer}
 use Rattle.bl_machine_transitions_laws.proofs.Agreeing.{each_agrees}
 use Rattle.bl_machine_pass_laws.proofs.OnSlots.Finding.{number_at}
-use Rattle.bl_emit_spec.specs.Activities.{Activity, activity_view, is_flagged, reads_counter, rules_at}
+use Rattle.bl_emit_spec.specs.Activities.{Activity, activity_view, first_rules, is_flagged, reads_counter, rules_at}
 use Rattle.bl_emit_spec.specs.Blocks.{Sizes, type_for}
 use Rattle.bl_emit_spec_laws.specs.Registers.Laws.{are_in_a_row, asks_its_own, changes_its_own, fits_counter, has_age}
 use Rattle.bl_emit_spec_laws.specs.Calls.Built.{asks_flag, registered, sets_mark}
 use Rattle.bl_emit_spec_laws.specs.Own.{PlaceCounts}
 use Rattle.bl_emit_spec_laws.proofs.OnOwn.Counting.{list_counts, size_few}
-use Rattle.bl_emit_spec_laws.proofs.OnOwn.Fitting.{AgeFits, ChangeFits, ConditionFits, HasFlag, HasMark, IsCounter, RowsIn, RuleFits, rules_in_fit}
+use Rattle.bl_emit_spec_laws.proofs.OnOwn.Fitting.{AgeFits, ChangeFits, ConditionFits, HasFlag, HasMark, IsCounter, RowsIn, RuleFits, entry_flag, rules_in_fit}
 use Rattle.bl_emit_spec_laws.proofs.OnOwn.InRow.{rows_in, spots_in_many, there_at}
-use Rattle.bl_emit_spec_laws.proofs.OnOwn.Members.{Every, all_true, any_found, any_true, both_true, contains_at, every_at, every_from}
+use Rattle.bl_emit_spec_laws.proofs.OnOwn.Members.{Every, all_true, any_found, any_true, both_true, contains_at, every_at, every_from, every_left}
 use Rattle.bl_emit_spec_laws.proofs.OnOwn.Members.{stands_at}
 use Rattle.bl_emit_spec_laws.proofs.OnWithin.Changing.{ChangeWithin}
 
@@ -135,9 +137,9 @@ module _ (a : Activity) (list : List Slot) (spots : SpotsDiffer) (slots_are : a.
     abbrev number : Node → ℕ
     number = (activity_view a).number
 
-    flag_on : (n : Node) → HasFlag a.slots all Listed n → (registered a).flags (number n) ≡ true
-    flag_on n flag =
-        any_true (asks_flag number (number n)) all flag.rule flag.there
+    pub flag_on : (n : Node) → (flag : HasFlag a.slots all Listed n) → Contains (first_rules a) flag.rule → (registered a).flags (number n) ≡ true
+    flag_on n flag first =
+        any_true (asks_flag number (number n)) (first_rules a) flag.rule first
         (both_true (is_flagged flag.rule.condition) (nat_eq (number n) (number flag.rule.node)) (ap is_flagged flag.condition)
         (eq-eqb (number n) (number flag.rule.node) (ap number (sym flag.is))))
 
@@ -152,24 +154,38 @@ module _ (a : Activity) (list : List Slot) (spots : SpotsDiffer) (slots_are : a.
     counter_on : (k : ℕ) → IsCounter a.slots all Listed k → (registered a).counters k ≡ true
     counter_on k counter = subst (λ c. (registered a).counters c ≡ true) counter.is (slot_on counter.slot counter.there)
 
-    change_on : (change : Change) → ChangeFits a.slots all Listed change → changes_its_own number (registered a) change ≡ true
-    change_on (SetsFlag n) fits = flag_on n fits
-    change_on (SetsCounter slot) fits = slot_on slot fits
-    change_on (ClearsCounter k) fits = counter_on k fits
-    change_on (ClearsBoth k) fits = counter_on k fits
-    change_on (SetsMark n) fits = mark_on n fits
-    change_on (EndsWhen start surface depth) fits =
+    -- the nodes that the change may flag stand first in their blocks
+    abbrev FlagsFirst : Change → Type 0
+    FlagsFirst change = (other : Transition) → MayFlag change other.node → Contains all other → Contains (first_rules a) other
+
+    change_on : (change : Change) → ChangeFits a.slots all Listed change → FlagsFirst change → changes_its_own number (registered a) change ≡ true
+    change_on (SetsFlag n) fits first = flag_on n fits (first fits.rule fits.is fits.there)
+    change_on (SetsCounter slot) fits first = slot_on slot fits
+    change_on (ClearsCounter k) fits first = counter_on k fits
+    change_on (ClearsBoth k) fits first = counter_on k fits
+    change_on (SetsMark n) fits first = mark_on n fits
+    change_on (EndsWhen start surface depth) fits first =
         both_true ((registered a).marks (number start)) ((registered a).flags (number surface) && (registered a).flags (number depth))
         (mark_on start fits.0)
-        (both_true ((registered a).flags (number surface)) ((registered a).flags (number depth)) (flag_on surface fits.1) (flag_on depth fits.2))
-    change_on Finishes fits = refl
+        (both_true ((registered a).flags (number surface)) ((registered a).flags (number depth))
+        (flag_on surface fits.1 (first fits.1.rule (inl fits.1.is) fits.1.there))
+        (flag_on depth fits.2 (first fits.2.rule (inr fits.2.is) fits.2.there)))
+    change_on Finishes fits first = refl
 
-    pub changes_on : (rule : Transition) → Contains all rule → (list_all (changes_its_own number (registered a)) rule.on_true ≡ true)
-        × (list_all (changes_its_own number (registered a)) rule.on_false ≡ true)
-    changes_on rule there =
+    each_on : (changes : List Change) → Every (ChangeFits a.slots all Listed) changes → ((change : Change) → Contains changes change → FlagsFirst change) →
+        list_all (changes_its_own number (registered a)) changes ≡ true
+    each_on changes fits first =
+        all_true (Contains changes) (changes_its_own number (registered a)) changes
+        (λ change there. change_on change (every_at (ChangeFits a.slots all Listed) changes change fits there) (first change there))
+        (every_from (Contains changes) changes (λ change there. there))
+
+    pub changes_on : (rule : Transition) → Contains all rule →
+        ((change : Change) → Contains rule.on_true change ⊎ Contains rule.on_false change → FlagsFirst change) →
+        (list_all (changes_its_own number (registered a)) rule.on_true ≡ true) × (list_all (changes_its_own number (registered a)) rule.on_false ≡ true)
+    changes_on rule there first =
         let fits = rule_fits rule there in (
-          all_true (ChangeFits a.slots all Listed) (changes_its_own number (registered a)) rule.on_true change_on fits.on_true,
-          all_true (ChangeFits a.slots all Listed) (changes_its_own number (registered a)) rule.on_false change_on fits.on_false,
+          each_on rule.on_true fits.on_true (λ change among. first change (inl among)),
+          each_on rule.on_false fits.on_false (λ change among. first change (inr among)),
         )
 
     -- ---- values that counters come to hold
@@ -203,12 +219,12 @@ module _ (a : Activity) (list : List Slot) (spots : SpotsDiffer) (slots_are : a.
     copied_on : (rule : Transition) (k : ℕ) → Contains all rule → reads_counter k rule.condition ≡ true → (registered a).copied k ≡ true
     copied_on rule k there reads = any_true (λ (other : Transition). reads_counter k other.condition) all rule there reads
 
-    asked_on : places_in body < 2 ^ 32 → (rule : Transition) (condition : Condition) → Contains all rule → rule.condition ≡ condition →
-        ConditionFits a.slots all Listed condition → asks_its_own (activity_view a) (registered a) rule.node condition ≡ true
-    asked_on few rule Flagged there is fits = flag_on rule.node (record { rule = rule; there = there; condition = is; is = refl })
-    asked_on few rule (Rested slot) there is fits =
+    asked_on : places_in body < 2 ^ 32 → (rule : Transition) (condition : Condition) → Contains all rule → Contains (first_rules a) rule →
+        rule.condition ≡ condition → ConditionFits a.slots all Listed condition → asks_its_own (activity_view a) (registered a) rule.node condition ≡ true
+    asked_on few rule Flagged there first is fits = flag_on rule.node (record { rule = rule; there = there; condition = is; is = refl }) first
+    asked_on few rule (Rested slot) there first is fits =
         copied_on rule slot.counter there (ap (reads_counter slot.counter) is ∙ eq-eqb slot.counter slot.counter refl)
-    asked_on few rule (RestedIn some) there is fits =
+    asked_on few rule (RestedIn some) there first is fits =
         both_true (list_all (λ (slot : Slot). (registered a).copied slot.counter) some)
         (list_all (fits_counter a.sizes) some && are_in_a_row some)
         (all_true (Contains some) (λ (slot : Slot). (registered a).copied slot.counter) some
@@ -218,13 +234,27 @@ module _ (a : Activity) (list : List Slot) (spots : SpotsDiffer) (slots_are : a.
         (every_from (Contains some) some (λ slot inside. inside)))
         (both_true (list_all (fits_counter a.sizes) some) (are_in_a_row some)
         (all_true Listed (fits_counter a.sizes) some (listed_fits few) fits.0) fits.1)
-    asked_on few rule (Ended age needed) there is fits =
+    asked_on few rule (Ended age needed) there first is fits =
         both_true (has_age number (registered a) age) (list_all (λ (slot : Slot). (registered a).counters slot.counter) needed.slots)
         (age_on age fits.0) (all_true Listed (λ (slot : Slot). (registered a).counters slot.counter) needed.slots slot_on fits.1)
 
-    pub asks_on : places_in body < 2 ^ 32 → (rule : Transition) → Contains all rule →
+    pub asks_on : places_in body < 2 ^ 32 → (rule : Transition) → Contains all rule → Contains (first_rules a) rule →
         asks_its_own (activity_view a) (registered a) rule.node rule.condition ≡ true
-    asks_on few rule there = asked_on few rule rule.condition there refl (rule_fits rule there).condition
+    asks_on few rule there first = asked_on few rule rule.condition there first refl (rule_fits rule there).condition
+
+    -- ---- the entry
+
+    -- the rule of the node at which the body begins, where it begins with a statement
+    pub entry_rule : (n : Node) → Entry body n → HasFlag a.slots all Listed n
+    entry_rule n begins = by body refl begins
+      where
+        by : (b : Block) → body ≡ b → Entry b n → HasFlag a.slots all Listed n
+        by Done is first = absurd first
+        by (Then s rest) is first =
+            subst (HasFlag a.slots all Listed) (sym first)
+            (entry_flag a.slots all Listed s (enter rest Finishes)
+            (every_left (Contains all) (rules_of a.slots s (enter rest Finishes)) (rules_in a.slots rest Finishes)
+            (subst (λ (b : Block). Every (Contains all) (rules a.slots b)) is (every_from (Contains all) all (λ rule there. there)))))
 
     -- ---- copies
 

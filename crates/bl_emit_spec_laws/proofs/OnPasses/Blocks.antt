@@ -1,5 +1,5 @@
 -- Blocks of C statements, one before others.
-use Rattle.std.proofs.Common.{◌≡◌, ℕ, zero, suc, ◌+◌, ◌<◌, ◌≤◌, Bool, true, List, [], ◌∷◌, ◌++◌, length, map, drop, Some}
+use Rattle.std.proofs.Common.{◌≡◌, ℕ, zero, suc, ◌+◌, ◌<◌, ◌≤◌, Bool, true, false, List, [], ◌∷◌, ◌++◌, length, map, drop, None, Some}
 use Rattle.std.proofs.Common.{refl, sym, ap, subst, ◌∙◌, arith}
 use Rattle.std.proofs.lemmas.Option.{same_Some}
 use Rattle.std.specs.Prelude.{slice_get}
@@ -8,6 +8,7 @@ use Rattle.bl_ctext_semantics.specs.Course.{End, Outcome, breaks, following_end,
 use Rattle.bl_ctext_semantics.specs.Meaning.{Scope, block_c, runs_c}
 use Rattle.bl_ctext_semantics.specs.Memory.{Memory}
 use Rattle.bl_emit_spec.specs.Blocks.{NodeCode}
+use Rattle.bl_emit_spec_laws.specs.Passes.{behind_firsts}
 
 -- ---- lists
 
@@ -118,6 +119,25 @@ drop_past [] (suc k) is = refl
 drop_past (x ∷ xs) zero is = absurd (cc)
 drop_past (x ∷ xs) (suc k) is = drop_past xs k is
 
+-- it begins with what stands at the position
+pub get_drop : {A : Type 0} (xs : List A) (k : ℕ) (ys : List A) → drop k xs ≡ ys → slice_get xs k ≡ slice_get ys 0
+get_drop {A} [] zero ys is = ap (λ (zs : List A). slice_get zs 0) is
+get_drop {A} [] (suc k) ys is = ap (λ (zs : List A). slice_get zs 0) is
+get_drop {A} (x ∷ xs) zero ys is = ap (λ (zs : List A). slice_get zs 0) is
+get_drop (x ∷ xs) (suc k) ys is = get_drop xs k ys is
+
+-- no first element stands behind another one
+pub none_before : {X : Type 0} (lists : List (List X)) → slice_get (behind_firsts lists) 0 ≡ Some true → ⊥
+none_before [] set = nothing_set set
+  where
+    nothing_set : None ≡ Some true → ⊥
+    nothing_set is = cc
+none_before ([] ∷ rest) set = none_before rest set
+none_before ((x ∷ xs) ∷ rest) set = unset set
+  where
+    unset : Some false ≡ Some true → ⊥
+    unset is = cc
+
 -- marks that are set from a position on
 get_front : (n : List Bool) (ts : List NodeCode) (more : List Bool) (j : ℕ) → n ≡ map (λ (t : NodeCode). true) ts ++ more → j < length ts →
     slice_get n j ≡ Some true
@@ -172,7 +192,7 @@ as_one (s ∷ more) later scope here =
     by each n k traps = (refl, refl)
 
 -- what goes on, and then more
-then_more : (code more : List CStmt) (scope : Scope) (here : Memory) → (block_c code scope here).end ≡ goes_on →
+pub then_more : (code more : List CStmt) (scope : Scope) (here : Memory) → (block_c code scope here).end ≡ goes_on →
     Alike (block_c (code ++ more) scope here) (block_c more scope (block_c code scope here).memory)
 then_more code more scope here goes =
     let o = block_c code scope here in

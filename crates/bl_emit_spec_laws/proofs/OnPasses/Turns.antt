@@ -1,14 +1,18 @@
 -- The text of turns, block by block, and the flags that rules set.
-use Rattle.std.proofs.Common.{◌≡◌, inl, inr, ℕ, zero, suc, Bool, true, false, List, [], ◌∷◌, ◌++◌, map}
-use Rattle.std.proofs.Common.{Contains, refl, sym, ap, arith, nat_eq, eqb-true, if◌then◌else◌}
+use Rattle.std.proofs.Common.{◌≡◌, ◌∙◌, inl, inr, ℕ, zero, suc, Bool, true, false, List, [], ◌∷◌, ◌++◌, map}
+use Rattle.std.proofs.Common.{Contains, append-nil, refl, sym, ap, arith, nat_eq, eqb-true, if◌then◌else◌}
 use Rattle.bl_tree.specs.declared.c.CStmt.{CStmt}
 use Rattle.bl_tree.specs.Reduce.{joined}
 use Rattle.bl_graph_nodes.specs.Nodes.{Node}
 use Rattle.bl_machine_pass.specs.Registers.{Registers, all_changed, changed, with_flag}
 use Rattle.bl_machine_pass.specs.Transitions.{Change, ClearsBoth, ClearsCounter, EndsWhen, Finishes, SetsCounter, SetsFlag, SetsMark}
 use Rattle.bl_machine_pass_laws.specs.Flags.{MayFlag}
+use Rattle.bl_ctext_semantics.specs.Meaning.{Scope}
+use Rattle.bl_ctext_semantics.specs.Memory.{Memory}
+use Rattle.bl_tree.specs.Numbers.{number_of}
+use Rattle.bl_emit_spec_laws.specs.Registers.Registers.{Before, Counter, Flag, Mark, Over, Register, Registered, RegistersEncoded, has_register, held_in}
 use Rattle.bl_emit_spec.specs.Activities.{blocks_code, picked}
-use Rattle.bl_emit_spec.specs.Blocks.{NodeCode, merged_code, turn_code}
+use Rattle.bl_emit_spec.specs.Blocks.{NodeCode, fused_code, merged_code, whole_code}
 use Rattle.bl_emit_spec_laws.specs.Passes.{behind_firsts}
 
 -- ---- the text
@@ -22,15 +26,29 @@ pub merged_is : (turns : List NodeCode) (blocks : List (List ℕ)) → blocks_co
 merged_is turns [] = refl
 merged_is turns (block ∷ rest) = ap (λ (later : List CStmt). merged_code (picked turns block) ++ later) (merged_is turns rest)
 
+-- what is left of a block
+abbrev pub fused : List NodeCode → List CStmt
+fused [] = []
+fused (t ∷ ts) = fused_code t ts
+
 -- What is left to do of a pass: the turns that are left of a block that has begun, and the blocks behind it. The first are in the text where that block
 -- was entered
 abbrev pub text : Bool → List NodeCode → List (List NodeCode) → List CStmt
-text true others rest = map turn_code others ++ merged rest
+text true others rest = fused others ++ merged rest
 text false others rest = merged rest
 
 pub text_alone : (entered : Bool) (rest : List (List NodeCode)) → text entered [] rest ≡ merged rest
 text_alone true rest = refl
 text_alone false rest = refl
+
+-- what a node does in its block, before what is left of that
+abbrev pub part_of : NodeCode → List NodeCode → List CStmt
+part_of t [] = whole_code t
+part_of t (next ∷ ts) = t.own
+
+pub fused_is : (t : NodeCode) (ts : List NodeCode) → fused_code t ts ≡ part_of t ts ++ fused ts
+fused_is t [] = sym (append-nil (whole_code t))
+fused_is t (next ∷ ts) = refl
 
 -- the first turn of blocks, with the others of its block
 pub data Head (rest : List (List NodeCode)) : Type 0 where
@@ -87,3 +105,22 @@ module _ (number : Node → ℕ) (p : ℕ) where
   flags_kept (change ∷ rest) r none unset =
       flags_kept rest (changed number change r) (λ other m there. none other m (later_in change rest other there))
       (flag_kept change r (λ m. none change m (first_in change rest)) unset)
+
+-- ---- flags that C doesn't have
+
+-- a flag that is no register may be set
+pub free_flag : (has : Registered) (scope : Scope) (k : ℕ) (r : Registers) (here : Memory) → has.flags k ≡ false → RegistersEncoded has scope r here →
+    RegistersEncoded has scope (with_flag k r) here
+free_flag has scope k r here free encoded = record { each = λ x on. encoded.each x on ∙ same x on }
+  where
+    other : (j : ℕ) → has.flags j ≡ true → (b : Bool) → nat_eq j k ≡ b → r.flags j ≡ (if b then true else r.flags j)
+    other j on true is =
+        let both : true ≡ false = sym on ∙ ap has.flags (eqb-true j k is) ∙ free in absurd (cc)
+    other j on false is = refl
+
+    same : (x : Register) → has_register has x ≡ true → held_in r x ≡ held_in (with_flag k r) x
+    same (Counter j) on = refl
+    same (Before j) on = refl
+    same (Flag j) on = ap number_of (other j on (nat_eq j k) refl)
+    same (Mark j) on = refl
+    same Over on = refl

@@ -1,11 +1,12 @@
 -- Which turns stand behind another one in their block.
 use Rattle.std.proofs.Common.{◌≡◌, ◌⊎◌, inl, inr, ℕ, zero, suc, ◌+◌, Bool, true, false, List, [], ◌∷◌, ◌++◌, Contains, Some}
-use Rattle.std.proofs.Common.{refl, sym, ap, ◌∙◌, arith, length, map, append_assoc}
+use Rattle.std.proofs.Common.{refl, sym, ap, subst, ◌∙◌, arith, length, map, append_assoc}
 use Rattle.std.specs.Prelude.{option_to_list, slice_get}
 use Rattle.bl_tree.specs.Reduce.{joined}
-use Rattle.bl_emit_spec.specs.Activities.{picked}
+use Rattle.bl_emit_spec.specs.Activities.{first_positions, picked}
+use Rattle.bl_emit_spec_laws.specs.Calls.Built.{last_of, last_positions}
 use Rattle.bl_emit_spec_laws.specs.Passes.{behind_first, behind_firsts}
-use Rattle.bl_emit_spec_laws.proofs.OnPlaced.Lists.{Within, further, here, none_is, picked_many}
+use Rattle.bl_emit_spec_laws.proofs.OnPlaced.Lists.{Within, further, here, none_is, picked_many, some_is}
 
 -- ---- lists one after another
 
@@ -155,3 +156,112 @@ neighbours ((x ∷ xs) ∷ rest) (suc p) set =
           one = n.one;
           two = n.two;
         }
+
+-- ---- first and last positions
+
+-- what stands behind a block
+record Later (js : List ℕ) (marks : List Bool) (p : ℕ) : Type 0 where
+  r : ℕ
+  at : slice_get js r ≡ Some p
+  unset : slice_get marks r ≡ Some true → ⊥
+
+-- a position that isn't marked stands behind a block's other ones
+past_others : (xs js : List ℕ) (marks : List Bool) (k p : ℕ) → slice_get (xs ++ js) k ≡ Some p →
+    (slice_get (map (λ (y : ℕ). true) xs ++ marks) k ≡ Some true → ⊥) → Later js marks p
+past_others [] js marks k p at unset = record { r = k; at = at; unset = unset }
+past_others (y ∷ ys) js marks zero p at unset = absurd (unset refl)
+past_others (y ∷ ys) js marks (suc k) p at unset = past_others ys js marks k p at unset
+
+-- it is the first one of a block
+pub first_there : (blocks : List (List ℕ)) (k p : ℕ) → slice_get (joined blocks) k ≡ Some p →
+    (slice_get (behind_firsts blocks) k ≡ Some true → ⊥) → Contains (first_positions blocks) p
+first_there [] k p at unset = none_is p at
+first_there ([] ∷ rest) k p at unset = first_there rest k p at unset
+first_there ((x ∷ xs) ∷ rest) zero p at unset = subst (λ (q : ℕ). Contains (x ∷ first_positions rest) q) (some_is x p at) (here x (first_positions rest))
+first_there ((x ∷ xs) ∷ rest) (suc k) p at unset =
+    let later = past_others xs (joined rest) (behind_firsts rest) k p at unset in
+    further x (first_positions rest) p (first_there rest later.r p later.at later.unset)
+
+-- behind the positions of a block
+past_all : (xs : List ℕ) (marks : List Bool) (k : ℕ) → slice_get (map (λ (y : ℕ). true) xs ++ marks) (length xs + k) ≡ slice_get marks k
+past_all [] marks k = let none : 0 + k ≡ k = omega arith in ap (λ (n : ℕ). slice_get marks n) none
+past_all (y ∷ ys) marks k =
+    let next : suc (length ys) + k ≡ suc (length ys + k) = omega arith in
+    ap (λ (n : ℕ). slice_get (map (λ (y : ℕ). true) (y ∷ ys) ++ marks) n) next ∙ past_all ys marks k
+
+-- where a position stands among all, and whether the position at another place stands behind a further one of its block
+pub record Unmarked (blocks : List (List ℕ)) (p : ℕ) (other : ℕ → ℕ) : Type 0 where
+  pub k : ℕ
+  pub at : slice_get (joined blocks) k ≡ Some p
+  pub unset : slice_get (behind_firsts blocks) (other k) ≡ Some true → ⊥
+
+some_false : {A : Type 0} → Some false ≡ Some true → A
+some_false is = absurd (cc)
+
+-- the first one of a block isn't marked
+pub first_unmarked : (blocks : List (List ℕ)) (p : ℕ) → Contains (first_positions blocks) p → Unmarked blocks p (λ k. k)
+first_unmarked [] p (k, below, is) = absurd (omega (arith, below))
+first_unmarked ([] ∷ rest) p there = let found = first_unmarked rest p there in record { k = found.k; at = found.at; unset = found.unset }
+first_unmarked ((x ∷ xs) ∷ rest) p (zero, below, is) = record { k = 0; at = ap Some is; unset = λ set. some_false set }
+first_unmarked ((x ∷ xs) ∷ rest) p (suc k, below, is) =
+    let found = first_unmarked rest p (k, omega (arith, below), is) in
+    record {
+      k = suc (length xs + found.k);
+      at = get_right xs (joined rest) found.k ∙ found.at;
+      unset = λ set. found.unset (sym (past_all xs (behind_firsts rest) found.k) ∙ set);
+    }
+
+-- nothing is marked before the first one
+none_before : (blocks : List (List ℕ)) → slice_get (behind_firsts blocks) 0 ≡ Some true → ⊥
+none_before [] set = none_is true set
+none_before ([] ∷ rest) set = none_before rest set
+none_before ((x ∷ xs) ∷ rest) set = some_false set
+
+last_at : (x : ℕ) (xs js : List ℕ) → slice_get (x ∷ (xs ++ js)) (length xs) ≡ Some (last_of x xs)
+last_at x [] js = refl
+last_at x (y ∷ ys) js = last_at y ys js
+
+-- what follows the last one of a block isn't marked
+pub last_unmarked : (blocks : List (List ℕ)) (p : ℕ) → Contains (last_positions blocks) p → Unmarked blocks p suc
+last_unmarked [] p (k, below, is) = absurd (omega (arith, below))
+last_unmarked ([] ∷ rest) p there = let found = last_unmarked rest p there in record { k = found.k; at = found.at; unset = found.unset }
+last_unmarked ((x ∷ xs) ∷ rest) p (zero, below, is) =
+    let none : length xs + 0 ≡ length xs = omega arith in
+    record {
+      k = length xs;
+      at = last_at x xs (joined rest) ∙ ap Some is;
+      unset = λ set. none_before rest
+          (sym (past_all xs (behind_firsts rest) 0)
+          ∙ (ap (λ (n : ℕ). slice_get (map (λ (y : ℕ). true) xs ++ behind_firsts rest) n) none ∙ set));
+    }
+last_unmarked ((x ∷ xs) ∷ rest) p (suc k, below, is) =
+    let found = last_unmarked rest p (k, omega (arith, below), is) in
+    let next : length xs + suc found.k ≡ suc (length xs + found.k) = omega arith in
+    record {
+      k = suc (length xs + found.k);
+      at = get_right xs (joined rest) found.k ∙ found.at;
+      unset = λ set. found.unset
+          (sym (past_all xs (behind_firsts rest) (suc found.k))
+          ∙ (ap (λ (n : ℕ). slice_get (map (λ (y : ℕ). true) xs ++ behind_firsts rest) n) next ∙ set));
+    }
+
+-- a position behind which none is marked is the last one of its block, or stands behind the block
+last_or_later : (x : ℕ) (xs js : List ℕ) (marks : List Bool) (k p : ℕ) → slice_get (x ∷ (xs ++ js)) k ≡ Some p →
+    (slice_get (map (λ (y : ℕ). true) xs ++ marks) k ≡ Some true → ⊥) →
+    (last_of x xs ≡ p) ⊎ ((r : ℕ) × (slice_get js r ≡ Some p) × (slice_get marks (suc r) ≡ Some true → ⊥))
+last_or_later x [] js marks zero p at unset = inl (some_is x p at)
+last_or_later x [] js marks (suc k) p at unset = inr (k, at, unset)
+last_or_later x (y ∷ ys) js marks zero p at unset = absurd (unset refl)
+last_or_later x (y ∷ ys) js marks (suc k) p at unset = last_or_later y ys js marks k p at unset
+
+pub last_there : (blocks : List (List ℕ)) (k p : ℕ) → slice_get (joined blocks) k ≡ Some p →
+    (slice_get (behind_firsts blocks) (suc k) ≡ Some true → ⊥) → Contains (last_positions blocks) p
+last_there [] k p at unset = none_is p at
+last_there ([] ∷ rest) k p at unset = last_there rest k p at unset
+last_there ((x ∷ xs) ∷ rest) k p at unset = by (λ r. last_there rest r p) (last_or_later x xs (joined rest) (behind_firsts rest) k p at unset)
+  where
+    by : ((r : ℕ) → slice_get (joined rest) r ≡ Some p → (slice_get (behind_firsts rest) (suc r) ≡ Some true → ⊥) → Contains (last_positions rest) p) →
+        (last_of x xs ≡ p) ⊎ ((r : ℕ) × (slice_get (joined rest) r ≡ Some p) × (slice_get (behind_firsts rest) (suc r) ≡ Some true → ⊥)) →
+        Contains (last_of x xs ∷ last_positions rest) p
+    by more (inl is) = subst (λ (q : ℕ). Contains (last_of x xs ∷ last_positions rest) q) is (here (last_of x xs) (last_positions rest))
+    by more (inr later) = further (last_of x xs) (last_positions rest) p (more later.0 later.1 later.2)

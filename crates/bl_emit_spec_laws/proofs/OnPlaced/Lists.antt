@@ -1,6 +1,6 @@
 -- Lists by the positions of their elements, and orders of the numbers below one.
 use Rattle.std.proofs.Common.{◌≡◌, ◌⊎◌, inl, inr, ⊎_elim, ℕ, zero, suc, ◌+◌, ◌<◌, ◌≤◌, Bool, true, false}
-use Rattle.std.proofs.Common.{List, [], ◌∷◌, ◌++◌, Contains, Some, None}
+use Rattle.std.proofs.Common.{List, [], ◌∷◌, ◌++◌, Contains, Option, Some, None}
 use Rattle.std.proofs.Common.{cond, nat_eq, refl, sym, ap, subst, ◌∙◌, arith, length, map, eq-eqb, eqb-true, if◌then◌else◌}
 use Rattle.std.specs.Prelude.{IsPermutation, option_to_list, slice_get}
 use Rattle.std.proofs.lemmas.List.{length-append}
@@ -249,3 +249,28 @@ module _ {X : Type 0} (all : List X) where
       let first = there_at all q (within 0 q refl) in
       ap (λ (found : List X). length found) (picked_first q order first.0 first.1)
       ∙ ap suc (picked_many order (λ j r there. within (suc j) r there))
+
+  -- what stands at one of these positions is picked
+  pub picked_has : (order : List ℕ) (p : ℕ) (x : X) → Contains order p → slice_get all p ≡ Some x → Contains (picked all order) x
+  picked_has [] p x (k, below, is) at = absurd (omega (arith, below))
+  picked_has (q ∷ order) p x (zero, below, is) at =
+      subst (λ (found : List X). Contains found x) (sym (picked_first q order x (ap (slice_get all) is ∙ at))) (here x (picked all order))
+  picked_has (q ∷ order) p x (suc k, below, is) at =
+      by (slice_get all q) (picked_has order p x (k, omega (arith, below), is) at)
+    where
+      by : (found : Option X) → Contains (picked all order) x → Contains (option_to_list found ++ picked all order) x
+      by None there = there
+      by (Some y) there = further y (picked all order) x there
+
+  -- and what is picked stands at one of them
+  pub picked_from : (order : List ℕ) (x : X) → Contains (picked all order) x → (p : ℕ) × Contains order p × (slice_get all p ≡ Some x)
+  picked_from [] x (k, below, is) = absurd (omega (arith, below))
+  picked_from (q ∷ order) x there =
+      by (λ rest. (let found = picked_from order x rest in (found.0, further q order found.0 found.1, found.2))) (slice_get all q) refl there
+    where
+      by : (Contains (picked all order) x → (p : ℕ) × Contains (q ∷ order) p × (slice_get all p ≡ Some x)) → (found : Option X) →
+          slice_get all q ≡ found → Contains (option_to_list found ++ picked all order) x →
+          (p : ℕ) × Contains (q ∷ order) p × (slice_get all p ≡ Some x)
+      by later None is rest = later rest
+      by later (Some y) is (zero, below, same) = (q, here q order, is ∙ ap Some same)
+      by later (Some y) is (suc k, below, same) = later (k, omega (arith, below), same)

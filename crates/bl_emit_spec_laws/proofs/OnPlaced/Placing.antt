@@ -1,7 +1,8 @@
 -- The blocks of an activity's function stand in the order of the numbers of their nodes.
-use Rattle.std.proofs.Common.{◌≡◌, ◌⊎◌, ℕ, zero, suc, ◌+◌, ◌<◌, Bool, true, false, List, [], ◌∷◌, Contains, Option, Some, None}
+use Rattle.std.proofs.Common.{◌≡◌, ◌⊎◌, inl, inr, ℕ, zero, suc, ◌+◌, ◌<◌, Bool, true, false, List, [], ◌∷◌, Contains, Option, Some, None}
 use Rattle.std.proofs.Common.{nat_eq, refl, sym, ap, subst, ◌∙◌, arith, eqb-true}
 use Rattle.std.proofs.Common.{length, map, unwrap_or}
+use Rattle.std.specs.List.{list_any}
 use Rattle.std.specs.Prelude.{IsPermutation, option_and_then, option_map, slice_get}
 use Rattle.bl_tree.specs.declared.tree.StructDef.{StructDef}
 use Rattle.bl_tree.specs.declared.tree.Unit.{Unit as UnitDef}
@@ -9,7 +10,7 @@ use Rattle.bl_tree.specs.Reduce.{joined}
 use Rattle.bl_tree.specs.Typing.{is_activity}
 use Rattle.bl_cause.specs.Activities.{activities as activities_of, graph_position}
 use Rattle.bl_cause.proofs.PairLemmas.{each_at, filtered_at}
-use Rattle.bl_graph.specs.Edges.{Entry}
+use Rattle.bl_graph.specs.Edges.{EdgeAll, Entry, OutAll}
 use Rattle.bl_graph.specs.Laws.{StaysWithin}
 use Rattle.bl_graph_nodes.specs.Nodes.{Node, entry as first_node, nodes_in}
 use Rattle.bl_graph_nodes.specs.Plain.{Block, Done, Then, plain_body}
@@ -17,10 +18,10 @@ use Rattle.bl_ctree.specs.declared.instance.Instance.{Instance}
 use Rattle.bl_ctree.specs.Instances.{Setting, setting_of, unit_at, unit_of}
 use Rattle.bl_ctree_laws_confluence.specs.Deeds.Orderly.{AcceptedIsOrderly}
 use Rattle.bl_machine.specs.declared.machine.Activity.{Activity as InMachine}
-use Rattle.bl_machine.specs.Blocks.{CouldFollow, Ordered, up_to}
+use Rattle.bl_machine.specs.Blocks.{CouldFollow, Ordered, is_join, up_to}
 use Rattle.bl_machine.specs.Machines.{IsActivityOf}
 use Rattle.bl_machine_pass.specs.Numbered.{position_where, slots_of}
-use Rattle.bl_machine_pass.specs.Transitions.{Change, Flagged, Transition, rules}
+use Rattle.bl_machine_pass.specs.Transitions.{Change, Finishes, Flagged, SetsFlag, Transition, rules}
 use Rattle.bl_machine_pass_laws_execution.specs.Executes.{HasRule, begun_registers}
 use Rattle.bl_machine_pass_laws.specs.Turns.Laws.{StaysPlaced, entry_flag}
 use Rattle.bl_machine_pass_laws.specs.Flags.{FlagsAreAsked, FlagsAreReached, FlagsComeFromBefore, MayFlag}
@@ -30,14 +31,16 @@ use Rattle.bl_machine_transitions.specs.Listed.{layout_of}
 use Rattle.bl_machine_transitions_laws.specs.Laws.{RulesAreListed}
 use Rattle.bl_machine_transitions_laws.proofs.Agreeing.{Agrees}
 use Rattle.bl_machine_transitions_laws.proofs.Standing.{nodes_stand}
-use Rattle.bl_emit_spec.specs.Activities.{Activity, activity_view, picked, turns_in_source}
+use Rattle.bl_emit_spec.specs.Activities.{Activity, activity_view, first_rules, first_positions, is_flagged, picked, rules_at, turns_in_source}
 use Rattle.bl_emit_spec.specs.Blocks.{ActivityView, NodeCode, node_turn, turns_of}
-use Rattle.bl_emit_spec_laws.specs.Calls.Built.{Activities, activity_at, rank_by, slots_by, unit_number}
+use Rattle.bl_emit_spec_laws.specs.Calls.Built.{Activities, activity_at, asks_flag, last_rules, last_positions, rank_by, registered, slots_by, unit_number}
 use Rattle.bl_emit_spec_laws.specs.Calls.Laws.{CompilationContext}
-use Rattle.bl_emit_spec_laws.specs.Passes.{BlockAt, BlocksPlaced, IsBehind, RuleAt, turns_in_blocks}
-use Rattle.bl_emit_spec_laws.proofs.OnPlaced.Behind.{marks_picked, neighbours, picked_joined}
+use Rattle.bl_emit_spec_laws.specs.Passes.{BlockAt, BlocksPlaced, GoesStraight, IsBehind, RuleAt, behind_firsts, turns_in_blocks}
+use Rattle.bl_emit_spec_laws.proofs.OnOwn.Members.{any_found, both_second}
+use Rattle.bl_emit_spec_laws.proofs.OnPlaced.Behind.{first_there, first_unmarked, last_there, last_unmarked, marks_picked, neighbours, picked_joined}
+use Rattle.bl_emit_spec_laws.proofs.OnPlaced.Going.{Differ, Leads, all_differ, block_going, false_true, going_at, sole, split}
 use Rattle.bl_emit_spec_laws.proofs.OnPlaced.Lists.{Within, contains_at, found_at, mapped_at, mapped_many, number_below, number_once, number_there}
-use Rattle.bl_emit_spec_laws.proofs.OnPlaced.Lists.{picked_at, picked_many, some_is, stands_at, there_at, within_at}
+use Rattle.bl_emit_spec_laws.proofs.OnPlaced.Lists.{picked_at, picked_from, picked_has, picked_many, some_is, stands_at, there_at, within_at}
 
 -- ---- blocks
 
@@ -182,9 +185,11 @@ module _ (laws : Laws) (a : Activity) (unit : UnitDef) (one : InMachine) (unit_i
       pub first : Node
       pub second : Node
       pub numbered : p ≡ suc ((activity_view a).number first)
+      pub second_numbered : (activity_view a).number second ≡ p
       pub follow : CouldFollow body first second
-      -- no other node has the number
+      -- no other node has the number, nor that of the first one
       pub only : (m : Node) → Contains nodes m → (activity_view a).number m ≡ p → m ≡ second
+      pub only_first : (m : Node) → Contains nodes m → suc ((activity_view a).number m) ≡ p → m ≡ first
 
     pub pair : (p : ℕ) → IsBehind a p → Pair p
     pair p behind =
@@ -198,6 +203,7 @@ module _ (laws : Laws) (a : Activity) (unit : UnitDef) (one : InMachine) (unit_i
           first = straight.first;
           second = straight.second;
           numbered = n.next ∙ ap suc (sym (number_of_node n.i n.q straight.first straight.is_first before));
+          second_numbered = number_of_node n.j p straight.second straight.is_second at;
           follow = straight.edge;
           only = λ m there is.
               (let place = stands_at nodes m there in
@@ -206,6 +212,14 @@ module _ (laws : Laws) (a : Activity) (unit : UnitDef) (one : InMachine) (unit_i
               let same : k.0 ≡ p = sym number ∙ is in
               let position : place.0 ≡ n.j = some_is place.0 n.j (sym k.1 ∙ ap (λ (q : ℕ). slice_get a.order q) same ∙ at) in
               some_is m straight.second (sym place.1 ∙ ap (λ (q : ℕ). slice_get nodes q) position ∙ straight.is_second));
+          only_first = λ m there is.
+              (let place = stands_at nodes m there in
+              let k = number_there (length nodes) a.order permutes place.0 (within_at nodes place.0 m place.1) in
+              let number = number_of_node place.0 k.0 m place.1 k.1 in
+              let next = n.next in
+              let same : k.0 ≡ n.q = omega (arith, number, is, next) in
+              let position : place.0 ≡ n.i = some_is place.0 n.i (sym k.1 ∙ ap (λ (q : ℕ). slice_get a.order q) same ∙ before) in
+              some_is m straight.first (sym place.1 ∙ ap (λ (q : ℕ). slice_get nodes q) position ∙ straight.is_first));
         }
 
     rule_node : (rule : Transition) → Contains rs rule → Contains nodes rule.node
@@ -246,6 +260,148 @@ module _ (laws : Laws) (a : Activity) (unit : UnitDef) (one : InMachine) (unit_i
                 let number : p ≡ (activity_view a).number (first_node s) = eqb-true p ((activity_view a).number (first_node s)) equal in
                 let same = both.only (first_node s) ((laws.within body).entries (first_node s) first) (sym number) in
                 absurd (both.follow.no_entry (subst (λ (n : Node). Entry body n) same first))
+
+    -- ---- first and last nodes of blocks
+
+    marks_are : behind_firsts (turns_in_blocks a) ≡ behind_firsts a.blocks
+    marks_are =
+        let inside : Within turns (joined a.blocks) = subst (λ (order : List ℕ). Within turns order) in_blocks within in
+        marks_picked turns a.blocks inside
+
+    -- a rule stands at a position, which has the number of its node in the order
+    record Stood (rule : Transition) : Type 0 where
+      p : ℕ
+      there : slice_get rs p ≡ Some rule
+      at : slice_get (joined a.blocks) ((activity_view a).number rule.node) ≡ Some p
+
+    stood : (rule : Transition) → Contains rs rule → Stood rule
+    stood rule there =
+        let at = stands_at rs rule there in
+        let below = within_at rs at.0 rule at.1 in
+        let all = many_rules in
+        let k = number_there (length nodes) a.order permutes at.0 (omega (arith, below, all)) in
+        record {
+          p = at.0;
+          there = at.1;
+          at = ap (λ (n : ℕ). slice_get (joined a.blocks) n) (number_is at.0 k.0 rule at.1 k.1)
+              ∙ ap (λ (order : List ℕ). slice_get order k.0) (sym in_blocks) ∙ k.1;
+        }
+
+    rules_are : rules_at a ≡ rs
+    rules_are = ap (λ (u : UnitDef). rules a.slots (plain_body u.body)) unit_is
+
+    pub first_is : (rule : Transition) → Contains rs rule → (IsBehind a ((activity_view a).number rule.node) → ⊥) → Contains (first_rules a) rule
+    first_is rule there alone =
+        let at = stood rule there in
+        picked_has (rules_at a) (first_positions a.blocks) at.p rule
+        (first_there a.blocks ((activity_view a).number rule.node) at.p at.at
+        (λ set. alone (ap (λ (marks : List Bool). slice_get marks ((activity_view a).number rule.node)) marks_are ∙ set)))
+        (ap (λ (all : List Transition). slice_get all at.p) rules_are ∙ at.there)
+
+    pub last_is : (rule : Transition) → Contains rs rule → (IsBehind a (suc ((activity_view a).number rule.node)) → ⊥) → Contains (last_rules a) rule
+    last_is rule there alone =
+        let at = stood rule there in
+        picked_has (rules_at a) (last_positions a.blocks) at.p rule
+        (last_there a.blocks ((activity_view a).number rule.node) at.p at.at
+        (λ set. alone (ap (λ (marks : List Bool). slice_get marks (suc ((activity_view a).number rule.node))) marks_are ∙ set)))
+        (ap (λ (all : List Transition). slice_get all at.p) rules_are ∙ at.there)
+
+    -- a rule at a position in the order, whose mark at some place isn't set
+    number_at : (p k : ℕ) (rule : Transition) → slice_get (rules_at a) p ≡ Some rule → slice_get (joined a.blocks) k ≡ Some p →
+        (activity_view a).number rule.node ≡ k
+    number_at p k rule there at =
+        number_is p k rule (ap (λ (all : List Transition). slice_get all p) (sym rules_are) ∙ there)
+        (ap (λ (order : List ℕ). slice_get order k) in_blocks ∙ at)
+
+    -- the first node of a block stands behind no other one
+    pub first_alone : (rule : Transition) → Contains (first_rules a) rule → IsBehind a ((activity_view a).number rule.node) → ⊥
+    first_alone rule there behind =
+        let from = picked_from (rules_at a) (first_positions a.blocks) rule there in
+        let found = first_unmarked a.blocks from.0 from.1 in
+        let number = number_at from.0 found.k rule from.2 found.at in
+        found.unset
+        (ap (λ (n : ℕ). slice_get (behind_firsts a.blocks) n) (sym number)
+        ∙ ap (λ (marks : List Bool). slice_get marks ((activity_view a).number rule.node)) (sym marks_are) ∙ behind)
+
+    -- the last one has none behind it
+    pub last_alone : (rule : Transition) → Contains (last_rules a) rule → IsBehind a (suc ((activity_view a).number rule.node)) → ⊥
+    last_alone rule there behind =
+        let from = picked_from (rules_at a) (last_positions a.blocks) rule there in
+        let found = last_unmarked a.blocks from.0 from.1 in
+        let number = number_at from.0 found.k rule from.2 found.at in
+        found.unset
+        (ap (λ (n : ℕ). slice_get (behind_firsts a.blocks) (suc n)) (sym number)
+        ∙ ap (λ (marks : List Bool). slice_get marks (suc ((activity_view a).number rule.node))) (sym marks_are) ∙ behind)
+
+    -- these rules are among all
+    picked_rule : (order : List ℕ) (rule : Transition) → Contains (picked (rules_at a) order) rule → Contains rs rule
+    picked_rule order rule there =
+        let from = picked_from (rules_at a) order rule there in
+        contains_at rs from.0 rule (ap (λ (all : List Transition). slice_get all from.0) (sym rules_are) ∙ from.2)
+
+    pub last_among : (rule : Transition) → Contains (last_rules a) rule → Contains rs rule
+    last_among rule there = picked_rule (last_positions a.blocks) rule there
+
+    pub first_among : (rule : Transition) → Contains (first_rules a) rule → Contains rs rule
+    first_among rule there = picked_rule (first_positions a.blocks) rule there
+
+    -- what the rule of a last node may flag is a first one
+    pub flags_first : (rule other : Transition) (change : Change) → Contains (last_rules a) rule →
+        Contains rule.on_true change ⊎ Contains rule.on_false change → MayFlag change other.node → Contains rs other → Contains (first_rules a) other
+    flags_first rule other change there among may has =
+        first_is other has
+        (λ behind. last_alone rule there
+        (subst (λ (n : ℕ). IsBehind a n) (before rule change other.node (last_among rule there) among may behind) behind))
+
+    -- the node at which the body begins stands first
+    pub entry_first : (rule : Transition) → Contains rs rule → Entry body rule.node → Contains (first_rules a) rule
+    entry_first rule has begins =
+        first_is rule has
+        (λ behind. (let both = pair ((activity_view a).number rule.node) behind in
+        let same = both.only rule.node ((laws.within body).entries rule.node begins) refl in
+        both.follow.no_entry (subst (λ (n : Node). Entry body n) same begins)))
+
+    pub unregistered : (number : ℕ) → IsBehind a number → (registered a).flags number ≡ false
+    unregistered number behind = by (list_any (asks_flag (activity_view a).number number) (first_rules a)) refl
+      where
+        by : (b : Bool) → list_any (asks_flag (activity_view a).number number) (first_rules a) ≡ b → b ≡ false
+        by false is = refl
+        by true is =
+            let found = any_found (asks_flag (activity_view a).number number) (first_rules a) is in
+            let same : number ≡ (activity_view a).number found.one.node =
+            eqb-true number ((activity_view a).number found.one.node)
+            (both_second (is_flagged found.one.condition) (nat_eq number ((activity_view a).number found.one.node)) found.on) in
+            absurd (first_alone found.one found.there (subst (λ (n : ℕ). IsBehind a n) same behind))
+
+    -- ---- nodes with others behind them
+
+    once : (i j : ℕ) (n : Node) → slice_get nodes i ≡ Some n → slice_get nodes j ≡ Some n → i ≡ j
+    once i j n one two =
+        let k = number_there (length nodes) a.order permutes i (within_at nodes i n one) in
+        let l = number_there (length nodes) a.order permutes j (within_at nodes j n two) in
+        let same : k.0 ≡ l.0 = sym (number_of_node i k.0 n one k.1) ∙ number_of_node j l.0 n two l.1 in
+        some_is i j (sym k.1 ∙ ap (λ (q : ℕ). slice_get a.order q) same ∙ l.1)
+
+    differ : Differ nodes
+    differ = all_differ nodes once
+
+    pub straight : (rule : Transition) → Contains rs rule → IsBehind a (suc ((activity_view a).number rule.node)) →
+        GoesStraight (activity_view a).number rule
+    straight rule has behind =
+        let both = pair (suc ((activity_view a).number rule.node)) behind in
+        let own : rule.node ≡ both.first = both.only_first rule.node (rule_node rule has) refl in
+        let follow : CouldFollow body rule.node both.second = subst (λ (n : Node). CouldFollow body n both.second) (sym own) both.follow in
+        let going = going_at nodes (EdgeAll body) (OutAll body) Finishes rs rule (block_going a.slots body Finishes differ) has in
+        let leads = going.edge follow.straight both.second follow.leads follow.no_join in
+        record { goes = follow.straight; to = both.second; sets = by both.second follow leads; next = both.second_numbered }
+      where
+        by : (m : Node) → CouldFollow body rule.node m → Leads (EdgeAll body) rule m → rule.on_true ≡ SetsFlag m ∷ []
+        by m follow (sole is) = is
+        by m follow (split k edge join other) = none (follow.nowhere_else k edge)
+          where
+            none : (is_join k ≡ true) ⊎ (k ≡ m) → rule.on_true ≡ SetsFlag m ∷ []
+            none (inl joins) = false_true (sym join ∙ joins)
+            none (inr same) = absurd (other same)
 
 -- ---- the activities of a program
 
@@ -315,6 +471,21 @@ module _ (laws : Laws) (orderly : AcceptedIsOrderly) (structs : List StructDef)
       instance_before rule change m has among may behind =
           before laws a unit made.one made.unit_is made.order made.blocks made.slots made.ordered rule change m has among may behind
 
+      instance_first : (rule : Transition) → HasRule (slots_by w activities) i unit rule → (IsBehind a (rank_by w activities i rule.node) → ⊥) →
+          Contains (first_rules a) rule
+      instance_first rule has alone = first_is laws a unit made.one made.unit_is made.order made.blocks made.slots made.ordered rule has alone
+
+      instance_last : (rule : Transition) → HasRule (slots_by w activities) i unit rule → (IsBehind a (suc (rank_by w activities i rule.node)) → ⊥) →
+          Contains (last_rules a) rule
+      instance_last rule has alone = last_is laws a unit made.one made.unit_is made.order made.blocks made.slots made.ordered rule has alone
+
+      instance_straight : (rule : Transition) → HasRule (slots_by w activities) i unit rule → IsBehind a (suc (rank_by w activities i rule.node)) →
+          GoesStraight (rank_by w activities i) rule
+      instance_straight rule has behind = straight laws a unit made.one made.unit_is made.order made.blocks made.slots made.ordered rule has behind
+
+      instance_free : (number : ℕ) → IsBehind a number → (registered a).flags number ≡ false
+      instance_free number behind = unregistered laws a unit made.one made.unit_is made.order made.blocks made.slots made.ordered number behind
+
       instance_begins : (number : ℕ) → IsBehind a number → (begun_registers (rank_by w activities) i unit).flags number ≡ false
       instance_begins number behind = begins laws a unit made.one made.unit_is made.order made.blocks made.slots made.ordered number behind
 
@@ -325,4 +496,8 @@ module _ (laws : Laws) (orderly : AcceptedIsOrderly) (structs : List StructDef)
       waits = λ i unit rule compiled is has behind. instance_waits i unit compiled is rule has behind;
       before = λ i unit rule change m compiled is has among may behind. instance_before i unit compiled is rule change m has among may behind;
       begins = λ i unit number compiled is behind. instance_begins i unit compiled is number behind;
+      straight = λ i unit rule compiled is has behind. instance_straight i unit compiled is rule has behind;
+      first = λ i unit rule compiled is has alone. instance_first i unit compiled is rule has alone;
+      last = λ i unit rule compiled is has alone. instance_last i unit compiled is rule has alone;
+      free = λ i unit number compiled is behind. instance_free i unit compiled is number behind;
     }

@@ -1,5 +1,5 @@
 -- What the C of each activity of a program is made of, and the registers that its function has.
-use Rattle.std.specs.Prelude.{◌≡◌, ℕ, ◌<◌, zero, suc, Bool, true, false, ◌&&◌, ◌||◌, List, length, take, nat_eq, nat_lt, Option, Some}
+use Rattle.std.specs.Prelude.{◌≡◌, ℕ, ◌<◌, zero, suc, Bool, true, false, ◌&&◌, ◌||◌, List, [], ◌∷◌, length, take, nat_eq, nat_lt, Option, Some}
 use Rattle.std.specs.Prelude.{option_and_then, option_map, slice_get, unwrap_or, if◌then◌else◌}
 use Rattle.std.specs.List.{list_any}
 use Rattle.bl_tree.specs.declared.place.Place.{Place}
@@ -18,7 +18,7 @@ use Rattle.bl_machine.specs.Uses.{Slots}
 use Rattle.bl_machine_pass.specs.Numbered.{sizes_of, slots_of}
 use Rattle.bl_machine_pass.specs.Transitions.{Change, SetsMark, Transition}
 use Rattle.bl_machine_pass_laws_execution.specs.Frames.{Frames}
-use Rattle.bl_emit_spec.specs.Activities.{Activity, activity_view, is_flagged, remembers_any, rules_at}
+use Rattle.bl_emit_spec.specs.Activities.{Activity, activity_view, first_rules, is_flagged, picked, remembers_any, rules_at}
 use Rattle.bl_emit_spec_laws.specs.Registers.Registers.{Registered}
 
 -- ---- activities
@@ -71,6 +71,23 @@ pub record AreBuilt (structs : List StructDef) (units : List UnitDef) (machine :
   pub made : (k : ℕ) (unit : UnitDef) → slice_get units k ≡ Some unit → is_activity unit.kind ≡ true →
       MadeOf unit (activities k) (slice_get machine (graph_position units k))
 
+-- ---- first and last nodes of blocks
+
+-- the last of some positions
+abbrev pub last_of : ℕ → List ℕ → ℕ
+last_of k [] = k
+last_of k (next ∷ rest) = last_of next rest
+
+-- the last positions of blocks, in order
+abbrev pub last_positions : List (List ℕ) → List ℕ
+last_positions [] = []
+last_positions ([] ∷ rest) = last_positions rest
+last_positions ((k ∷ block) ∷ rest) = last_of k block ∷ last_positions rest
+
+-- the rules of the nodes that stand last in their blocks, in the order of the blocks
+abbrev pub last_rules : Activity → List Transition
+last_rules a = picked (rules_at a) (last_positions a.blocks)
+
 -- ---- registers
 
 -- whether a rule asks for the flag of the node with this number
@@ -82,13 +99,13 @@ abbrev pub sets_mark : (Node → ℕ) → ℕ → Change → Bool
 sets_mark number k (SetsMark n) = nat_eq k (number n)
 sets_mark number k _ = false
 
--- the registers that the activity's function has: its counters, copies of those that some rule asks for, the flags that rules ask for, and the
--- marks that rules set
+-- the registers that the activity's function has: its counters, copies of those that some rule asks for, the flags that the rules of blocks' first nodes
+-- ask for, and the marks that rules set
 abbrev pub registered : Activity → Registered
 registered a = record {
   counters = λ k. nat_lt k (length a.sizes);
   copied = (activity_view a).is_read;
-  flags = λ k. list_any (asks_flag (activity_view a).number k) (rules_at a);
+  flags = λ k. list_any (asks_flag (activity_view a).number k) (first_rules a);
   marks = λ k. list_any (λ rule. list_any (sets_mark (activity_view a).number k) rule.on_true) (rules_at a);
 }
 

@@ -1,6 +1,6 @@
 -- What holds of the C functions of a program's activities.
 use Rattle.std.specs.Prelude.{◌≡◌, ℕ, zero, suc, ◌+◌, ◌<◌, ◌≤◌, ◌^◌, Bool, true, false, List, [], ◌∷◌, ◌++◌, map, length}
-use Rattle.std.specs.Prelude.{is_some, Contains, Some}
+use Rattle.std.specs.Prelude.{is_some, Contains, None, Some, if◌then◌else◌}
 use Rattle.std.specs.Prelude.{slice_get}
 use Rattle.bl_tree.specs.declared.c.CStmt.{CStmt}
 use Rattle.bl_tree.specs.declared.tree.StructDef.{StructDef}
@@ -39,10 +39,12 @@ use Rattle.bl_emit_spec.specs.Activities.{
   copied_in,
   counters_read,
   entry_code,
+  first_rules,
   remembers_any,
   rested_code,
 }
-use Rattle.bl_emit_spec.specs.Blocks.{ActivityView, block_code, guard_of, turn_code}
+use Rattle.bl_emit_functions.specs.Trees.{c_if}
+use Rattle.bl_emit_spec.specs.Blocks.{ActivityView, guard_of, node_code}
 use Rattle.bl_emit_spec_laws.specs.Registers.Laws.{RegistersWithin}
 use Rattle.bl_emit_spec_laws.specs.Registers.Registers.{FewRegisters, frame_at, over_at}
 use Rattle.bl_machine.specs.declared.machine.Activity.{Activity as InMachine}
@@ -51,7 +53,7 @@ use Rattle.bl_machine_pass.specs.Registers.{Registers, after_rule, is_due}
 use Rattle.bl_machine_pass.specs.Transitions.{Transition}
 use Rattle.bl_machine_pass_laws_execution.specs.Executes.{CopiesMatch, Executes, HasRule, NodeTraps, PassTraps, Performs, recopied}
 use Rattle.bl_machine_pass_laws_execution.specs.Frames.{Frames}
-use Rattle.bl_emit_spec_laws.specs.Calls.Built.{Activities, AreBuilt, activity_at, cleared, rank_by, registered, site_at, slots_by, unit_number}
+use Rattle.bl_emit_spec_laws.specs.Calls.Built.{Activities, AreBuilt, activity_at, cleared, last_rules, rank_by, registered, site_at, slots_by, unit_number}
 use Rattle.bl_emit_spec_laws.specs.Calls.Calls.{ActivitySimulates, CallAddresses, CallBegins, FramesWithin, MayGive, PassStarts, passed_to}
 use Rattle.bl_emit_spec_laws.specs.Calls.Invariant.{FunctionContext, PassRepresents, result_at_c}
 
@@ -67,6 +69,8 @@ pub record CompilationContext (structs : List StructDef) (units : List UnitDef) 
   -- names suffice
   pub names : AllNamesSuffice structs units
   pub vars : (unit : UnitDef) → Contains units unit → length unit.vars ≤ 2 ^ 64
+  pub nodes : (k : ℕ) (unit : UnitDef) (n : Node) → slice_get units k ≡ Some unit → is_activity unit.kind ≡ true →
+      Contains (nodes_in (plain_body unit.body)) n → (activity_view (activities k)).number n < 2 ^ 64
   pub registers : (k : ℕ) (unit : UnitDef) → slice_get units k ≡ Some unit → is_activity unit.kind ≡ true → FewRegisters (registered (activities k))
 
 -- ---- what a part of the function keeps
@@ -135,11 +139,29 @@ pub record CalledAt (body : Block) (n : Node) (u : ℕ) : Type 0 where
 
 -- an `if` by the guard of a rule
 abbrev pub guarded_by_rule : ActivityView → Transition → List CStmt → CStmt
-guarded_by_rule view rule code = turn_code (record { test = guard_of view rule.node rule.condition; code = code })
+guarded_by_rule view rule code = c_if (guard_of view rule.node rule.condition) code None
 
--- the outcome of the block of one node
+-- a rule as the C of its block has it: without its changes, where another node stands behind its own in the block
+abbrev pub shown_rule : Bool → Transition → Transition
+shown_rule last rule = record {
+  node = rule.node;
+  condition = rule.condition;
+  on_true = if last then rule.on_true else [];
+  on_false = if last then rule.on_false else [];
+}
+
+-- a rule of the instance's activity, as the C of its block has it
+pub record HasShownRule (w : Setting) (activities : Activities) (i : ℕ) (unit : UnitDef) (shown : Transition) : Type 0 where
+  pub rule : Transition
+  pub there : HasRule (slots_by w activities) i unit rule
+  pub last : Bool
+  pub is : shown ≡ shown_rule last rule
+  pub stands_last : last ≡ true → Contains (last_rules (activity_at w activities i)) rule
+
+-- the outcome of what one node does in its turn
 abbrev pub block_done : Setting → Activities → ℕ → ℕ → Transition → Scope → Memory → Outcome Memory
-block_done w activities i u rule scope here = block_c (block_code (activity_view (activity_at w activities i)) u rule ∷ []) scope here
+block_done w activities i u rule scope here =
+    block_c (node_code (activity_view (activity_at w activities i)) u rule rule.node) scope here
 
 -- the function of an instance stands in the middle of its pass
 pub record Midway (structs : List StructDef) (units : List UnitDef) (entry : ℕ) (machine : List InMachine) (activities : Activities) (i : ℕ)
@@ -154,36 +176,38 @@ pub record Midway (structs : List StructDef) (units : List UnitDef) (entry : ℕ
   pub frames_within : FramesWithin (setting_of structs units entry) activities frames
   pub within : RegistersWithin (activity_at (setting_of structs units entry) activities i).sizes r
 
--- The block of a node among these whose rule is due. Where what is to be done there is done it goes on, and leaves memory that stands for what is
--- left; where that traps it traps
+-- What the C of a node among these does, by the rule as its block has it. Where what is to be done there is done it goes on, and leaves memory that stands
+-- for what is left; where that traps it traps
 pub record BlocksSimulate (structs : List StructDef) (units : List UnitDef) (entry : ℕ) (machine : List InMachine) (activities : Activities)
     (These : Node → Type 0) : Type 0 where
   pub acts : (i : ℕ) (unit : UnitDef) (scope : Scope) (frames : Frames) (store : Store) (copies : List Value) (r : Registers) (rule : Transition) (u : ℕ)
       (answer : Bool) (frames' : Frames) (left : Store) (here : Memory) → let w = setting_of structs units entry in
-      Midway structs units entry machine activities i unit scope frames store copies r here → HasRule (slots_by w activities) i unit rule →
-      These rule.node → CalledAt (plain_body unit.body) rule.node u → is_due (rank_by w activities i) rule r ≡ true →
+      Midway structs units entry machine activities i unit scope frames store copies r here → HasShownRule w activities i unit rule →
+      These rule.node → CalledAt (plain_body unit.body) rule.node u →
       CopiesMatch w i rule.node store copies →
       Performs w (rank_by w activities) (slots_by w activities) (cleared w) i rule.node frames store answer frames' left →
       PartSimulates w activities i unit scope frames' left (recopied w i rule.node left copies) (after_rule (rank_by w activities i) rule answer r) here
       (block_done w activities i u rule scope here)
   pub stops : (i : ℕ) (unit : UnitDef) (scope : Scope) (frames : Frames) (store : Store) (copies : List Value) (r : Registers) (rule : Transition) (u : ℕ)
       (here : Memory) → let w = setting_of structs units entry in
-      Midway structs units entry machine activities i unit scope frames store copies r here → HasRule (slots_by w activities) i unit rule →
-      These rule.node → CalledAt (plain_body unit.body) rule.node u → is_due (rank_by w activities i) rule r ≡ true →
+      Midway structs units entry machine activities i unit scope frames store copies r here → HasShownRule w activities i unit rule →
+      These rule.node → CalledAt (plain_body unit.body) rule.node u →
       CopiesMatch w i rule.node store copies → NodeTraps w (rank_by w activities) (slots_by w activities) (cleared w) i rule.node frames store →
       (block_done w activities i u rule scope here).end ≡ traps
 
--- an `if` by the guard of a rule does what stands in it where the rule is due, and else nothing
+-- an `if` by the guard of a rule, whose node is the first of its block, does what stands in it where the rule is due, and else nothing
 pub record GuardsChoose (structs : List StructDef) (units : List UnitDef) (entry : ℕ) (machine : List InMachine) (activities : Activities) : Type 0 where
   pub enters : (i : ℕ) (unit : UnitDef) (scope : Scope) (frames : Frames) (store : Store) (copies : List Value) (r : Registers) (rule : Transition)
       (code : List CStmt) (here : Memory) → let w = setting_of structs units entry in
       Midway structs units entry machine activities i unit scope frames store copies r here → HasRule (slots_by w activities) i unit rule →
+      Contains (first_rules (activity_at w activities i)) rule →
       is_due (rank_by w activities i) rule r ≡ true →
       let o = block_c (guarded_by_rule (activity_view (activity_at w activities i)) rule code ∷ []) scope here in
       (o.end ≡ (block_c code scope here).end) × (o.memory ≡ (block_c code scope here).memory)
   pub skips : (i : ℕ) (unit : UnitDef) (scope : Scope) (frames : Frames) (store : Store) (copies : List Value) (r : Registers) (rule : Transition)
       (code : List CStmt) (here : Memory) → let w = setting_of structs units entry in
       Midway structs units entry machine activities i unit scope frames store copies r here → HasRule (slots_by w activities) i unit rule →
+      Contains (first_rules (activity_at w activities i)) rule →
       is_due (rank_by w activities i) rule r ≡ false →
       let o = block_c (guarded_by_rule (activity_view (activity_at w activities i)) rule code ∷ []) scope here in (o.end ≡ goes_on) × (o.memory ≡ here)
 

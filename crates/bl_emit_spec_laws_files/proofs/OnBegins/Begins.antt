@@ -15,7 +15,7 @@ use Rattle.bl_tree.specs.declared.value.Value.{Value}
 use Rattle.bl_tree.specs.Numbers.{number_of}
 use Rattle.bl_tree.specs.Typing.{TypingContext, var_at}
 use Rattle.bl_graph_nodes.specs.Nodes.{Arguments, EnterAt, entry, nodes_in}
-use Rattle.bl_graph_nodes.specs.Plain.{Block, Label, plain_body}
+use Rattle.bl_graph_nodes.specs.Plain.{Block, Label, Plain, Then, plain_body}
 use Rattle.bl_ctext_semantics.specs.Course.{goes_on}
 use Rattle.bl_ctext_semantics.specs.Meaning.{Meaning, Scope, block_c, further}
 use Rattle.bl_ctext_semantics.specs.Memory.{Location, Memory, Projection, Root, left_after, member, same_root, scalar_number, value_at, variable}
@@ -39,11 +39,11 @@ use Rattle.bl_emit_spec_laws.specs.Registers.Registers.{RegistersBeside, frame_a
 use Rattle.bl_machine.specs.Blocks.{up_to}
 use Rattle.bl_machine.specs.declared.machine.Activity.{Activity as InMachine}
 use Rattle.bl_machine_pass.specs.Registers.{Registers}
-use Rattle.bl_machine_pass.specs.Transitions.{Finishes, rules}
 use Rattle.bl_machine_pass_laws_execution.specs.Executes.{begun_registers, resumed_registers}
 use Rattle.bl_machine_pass_laws.specs.Turns.Laws.{entry_flag}
 use Rattle.bl_machine_pass_laws_execution.specs.Frames.{Frames}
-use Rattle.bl_emit_spec_laws.specs.Calls.Built.{Activities, activity_at, asks_flag, rank_by, registered, run_by, site_at, unit_number}
+use Rattle.bl_emit_spec_laws.specs.Own.{EntriesAreOwn}
+use Rattle.bl_emit_spec_laws.specs.Calls.Built.{Activities, activity_at, rank_by, registered, run_by, site_at, unit_number}
 use Rattle.bl_emit_spec_laws.specs.Calls.Calls.{CallAddresses, CallBegins, MayGive, PassStarts, input_values, output_values, passed_to}
 use Rattle.bl_emit_spec_laws.specs.Calls.Laws.{CompilationContext, PartSimulates, memory_in, scope_in, start_code}
 use Rattle.bl_emit_spec_laws.specs.Calls.Memories as memories
@@ -60,7 +60,7 @@ use Rattle.bl_emit_spec_laws_files.proofs.OnBegins.Pointers.{local_zero}
 use Rattle.bl_emit_spec_laws_files.proofs.OnBegins.Setting.{GoesTo, then_goes}
 use Rattle.bl_emit_spec_laws_files.proofs.OnBegins.Standing.{active, few, functions_stand_all, gives, handed, kind_is, many, places_are, pointers_go}
 use Rattle.bl_emit_spec_laws_files.proofs.OnBegins.Standing.{standing, stands_there, unit_is}
-use Rattle.bl_emit_spec_laws_files.proofs.OnBegins.Start.{Stands, comes_rested, copies_within, entry_asks, entry_begun, entry_goes, entry_resumed, other_parts}
+use Rattle.bl_emit_spec_laws_files.proofs.OnBegins.Start.{Stands, comes_rested, copies_within, entry_begun, entry_goes, entry_resumed, other_parts}
 use Rattle.bl_emit_spec_laws_files.proofs.OnBegins.Start.{rested_goes, same_parts, with_entry, with_rested}
 use Rattle.bl_emit_spec_laws_files.proofs.OnBegins.Variables.{variables_begin_all}
 
@@ -88,6 +88,7 @@ at_first counters = record { counters = counters; rested = λ k. 0; flags = λ k
 
 module _ (structs : List StructDef) (units : List UnitDef) (entry_at : ℕ) (orderly : AcceptedIsOrderly) (hands : HandsOver structs units entry_at)
     (keeps : CallsKeepFrame) (keep_apart : RegistersKeepApart) (guards : GuardsEvaluate) (frames_apart : FramesApart) (copying : CopiesBegin)
+    (entries : EntriesAreOwn)
     (machine : List InMachine) (activities : Activities) (i : ℕ) (unit : UnitDef) (known : Table Meaning) (depth : ℕ) (given : CallAddresses)
     (frames : Frames) (store : Store) (here : Memory) (compiled : CompilationContext structs units entry_at machine activities)
     (there : unit_at (setting_of structs units entry_at) i ≡ Some unit)
@@ -226,12 +227,22 @@ module _ (structs : List StructDef) (units : List UnitDef) (entry_at : ℕ) (ord
       rested_goes has site scope apart beside now begun Read (at_first (frames i)) begun (all_said has.counters Read read_below)
       (all_said has.copied Read read_copied) first_stands
 
+  entry_flagged : (s : Plain) (rest : Block) → plain_body unit.body ≡ Then s rest → has.flags ((activity_view a).number (entry s)) ≡ true
+  entry_flagged s rest is =
+      entries structs units machine activities (unit_number w i) unit s rest
+      (record {
+        agrees = compiled.agrees;
+        built = compiled.built;
+        is_there = stands_there structs units entry_at orderly hands machine activities i unit known depth given frames store here compiled there may begins;
+        activity = kind_is structs units entry_at orderly hands machine activities i unit known depth given frames store here compiled there may begins;
+      })
+      is
+
   entry_done : (m : Memory) → Mid second m → GoesTo (Mid third) (block_c (entry_code (activity_view a) (body_of a)) scope m)
   entry_done m stands =
       entry_goes has site scope apart beside now begun (activity_view a) guards (lt-ltb 0 (length a.sizes) suffice.some) (body_of a) second m
-      (λ s rest is. subst (λ (body : Block). list_any (asks_flag (activity_view a).number ((activity_view a).number (entry s))) (rules a.slots body) ≡ true)
-      (sym is)
-      (entry_asks (activity_view a).number a.slots s rest Finishes)) second_within.rested stands
+      (λ s rest is. entry_flagged s rest (ap (λ (u : UnitDef). plain_body u.body) (sym is_unit) ∙ is))
+      second_within.rested stands
 
   -- ---- the copies of variables
 
@@ -404,12 +415,12 @@ module _ (structs : List StructDef) (units : List UnitDef) (entry_at : ℕ) (ord
 
 pub functions_begin_all : (structs : List StructDef) (units : List UnitDef) (entry_at : ℕ) → AcceptedIsOrderly →
     HandsOver structs units entry_at →
-    CallsKeepFrame → RegistersKeepApart → GuardsEvaluate → FramesApart → CopiesBegin → FunctionsBeginWhere structs units entry_at
-functions_begin_all structs units entry_at orderly hands keeps keep_apart guards frames_apart copying machine activities remember suffice
+    CallsKeepFrame → RegistersKeepApart → GuardsEvaluate → FramesApart → CopiesBegin → EntriesAreOwn → FunctionsBeginWhere structs units entry_at
+functions_begin_all structs units entry_at orderly hands keeps keep_apart guards frames_apart copying entries machine activities remember suffice
     i unit known depth given frames store r here compiled there may begins starts agree come = (
       functions_stand_all structs units entry_at orderly hands machine activities i unit known depth given frames store here compiled there may begins
           agree come,
-      part_comes structs units entry_at orderly hands keeps keep_apart guards frames_apart copying machine activities i unit known depth given frames
+      part_comes structs units entry_at orderly hands keeps keep_apart guards frames_apart copying entries machine activities i unit known depth given frames
           store here compiled there may begins remember
           (suffice (unit_number (setting_of structs units entry_at) i) unit
           (stands_there structs units entry_at orderly hands machine activities i unit known depth given frames store here compiled there may begins)

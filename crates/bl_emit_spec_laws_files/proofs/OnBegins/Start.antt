@@ -282,36 +282,3 @@ pub other_parts : (view : ActivityView) (body : Block) (r : Registers) → ((wit
     × ((with_entry view body r).rested ≡ r.rested) × ((with_entry view body r).marks ≡ r.marks) × ((with_entry view body r).over ≡ r.over)
 other_parts view Done r = (refl, refl, refl, refl)
 other_parts view (Then s rest) r = (refl, refl, refl, refl)
-
--- ---- the rule of the entry asks for its flag
-
-either_first : (a : Bool) → a ≡ true → (b : Bool) → (a || b) ≡ true
-either_first true h b = refl
-either_first false h b = absurd (cc)
-
-either_next : (a b : Bool) → b ≡ true → (a || b) ≡ true
-either_next true b h = refl
-either_next false b h = h
-
-itself : (k : ℕ) → nat_eq k k ≡ true
-itself k = eq-eqb k k refl
-
--- rules of a statement, whatever follows them, ask for the flag of its entry
-pub entry_asks : (number : Node → ℕ) (slots : Slots) (s : Plain) (rest : Block) (next : Change) →
-    list_any (asks_flag number (number (entry s))) (rules_in slots (Then s rest) next) ≡ true
-entry_asks number slots s rest next = by s (enter rest next) (rules_in slots rest next)
-  where
-    by : (s : Plain) (after : Change) (more : List Transition) → list_any (asks_flag number (number (entry s))) (rules_of slots s after ++ more) ≡ true
-    by (Act l s) after more = either_first (nat_eq (number (ActAt l s)) (number (ActAt l s))) (itself (number (ActAt l s))) _
-    by (Await l at e) after more = either_first (nat_eq (number (PauseAt l at)) (number (PauseAt l at))) (itself (number (PauseAt l at))) _
-    by (Run l at target a inputs outputs) after more =
-        let n : Node = EnterAt l at (arguments_of target inputs outputs) in either_first (nat_eq (number n) (number n)) (itself (number n)) _
-    by (If l at e body other) after more = either_first (nat_eq (number (TestAt l at e)) (number (TestAt l at e))) (itself (number (TestAt l at e))) _
-    by (Cobegin l at bodies) after more = either_first (nat_eq (number (ForkAt l at)) (number (ForkAt l at))) (itself (number (ForkAt l at))) _
-    by (When l at guard e body) after more = either_first (nat_eq (number (StartAt l at)) (number (StartAt l at))) (itself (number (StartAt l at))) _
-    by (Repeat l at body) after more = either_first (nat_eq (number (HeadAt l at)) (number (HeadAt l at))) (itself (number (HeadAt l at))) _
-    by (Until l at body e) after more = either_first (nat_eq (number (HeadAt l at)) (number (HeadAt l at))) (itself (number (HeadAt l at))) _
-    by (While l at e body) after more = either_first (nat_eq (number (TestAt l at e)) (number (TestAt l at e))) (itself (number (TestAt l at e))) _
-    by (Again l at body e) after more =
-        either_next (nat_eq (number (TestAt l at e)) (number (HeadAt l at))) _
-        (either_first (nat_eq (number (TestAt l at e)) (number (TestAt l at e))) (itself (number (TestAt l at e))) _)

@@ -32,12 +32,13 @@ use Rattle.bl_emit_spec_laws.specs.Calls.Built.{Activities, activity_at, rank_by
 use Rattle.bl_emit_spec_laws.specs.Calls.Laws.{PartSimulates, block_done}
 use Rattle.bl_emit_spec_laws.specs.Calls.Invariant.{PassRepresents}
 use Rattle.bl_emit_spec_laws_nodes.specs.Points.Acts.{ActNodesSimulate}
-use Rattle.bl_emit_spec_laws_nodes.specs.Points.Laws.{BlocksChoose, ChangesSimulateInPass, ResultTold, ends_body, is_return_node}
+use Rattle.bl_emit_spec_laws_nodes.specs.Points.Laws.{ChangesSimulateInPass, ResultTold, ends_body, is_return_node}
 use Rattle.bl_emit_spec_laws_nodes.specs.Points.Nodes.{AgreeAt}
 use Rattle.bl_emit_spec_laws_nodes.proofs.OnPoints.ActNodes.{act_cut, act_did, act_goes, act_is, act_keeps, act_performs}
 use Rattle.bl_emit_spec_laws_nodes.proofs.OnPoints.ActNodes.{act_stands, act_stops, act_traps, acted_is}
 use Rattle.bl_emit_spec_laws_nodes.proofs.OnPoints.ActNodes.{append_goes, append_traps, no_return, recopied_is}
 use Rattle.bl_emit_spec_laws_nodes.proofs.OnPoints.Besides.{site_is}
+use Rattle.bl_emit_spec_laws_nodes.proofs.OnPoints.Shown.{ends_true}
 use Rattle.bl_emit_spec_laws_nodes.proofs.OnPoints.Silent.{comes_as, either, no_such, not_so, over_after}
 
 -- what is left where something was done that answers true
@@ -51,11 +52,11 @@ as_left w activities i unit scope r rule here o frames frames' left copies copie
     (subst (λ c. PartSimulates w activities i unit scope frames left c (after_rule (rank_by w activities i) rule true r) here o) (sym same_copies)
     comes))
 
-pub act_nodes_simulate : ChangesSimulateInPass → BlocksChoose → FramesApart → RegistersKeepApart →
+pub act_nodes_simulate : ChangesSimulateInPass → FramesApart → RegistersKeepApart →
     (structs : List StructDef) (units : List UnitDef) (entry : ℕ) →
     ActsSimulate structs units entry → ActNodesSimulate structs units entry
-act_nodes_simulate stand choose apart keep structs units entry come machine activities keeps own ends remembering nodes views agree none seen = record {
-  acts = λ i unit scope frames store copies r rule u answer frames' left here midway there act called due sees performs.
+act_nodes_simulate stand apart keep structs units entry come machine activities keeps own ends remembering nodes views agree none seen = record {
+  acts = λ i unit scope frames store copies r rule u answer frames' left here midway there act called sees performs.
       let w = setting_of structs units entry in
       let a = activity_at w activities i in
       let k = unit_number w i in
@@ -97,7 +98,7 @@ act_nodes_simulate stand choose apart keep structs units entry come machine acti
       λ value over one at. stood.result value
       (either r.over (list_any ends_body rule.on_true) (over_after number rule.on_true r over)
       (not_so (list_any ends_body rule.on_true)
-      (λ ending. no_such (sym (ends.on_true k unit rule there_unit midway.function.active one there ending) ∙ no_ret)))) one at in
+      (λ ending. no_such (sym (ends_true activities units ends i unit w rule there there_unit midway.function.active one ending) ∙ no_ret)))) one at in
       let changed =
       stand structs units entry machine activities i unit scope frames left after_copies r mid rule.on_true midway.compiled midway.function
       midway.is_there
@@ -117,7 +118,6 @@ act_nodes_simulate stand choose apart keep structs units entry come machine acti
       ∙ (ap (λ site. act_code site (activity_view a).copies s)
       (site_is apart structs units entry views machine activities i unit scope frames store copies r here midway)
       ∙ ap (λ (unit : UnitDef). act_code site (copies_of unit) s) (midway.compiled.built.unit k unit there_unit))) in
-      let chosen = choose structs units entry machine activities own i unit scope frames store copies r rule u here midway there due in
       let done = block_done w activities i u rule scope here in
       let seen_now =
       seen.own i unit l s store left values
@@ -135,8 +135,8 @@ act_nodes_simulate stand choose apart keep structs units entry come machine acti
       (ap (λ n. recopied w i n left copies) n_is
       ∙ (ap (λ now. recopied_kind layer now copies) seen_now ∙ recopied_is layer values copies is))
       (comes_as w activities i unit scope frames left after_copies (all_changed number rule.on_true r) here done whole
-      (chosen.0 ∙ ap (λ code. (block_c code scope here).end) code_is) (chosen.1 ∙ ap (λ code. (block_c code scope here).memory) code_is) comes);
-  stops = λ i unit scope frames store copies r rule u here midway there act called due sees stops.
+      (ap (λ code. (block_c code scope here).end) code_is) (ap (λ code. (block_c code scope here).memory) code_is) comes);
+  stops = λ i unit scope frames store copies r rule u here midway there act called sees stops.
       let w = setting_of structs units entry in
       let a = activity_at w activities i in
       let k = unit_number w i in
@@ -161,10 +161,9 @@ act_nodes_simulate stand choose apart keep structs units entry come machine acti
       ∙ (ap (λ site. act_code site (activity_view a).copies s)
       (site_is apart structs units entry views machine activities i unit scope frames store copies r here midway)
       ∙ ap (λ (unit : UnitDef). act_code site (copies_of unit) s) (midway.compiled.built.unit k unit there_unit))) in
-      let chosen = choose structs units entry machine activities own i unit scope frames store copies r rule u here midway there due in
       let cut =
       act_traps apart keep structs units entry keeps come machine activities remembering nodes views agree none seen i unit scope frames store
       copies r
       here midway l s called.position node is agreeing (act_cut w i s store layer is did) in
-      chosen.0 ∙ (ap (λ code. (block_c code scope here).end) code_is ∙ append_traps scope act_c changes_c here cut);
+      (ap (λ code. (block_c code scope here).end) code_is ∙ append_traps scope act_c changes_c here cut);
 }

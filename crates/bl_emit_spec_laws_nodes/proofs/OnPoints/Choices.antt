@@ -1,6 +1,6 @@
--- What an `if` comes to, and so the block of a node.
+-- What an `if` comes to.
 use Rattle.std.proofs.Common.{◌≡◌, ℕ, ◌+◌, ℤ, Bool, true, false, List, [], ◌∷◌, map, Option, Some, None, refl, sym, ap, ◌∙◌, subst}
-use Rattle.std.specs.Prelude.{option_map, unwrap_or, if◌then◌else◌}
+use Rattle.std.specs.Prelude.{Contains, option_map, unwrap_or, if◌then◌else◌}
 use Rattle.bl_tree.specs.declared.place.Place.{Place}
 use Rattle.bl_tree.specs.declared.c.CArg.{CArg}
 use Rattle.bl_tree.specs.declared.c.CCall.{CCall}
@@ -20,8 +20,8 @@ use Rattle.bl_ctext_semantics.specs.Meaning.{Scope, block_c, block_of, executed,
 use Rattle.bl_emit_acts.specs.Trees.{nowhere}
 use Rattle.bl_emit_functions.specs.Statements.{else_code}
 use Rattle.bl_emit_functions.specs.Trees.{c_if}
-use Rattle.bl_emit_spec.specs.Activities.{activity_view}
-use Rattle.bl_emit_spec.specs.Blocks.{choice_code, guard_of, node_code, spelled_in_kind, spelled_truth}
+use Rattle.bl_emit_spec.specs.Activities.{activity_view, first_rules}
+use Rattle.bl_emit_spec.specs.Blocks.{choice_code, guard_of, spelled_in_kind, spelled_truth}
 use Rattle.bl_emit_spec_laws.specs.Registers.Laws.{GuardsEvaluate}
 use Rattle.bl_ctree.specs.Instances.{Setting, setting_of}
 use Rattle.bl_ctree.specs.Store.{Store}
@@ -35,7 +35,7 @@ use Rattle.bl_tree.specs.declared.tree.StructDef.{StructDef}
 use Rattle.bl_tree.specs.declared.tree.Unit.{Unit as UnitDef}
 use Rattle.bl_tree.specs.declared.value.Value.{Value}
 use Rattle.bl_machine.specs.declared.machine.Activity.{Activity as InMachine}
-use Rattle.bl_emit_spec_laws_nodes.specs.Points.Laws.{BlocksChoose, GuardsSimulate, RulesOwn}
+use Rattle.bl_emit_spec_laws_nodes.specs.Points.Laws.{GuardsSimulate, RulesOwn}
 
 -- two outcomes that differ at most in their counts
 abbrev pub Alike : Outcome Memory → Outcome Memory → Type 0
@@ -197,27 +197,22 @@ module _ (show : GuardsEvaluate) (structs : List StructDef) (units : List UnitDe
 
   chosen : (i : ℕ) (unit : UnitDef) (scope : Scope) (frames : Frames) (store : Store) (copies : List Value) (r : Registers) (rule : Transition)
       (code : List CStmt) (here : Memory) → Midway structs units entry machine activities i unit scope frames store copies r here →
-      HasRule (slots_by w activities) i unit rule → (b : Bool) → is_due (rank_by w activities i) rule r ≡ b → (Q : End → Memory → Type 0) →
+      HasRule (slots_by w activities) i unit rule → Contains (first_rules (activity_at w activities i)) rule → (b : Bool) → is_due (rank_by w activities i) rule r ≡ b → (Q : End → Memory → Type 0) →
       Chosen scope here Q code None (Some b) →
       Q (block_c (guarded_by_rule (activity_view (activity_at w activities i)) rule code ∷ []) scope here).end
       (block_c (guarded_by_rule (activity_view (activity_at w activities i)) rule code ∷ []) scope here).memory
-  chosen i unit scope frames store copies r rule code here midway there b due Q so =
+  chosen i unit scope frames store copies r rule code here midway there first b due Q so =
       let a = activity_at w activities i in
-      let asks = own.asks i unit rule midway.is_there there in
+      let asks = own.asks i unit rule midway.is_there there first in
       let shown = show (activity_view a) (registered a) scope rule.node rule.condition r here midway.stands.registers midway.within.rested asks in
       if_block scope here Q (guard_of (activity_view a) rule.node rule.condition) code None b (shown ∙ ap (λ b. Some (number_of b)) due) so
 
 pub guards_choose : GuardsEvaluate → GuardsSimulate
 guards_choose show structs units entry machine activities own = record {
-  enters = λ i unit scope frames store copies r rule code here midway there due.
-      chosen show structs units entry machine activities own i unit scope frames store copies r rule code here midway there true due
+  enters = λ i unit scope frames store copies r rule code here midway there first due.
+      chosen show structs units entry machine activities own i unit scope frames store copies r rule code here midway there first true due
       (λ e m. (e ≡ (block_c code scope here).end) × (m ≡ (block_c code scope here).memory)) (refl, refl);
-  skips = λ i unit scope frames store copies r rule code here midway there due.
-      chosen show structs units entry machine activities own i unit scope frames store copies r rule code here midway there false due
+  skips = λ i unit scope frames store copies r rule code here midway there first due.
+      chosen show structs units entry machine activities own i unit scope frames store copies r rule code here midway there first false due
       (λ e m. (e ≡ goes_on) × (m ≡ here)) (refl, refl);
 }
-
-pub choose : GuardsEvaluate → BlocksChoose
-choose show structs units entry machine activities own i unit scope frames store copies r rule u here midway there due =
-    (guards_choose show structs units entry machine activities own).enters i unit scope frames store copies r rule
-    (node_code (activity_view (activity_at (setting_of structs units entry) activities i)) u rule rule.node) here midway there due

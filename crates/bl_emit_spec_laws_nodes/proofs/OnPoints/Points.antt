@@ -17,12 +17,12 @@ use Rattle.bl_ctree.specs.Instances.{Setting, setting_of}
 use Rattle.bl_ctree.specs.Store.{Store}
 use Rattle.bl_emit_acts_laws_simulation.specs.Acts.{is_act}
 use Rattle.bl_machine.specs.declared.machine.Activity.{Activity as InMachine}
-use Rattle.bl_machine_pass.specs.Registers.{Registers, after_rule, is_due}
+use Rattle.bl_machine_pass.specs.Registers.{Registers, after_rule}
 use Rattle.bl_machine_pass.specs.Transitions.{Transition}
-use Rattle.bl_machine_pass_laws_execution.specs.Executes.{CopiesMatch, HasRule, IsPoint, NodeTraps, Performs, recopied}
+use Rattle.bl_machine_pass_laws_execution.specs.Executes.{CopiesMatch, IsPoint, NodeTraps, Performs, recopied}
 use Rattle.bl_machine_pass_laws_execution.specs.Frames.{Frames}
 use Rattle.bl_emit_spec_laws.specs.Calls.Built.{Activities, cleared, rank_by, slots_by, unit_number}
-use Rattle.bl_emit_spec_laws.specs.Calls.Laws.{BlocksSimulate, CalledAt, CompilationContext, Midway, PartSimulates, block_done}
+use Rattle.bl_emit_spec_laws.specs.Calls.Laws.{BlocksSimulate, CalledAt, CompilationContext, HasShownRule, Midway, PartSimulates, block_done}
 use Rattle.bl_emit_spec_laws_nodes.specs.Points.Acts.{ActNodesSimulate, IsActNode, ReturnNodesSimulate}
 use Rattle.bl_emit_spec_laws_nodes.specs.Points.Laws.{GuardsSimulate, IsSilent, SilentNodesSimulate, is_return_node}
 use Rattle.bl_emit_spec_laws_nodes.specs.Points.Nodes.{IsTest, TestNodesSimulate, fits_there}
@@ -84,8 +84,7 @@ module _ (silent : SilentNodesSimulate) (structs : List StructDef) (units : List
   module _ (stands : CompilationContext structs units entry machine activities → PointsStand structs units entry activities) (i : ℕ) (unit : UnitDef)
       (scope : Scope) (frames : Frames) (store : Store) (copies : List Value) (r : Registers) (rule : Transition) (u : ℕ) (here : Memory)
       (midway : Midway structs units entry machine activities i unit scope frames store copies r here)
-      (there : HasRule (slots_by (setting_of structs units entry) activities) i unit rule) (called : CalledAt (plain_body unit.body) rule.node u)
-      (due : is_due (rank_by (setting_of structs units entry) activities i) rule r ≡ true)
+      (there : HasShownRule (setting_of structs units entry) activities i unit rule) (called : CalledAt (plain_body unit.body) rule.node u)
       (sees : CopiesMatch (setting_of structs units entry) i rule.node store copies) where
     abbrev w : Setting
     w = setting_of structs units entry
@@ -103,52 +102,52 @@ module _ (silent : SilentNodesSimulate) (structs : List StructDef) (units : List
         PartSimulates w activities i unit scope frames' left (recopied w i rule.node left copies)
         (after_rule (rank_by w activities i) rule answer r) here (block_done w activities i u rule scope here)
     acts_by answer frames' left performs (rests h) =
-        (silents midway.compiled p).acts i unit scope frames store copies r rule u answer frames' left here midway there h called due sees performs
+        (silents midway.compiled p).acts i unit scope frames store copies r rule u answer frames' left here midway there h called sees performs
     acts_by answer frames' left performs (tests h) =
-        (all_tests midway.compiled p).acts i unit scope frames store copies r rule u answer frames' left here midway there h called due sees
+        (all_tests midway.compiled p).acts i unit scope frames store copies r rule u answer frames' left here midway there h called sees
         performs
     acts_by answer frames' left performs (acts_there h) =
-        (all_acts midway.compiled p).acts i unit scope frames store copies r rule u answer frames' left here midway there h called due sees performs
+        (all_acts midway.compiled p).acts i unit scope frames store copies r rule u answer frames' left here midway there h called sees performs
     acts_by answer frames' left performs (returns_there h) =
-        (all_returns midway.compiled p).acts i unit scope frames store copies r rule u answer frames' left here midway there h called due sees
+        (all_returns midway.compiled p).acts i unit scope frames store copies r rule u answer frames' left here midway there h called sees
         performs
 
     pub stops_by : NodeTraps w (rank_by w activities) (slots_by w activities) (cleared w) i rule.node frames store → Kind rule.node →
         (block_done w activities i u rule scope here).end ≡ traps
     stops_by stops (rests h) =
-        (silents midway.compiled p).stops i unit scope frames store copies r rule u here midway there h called due sees stops
+        (silents midway.compiled p).stops i unit scope frames store copies r rule u here midway there h called sees stops
     stops_by stops (tests h) =
-        (all_tests midway.compiled p).stops i unit scope frames store copies r rule u here midway there h called due sees stops
+        (all_tests midway.compiled p).stops i unit scope frames store copies r rule u here midway there h called sees stops
     stops_by stops (acts_there h) =
-        (all_acts midway.compiled p).stops i unit scope frames store copies r rule u here midway there h called due sees stops
+        (all_acts midway.compiled p).stops i unit scope frames store copies r rule u here midway there h called sees stops
     stops_by stops (returns_there h) =
-        (all_returns midway.compiled p).stops i unit scope frames store copies r rule u here midway there h called due sees stops
+        (all_returns midway.compiled p).stops i unit scope frames store copies r rule u here midway there h called sees stops
 
 pub points_simulate : SilentNodesSimulate → GuardsSimulate → (structs : List StructDef) (units : List UnitDef) (entry : ℕ) → TestNodesSimulate structs units entry →
     ActNodesSimulate structs units entry → ReturnNodesSimulate structs units entry → BodiesEnd structs units entry → PointsSimulate structs units entry
 points_simulate silent choose structs units entry test act return_done end machine activities stands = (
   record {
-    acts = λ i unit scope frames store copies r rule u answer frames' left here midway there point called due sees performs.
+    acts = λ i unit scope frames store copies r rule u answer frames' left here midway there point called sees performs.
         acts_by silent structs units entry test act return_done end machine activities stands i unit scope frames store copies r rule u here
         midway there
-        called due sees answer frames' left performs
+        called sees answer frames' left performs
         (kind_there silent structs units entry test act return_done end machine activities stands i unit scope frames store copies r rule u
         here midway
-        there called due sees point);
-    stops = λ i unit scope frames store copies r rule u here midway there point called due sees stops.
+        there called sees point);
+    stops = λ i unit scope frames store copies r rule u here midway there point called sees stops.
         stops_by silent structs units entry test act return_done end machine activities stands i unit scope frames store copies r rule u here
         midway there
-        called due sees stops
+        called sees stops
         (kind_there silent structs units entry test act return_done end machine activities stands i unit scope frames store copies r rule u
         here midway
-        there called due sees point);
+        there called sees point);
   },
   record {
-    enters = λ i unit scope frames store copies r rule code here midway there due.
+    enters = λ i unit scope frames store copies r rule code here midway there first due.
         (choose structs units entry machine activities (stands midway.compiled).own).enters i unit scope frames store copies r rule code here midway
-        there due;
-    skips = λ i unit scope frames store copies r rule code here midway there due.
+        there first due;
+    skips = λ i unit scope frames store copies r rule code here midway there first due.
         (choose structs units entry machine activities (stands midway.compiled).own).skips i unit scope frames store copies r rule code here midway
-        there due;
+        there first due;
   },
 )

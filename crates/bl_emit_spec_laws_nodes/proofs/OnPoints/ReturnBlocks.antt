@@ -73,10 +73,10 @@ use Rattle.bl_machine_pass_laws_execution.specs.Executes as executes
 use Rattle.bl_machine_pass_laws_execution.specs.Executes.{CopiesMatch, NodeTraps, Performs, deed_at, recopied, recopied_kind}
 use Rattle.bl_machine_pass_laws_execution.specs.Frames.{Frames}
 use Rattle.bl_emit_spec_laws.specs.Calls.Built.{Activities, activity_at, cleared, rank_by, site_at, slots_by, unit_number}
-use Rattle.bl_emit_spec_laws.specs.Calls.Laws.{Midway, PartSimulates, PassKeepsFrame, block_done}
+use Rattle.bl_emit_spec_laws.specs.Calls.Laws.{HasShownRule, Midway, PartSimulates, PassKeepsFrame, block_done}
 use Rattle.bl_emit_spec_laws.specs.Calls.Invariant.{PassRepresents, result_at_c}
 use Rattle.bl_emit_spec_laws_nodes.specs.Points.Acts.{ReturnNodesSimulate}
-use Rattle.bl_emit_spec_laws_nodes.specs.Points.Laws.{BlocksChoose, ChangesSimulateInPass, Remembering, ResultTold, RulesOwn, is_return_node}
+use Rattle.bl_emit_spec_laws_nodes.specs.Points.Laws.{ChangesSimulateInPass, Remembering, ResultTold, RulesOwn, is_return_node}
 use Rattle.bl_emit_spec_laws_nodes.specs.Points.Nodes.{NodesStand, PrevsAgree, ViewsFit, act_copied}
 use Rattle.bl_emit_spec_laws_nodes.proofs.OnPoints.ActBlocks.{as_left}
 use Rattle.bl_emit_spec_laws_nodes.proofs.OnPoints.ActNodes.{and_first, append_goes, append_traps}
@@ -194,14 +194,14 @@ result_none site (Some s) is h one = absurd (cc)
 
 -- ---- blocks
 
-module _ (stand : ChangesSimulateInPass) (choose : BlocksChoose) (frames_apart : FramesApart) (structs : List StructDef) (units : List UnitDef) (entry : ℕ)
+module _ (stand : ChangesSimulateInPass) (frames_apart : FramesApart) (structs : List StructDef) (units : List UnitDef) (entry : ℕ)
     (keeps : IsWellTyped structs units entry) (show : ExpressionsSimulate structs units entry) (machine : List InMachine) (activities : Activities)
     (own : RulesOwn (setting_of structs units entry) activities) (remembering : Remembering (setting_of structs units entry) activities)
     (nodes : NodesStand structs units)
     (views : ViewsFit structs units entry) (agree : PrevsAgree) (i : ℕ) (unit : UnitDef) (scope : Scope) (frames : Frames) (store : Store)
     (copies : List Value) (r : Registers) (rule : Transition) (u : ℕ) (here : Memory)
     (midway : Midway structs units entry machine activities i unit scope frames store copies r here)
-    (there : executes.HasRule (slots_by (setting_of structs units entry) activities) i unit rule) (l : Label) (s : Stmt) (position : ℕ)
+    (there : HasShownRule (setting_of structs units entry) activities i unit rule) (l : Label) (s : Stmt) (position : ℕ)
     (node : slice_get (nodes_in (plain_body unit.body)) position ≡ Some (ActAt l s)) where
   abbrev w : Setting
   w = setting_of structs units entry
@@ -393,10 +393,10 @@ module _ (stand : ChangesSimulateInPass) (choose : BlocksChoose) (frames_apart :
       by (Some value) is did = absurd (cc)
       by None is did = ap (λ code. (block_c code scope here).end) (coded (Some e) kind) ∙ some_cut e kind sees is
 
-pub return_nodes_simulate : ChangesSimulateInPass → BlocksChoose → FramesApart → (structs : List StructDef) (units : List UnitDef) (entry : ℕ) →
+pub return_nodes_simulate : ChangesSimulateInPass → FramesApart → (structs : List StructDef) (units : List UnitDef) (entry : ℕ) →
     ExpressionsSimulate structs units entry → ReturnNodesSimulate structs units entry
-return_nodes_simulate stand choose apart structs units entry show machine activities keeps own remembering nodes views agree = record {
-  acts = λ i unit scope frames store copies r rule u answer frames' left here midway there returning called due sees performs.
+return_nodes_simulate stand apart structs units entry show machine activities keeps own remembering nodes views agree = record {
+  acts = λ i unit scope frames store copies r rule u answer frames' left here midway there returning called sees performs.
       let w = setting_of structs units entry in
       let a = activity_at w activities i in
       let found = return_is rule.node returning in
@@ -408,12 +408,11 @@ return_nodes_simulate stand choose apart structs units entry show machine activi
       let performed = return_performs w activities i frames store rule.node answer frames' left returning performs in
       let did = subst (λ n. done_by w (deed_at i n) store ≡ Some (record { answer = answer; store = left })) n_is performed.1 in
       let comes =
-      comes_by stand choose apart structs units entry keeps show machine activities own remembering nodes views agree i unit scope frames
+      comes_by stand apart structs units entry keeps show machine activities own remembering nodes views agree i unit scope frames
       store copies r
       rule u here midway there l s called.position (called.node ∙ ap Some n_is) kind.0 kind.1
       (subst (λ n. CopiesMatch w i n store copies) n_is sees) answer left
       (ap (λ layer. option_map done (acted_kind w i s layer store)) (sym kind.1) ∙ did) in
-      let chosen = choose structs units entry machine activities own i unit scope frames store copies r rule u here midway there due in
       let code_is = ap (node_code (activity_view a) u rule) n_is in
       let done_block = block_done w activities i u rule scope here in
       let whole = block_c (layer_acted (activity_view a) s layer ++ changes_code (activity_view a) rule.on_true) scope here in
@@ -421,8 +420,8 @@ return_nodes_simulate stand choose apart structs units entry show machine activi
       performed.0 comes.0
       (ap (λ n. recopied w i n left copies) n_is ∙ ap (λ layer. recopied_kind layer (view_at w left i).now copies) kind.1)
       (comes_as w activities i unit scope frames left copies (all_changed (rank_by w activities i) rule.on_true r) here done_block whole
-      (chosen.0 ∙ ap (λ code. (block_c code scope here).end) code_is) (chosen.1 ∙ ap (λ code. (block_c code scope here).memory) code_is) comes.1);
-  stops = λ i unit scope frames store copies r rule u here midway there returning called due sees stops.
+      (ap (λ code. (block_c code scope here).end) code_is) (ap (λ code. (block_c code scope here).memory) code_is) comes.1);
+  stops = λ i unit scope frames store copies r rule u here midway there returning called sees stops.
       let w = setting_of structs units entry in
       let a = activity_at w activities i in
       let found = return_is rule.node returning in
@@ -433,11 +432,10 @@ return_nodes_simulate stand choose apart structs units entry show machine activi
       let kind = kind_is layer found.3 in
       let did = subst (λ n. done_by w (deed_at i n) store ≡ None) n_is (return_stops w activities i frames store rule.node returning stops) in
       let cut =
-      cut_by stand choose apart structs units entry keeps show machine activities own remembering nodes views agree i unit scope frames store
+      cut_by stand apart structs units entry keeps show machine activities own remembering nodes views agree i unit scope frames store
       copies r
       rule u here midway there l s called.position (called.node ∙ ap Some n_is) kind.0 kind.1
       (subst (λ n. CopiesMatch w i n store copies) n_is sees) (ap (λ layer. option_map done (acted_kind w i s layer store)) (sym kind.1) ∙ did) in
-      let chosen = choose structs units entry machine activities own i unit scope frames store copies r rule u here midway there due in
       let code_is = ap (node_code (activity_view a) u rule) n_is in
-      chosen.0 ∙ (ap (λ code. (block_c code scope here).end) code_is ∙ cut);
+      (ap (λ code. (block_c code scope here).end) code_is ∙ cut);
 }

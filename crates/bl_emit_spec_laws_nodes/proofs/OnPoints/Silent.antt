@@ -39,7 +39,8 @@ use Rattle.bl_machine_pass_laws_execution.specs.Frames.{Frames}
 use Rattle.bl_emit_spec_laws.specs.Calls.Built.{Activities, activity_at, cleared, rank_by, site_at, slots_by, unit_number}
 use Rattle.bl_emit_spec_laws.specs.Calls.Laws.{PartSimulates, PassKeepsFrame, block_done}
 use Rattle.bl_emit_spec_laws.specs.Calls.Invariant.{PassRepresents}
-use Rattle.bl_emit_spec_laws_nodes.specs.Points.Laws.{BlocksChoose, ChangesSimulateInPass, IsSilent, ResultTold, SilentNodesSimulate}
+use Rattle.bl_emit_spec_laws_nodes.proofs.OnPoints.Shown.{ends_true}
+use Rattle.bl_emit_spec_laws_nodes.specs.Points.Laws.{ChangesSimulateInPass, IsSilent, ResultTold, SilentNodesSimulate}
 use Rattle.bl_emit_spec_laws_nodes.specs.Points.Laws.{ends_body, is_return_node}
 
 pub no_such : true ≡ false → ⊥
@@ -215,9 +216,9 @@ pub not_so : (b : Bool) → (b ≡ true → ⊥) → b ≡ false
 not_so true never = absurd (never refl)
 not_so false never = refl
 
-pub silent_comes : ChangesSimulateInPass → BlocksChoose → SilentNodesSimulate
-silent_comes stand choose structs units entry machine activities own ends remembering = record {
-  acts = λ i unit scope frames store copies r rule u answer frames' left here midway there silent called due sees performs.
+pub silent_comes : ChangesSimulateInPass → SilentNodesSimulate
+silent_comes stand structs units entry machine activities own ends remembering = record {
+  acts = λ i unit scope frames store copies r rule u answer frames' left here midway there silent called sees performs.
       let w = setting_of structs units entry in
       let a = activity_at w activities i in
       let number = rank_by w activities i in
@@ -225,7 +226,7 @@ silent_comes stand choose structs units entry machine activities own ends rememb
       let did = silent_performs w activities i copies frames store rule.node answer frames' left silent performs in
       let quiet = did.1 in
       let never : list_any ends_body rule.on_true ≡ true → is_some unit.result ≡ true → ⊥ =
-      λ ending one. no_such (sym (ends.on_true k unit rule midway.function.is_there midway.function.active one there ending)
+      λ ending one. no_such (sym (ends_true activities units ends i unit w rule there midway.function.is_there midway.function.active one ending)
       ∙ silent_no_return rule.node silent) in
       let told : ResultTold unit i scope store (all_changed number rule.on_true r) here =
       λ value over one is. midway.stands.result value
@@ -238,12 +239,11 @@ silent_comes stand choose structs units entry machine activities own ends rememb
       remembering midway.stands (own.on_true i unit rule midway.is_there there) told in
       let done = block_done w activities i u rule scope here in
       let all : PartSimulates w activities i unit scope frames store copies after_r here done =
-      let chosen = choose structs units entry machine activities own i unit scope frames store copies r rule u here midway there due in
       let code = silent_code (activity_view a) u rule rule.node silent in
       comes_as w activities i unit scope frames store copies after_r here done o
-      (chosen.0 ∙ ap (λ code. (block_c code scope here).end) code) (chosen.1 ∙ ap (λ code. (block_c code scope here).memory) code) comes in
+      (ap (λ code. (block_c code scope here).end) code) (ap (λ code. (block_c code scope here).memory) code) comes in
       as_left w activities i unit scope r rule here done frames frames' store left copies (recopied w i rule.node left copies) answer did.0 quiet.0
       quiet.1 quiet.2 all;
-  stops = λ i unit scope frames store copies r rule u here midway there silent called due sees stops.
+  stops = λ i unit scope frames store copies r rule u here midway there silent called sees stops.
       absurd (silent_stops (setting_of structs units entry) activities i copies frames store rule.node silent stops);
 }

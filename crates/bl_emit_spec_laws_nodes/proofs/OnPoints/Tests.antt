@@ -55,12 +55,13 @@ use Rattle.bl_machine_pass_laws_execution.specs.Executes as executes
 use Rattle.bl_machine_pass_laws_execution.specs.Executes.{CopiesMatch, NodeTraps, Performs, deed_at, recopied}
 use Rattle.bl_machine_pass_laws_execution.specs.Frames.{Frames}
 use Rattle.bl_emit_spec_laws.specs.Calls.Built.{Activities, activity_at, cleared, rank_by, registered, slots_by, unit_number}
-use Rattle.bl_emit_spec_laws.specs.Calls.Laws.{CalledAt, Midway, PartSimulates, block_done}
-use Rattle.bl_emit_spec_laws_nodes.specs.Points.Laws.{BlocksChoose, ChangesSimulateInPass, Remembering, ResultTold, ReturnsEnd}
+use Rattle.bl_emit_spec_laws.specs.Calls.Laws.{CalledAt, HasShownRule, Midway, PartSimulates, block_done}
+use Rattle.bl_emit_spec_laws_nodes.specs.Points.Laws.{ChangesSimulateInPass, Remembering, ResultTold, ReturnsEnd}
 use Rattle.bl_emit_spec_laws_nodes.specs.Points.Laws.{RulesOwn, ends_body, is_return_node}
 use Rattle.bl_emit_spec_laws_nodes.specs.Points.Nodes.{IsTest, NodesStand, PrevsAgree, TestNodesSimulate, ViewsFit, copied_there, fits_there}
 use Rattle.bl_emit_spec_laws_nodes.proofs.OnPoints.Besides.{beside, site_is, value_there_is}
 use Rattle.bl_emit_spec_laws_nodes.proofs.OnPoints.Choices.{Chosen, choice_alone, else_same, truth_c}
+use Rattle.bl_emit_spec_laws_nodes.proofs.OnPoints.Shown.{ends_false, ends_true}
 use Rattle.bl_emit_spec_laws_nodes.proofs.OnPoints.Silent.{comes_as, either, no_such, not_so, over_after}
 
 -- ---- nodes
@@ -194,7 +195,7 @@ as_left w activities i unit scope r rule here o frames frames' store left copies
 
 -- ---- blocks
 
-module _ (stand : ChangesSimulateInPass) (choose : BlocksChoose) (frames_apart : FramesApart) (structs : List StructDef) (units : List UnitDef) (entry : ℕ)
+module _ (stand : ChangesSimulateInPass) (frames_apart : FramesApart) (structs : List StructDef) (units : List UnitDef) (entry : ℕ)
     (keeps : IsWellTyped structs units entry) (show : ExpressionsSimulate structs units entry) (machine : List InMachine) (activities : Activities)
     (own : RulesOwn (setting_of structs units entry) activities) (ends : ReturnsEnd units activities)
     (remembering : Remembering (setting_of structs units entry) activities)
@@ -204,7 +205,7 @@ module _ (stand : ChangesSimulateInPass) (choose : BlocksChoose) (frames_apart :
 
   module _ (i : ℕ) (unit : UnitDef) (scope : Scope) (frames : Frames) (store : Store) (copies : List Value) (r : Registers) (rule : Transition) (u : ℕ)
       (here : Memory) (midway : Midway structs units entry machine activities i unit scope frames store copies r here)
-      (there : executes.HasRule (slots_by w activities) i unit rule) (test : IsTest rule.node)
+      (there : HasShownRule w activities i unit rule) (test : IsTest rule.node)
       (called : CalledAt (plain_body unit.body) rule.node u)
       (sees : CopiesMatch w i rule.node store copies) where
     abbrev k : ℕ
@@ -282,12 +283,12 @@ module _ (stand : ChangesSimulateInPass) (choose : BlocksChoose) (frames_apart :
     chosen_by true =
         as_ending true (block_c so_code scope here)
         (changes_simulate rule.on_true (own.on_true i unit rule midway.is_there there)
-        (λ ending one. ends.on_true k unit rule midway.function.is_there midway.function.active one there ending))
+        (λ ending one. ends_true activities units ends i unit w rule there midway.function.is_there midway.function.active one ending))
     chosen_by false =
         subst (λ code. Left false (ending (block_c code scope here).end (block_c code scope here).memory)) (sym (else_same other_code))
         (as_ending false (block_c other_code scope here)
         (changes_simulate rule.on_false (own.on_false i unit rule midway.is_there there)
-        (λ ending one. ends.on_false k unit rule midway.function.is_there midway.function.active one there ending)))
+        (λ ending one. ends_false activities units ends i unit w rule there midway.function.is_there midway.function.active one ending)))
 
     abbrev code : List CStmt
     code = test_code (activity_view (activity_at w activities i)) (code_made (activity_view (activity_at w activities i)).site e) rule
@@ -307,37 +308,35 @@ module _ (stand : ChangesSimulateInPass) (choose : BlocksChoose) (frames_apart :
         choice_alone scope here (λ end m. end ≡ traps) (code_made (activity_view (activity_at w activities i)).site e) so_code other_code
         (subst (Chosen scope here (λ end m. end ≡ traps) so_code (else_code other_code)) (sym (same_truth ∙ ap (option_map is_true_value) at)) refl)
 
-pub tests_come_so : ChangesSimulateInPass → BlocksChoose → FramesApart → (structs : List StructDef) (units : List UnitDef) (entry : ℕ) →
+pub tests_come_so : ChangesSimulateInPass → FramesApart → (structs : List StructDef) (units : List UnitDef) (entry : ℕ) →
     ExpressionsSimulate structs units entry → TestNodesSimulate structs units entry
-tests_come_so stand choose apart structs units entry show machine activities keeps own ends remembering nodes views agree = record {
-  acts = λ i unit scope frames store copies r rule u answer frames' left here midway there test called due sees performs.
+tests_come_so stand apart structs units entry show machine activities keeps own ends remembering nodes views agree = record {
+  acts = λ i unit scope frames store copies r rule u answer frames' left here midway there test called sees performs.
       let w = setting_of structs units entry in
       let e = (test_is rule.node test).0 in
       let is = (test_is rule.node test).1 in
       let did = test_performs w activities i frames store rule.node answer frames' left test performs in
       let found = some_answer store left answer (value_there w store i e) (sym (is.does w i store) ∙ did.1) in
-      let o = block_c (code stand choose apart structs units entry keeps show machine activities own ends remembering nodes views agree i unit scope
+      let o = block_c (code stand apart structs units entry keeps show machine activities own ends remembering nodes views agree i unit scope
       frames store copies r rule u here midway there test called sees) scope here in
       let comes =
-      answers stand choose apart structs units entry keeps show machine activities own ends remembering nodes views agree i unit scope frames store
+      answers stand apart structs units entry keeps show machine activities own ends remembering nodes views agree i unit scope frames store
       copies r rule u here midway there test called sees found.0 found.1 in
-      let chosen = choose structs units entry machine activities own i unit scope frames store copies r rule u here midway there due in
       let code_is = is.code (activity_view (activity_at w activities i)) u rule in
       let done = block_done w activities i u rule scope here in
       as_left w activities i unit scope r rule here done frames frames' store left copies (recopied w i rule.node left copies) answer
       (is_true_value found.0) did.0 found.2 found.3 (is.recopies w i left copies)
       (comes_as w activities i unit scope frames store copies (after_rule (rank_by w activities i) rule (is_true_value found.0) r) here done o
-      (chosen.0 ∙ ap (λ code. (block_c code scope here).end) code_is) (chosen.1 ∙ ap (λ code. (block_c code scope here).memory) code_is) comes);
-  stops = λ i unit scope frames store copies r rule u here midway there test called due sees stops.
+      (ap (λ code. (block_c code scope here).end) code_is) (ap (λ code. (block_c code scope here).memory) code_is) comes);
+  stops = λ i unit scope frames store copies r rule u here midway there test called sees stops.
       let w = setting_of structs units entry in
       let e = (test_is rule.node test).0 in
       let is = (test_is rule.node test).1 in
       let did = test_stops w activities i frames store rule.node test stops in
       let none = no_answer store (value_there w store i e) (sym (is.does w i store) ∙ did) in
-      let chosen = choose structs units entry machine activities own i unit scope frames store copies r rule u here midway there due in
       let code_is = is.code (activity_view (activity_at w activities i)) u rule in
-      chosen.0 ∙ (ap (λ code. (block_c code scope here).end) code_is
-      ∙ cut stand choose apart structs units entry keeps show machine activities own ends remembering nodes views agree i unit scope frames
+      (ap (λ code. (block_c code scope here).end) code_is
+      ∙ cut stand apart structs units entry keeps show machine activities own ends remembering nodes views agree i unit scope frames
       store copies
       r rule u here midway there test called sees none);
 }

@@ -29,28 +29,29 @@ use Rattle.bl_ctree.specs.Instances.{Setting, setting_of, unit_at}
 use Rattle.bl_ctree.specs.Store.{Store, number_or_zero}
 use Rattle.bl_emit_acts.specs.declared.home.Home.TheVariants.{Held}
 use Rattle.bl_emit_acts_laws_simulation.specs.Encodes.{home_at}
-use Rattle.bl_emit_spec.specs.Activities.{activity_view, remembers_any}
-use Rattle.bl_emit_spec.specs.Blocks.{changes_code, node_code}
+use Rattle.bl_emit_spec.specs.Activities.{activity_view, first_rules, remembers_any}
+use Rattle.bl_emit_spec.specs.Blocks.{changes_code}
 use Rattle.bl_emit_spec_laws.specs.Registers.Laws.{asks_its_own, changes_its_own}
 use Rattle.bl_machine.specs.declared.machine.Activity.{Activity as InMachine}
-use Rattle.bl_machine_pass.specs.Registers.{Registers, all_changed, is_due}
+use Rattle.bl_machine_pass.specs.Registers.{Registers, all_changed}
 use Rattle.bl_machine_pass.specs.Transitions.{Change, Finishes, Transition, rules}
 use Rattle.bl_machine_pass_laws_execution.specs.Executes.{HasRule}
 use Rattle.bl_machine_pass_laws_execution.specs.Frames.{Frames}
 use Rattle.bl_emit_spec_laws.specs.Calls.Built.{Activities, activity_at, rank_by, registered, site_at, slots_by}
-use Rattle.bl_emit_spec_laws.specs.Calls.Laws.{BlocksSimulate, CompilationContext, GuardsChoose, Midway, PartSimulates, block_done}
+use Rattle.bl_emit_spec_laws.specs.Calls.Laws.{BlocksSimulate, CompilationContext, GuardsChoose, HasShownRule, PartSimulates}
 use Rattle.bl_emit_spec_laws.specs.Calls.Memories.{Nests}
 use Rattle.bl_emit_spec_laws.specs.Calls.Invariant.{FunctionContext, PassRepresents, result_at_c}
 
 -- ---- what is asked of rules
 
--- all that rules of an instance's activity ask and change are registers that its function has
+-- all that rules of an instance's activity ask and change in its C are registers that its function has
 pub record RulesOwn (w : Setting) (activities : Activities) : Type 0 where
   pub asks : (i : ℕ) (unit : UnitDef) (rule : Transition) → unit_at w i ≡ Some unit → HasRule (slots_by w activities) i unit rule →
+      Contains (first_rules (activity_at w activities i)) rule →
       asks_its_own (activity_view (activity_at w activities i)) (registered (activity_at w activities i)) rule.node rule.condition ≡ true
-  pub on_true : (i : ℕ) (unit : UnitDef) (rule : Transition) → unit_at w i ≡ Some unit → HasRule (slots_by w activities) i unit rule →
+  pub on_true : (i : ℕ) (unit : UnitDef) (rule : Transition) → unit_at w i ≡ Some unit → HasShownRule w activities i unit rule →
       list_all (changes_its_own (rank_by w activities i) (registered (activity_at w activities i))) rule.on_true ≡ true
-  pub on_false : (i : ℕ) (unit : UnitDef) (rule : Transition) → unit_at w i ≡ Some unit → HasRule (slots_by w activities) i unit rule →
+  pub on_false : (i : ℕ) (unit : UnitDef) (rule : Transition) → unit_at w i ≡ Some unit → HasShownRule w activities i unit rule →
       list_all (changes_its_own (rank_by w activities i) (registered (activity_at w activities i))) rule.on_false ≡ true
 
 -- whether a change ends the body
@@ -104,23 +105,11 @@ ChangesSimulateInPass =
 
 -- ---- blocks
 
--- an `if` by the guard of a rule does what stands in it where the rule is due, and else nothing
+-- an `if` by the guard of a block's first node does what stands in it where the rule of that node is due, and else nothing
 abbrev pub GuardsSimulate : Type 0
 GuardsSimulate =
     (structs : List StructDef) (units : List UnitDef) (entry : ℕ) (machine : List InMachine) (activities : Activities) →
     RulesOwn (setting_of structs units entry) activities → GuardsChoose structs units entry machine activities
-
--- the block of a due rule ends as the C of its node ends, with the same memory
-abbrev pub BlocksChoose : Type 0
-BlocksChoose =
-    (structs : List StructDef) (units : List UnitDef) (entry : ℕ) (machine : List InMachine) (activities : Activities) →
-    RulesOwn (setting_of structs units entry) activities →
-    (i : ℕ) (unit : UnitDef) (scope : Scope) (frames : Frames) (store : Store) (copies : List Value) (r : Registers) (rule : Transition) (u : ℕ)
-    (here : Memory) → let w = setting_of structs units entry in
-    Midway structs units entry machine activities i unit scope frames store copies r here → HasRule (slots_by w activities) i unit rule →
-    is_due (rank_by w activities i) rule r ≡ true →
-    let o = block_c (node_code (activity_view (activity_at w activities i)) u rule rule.node) scope here in
-    ((block_done w activities i u rule scope here).end ≡ o.end) × ((block_done w activities i u rule scope here).memory ≡ o.memory)
 
 -- nothing is done at the node but changes
 abbrev pub IsSilent : Node → Type 0

@@ -27,7 +27,7 @@ use Rattle.bl_emit_spec_laws.specs.Calls.Laws.{CompilationContext}
 use Rattle.bl_emit_spec_laws_wellformed.specs.Counts.{NodesCounted}
 use Rattle.bl_emit_spec_laws_wellformed.proofs.OnMachines.Counters.{sizes_few}
 use Rattle.bl_emit_spec_laws.proofs.OnOwn.Members.{some_is, stands_at}
-use Rattle.bl_emit_spec_laws.specs.Own.{RegistersAreFew}
+use Rattle.bl_emit_spec_laws.specs.Own.{NodesAreFew, RegistersAreFew}
 use Rattle.bl_emit_spec_laws_simulation.specs.Compiled.{AreCountable, ProgramsCompile}
 
 up_length : (n : ℕ) → length (up_to n) ≡ n
@@ -44,7 +44,7 @@ counters_few : (counters places statements : ℕ) → counters ≤ places → pl
 counters_few counters places statements few less small = omega (arith, few, less, small)
 
 module _ (structs : List StructDef) (units : List UnitDef) (entry : ℕ) (counted : UnitsCounted structs units entry)
-    (nodes : NodesCounted structs units entry) (few : RegistersAreFew) (machine : List InMachine) (activities : Activities)
+    (nodes : NodesCounted structs units entry) (numbers : NodesAreFew) (few : RegistersAreFew) (machine : List InMachine) (activities : Activities)
     (keeps : IsWellTyped structs units entry) (agrees : AreActivitiesOf units machine)
     (built : AreBuilt structs units machine activities) (countable : AreCountable units)
   where
@@ -86,10 +86,12 @@ module _ (structs : List StructDef) (units : List UnitDef) (entry : ℕ) (counte
         flags = flags_few _ _ (cell_statements_of unit) (counted k unit keeps there).numbers (countable k unit there).statements;
       };
       vars = λ unit among. let at = stands_at units unit among in (countable at.0 unit at.1).variables;
+      nodes = λ k unit n there active among. numbers structs units machine activities k unit n
+          (record { agrees = agrees; built = built; is_there = there; activity = active }) (ordered k unit there active) among;
       registers = registers;
     }
 
 pub programs_compile : (structs : List StructDef) (units : List UnitDef) (entry : ℕ) → UnitsCounted structs units entry →
-    NodesCounted structs units entry → RegistersAreFew → ProgramsCompile structs units entry
-programs_compile structs units entry counted nodes few machine activities keeps passes text agrees built countable =
-    compiled structs units entry counted nodes few machine activities keeps agrees built countable passes text
+    NodesCounted structs units entry → NodesAreFew → RegistersAreFew → ProgramsCompile structs units entry
+programs_compile structs units entry counted nodes numbers few machine activities keeps passes text agrees built countable =
+    compiled structs units entry counted nodes numbers few machine activities keeps agrees built countable passes text

@@ -1,6 +1,7 @@
 -- What the rules of instances ask and change are registers.
-use Rattle.std.proofs.Common.{◌≡◌, ℕ, ◌<◌, ◌≤◌, ◌^◌, true, List, map, Option, None, Some, refl, sym, subst, arith}
-use Rattle.std.specs.Prelude.{option_and_then, option_map, slice_get, unwrap_or}
+use Rattle.std.proofs.Common.{◌≡◌, ◌∙◌, ℕ, ◌<◌, ◌≤◌, ◌^◌, Bool, true, false, List, [], map, Option, None, Some, ap, refl, sym, subst, arith}
+use Rattle.std.specs.List.{list_all}
+use Rattle.std.specs.Prelude.{option_and_then, option_map, slice_get, unwrap_or, if◌then◌else◌}
 use Rattle.bl_tree.specs.declared.tree.StructDef.{StructDef}
 use Rattle.bl_tree.specs.declared.tree.Unit.{Unit as UnitDef}
 use Rattle.bl_tree.specs.declared.tree.UnitKind.{UnitKind}
@@ -19,8 +20,11 @@ use Rattle.bl_machine.specs.Layout.{places_in}
 use Rattle.bl_ctree.specs.declared.instance.Instance.{Instance}
 use Rattle.bl_ctree.specs.Instances.{Setting, setting_of, unit_at, unit_of}
 use Rattle.bl_ctree_laws_confluence.specs.Deeds.Orderly.{AcceptedIsOrderly}
+use Rattle.bl_machine_pass.specs.Transitions.{Change, Transition}
+use Rattle.bl_emit_spec.specs.Activities.{activity_view}
 use Rattle.bl_emit_spec.specs.Programs.{needed_units}
-use Rattle.bl_emit_spec_laws.specs.Calls.Built.{Activities, unit_number}
+use Rattle.bl_emit_spec_laws.specs.Calls.Built.{Activities, registered, unit_number}
+use Rattle.bl_emit_spec_laws.specs.Registers.Laws.{changes_its_own}
 use Rattle.bl_emit_spec_laws.specs.Calls.Laws.{CompilationContext}
 use Rattle.bl_emit_spec_laws_wellformed.specs.Closed.{InstancesNeeded}
 use Rattle.bl_emit_spec_laws_wellformed.specs.Counts.{NodesCounted}
@@ -82,16 +86,33 @@ module _ (structs : List StructDef) (units : List UnitDef) (entry : ℕ) (orderl
         (counted (unit_number W i) unit compiled.well_typed is.there).places (statements_less (unit_number W i) unit is.there)
         (small (unit_number W i) compiled.well_typed limits is.needed)
 
+-- what holds of all changes where they are shown
+all_shown : (P : Change → Bool) (last : Bool) (changes : List Change) → (last ≡ true → list_all P changes ≡ true) →
+    list_all P (if last then changes else []) ≡ true
+all_shown P true changes holds = holds refl
+all_shown P false changes holds = refl
+
 pub rules_are_own : (structs : List StructDef) (units : List UnitDef) (entry : ℕ) → AcceptedIsOrderly → ChangesAreOwn → AskedAreOwn →
     InstancesNeeded structs units entry → NeededSmall structs units entry → NodesCounted structs units entry → UnitsUseEarlierOnes → CellsAdd →
     RulesAreOwn structs units entry
 rules_are_own structs units entry orderly changes asked instances small counted uses add machine activities limits compiled = record {
-  asks = λ i unit rule there is.
+  asks = λ i unit rule there is first.
       asked structs units machine activities (unit_number (setting_of structs units entry) i) unit rule (at i unit there)
-      (few structs units entry orderly changes asked instances small counted uses add machine activities limits compiled i unit there) is;
-  on_true = λ i unit rule there is. (changes structs units machine activities (unit_number (setting_of structs units entry) i) unit rule (at i unit there) is).0;
-  on_false = λ i unit rule there is. (changes structs units machine activities (unit_number (setting_of structs units entry) i) unit rule
-      (at i unit there) is).1;
+      (few structs units entry orderly changes asked instances small counted uses add machine activities limits compiled i unit there) first;
+  on_true = λ i unit rule there shown.
+      (let a = activities (unit_number (setting_of structs units entry) i) in
+      let its = changes_its_own (activity_view a).number (registered a) in
+      ap (λ (t : Transition). list_all its t.on_true) shown.is
+      ∙ all_shown its shown.last shown.rule.on_true
+      (λ last. (changes structs units machine activities (unit_number (setting_of structs units entry) i) unit shown.rule (at i unit there)
+      (shown.stands_last last)).0));
+  on_false = λ i unit rule there shown.
+      (let a = activities (unit_number (setting_of structs units entry) i) in
+      let its = changes_its_own (activity_view a).number (registered a) in
+      ap (λ (t : Transition). list_all its t.on_false) shown.is
+      ∙ all_shown its shown.last shown.rule.on_false
+      (λ last. (changes structs units machine activities (unit_number (setting_of structs units entry) i) unit shown.rule (at i unit there)
+      (shown.stands_last last)).1));
 }
   where
     at : (i : ℕ) (unit : UnitDef) → unit_at (setting_of structs units entry) i ≡ Some unit →

@@ -80,7 +80,7 @@ use Rattle.bl_emit_spec_laws_simulation.proofs.OnLeaves.Homes.{caller_now, inner
 use Rattle.bl_emit_spec_laws_simulation.proofs.OnLeaves.Kept.{PlaceIn, copy_same, counters_same, memories_same, outside_same, register_same, result_same}
 use Rattle.bl_emit_spec_laws_simulation.proofs.OnLeaves.Kept.{variable_same}
 use Rattle.bl_emit_spec_laws.proofs.OnRunPlaces.Sharing.{FirstNode, first_node}
-use Rattle.bl_emit_spec_laws_simulation.proofs.OnLeaves.Numbers.{callees_differ, one_number, run_flagged}
+use Rattle.bl_emit_spec_laws_simulation.proofs.OnLeaves.Numbers.{callees_differ, one_number}
 use Rattle.bl_emit_spec_laws_simulation.proofs.OnLeaves.Outputs.{HoldAt, dropped_get, hold_by_place, hold_by_var, taken_get}
 use Rattle.bl_emit_spec_laws_simulation.proofs.OnLeaves.Seen.{home_further, number_of_home, path_at, seen_number}
 use Rattle.bl_emit_spec_laws_simulation.proofs.OnLeaves.Types.{OutputOf, begun as begun_with, one_place, output_of, output_there, path_there, stands as stands_there}
@@ -390,8 +390,8 @@ module _ (laws : Laws) (structs : List StructDef) (units : List UnitDef) (entry 
   number_small l' at' arguments' is =
       let first = first_here l' at' arguments' is in
       subst (λ m. m < 2 ^ 64) (sym first.number_is)
-      ((compiled.registers k unit there active).flags (rank_by W activities i (EnterAt first.label at' first.arguments))
-      (run_flagged laws.placed a.slots (plain_body a.unit.body) (rank_by W activities i) first.label at' first.arguments (first_in at' first)))
+      (compiled.nodes k unit (EnterAt first.label at' first.arguments) there active
+      (subst (λ (u : UnitDef). Contains (nodes_in (plain_body u.body)) (EnterAt first.label at' first.arguments)) own_unit (first_in at' first)))
 
   module _ (l' : Label) (at' : Place) (arguments' : Arguments) (c : ℕ)
       (is : Contains (nodes_in (plain_body unit.body)) (EnterAt l' at' arguments')) (calls : callee_of W i at' ≡ Some c) where

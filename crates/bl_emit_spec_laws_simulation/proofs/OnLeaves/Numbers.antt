@@ -1,4 +1,4 @@
--- No two `run`s of a body have one number, and the numbers of `run`s are those of flags.
+-- No two nodes of a body have one number, and `run`s with different numbers have different names.
 use Rattle.std.proofs.Common.{◌≡◌, ℕ, zero, suc, ◌+◌, ◌<◌, ◌^◌, Bool, true, false}
 use Rattle.std.proofs.Common.{◌&&◌, ◌||◌, List, [], ◌∷◌, ◌++◌, Contains}
 use Rattle.std.proofs.Common.{Some, nat_eq, length, map, drop, refl, sym, ap, subst, ◌∙◌, arith}
@@ -87,110 +87,13 @@ module _ (keys : NodesHaveKeys) (body : List Stmt) (order : List ℕ)
       let positions : a.0 ≡ b.0 = some_is a.0 b.0 (sym m.1 ∙ (ap (slice_get order) numbers ∙ l.1)) in
       some_is x y (sym a.1 ∙ (ap (slice_get nodes) positions ∙ b.1))
 
--- ---- the rule of a `run` that begins asks for its flag
-
-abbrev is_fine : Node → Condition → Bool
-is_fine (EnterAt l at arguments) condition = is_flagged condition
-is_fine _ condition = true
-
-abbrev fine : Transition → Bool
-fine rule = is_fine rule.node rule.condition
-
-record Fine (rs : List Transition) : Type 0 where
-  all : list_all fine rs ≡ true
-
-both : (a b : Bool) → a ≡ true → b ≡ true → (a && b) ≡ true
-both true b h i = i
-both false b h i = h
-
-both_lists : (first rest : List Transition) → list_all fine first ≡ true → list_all fine rest ≡ true → list_all fine (first ++ rest) ≡ true
-both_lists [] rest h i = i
-both_lists (rule ∷ first) rest h i = split (fine rule) h (both_lists first rest)
-  where
-    split : (b : Bool) → (b && list_all fine first) ≡ true →
-        (list_all fine first ≡ true → list_all fine rest ≡ true → list_all fine (first ++ rest) ≡ true) →
-        (b && list_all fine (first ++ rest)) ≡ true
-    split true h again = again h i
-    split false h again = h
-
-fine_both : (first rest : List Transition) → Fine first → Fine rest → Fine (first ++ rest)
-fine_both first rest h i = record { all = both_lists first rest h.all i.all }
-
-behind : (rule : Transition) (rest : List Transition) → fine rule ≡ true → Fine rest → Fine (rule ∷ rest)
-behind rule rest h i = record { all = both (fine rule) (list_all fine rest) h i.all }
-
-no_rules : Fine []
-no_rules = record { all = refl }
-
-where_fine : (test : Bool) (rule : Transition) → fine rule ≡ true → Fine (rule_where test rule)
-where_fine true rule h = behind rule [] h no_rules
-where_fine false rule h = no_rules
-
-mutual
-  fine_of : (slots : Slots) (s : Plain) (next : Change) → Fine (rules_of slots s next)
-  fine_of slots (Act l s) next = record { all = refl }
-  fine_of slots (Await l at e) next = record { all = refl }
-  fine_of slots (RunOf l at target a inputs outputs) next = record { all = refl }
-  fine_of slots (If l at e body other) next =
-      record { all = (fine_both (rules_in slots body next) (rules_in slots other next) (fine_in slots body next) (fine_in slots other next)).all }
-  fine_of slots (Cobegin l at bodies) next =
-      let instant = is_instant (Cobegin l at bodies) in
-      let sooner : Transition = joins slots l bodies (IsNew (ForkAt l at)) (SurfaceJoinAt l at) next in
-      let later : Transition = joins slots l bodies (age_of instant (ForkAt l at)) (DepthJoinAt l at) next in
-      record {
-        all = (fine_both (rule_where instant sooner) (later ∷ rules_in_each slots l 0 bodies) (where_fine instant sooner refl)
-            (behind later (rules_in_each slots l 0 bodies) refl (fine_each slots l 0 bodies))).all;
-      }
-  fine_of slots (When l at guard e body) next =
-      let instant = are_instant body in
-      let surface : Transition = flagged (SurfaceEndAt l at) (next ∷ []) in
-      let inner = fine_in slots body (body_ends l at body) in
-      record { all = both_lists (rule_where instant surface) _ (where_fine instant surface refl).all inner.all }
-  fine_of slots (Repeat l at body) next = record { all = (fine_in slots body (SetsFlag (HeadAt l at))).all }
-  fine_of slots (Until l at body e) next = record { all = (fine_in slots body _).all }
-  fine_of slots (While l at e body) next = record { all = (fine_in slots body _).all }
-  fine_of slots (Again l at body e) next = record { all = (fine_in slots body _).all }
-
-  fine_in : (slots : Slots) (body : Block) (next : Change) → Fine (rules_in slots body next)
-  fine_in slots Done next = no_rules
-  fine_in slots (Then s rest) next =
-      fine_both (rules_of slots s (enter rest next)) (rules_in slots rest next) (fine_of slots s (enter rest next)) (fine_in slots rest next)
-
-  fine_each : (slots : Slots) (l : Label) (k : ℕ) (bodies : Bodies) → Fine (rules_in_each slots l k bodies)
-  fine_each slots l k Last = no_rules
-  fine_each slots l k (BodyOf weak body rest) =
-      fine_both (rules_in slots body (SetsCounter (slots.ending l k))) (rules_in_each slots l (suc k) rest) (fine_in slots body (SetsCounter (slots.ending l k)))
-      (fine_each slots l (suc k) rest)
-
--- ---- the rule of a node
+-- ---- rules of nodes
 
 map_got : {X Y : Type 0} (f : X → Y) (xs : List X) (k : ℕ) (y : Y) → slice_get (map f xs) k ≡ Some y →
     (x : X) × (slice_get xs k ≡ Some x) × (f x ≡ y)
 map_got f [] k y is = absurd (cc)
 map_got f (x ∷ xs) zero y is = (x, refl, some_is (f x) y is)
 map_got f (x ∷ xs) (suc k) y is = map_got f xs k y is
-
-all_got : {X : Type 0} (p : X → Bool) (xs : List X) (k : ℕ) (x : X) → list_all p xs ≡ true → slice_get xs k ≡ Some x → p x ≡ true
-all_got p [] k x all is = absurd (cc)
-all_got p (y ∷ xs) zero x all is = ap p (sym (some_is y x is)) ∙ first (p y) all
-  where
-    first : (b : Bool) → (b && list_all p xs) ≡ true → b ≡ true
-    first true h = refl
-    first false h = h
-all_got p (y ∷ xs) (suc k) x all is = all_got p xs k x (last (p y) all) is
-  where
-    last : (b : Bool) → (b && list_all p xs) ≡ true → list_all p xs ≡ true
-    last true h = h
-    last false h = absurd (cc)
-
-any_got : {X : Type 0} (p : X → Bool) (xs : List X) (k : ℕ) (x : X) → slice_get xs k ≡ Some x → p x ≡ true → list_any p xs ≡ true
-any_got p [] k x is so = absurd (cc)
-any_got p (y ∷ xs) zero x is so = ap (λ b. b || list_any p xs) (ap p (some_is y x is) ∙ so)
-any_got p (y ∷ xs) (suc k) x is so = or_last (p y) (list_any p xs) (any_got p xs k x is so)
-  where
-    or_last : (a b : Bool) → b ≡ true → (a || b) ≡ true
-    or_last true b h = refl
-    or_last false b h = h
 
 -- a rule of a node
 pub record RuleOf (slots : Slots) (body : Block) (n : Node) : Type 0 where
@@ -211,23 +114,6 @@ rule_of placed slots body n there =
       there = contains_at (rules slots body) at.0 found.0 found.1;
       of_node = found.2;
     }
-
-itself : (k : ℕ) → nat_eq k k ≡ true
-itself k = eq-eqb k k refl
-
--- so some rule asks for the flag of a `run` that begins
-pub run_flagged : StaysPlaced → (slots : Slots) (body : Block) (number : Node → ℕ) (l : Label) (at : Place) (arguments : Arguments) →
-    Contains (nodes_in body) (EnterAt l at arguments) →
-    list_any (asks_flag number (number (EnterAt l at arguments))) (rules slots body) ≡ true
-run_flagged placed slots body number l at arguments there =
-    let n = EnterAt l at arguments in
-    let found = rule_of placed slots body n there in
-    let so : is_fine found.rule.node found.rule.condition ≡ true =
-    all_got fine (rules slots body) found.position found.rule (fine_in slots body Finishes).all found.at in
-    let asked : is_flagged found.rule.condition ≡ true = subst (λ m. is_fine m found.rule.condition ≡ true) found.of_node so in
-    any_got (asks_flag number (number n)) (rules slots body) found.position found.rule found.at
-    (both (is_flagged found.rule.condition) (nat_eq (number n) (number found.rule.node)) asked
-    (ap (λ m. nat_eq (number n) (number m)) found.of_node ∙ itself (number n)))
 
 -- ---- names
 

@@ -45,7 +45,6 @@ use Rattle.bl_graph_nodes.specs.Plain.{
 use Rattle.bl_machine.specs.Uses.{Slots}
 use Rattle.bl_machine_pass.specs.Transitions.{Change, Finishes, SetsCounter, SetsFlag, Transition, body_ends, enter, flagged, rule_where, rules, rules_in, rules_in_each, rules_of}
 use Rattle.bl_machine_pass.specs.Transitions.{IsNew, age_of, joins}
-use Rattle.bl_emit_spec.specs.Activities.{is_flagged}
 
 -- whether there are no changes
 abbrev pub are_none : List Change → Bool
@@ -54,7 +53,7 @@ are_none (change ∷ rest) = false
 
 -- what is told of the rule of a `run`'s node
 abbrev told_by : Node → Transition → Bool
-told_by (EnterAt l at arguments) rule = is_flagged rule.condition
+told_by (EnterAt l at arguments) rule = true
 told_by (ResumeAt l at arguments) rule = are_none rule.on_false
 told_by (ActAt l s) rule = true
 told_by (TestAt l at e) rule = true
@@ -135,10 +134,6 @@ none_is [] h = refl
 none_is (change ∷ rest) h = absurd (cc)
 
 module _ (slots : Slots) (body : Block) (rule : Transition) (there : Contains (rules slots body) rule) (l : Label) (at : Place) (arguments : Arguments) where
-  -- where a `run` begins its flag is asked for
-  pub enters_flagged : rule.node ≡ EnterAt l at arguments → is_flagged rule.condition ≡ true
-  enters_flagged is = ap (λ n. told_by n rule) (sym is) ∙ of_member (rules slots body) rule (block_so slots body Finishes) there
-
   -- where it goes on nothing changes unless the answer is true
   pub resumes_quiet : rule.node ≡ ResumeAt l at arguments → rule.on_false ≡ []
   resumes_quiet is =

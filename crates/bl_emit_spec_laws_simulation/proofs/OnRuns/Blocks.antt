@@ -2,7 +2,7 @@
 use Rattle.std.proofs.Common.{◌≡◌, inl, inr, ℕ, Bool, true, false, List, [], ◌∷◌, ◌++◌, Option, Some, None, refl, sym, ap, ◌∙◌, subst}
 use Rattle.std.proofs.lemmas.Option.{same_Some}
 use Rattle.std.specs.List.{list_any}
-use Rattle.std.specs.Prelude.{pos, slice_get, take}
+use Rattle.std.specs.Prelude.{pos, slice_get, take, if◌then◌else◌}
 use Rattle.bl_tree.specs.declared.c.CStmt.{CStmt}
 use Rattle.bl_tree.specs.declared.place.Place.{Place}
 use Rattle.bl_tree.specs.declared.tree.Path.{Path}
@@ -35,13 +35,12 @@ use Rattle.bl_emit_spec_laws.specs.Registers.Laws.{RegistersKeepApart}
 use Rattle.bl_emit_spec_laws.specs.Registers.Registers.{frame_at}
 use Rattle.bl_machine.specs.declared.machine.Activity.{Activity as InMachine}
 use Rattle.bl_machine_laws.specs.Passes.Follows.{DeedYields}
-use Rattle.bl_machine_pass.specs.Registers.{Registers, after_rule, all_changed, is_due, with_at}
-use Rattle.bl_machine_pass.specs.Transitions.{Transition}
+use Rattle.bl_machine_pass.specs.Registers.{Registers, after_rule, all_changed, with_at}
+use Rattle.bl_machine_pass.specs.Transitions.{Change, Transition}
 use Rattle.bl_machine_pass_laws_execution.specs.Executes as executes
 use Rattle.bl_machine_pass_laws_execution.specs.Executes.{
   CopiesMatch,
   Executes,
-  HasRule,
   IsPoint,
   NodeTraps,
   PassTraps,
@@ -56,7 +55,7 @@ use Rattle.bl_machine_pass_laws_execution.specs.Frames.{Frames}
 use Rattle.bl_machine_pass_laws.specs.Keys.{NodesHaveKeys}
 use Rattle.bl_emit_spec_laws.specs.Calls.Built.{Activities, activity_at, cleared, rank_by, run_by, site_at, slots_by, unit_number}
 use Rattle.bl_emit_spec_laws.specs.Calls.Calls.{FramesWithin, PassStarts}
-use Rattle.bl_emit_spec_laws.specs.Calls.Laws.{CalledAt, Midway, PartSimulates, PassKeepsFrame, block_done}
+use Rattle.bl_emit_spec_laws.specs.Calls.Laws.{CalledAt, HasShownRule, Midway, PartSimulates, PassKeepsFrame, block_done}
 use Rattle.bl_emit_spec_laws.specs.Calls.Memories.{inner}
 use Rattle.bl_emit_spec_laws.specs.Calls.Invariant.{PassRepresents}
 use Rattle.bl_emit_spec_laws_nodes.specs.Calling.{NotEnded, RunLeaves, RunOf, RunsEstablish, RunsLeave, RunsSimulate, TargetsSeen}
@@ -64,10 +63,11 @@ use Rattle.bl_emit_spec_laws.specs.Cleared.{ClearingIsInside}
 use Rattle.bl_emit_spec_laws.specs.Registers.Laws.{RegistersWithin}
 use Rattle.bl_emit_spec_laws.specs.Within.{AllStayWithin}
 use Rattle.bl_emit_spec_laws.proofs.OnWithin.Passing.{frame_within, resumed_within}
-use Rattle.bl_emit_spec_laws_nodes.specs.Points.Laws.{BlocksChoose, ChangesSimulateInPass, ResultTold, ends_body, is_return_node}
+use Rattle.bl_emit_spec_laws_nodes.specs.Points.Laws.{ChangesSimulateInPass, ResultTold, ends_body, is_return_node}
 use Rattle.bl_emit_spec_laws_nodes.specs.Points.Points.{BodiesEnd, PointsStand}
 use Rattle.bl_emit_spec_laws_nodes.proofs.OnPoints.ActNodes.{append_goes}
 use Rattle.bl_emit_spec_laws_nodes.proofs.OnPoints.Choices.{Alike, Chosen, if_alone}
+use Rattle.bl_emit_spec_laws_nodes.proofs.OnPoints.Shown.{ends_true}
 use Rattle.bl_emit_spec_laws_nodes.proofs.OnPoints.Silent.{comes_as, either, no_such, not_so, over_after}
 use Rattle.bl_emit_spec_laws_simulation.proofs.OnRuns.Asking.{resumes_quiet}
 use Rattle.bl_emit_spec_laws_simulation.proofs.OnRuns.Calls.{after_call, call_comes, call_left, given_fits, inputs_trap, pass_traps, written}
@@ -79,8 +79,13 @@ use Rattle.bl_emit_spec_laws_simulation.proofs.OnRuns.Statements.{clear_ends, en
 use Rattle.bl_emit_spec_laws_simulation.proofs.OnRuns.Targets.{target_comes, target_typed}
 use Rattle.bl_ctree_laws_confluence.specs.Deeds.Nesting as nesting
 
+-- no changes are none where they are shown
+none_shown : (last : Bool) (changes : List Change) → changes ≡ [] → (if last then changes else []) ≡ []
+none_shown true changes none = none
+none_shown false changes none = refl
+
 module _ (orderly : AcceptedIsOrderly) (callers : InstancesHaveCallers) (nests : ProgramsNest) (frames_apart : FramesApart)
-    (keep : RegistersKeepApart) (clearing : ClearingIsInside) (choose : BlocksChoose) (stand : ChangesSimulateInPass) (fitting : PassesKeepTypes)
+    (keep : RegistersKeepApart) (clearing : ClearingIsInside) (stand : ChangesSimulateInPass) (fitting : PassesKeepTypes)
     (stay : AllStayWithin) (keys : NodesHaveKeys) (placed : StaysPlaced) (structs : List StructDef) (units : List UnitDef) (entry : ℕ)
     (lead : PlacesSimulate structs units entry) (write : WritesEncode structs units entry) (end : BodiesEnd structs units entry)
     (machine : List InMachine) (activities : Activities) (gives : RunsEstablish structs units entry machine activities)
@@ -88,8 +93,7 @@ module _ (orderly : AcceptedIsOrderly) (callers : InstancesHaveCallers) (nests :
     (i : ℕ) (unit : UnitDef) (scope : Scope) (frames : Frames) (store : Store) (copies : List Value) (r : Registers) (rule : Transition) (u : ℕ)
     (here : Memory) (points : PointsStand structs units entry activities)
     (midway : Midway structs units entry machine activities i unit scope frames store copies r here)
-    (there : HasRule (slots_by (setting_of structs units entry) activities) i unit rule) (called : CalledAt (plain_body unit.body) rule.node u)
-    (due : is_due (rank_by (setting_of structs units entry) activities i) rule r ≡ true)
+    (there : HasShownRule (setting_of structs units entry) activities i unit rule) (called : CalledAt (plain_body unit.body) rule.node u)
     (sees : CopiesMatch (setting_of structs units entry) i rule.node store copies)
   where
     abbrev w : Setting
@@ -118,11 +122,8 @@ module _ (orderly : AcceptedIsOrderly) (callers : InstancesHaveCallers) (nests :
     chosen : (n : Node) → rule.node ≡ n → (block.end ≡ (block_c (node_code view u rule n) scope here).end)
         × (block.memory ≡ (block_c (node_code view u rule n) scope here).memory)
     chosen n is =
-        let so = choose structs units entry machine activities points.own i unit scope frames store copies r rule u here midway there due in
-        let code = ap (node_code view u rule) is in (
-          so.0 ∙ ap (λ code. (block_c code scope here).end) code,
-          so.1 ∙ ap (λ code. (block_c code scope here).memory) code,
-        )
+        let code = ap (node_code view u rule) is in
+        (ap (λ code. (block_c code scope here).end) code, ap (λ code. (block_c code scope here).memory) code)
 
     -- changes behind what was done
     changes_behind : (frames' : Frames) (left : Store) (after : Memory) → is_return_node rule.node ≡ false → Keeping here after →
@@ -134,7 +135,8 @@ module _ (orderly : AcceptedIsOrderly) (callers : InstancesHaveCallers) (nests :
         (either r.over (list_any ends_body rule.on_true) (over_after number rule.on_true r over)
         (not_so (list_any ends_body rule.on_true)
         (λ ending. no_such
-        (sym ((end activities midway.compiled.well_typed).on_true k unit rule midway.function.is_there midway.function.active one there ending) ∙ no_return))))
+        (sym (ends_true activities units (end activities midway.compiled.well_typed) i unit w rule there midway.function.is_there midway.function.active one
+        ending) ∙ no_return))))
         one is in
         let changed = stand structs units entry machine activities i unit scope frames' left copies r after rule.on_true midway.compiled midway.function
         midway.is_there points.remembering stands (points.own.on_true i unit rule midway.is_there there) told in record {
@@ -359,7 +361,10 @@ module _ (orderly : AcceptedIsOrderly) (callers : InstancesHaveCallers) (nests :
                     let rest = if_alone scope after (λ e m. (e ≡ goes_on) × (m ≡ after)) (c_read (ended_place n)) told None
                     (subst (Chosen scope after (λ e m. (e ≡ goes_on) × (m ≡ after)) told None) (sym truth) (refl, refl)) in
                     let quiet : rule.on_false ≡ [] =
-                    resumes_quiet (slots_by w activities i) (plain_body unit.body) rule there l at arguments is in
+                    ap (λ (t : Transition). t.on_false) there.is
+                    ∙ none_shown there.last there.rule.on_false
+                    (resumes_quiet (slots_by w activities i) (plain_body unit.body) there.rule there.there l at arguments
+                    (sym (ap (λ (t : Transition). t.node) there.is) ∙ is)) in
                     let unchanged : r ≡ all_changed number rule.on_false r = ap (λ changes. all_changed number changes r) (sym quiet) in
                     let memory : block.memory ≡ after = asked_so.1 ∙ rest.1 in
                     record {
@@ -485,17 +490,17 @@ module _ (orderly : AcceptedIsOrderly) (callers : InstancesHaveCallers) (nests :
         let calls = run_at true l at arguments j is begins in
         resume_cut l at arguments j calls.other calls.run calls.number is given copied runs cut
 
-pub runs_simulate : AcceptedIsOrderly → InstancesHaveCallers → ProgramsNest → FramesApart → RegistersKeepApart → ClearingIsInside → BlocksChoose →
+pub runs_simulate : AcceptedIsOrderly → InstancesHaveCallers → ProgramsNest → FramesApart → RegistersKeepApart → ClearingIsInside →
     ChangesSimulateInPass → PassesKeepTypes → AllStayWithin → NodesHaveKeys → StaysPlaced → (structs : List StructDef) (units : List UnitDef) (entry : ℕ) →
     PlacesSimulate structs units entry → WritesEncode structs units entry → BodiesEnd structs units entry → RunsSimulate structs units entry
-runs_simulate orderly callers nests frames_apart keep clearing choose stand fitting stay keys placed structs units entry lead write end machine activities
+runs_simulate orderly callers nests frames_apart keep clearing stand fitting stay keys placed structs units entry lead write end machine activities
     gives leaves seen points = record {
-      acts = λ i unit scope frames store copies r rule u answer frames' left here midway there none called due sees performs.
-          turn_comes orderly callers nests frames_apart keep clearing choose stand fitting stay keys placed structs units entry lead write end machine
-          activities gives leaves seen i unit scope frames store copies r rule u here (points midway.compiled) midway there called due sees performs refl
+      acts = λ i unit scope frames store copies r rule u answer frames' left here midway there none called sees performs.
+          turn_comes orderly callers nests frames_apart keep clearing stand fitting stay keys placed structs units entry lead write end machine
+          activities gives leaves seen i unit scope frames store copies r rule u here (points midway.compiled) midway there called sees performs refl
           none;
-      stops = λ i unit scope frames store copies r rule u here midway there none called due sees stops.
-          turn_stops orderly callers nests frames_apart keep clearing choose stand fitting stay keys placed structs units entry lead write end machine
-          activities gives leaves seen i unit scope frames store copies r rule u here (points midway.compiled) midway there called due sees stops refl
+      stops = λ i unit scope frames store copies r rule u here midway there none called sees stops.
+          turn_stops orderly callers nests frames_apart keep clearing stand fitting stay keys placed structs units entry lead write end machine
+          activities gives leaves seen i unit scope frames store copies r rule u here (points midway.compiled) midway there called sees stops refl
           none;
     }

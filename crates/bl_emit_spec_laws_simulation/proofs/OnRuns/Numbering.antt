@@ -35,7 +35,6 @@ use Rattle.bl_emit_spec_laws.specs.Calls.Built.{Activities, activity_at, asks_fl
 use Rattle.bl_emit_spec_laws.specs.Calls.Laws.{CompilationContext}
 use Rattle.bl_emit_spec_laws.proofs.OnPlaced.Lists.{contains_at, found_at, number_once, number_there, stands_at, within_at}
 use Rattle.bl_emit_spec_laws.proofs.OnRunPlaces.Sharing.{FirstNode, first_node}
-use Rattle.bl_emit_spec_laws_simulation.proofs.OnRuns.Asking.{enters_flagged}
 use Rattle.bl_emit_spec_laws_simulation.proofs.OnRuns.Running.{unit_there}
 
 -- ---- names
@@ -63,21 +62,6 @@ agrees_at f at (y ∷ xs) first zero x agrees is =
     let same : first ≡ first + 0 = omega arith in ap f (sym (same_Some y x is)) ∙ agrees.0 ∙ ap at same
 agrees_at f at (y ∷ xs) first (suc k) x agrees is =
     let same : suc first + k ≡ first + suc k = omega arith in agrees_at f at xs (suc first) k x agrees.1 is ∙ ap at same
-
-any_at : {A : Type 0} (p : A → Bool) (xs : List A) (k : ℕ) (x : A) → slice_get xs k ≡ Some x → p x ≡ true → list_any p xs ≡ true
-any_at p [] k x there e = absurd (cc)
-any_at p (y ∷ xs) zero x there e = ap (λ b. b || list_any p xs) (ap p (same_Some y x there) ∙ e)
-any_at p (y ∷ xs) (suc k) x there e = by (p y) (any_at p xs k x there e)
-  where
-    by : (b : Bool) → list_any p xs ≡ true → (b || list_any p xs) ≡ true
-    by true h = refl
-    by false h = h
-
-of_map : {A B : Type 0} (f : A → B) (xs : List A) (k : ℕ) (b : B) → slice_get (map f xs) k ≡ Some b →
-    (x : A) × (slice_get xs k ≡ Some x) × (f x ≡ b)
-of_map f [] k b is = absurd (cc)
-of_map f (x ∷ xs) zero b is = (x, refl, same_Some (f x) b is)
-of_map f (x ∷ xs) (suc k) b is = of_map f xs k b is
 
 -- the numbers of the nodes of a body by an order of them
 module _ (keys : NodesHaveKeys) (a : Activity) (unit : UnitDef) (one : InMachine) (unit_is : a.unit ≡ unit) (order_is : a.order ≡ joined one.blocks)
@@ -137,31 +121,10 @@ module _ (keys : NodesHaveKeys) (placed : StaysPlaced) (structs : List StructDef
         numbers_tell keys a unit parts.one (compiled.built.unit k unit there) parts.order
         (subst (λ (one : InMachine). Ordered (plain_body unit.body) one.blocks) same own.2.order)
 
-    flag_asked : (rule : Transition) (p : ℕ) (l : Label) (at : Place) (arguments : Arguments) → slice_get (rules_at a) p ≡ Some rule →
-        rule.node ≡ EnterAt l at arguments →
-        list_any (asks_flag (activity_view a).number (rank_by w activities i (EnterAt l at arguments))) (rules_at a) ≡ true
-    flag_asked rule p l at arguments found node =
-        any_at (asks_flag (activity_view a).number (rank_by w activities i (EnterAt l at arguments))) (rules_at a) p rule found
-        (both (is_flagged rule.condition) (nat_eq (rank_by w activities i (EnterAt l at arguments)) ((activity_view a).number rule.node))
-        (enters_flagged a.slots (plain_body a.unit.body) rule (contains_at (rules_at a) p rule found) l at arguments node)
-        (eq-eqb (rank_by w activities i (EnterAt l at arguments)) ((activity_view a).number rule.node) (ap (activity_view a).number (sym node))))
-      where
-        both : (b c : Bool) → b ≡ true → c ≡ true → (b && c) ≡ true
-        both true c one other = other
-        both false c one other = one
-
     -- the number of the node at which a `run` begins fits a name
     rank_small : (l : Label) (at : Place) (arguments : Arguments) → Contains (nodes_in (plain_body unit.body)) (EnterAt l at arguments) →
         rank_by w activities i (EnterAt l at arguments) < 2 ^ 64
-    rank_small l at arguments within =
-        let own : a.unit ≡ unit = compiled.built.unit k unit there in
-        let position = stands_at (nodes_in (plain_body unit.body)) (EnterAt l at arguments) within in
-        let nodes : map (λ (rule : Transition). rule.node) (rules_at a) ≡ nodes_in (plain_body unit.body) =
-        placed.nodes a.slots (plain_body a.unit.body) ∙ ap (λ (u : UnitDef). nodes_in (plain_body u.body)) own in
-        let rule = of_map (λ (rule : Transition). rule.node) (rules_at a) position.0 (EnterAt l at arguments)
-        (ap (λ (ns : List Node). slice_get ns position.0) nodes ∙ position.1) in
-        (compiled.registers k unit there active).flags (rank_by w activities i (EnterAt l at arguments))
-        (flag_asked rule.0 position.0 l at arguments rule.1 rule.2)
+    rank_small l at arguments within = compiled.nodes k unit (EnterAt l at arguments) there active within
 
     own_unit : a.unit ≡ unit
     own_unit = compiled.built.unit k unit there

@@ -144,12 +144,14 @@ use Rattle.bl_emit_spec.specs.Blocks.{
   begun_code,
   change_code,
   changes_code,
+  control_code,
   counter_type,
   counter_value,
   ends_test,
   flagged_now,
   forgotten,
   freed,
+  fused_code,
   guard_of,
   has_result,
   in_pairs,
@@ -158,7 +160,7 @@ use Rattle.bl_emit_spec.specs.Blocks.{
   layer_acted,
   merged_code,
   name_in,
-  node_code,
+  own_code,
   rested_at,
   rested_by,
   rested_between,
@@ -175,7 +177,6 @@ use Rattle.bl_emit_spec.specs.Blocks.{
   choice_code,
   spelled_truth,
   test_code,
-  turn_code,
   node_turn,
   turns_of,
 }
@@ -620,27 +621,42 @@ module _ (weight : Text → ℕ) (prelude : (word : Text) (s : ScalarType) → w
 
     -- ---- blocks
 
-    node_few : (a : ℕ) (rule : Transition) (m : Node) → Under by n (node_calls a m) → CodeFew (node_code view a rule m)
-    node_few a rule (ActAt l s) few = then_few weight prelude n (acted view s) (changes_code view rule.on_true) (acted_few s few) (changes_few view rule.on_true)
-    node_few a rule (TestAt l at e) few = tested_few e rule few
-    node_few a rule (CheckAt l at e) few = tested_few e rule few
-    node_few a rule (EnterAt l at arguments) few = begun_few (view.run at) a arguments rule few
-    node_few a rule (ResumeAt l at arguments) few = resumed_few (view.run at) a arguments rule few
-    node_few a rule (PauseAt l at) few = changes_few view rule.on_true
-    node_few a rule (HeadAt l at) few = changes_few view rule.on_true
-    node_few a rule (StartAt l at) few = changes_few view rule.on_true
-    node_few a rule (SurfaceEndAt l at) few = changes_few view rule.on_true
-    node_few a rule (DepthEndAt l at) few = changes_few view rule.on_true
-    node_few a rule (ForkAt l at) few = changes_few view rule.on_true
-    node_few a rule (SurfaceJoinAt l at) few = changes_few view rule.on_true
-    node_few a rule (DepthJoinAt l at) few = changes_few view rule.on_true
+    itself_few : (a : ℕ) (m : Node) → Under by n (node_calls a m) → CodeFew (own_code view m)
+    itself_few a (ActAt l s) few = acted_few s few
+    itself_few a (TestAt l at e) few = none_few weight prelude n
+    itself_few a (CheckAt l at e) few = none_few weight prelude n
+    itself_few a (EnterAt l at arguments) few = none_few weight prelude n
+    itself_few a (ResumeAt l at arguments) few = none_few weight prelude n
+    itself_few a (PauseAt l at) few = none_few weight prelude n
+    itself_few a (HeadAt l at) few = none_few weight prelude n
+    itself_few a (StartAt l at) few = none_few weight prelude n
+    itself_few a (SurfaceEndAt l at) few = none_few weight prelude n
+    itself_few a (DepthEndAt l at) few = none_few weight prelude n
+    itself_few a (ForkAt l at) few = none_few weight prelude n
+    itself_few a (SurfaceJoinAt l at) few = none_few weight prelude n
+    itself_few a (DepthJoinAt l at) few = none_few weight prelude n
+
+    control_few : (a : ℕ) (rule : Transition) (m : Node) → Under by n (node_calls a m) → CodeFew (control_code view a rule m)
+    control_few a rule (ActAt l s) few = changes_few view rule.on_true
+    control_few a rule (TestAt l at e) few = tested_few e rule few
+    control_few a rule (CheckAt l at e) few = tested_few e rule few
+    control_few a rule (EnterAt l at arguments) few = begun_few (view.run at) a arguments rule few
+    control_few a rule (ResumeAt l at arguments) few = resumed_few (view.run at) a arguments rule few
+    control_few a rule (PauseAt l at) few = changes_few view rule.on_true
+    control_few a rule (HeadAt l at) few = changes_few view rule.on_true
+    control_few a rule (StartAt l at) few = changes_few view rule.on_true
+    control_few a rule (SurfaceEndAt l at) few = changes_few view rule.on_true
+    control_few a rule (DepthEndAt l at) few = changes_few view rule.on_true
+    control_few a rule (ForkAt l at) few = changes_few view rule.on_true
+    control_few a rule (SurfaceJoinAt l at) few = changes_few view rule.on_true
+    control_few a rule (DepthJoinAt l at) few = changes_few view rule.on_true
 
     -- what a turn asks and does
     abbrev TurnFew : NodeCode → Type 0
-    TurnFew turn = ExprFew turn.test × CodeFew turn.code
+    TurnFew turn = ExprFew turn.test × (CodeFew turn.own × CodeFew turn.control)
 
     turn_few : (a : ℕ) (rule : Transition) → Under by n (node_calls a rule.node) → TurnFew (node_turn view a rule)
-    turn_few a rule few = (guard_few view rule.node rule.condition, node_few a rule rule.node few)
+    turn_few a rule few = (guard_few view rule.node rule.condition, (itself_few a rule.node few, control_few a rule rule.node few))
 
     -- each of some turns
     abbrev EachFew : List NodeCode → Type 0
@@ -670,17 +686,15 @@ module _ (weight : Text → ℕ) (prelude : (word : Text) (s : ScalarType) → w
     alone_few : (test : CExpr) (code : List CStmt) → ExprFew test → CodeFew code → StmtFew (c_if test code None)
     alone_few test code is one = if_few test code None is one (none-under weight n)
 
-    turns_few : (turns : List NodeCode) → EachFew turns → CodeFew (map turn_code turns)
-    turns_few [] all = none_few weight prelude n
-    turns_few (turn ∷ rest) all =
-        first_few weight prelude n (turn_code turn) (map turn_code rest) (alone_few turn.test turn.code all.0.0 all.0.1) (turns_few rest all.1)
+    fused_few : (turn : NodeCode) (turns : List NodeCode) → TurnFew turn → EachFew turns → CodeFew (fused_code turn turns)
+    fused_few last [] own all = then_few weight prelude n last.own last.control own.1.0 own.1.1
+    fused_few turn (next ∷ rest) own all = then_few weight prelude n turn.own (fused_code next rest) own.1.0 (fused_few next rest all.0 all.1)
 
     merged_few : (turns : List NodeCode) → EachFew turns → CodeFew (merged_code turns)
     merged_few [] all = none_few weight prelude n
     merged_few (first ∷ rest) all =
-        one_few weight prelude n (c_if first.test (first.code ++ map turn_code rest) None)
-        (alone_few first.test (first.code ++ map turn_code rest) all.0.0
-        (then_few weight prelude n first.code (map turn_code rest) all.0.1 (turns_few rest all.1)))
+        one_few weight prelude n (c_if first.test (fused_code first rest) None)
+        (alone_few first.test (fused_code first rest) all.0.0 (fused_few first rest all.0 all.1))
 
     blocks_few : (turns : List NodeCode) (blocks : List (List ℕ)) → EachFew turns → CodeFew (blocks_code turns blocks)
     blocks_few turns [] all = none_few weight prelude n

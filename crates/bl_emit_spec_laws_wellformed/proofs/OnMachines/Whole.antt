@@ -98,5 +98,5 @@ module _ (structs : List StructDef) (units : List UnitDef) (entry : ℕ) (uses :
     differ follow k unit one remember keeps modest =
         let holds : IsNumbered structs (take k units) unit =
         cells k unit keeps modest.there (cells_small (cells_at structs units k) modest.cells) in
-        follow (activity_of structs (take k units) remember unit one) holds.variables (counters k unit one keeps modest)
+        follow (activity_of structs (take k units) remember unit one) holds.variables (counters k unit one keeps modest) modest.of_unit.order.all
         (numbers k unit one keeps modest).differ

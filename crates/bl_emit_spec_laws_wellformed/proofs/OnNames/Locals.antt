@@ -40,6 +40,7 @@ use Rattle.bl_emit_spec.specs.Activities.{
   copy_local,
   counter_member,
   counters_read,
+  first_rules,
   flag_local,
   frame_member,
   frame_struct,
@@ -268,7 +269,7 @@ module _ (a : Activity) where
     number = (activity_view a).number
 
     abbrev flags : List ℕ
-    flags = joined (map (flag_number number) (rules_at a))
+    flags = joined (map (flag_number number) (first_rules a))
 
     abbrev marks : List ℕ
     marks = joined (map (mark_numbers number) (rules_at a))
@@ -293,10 +294,10 @@ module _ (a : Activity) where
         let of_runs : List CLocal = joined (map (run_locals a) runs) in
         let of_copies : List CLocal = map (copy_local a) (copied_in a) in
         let of_marks : List CLocal = joined (map (mark_locals number) (rules_at a)) in
-        let of_flags : List CLocal = joined (map (flag_local number) (rules_at a)) in
+        let of_flags : List CLocal = joined (map (flag_local number) (first_rules a)) in
         locals_append (map (rested_local a.sizes) (counters_read a)) (of_flags ++ (of_marks ++ (of_copies ++ of_runs)))
         ∙ (λ i. rested_names a.sizes (counters_read a) i ++ locals_append of_flags (of_marks ++ (of_copies ++ of_runs)) i)
-        ∙ (λ i. family 119 (counters_read a) ++ (flag_names number (rules_at a) i ++ locals_append of_marks (of_copies ++ of_runs) i))
+        ∙ (λ i. family 119 (counters_read a) ++ (flag_names number (first_rules a) i ++ locals_append of_marks (of_copies ++ of_runs) i))
         ∙ (λ i. family 119 (counters_read a) ++ (family 103 flags ++ (mark_names number (rules_at a) i ++ locals_append of_copies of_runs i)))
         ∙ (λ i. family 119 (counters_read a) ++ (family 103 flags ++ (family 117 marks ++ (copy_names a (copied_in a) i ++ names_of_runs runs))))
 

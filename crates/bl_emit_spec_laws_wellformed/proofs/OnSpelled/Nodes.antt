@@ -54,12 +54,14 @@ use Rattle.bl_emit_spec.specs.Blocks.{
   arg_where,
   begun_code,
   changes_code,
+  control_code,
+  fused_code,
   guard_of,
   has_result,
   layer_acted,
   merged_code,
   name_in,
-  node_code,
+  own_code,
   resumed_code,
   run_args,
   run_code,
@@ -67,7 +69,6 @@ use Rattle.bl_emit_spec.specs.Blocks.{
   choice_code,
   spelled_truth,
   test_code,
-  turn_code,
   node_turn,
   turns_of,
 }
@@ -77,7 +78,7 @@ use Rattle.bl_emit_spec_laws_wellformed.proofs.OnSpelled.Guards.{changes-fit, en
 
 -- what a turn asks and does fits inside its `if`
 abbrev pub turn_fits : NodeCode → Bool
-turn_fits turn = expr_fits 404 turn.test && stmts_fit 404 turn.code
+turn_fits turn = expr_fits 404 turn.test && (stmts_fit 404 turn.own && stmts_fit 404 turn.control)
 
 shallow : (n : ℕ) → nat_le n 200 ≡ true → n ≤ 200
 shallow n h = grind (arith, nat_tests)
@@ -371,31 +372,48 @@ module _ (view : ActivityView) (few : length view.site.vars ≤ 2 ^ 64)
       (all_append (stmt_fits 403) (target_code view k arguments.target) (changes_code view rule.on_true) (target-is a arguments stand k small)
       (stmts_fit-more 3 403 (changes_code view rule.on_true) (omega arith) (on_true-fits rule h)))))
 
-  node-is : (a : ℕ) (rule : Transition) (n : Node) → rule_fits view.sizes rule ≡ true → node_fits view.site a n ≡ true →
-      stmts_fit 404 (node_code view a rule n) ≡ true
-  node-is a rule (ActAt l s) h fit = behind (acted view s) rule h (acted_by s (out-StmtKind (out-Stmt s).what) refl fit)
-  node-is a rule (TestAt l at e) h fit = tested-fits e rule h (test-fits e fit)
-  node-is a rule (CheckAt l at e) h fit = tested-fits e rule h (test-fits e fit)
-  node-is a rule (EnterAt l at arguments) h fit =
+  own-is : (a : ℕ) (n : Node) → node_fits view.site a n ≡ true → stmts_fit 404 (own_code view n) ≡ true
+  own-is a (ActAt l s) fit = acted_by s (out-StmtKind (out-Stmt s).what) refl fit
+  own-is a (TestAt l at e) fit = refl
+  own-is a (CheckAt l at e) fit = refl
+  own-is a (EnterAt l at arguments) fit = refl
+  own-is a (ResumeAt l at arguments) fit = refl
+  own-is a (PauseAt l at) fit = refl
+  own-is a (HeadAt l at) fit = refl
+  own-is a (StartAt l at) fit = refl
+  own-is a (SurfaceEndAt l at) fit = refl
+  own-is a (DepthEndAt l at) fit = refl
+  own-is a (ForkAt l at) fit = refl
+  own-is a (SurfaceJoinAt l at) fit = refl
+  own-is a (DepthJoinAt l at) fit = refl
+
+  control-is : (a : ℕ) (rule : Transition) (n : Node) → rule_fits view.sizes rule ≡ true → node_fits view.site a n ≡ true →
+      stmts_fit 404 (control_code view a rule n) ≡ true
+  control-is a rule (ActAt l s) h fit = only rule h
+  control-is a rule (TestAt l at e) h fit = tested-fits e rule h (test-fits e fit)
+  control-is a rule (CheckAt l at e) h fit = tested-fits e rule h (test-fits e fit)
+  control-is a rule (EnterAt l at arguments) h fit =
       begun-fits (view.run at) a arguments rule (places at) h fit
-  node-is a rule (ResumeAt l at arguments) h fit =
+  control-is a rule (ResumeAt l at arguments) h fit =
       resumed-fits (view.run at) a arguments rule (places at) h fit
-  node-is a rule (PauseAt l at) h fit = only rule h
-  node-is a rule (HeadAt l at) h fit = only rule h
-  node-is a rule (StartAt l at) h fit = only rule h
-  node-is a rule (SurfaceEndAt l at) h fit = only rule h
-  node-is a rule (DepthEndAt l at) h fit = only rule h
-  node-is a rule (ForkAt l at) h fit = only rule h
-  node-is a rule (SurfaceJoinAt l at) h fit = only rule h
-  node-is a rule (DepthJoinAt l at) h fit = only rule h
+  control-is a rule (PauseAt l at) h fit = only rule h
+  control-is a rule (HeadAt l at) h fit = only rule h
+  control-is a rule (StartAt l at) h fit = only rule h
+  control-is a rule (SurfaceEndAt l at) h fit = only rule h
+  control-is a rule (DepthEndAt l at) h fit = only rule h
+  control-is a rule (ForkAt l at) h fit = only rule h
+  control-is a rule (SurfaceJoinAt l at) h fit = only rule h
+  control-is a rule (DepthJoinAt l at) h fit = only rule h
 
   turn-is : (a : ℕ) (rule : Transition) → rule_fits view.sizes rule ≡ true → node_fits view.site a rule.node ≡ true →
       turn_fits (node_turn view a rule) ≡ true
   turn-is a rule h fit =
-      both (expr_fits 404 (guard_of view rule.node rule.condition)) (stmts_fit 404 (node_code view a rule rule.node))
+      both (expr_fits 404 (guard_of view rule.node rule.condition))
+      (stmts_fit 404 (own_code view rule.node) && stmts_fit 404 (control_code view a rule rule.node))
       (expr_fits-more 68 404 (guard_of view rule.node rule.condition) (omega arith)
       (guard-fits view numbers rule.node rule.condition (and_left (condition_fits view.sizes rule.condition) _ h)))
-      (node-is a rule rule.node h fit)
+      (both (stmts_fit 404 (own_code view rule.node)) (stmts_fit 404 (control_code view a rule rule.node)) (own-is a rule.node fit)
+      (control-is a rule rule.node h fit))
 
   -- the turns of all nodes fit
   pub turns-fit : (callees : List ℕ) (rules : List Transition) → all_fit view.sizes view.site callees rules ≡ true →
@@ -412,24 +430,24 @@ module _ (view : ActivityView) (few : length view.site.vars ≤ 2 ^ 64)
 
 -- ---- blocks
 
-turns-fit-inside : (turns : List NodeCode) → list_all turn_fits turns ≡ true → stmts_fit 405 (map turn_code turns) ≡ true
-turns-fit-inside [] all = refl
-turns-fit-inside (turn ∷ turns) all =
-    let own = and_left (turn_fits turn) (list_all turn_fits turns) all in
-    both (stmt_fits 405 (turn_code turn)) (stmts_fit 405 (map turn_code turns))
-    (if-fits 404 405 nowhere turn.test turn.code (omega arith) (and_left (expr_fits 404 turn.test) (stmts_fit 404 turn.code) own)
-    (and_right (expr_fits 404 turn.test) (stmts_fit 404 turn.code) own))
-    (turns-fit-inside turns (and_right (turn_fits turn) (list_all turn_fits turns) all))
+-- what the turns of a block do fits as deep as what each of them does
+fused-fits : (turn : NodeCode) (turns : List NodeCode) → turn_fits turn ≡ true → list_all turn_fits turns ≡ true →
+    stmts_fit 404 (fused_code turn turns) ≡ true
+fused-fits last [] own all =
+    let codes = and_right (expr_fits 404 last.test) (stmts_fit 404 last.own && stmts_fit 404 last.control) own in
+    all_append (stmt_fits 404) last.own last.control (and_left (stmts_fit 404 last.own) (stmts_fit 404 last.control) codes)
+    (and_right (stmts_fit 404 last.own) (stmts_fit 404 last.control) codes)
+fused-fits turn (next ∷ rest) own all =
+    let codes = and_right (expr_fits 404 turn.test) (stmts_fit 404 turn.own && stmts_fit 404 turn.control) own in
+    all_append (stmt_fits 404) turn.own (fused_code next rest) (and_left (stmts_fit 404 turn.own) (stmts_fit 404 turn.control) codes)
+    (fused-fits next rest (and_left (turn_fits next) (list_all turn_fits rest) all) (and_right (turn_fits next) (list_all turn_fits rest) all))
 
 -- a block whose turns fit does so, one level deeper than each of them
-pub merged-fits : (turns : List NodeCode) → list_all turn_fits turns ≡ true → stmts_fit 406 (merged_code turns) ≡ true
+pub merged-fits : (turns : List NodeCode) → list_all turn_fits turns ≡ true → stmts_fit 405 (merged_code turns) ≡ true
 merged-fits [] all = refl
 merged-fits (first ∷ rest) all =
     let own = and_left (turn_fits first) (list_all turn_fits rest) all in
-    let code : List CStmt = first.code ++ map turn_code rest in
-    one-fits 406 (c_if first.test code None)
-    (if-fits 405 406 nowhere first.test code (omega arith)
-    (expr_fits-more 404 405 first.test (omega arith) (and_left (expr_fits 404 first.test) (stmts_fit 404 first.code) own))
-    (all_append (stmt_fits 405) first.code (map turn_code rest)
-    (stmts_fit-more 404 405 first.code (omega arith) (and_right (expr_fits 404 first.test) (stmts_fit 404 first.code) own))
-    (turns-fit-inside rest (and_right (turn_fits first) (list_all turn_fits rest) all))))
+    one-fits 405 (c_if first.test (fused_code first rest) None)
+    (if-fits 404 405 nowhere first.test (fused_code first rest) (omega arith)
+    (and_left (expr_fits 404 first.test) (stmts_fit 404 first.own && stmts_fit 404 first.control) own)
+    (fused-fits first rest own (and_right (turn_fits first) (list_all turn_fits rest) all)))

@@ -72,6 +72,7 @@ use Rattle.bl_emit_spec.specs.Activities.{
   counters_read,
   enters_at,
   entry_code,
+  first_rules,
   flag_local,
   frame_member,
   frame_struct,
@@ -161,10 +162,10 @@ all_picked {A = A} p all (k ∷ ks) h =
     by None is = refl
     by (Some x) is = both (p x) true (all_at p all k x h is) refl
 
-blocks-fit : (turns : List NodeCode) (blocks : List (List ℕ)) → list_all turn_fits turns ≡ true → stmts_fit 406 (blocks_code turns blocks) ≡ true
+blocks-fit : (turns : List NodeCode) (blocks : List (List ℕ)) → list_all turn_fits turns ≡ true → stmts_fit 405 (blocks_code turns blocks) ≡ true
 blocks-fit turns [] all = refl
 blocks-fit turns (block ∷ blocks) all =
-    all_append (stmt_fits 406) (merged_code (picked turns block)) (blocks_code turns blocks)
+    all_append (stmt_fits 405) (merged_code (picked turns block)) (blocks_code turns blocks)
     (merged-fits (picked turns block) (all_picked turn_fits turns block all)) (blocks-fit turns blocks all)
 
 -- ---- an activity
@@ -409,12 +410,12 @@ module _ (units : List UnitDef) (entry k : ℕ) (a : Activity) (keeps : IsWellTy
       let of_runs : List CLocal = joined (map (run_locals a) (runs_in_body a)) in
       let of_copies : List CLocal = map (copy_local a) (copied_in a) in
       let of_marks : List CLocal = joined (map (mark_locals number) (rules_at a)) in
-      let of_flags : List CLocal = joined (map (flag_local number) (rules_at a)) in
+      let of_flags : List CLocal = joined (map (flag_local number) (first_rules a)) in
       all_append spells_local (map (rested_local a.sizes) (counters_read a)) (of_flags ++ (of_marks ++ (of_copies ++ of_runs)))
       (all_mapped spells_local (rested_local a.sizes) (counters_read a)
       (all_filtered (λ j. spells_local (rested_local a.sizes j)) (activity_view a).is_read (up_to (length a.sizes))
       (all_below (λ j. spells_local (rested_local a.sizes j)) (length a.sizes) rested_is)))
-      (all_append spells_local of_flags (of_marks ++ (of_copies ++ of_runs)) (joined_each spells_local (flag_local number) flag_is (rules_at a))
+      (all_append spells_local of_flags (of_marks ++ (of_copies ++ of_runs)) (joined_each spells_local (flag_local number) flag_is (first_rules a))
       (all_append spells_local of_marks (of_copies ++ of_runs)
       (joined_each spells_local (mark_locals number) (λ rule. joined_each spells_local (mark_local number) mark_is rule.on_true) (rules_at a))
       (all_append spells_local of_copies of_runs
@@ -446,42 +447,42 @@ module _ (units : List UnitDef) (entry k : ℕ) (a : Activity) (keeps : IsWellTy
     typed_here : (j : ℕ) (var : Var) → slice_get a.unit.vars j ≡ Some var → type_stands (length a.structs) var.ty ≡ true
     typed_here = typed a.structs units entry k a.unit keeps there few
 
-    rested_is : (j : ℕ) → j < length a.sizes → stmt_fits 406 (rested_code j) ≡ true
+    rested_is : (j : ℕ) → j < length a.sizes → stmt_fits 405 (rested_code j) ≡ true
     rested_is j less =
         let small : j < 2 ^ 64 = omega (arith, less, short) in
-        set-fits 406 nowhere (rested_place j) (c_read (counter_place j)) (rested-fits 406 j (omega arith) small)
-        (read-fits 406 nowhere (counter_place j) (counter-fits 406 j (omega arith) small))
+        set-fits 405 nowhere (rested_place j) (c_read (counter_place j)) (rested-fits 405 j (omega arith) small)
+        (read-fits 405 nowhere (counter_place j) (counter-fits 405 j (omega arith) small))
 
-    copied_is : (j : ℕ) → j < length a.unit.vars → stmt_fits 406 (c_copied site j) ≡ true
+    copied_is : (j : ℕ) → j < length a.unit.vars → stmt_fits 405 (c_copied site j) ≡ true
     copied_is j less =
         let small : j < 2 ^ 64 = omega (arith, less, few) in
-        set-fits 406 nowhere (c_place false (copy_name j) []) (c_read (place_in site j []))
-        (place-fits 406 false (copy_name j) [] (omega arith) (copy-name j small) refl)
-        (read-fits 406 nowhere (place_in site j []) (own-fits site few names named typed_here exprs paths 406 j (omega arith) small))
+        set-fits 405 nowhere (c_place false (copy_name j) []) (c_read (place_in site j []))
+        (place-fits 405 false (copy_name j) [] (omega arith) (copy-name j small) refl)
+        (read-fits 405 nowhere (place_in site j []) (own-fits site few names named typed_here exprs paths 405 j (omega arith) small))
 
-    entry_is : (body : Block) → stmts_fit 406 (entry_code (activity_view a) body) ≡ true
+    entry_is : (body : Block) → stmts_fit 405 (entry_code (activity_view a) body) ≡ true
     entry_is Done = refl
     entry_is (Then s rest) =
         let first : 0 < 2 ^ 64 = omega arith in
-        one-fits 406 (c_set (flag_place (number (entry_node s))) (c_two Eq (c_read (counter_place 0)) (counter_value a.sizes 0 0)))
-        (set-fits 406 nowhere (flag_place (number (entry_node s))) (c_two Eq (c_read (counter_place 0)) (counter_value a.sizes 0 0))
-        (flag-fits 406 (number (entry_node s)) (omega arith) (numbers (entry_node s)))
-        (two-fits 2 406 nowhere Eq (c_read (counter_place 0)) (counter_value a.sizes 0 0) (omega arith) refl
+        one-fits 405 (c_set (flag_place (number (entry_node s))) (c_two Eq (c_read (counter_place 0)) (counter_value a.sizes 0 0)))
+        (set-fits 405 nowhere (flag_place (number (entry_node s))) (c_two Eq (c_read (counter_place 0)) (counter_value a.sizes 0 0))
+        (flag-fits 405 (number (entry_node s)) (omega arith) (numbers (entry_node s)))
+        (two-fits 2 405 nowhere Eq (c_read (counter_place 0)) (counter_value a.sizes 0 0) (omega arith) refl
         (read-fits 2 nowhere (counter_place 0) (counter-fits 2 0 (omega arith) first)) (nothing-fits 2 a.sizes 0 (omega arith))))
 
-    code_is : stmts_fit 406 (activity_code a) ≡ true
+    code_is : stmts_fit 405 (activity_code a) ≡ true
     code_is =
         let blocks : List CStmt = blocks_in_order a in
         let copies : List CStmt = map (c_copied site) (copied_in a) in
-        all_append (stmt_fits 406) (map rested_code (counters_read a)) (entry_code (activity_view a) (body_of a) ++ (copies ++ blocks))
-        (all_mapped (stmt_fits 406) rested_code (counters_read a)
-        (all_filtered (λ j. stmt_fits 406 (rested_code j)) (activity_view a).is_read (up_to (length a.sizes))
-        (all_below (λ j. stmt_fits 406 (rested_code j)) (length a.sizes) rested_is)))
-        (all_append (stmt_fits 406) (entry_code (activity_view a) (body_of a)) (copies ++ blocks) (entry_is (body_of a))
-        (all_append (stmt_fits 406) copies blocks
-        (all_mapped (stmt_fits 406) (c_copied site) (copied_in a)
-        (all_filtered (λ j. stmt_fits 406 (c_copied site j)) _ (up_to (length a.unit.vars))
-        (all_below (λ j. stmt_fits 406 (c_copied site j)) (length a.unit.vars) copied_is)))
+        all_append (stmt_fits 405) (map rested_code (counters_read a)) (entry_code (activity_view a) (body_of a) ++ (copies ++ blocks))
+        (all_mapped (stmt_fits 405) rested_code (counters_read a)
+        (all_filtered (λ j. stmt_fits 405 (rested_code j)) (activity_view a).is_read (up_to (length a.sizes))
+        (all_below (λ j. stmt_fits 405 (rested_code j)) (length a.sizes) rested_is)))
+        (all_append (stmt_fits 405) (entry_code (activity_view a) (body_of a)) (copies ++ blocks) (entry_is (body_of a))
+        (all_append (stmt_fits 405) copies blocks
+        (all_mapped (stmt_fits 405) (c_copied site) (copied_in a)
+        (all_filtered (λ j. stmt_fits 405 (c_copied site j)) _ (up_to (length a.unit.vars))
+        (all_below (λ j. stmt_fits 405 (c_copied site j)) (length a.unit.vars) copied_is)))
         (blocks-fit (turns_in_source a) a.blocks
         (turns-fit (activity_view a) few numbers (place_small (rules_at a)) names named typed_here exprs paths acts (callees_in (body_of a))
         (rules_at a) fitted))))
@@ -491,7 +492,7 @@ module _ (units : List UnitDef) (entry k : ℕ) (a : Activity) (keeps : IsWellTy
         func-fits 1999 2000 (activity_function a) (omega arith) (omega arith) refl
         (name-function (unit_name a.unit.name)
         (name-with_prefix (codes "a_") a.unit.name refl (source_name a.unit.name own_name))) params_are locals_are
-        (stmts_fit-more 406 1999 (activity_code a) (omega arith) code_is)
+        (stmts_fit-more 405 1999 (activity_code a) (omega arith) code_is)
 
 -- ---- the laws
 

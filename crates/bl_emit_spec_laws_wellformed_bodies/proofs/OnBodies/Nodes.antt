@@ -1,7 +1,9 @@
 -- Nothing fails in the blocks of an activity.
-use Rattle.std.proofs.Common.{◌≡◌, ℕ, zero, suc, Bool, true, false, ◌&&◌, List, [], ◌∷◌, ◌++◌, map, Option, Some, None, refl}
-use Rattle.std.proofs.Common.{sym, ap, ◌∙◌, subst}
-use Rattle.std.specs.Prelude.{Contains, is_some, option_and_then, option_to_list, slice_get, ⊤, if◌then◌else◌}
+use Rattle.std.proofs.Common.{◌≡◌, ℕ, zero, suc, ◌<◌, Bool, true, false, ◌&&◌, List, [], ◌∷◌, ◌++◌, map, length, Option, Some, None, refl}
+use Rattle.std.proofs.Common.{sym, ap, ◌∙◌, subst, arith}
+use Rattle.std.proofs.lemmas.List.Elements.{Contains-append_left, Contains-append_right}
+use Rattle.std.proofs.lemmas.Option.{same_Some}
+use Rattle.std.specs.Prelude.{Contains, is_some, option_and_then, option_to_list, slice_get, if◌then◌else◌}
 use Rattle.bl_tree.specs.declared.place.Place.{Place}
 use Rattle.bl_tree.specs.declared.c.CExpr.{CExpr}
 use Rattle.bl_tree.specs.declared.c.CMember.{CMember}
@@ -17,7 +19,7 @@ use Rattle.bl_tree.specs.declared.tree.StmtKind.{StmtKind, fold-StmtKind, fold_o
 use Rattle.bl_tree.specs.declared.tree.StmtKind.TheOpen.{StmtKind-F}
 use Rattle.bl_tree.specs.declared.tree.Ty.{Ty}
 use Rattle.bl_tree.specs.declared.tree.Unit.{Unit as UnitDef}
-use Rattle.bl_tree.specs.Reduce.{all_of}
+use Rattle.bl_tree.specs.Reduce.{all_of, joined}
 use Rattle.bl_tree.specs.Scalar.{is_bool}
 use Rattle.bl_tree.specs.Types.{scalar, scalar_in}
 use Rattle.bl_tree.specs.Typing.{TypingContext, arm_fits, branch_fits, fits, is_truth, kind_fits, return_fits, run_fits, stmt_fits, type_of}
@@ -42,29 +44,33 @@ use Rattle.bl_emit_acts_laws_wellformed.proofs.OnFormed.Judged.{read-is}
 use Rattle.bl_emit_acts_laws_wellformed.proofs.OnFormed.Parts.{c_scalar_type}
 use Rattle.bl_emit_acts_laws_wellformed.proofs.OnFormed.SiteActs.{code_typed}
 use Rattle.bl_emit_functions_laws_wellformed.proofs.OnFormed.Shapes.{OtherIn, if-is}
-use Rattle.bl_emit_spec.specs.Activities.{Activity, RunAt, activity_view, blocks_code, copies_of, picked, rules_at, runs_in_body}
+use Rattle.bl_emit_spec.specs.Activities.{Activity, RunAt, activity_view, blocks_code, body_of, callees_in, copies_of, first_positions, picked, rules_at}
+use Rattle.bl_emit_spec.specs.Activities.{runs_in_body, turns_in_source}
 use Rattle.bl_emit_spec.specs.Blocks.{
   ActivityView,
   NodeCode,
   acted,
   begun_code,
   changes_code,
+  control_code,
+  fused_code,
   layer_acted,
   merged_code,
   name_in,
-  node_code,
+  own_code,
   resumed_code,
   run_code,
   target_code,
   choice_code,
   spelled_truth,
   test_code,
-  turn_code,
   node_turn,
   turns_of,
 }
 use Rattle.bl_emit_spec.specs.Names.{callee_frame, ended_place, frame_name, result_place}
-use Rattle.bl_emit_spec_laws.proofs.OnOwn.Members.{further, here as first_here}
+use Rattle.bl_emit_spec_laws.specs.Calls.Built.{last_of, last_rules, last_positions}
+use Rattle.bl_emit_spec_laws.proofs.OnOwn.Members.{contains_at, further, here as first_here}
+use Rattle.bl_emit_spec_laws.proofs.OnPlaced.Lists.{picked_first, there_at}
 use Rattle.bl_emit_spec_laws_wellformed.specs.Spelled.{all_fit, node_fits, rule_fits, run_stands}
 use Rattle.bl_emit_spec_laws_wellformed_bodies.specs.Bodies.{act_named, named_there}
 use Rattle.bl_emit_spec_laws_wellformed_bodies.proofs.OnBodies.Calls.{call-is, same_types, target-is}
@@ -103,51 +109,78 @@ truth_there (Some ty) h = (ty, refl, by (scalar_in ty) h)
 
 -- ---- turns
 
+picked-has : {A : Type 0} (xs : List A) (ks : List ℕ) (k : ℕ) (x : A) → Contains ks k → slice_get xs k ≡ Some x → Contains (picked xs ks) x
+picked-has xs [] k x (i, below, is) at = absurd (omega (arith, below))
+picked-has xs (j ∷ ks) k x (zero, below, is) at =
+    let found : slice_get xs j ≡ Some x = ap (slice_get xs) is ∙ at in
+    subst (λ more. Contains more x) (sym (picked_first xs j ks x found)) (first_here x (picked xs ks))
+picked-has xs (j ∷ ks) k x (suc i, below, is) at =
+    Contains-append_right (option_to_list (slice_get xs j)) (picked xs ks) x (picked-has xs ks k x (i, omega (arith, below), is) at)
+
+-- there are as many turns as rules
+pub turns_many : (view : ActivityView) (callees : List ℕ) (rules : List Transition) → length callees ≡ length rules →
+    length (turns_of view callees rules) ≡ length rules
+turns_many view [] [] same = refl
+turns_many view [] (rule ∷ rules) same = absurd (omega (arith, same))
+turns_many view (u ∷ callees) [] same = refl
+turns_many view (u ∷ callees) (rule ∷ rules) same =
+    ap suc (turns_many view callees rules (let less : length callees ≡ length rules = omega (arith, same) in less))
+
 module _ (here : Context) where
-  -- nothing fails in what a turn asks, nor in what it does
-  abbrev TurnIs : NodeCode → Type 0
-  TurnIs turn = ExprIs here bool_type turn.test × BlockIs here turn.code
-
-  -- so it is of each turn
-  abbrev pub Each : List NodeCode → Type 0
-  Each [] = ⊤
-  Each (turn ∷ rest) = TurnIs turn × Each rest
-
-  each-append : (turns more : List NodeCode) → Each turns → Each more → Each (turns ++ more)
-  each-append [] more all rest = rest
-  each-append (turn ∷ turns) more all rest = (all.0, each-append turns more all.1 rest)
-
-  each_at : (turns : List NodeCode) (j : ℕ) → Each turns → Each (option_to_list (slice_get turns j))
-  each_at [] j all = tt
-  each_at (turn ∷ rest) zero all = (all.0, tt)
-  each_at (turn ∷ rest) (suc j) all = each_at rest j all.1
-
-  each-picked : (turns : List NodeCode) (block : List ℕ) → Each turns → Each (picked turns block)
-  each-picked turns [] all = tt
-  each-picked turns (j ∷ block) all =
-      each-append (option_to_list (slice_get turns j)) (picked turns block) (each_at turns j all) (each-picked turns block all)
-
   if-alone : (test : CExpr) (code : List CStmt) → ExprIs here bool_type test → BlockIs here code → StmtIs here (c_if test code None)
   if-alone test code is block = if-is here test code None is block (λ looped. refl)
 
-  turns-are : (turns : List NodeCode) → Each turns → BlockIs here (map turn_code turns)
-  turns-are [] all = block_nil here
-  turns-are (turn ∷ rest) all =
-      block_cons here (turn_code turn) (map turn_code rest) (if-alone turn.test turn.code all.0.0 all.0.1) (turns-are rest all.1)
+  module _ (turns : List NodeCode) where
+    -- the turn at a position has this
+    abbrev pub TurnAt : (NodeCode → Type 0) → ℕ → Type 0
+    TurnAt P k = (turn : NodeCode) → slice_get turns k ≡ Some turn → P turn
 
-  merged-is : (turns : List NodeCode) → Each turns → BlockIs here (merged_code turns)
-  merged-is [] all = block_nil here
-  merged-is (first ∷ rest) all =
-      block_one here (c_if first.test (first.code ++ map turn_code rest) None)
-      (if-alone first.test (first.code ++ map turn_code rest) all.0.0
-      (block_append here first.code (map turn_code rest) all.0.1 (turns-are rest all.1)))
+    -- nothing fails in what is asked before a turn
+    abbrev pub AskedIs : ℕ → Type 0
+    AskedIs = TurnAt (λ (turn : NodeCode). ExprIs here bool_type turn.test)
 
-  -- nothing fails in blocks of such turns
-  pub blocks-are : (turns : List NodeCode) (blocks : List (List ℕ)) → Each turns → BlockIs here (blocks_code turns blocks)
-  blocks-are turns [] all = block_nil here
-  blocks-are turns (block ∷ rest) all =
-      block_append here (merged_code (picked turns block)) (blocks_code turns rest) (merged-is (picked turns block) (each-picked turns block all))
-      (blocks-are turns rest all)
+    -- nothing fails in what its node does itself
+    abbrev pub OwnIs : ℕ → Type 0
+    OwnIs = TurnAt (λ (turn : NodeCode). BlockIs here turn.own)
+
+    -- nothing fails in how its node goes on
+    abbrev pub ControlIs : ℕ → Type 0
+    ControlIs = TurnAt (λ (turn : NodeCode). BlockIs here turn.control)
+
+    abbrev pub AllWithin : List ℕ → Type 0
+    AllWithin ks = (k : ℕ) → Contains ks k → k < length turns
+
+    fused-is : ((k : ℕ) → OwnIs k) → (k : ℕ) (block : List ℕ) (turn : NodeCode) → slice_get turns k ≡ Some turn → AllWithin block →
+        ControlIs (last_of k block) → BlockIs here (fused_code turn (picked turns block))
+    fused-is own k [] turn at inside last = block_append here turn.own turn.control (own k turn at) (last turn at)
+    fused-is own k (j ∷ block) turn at inside last =
+        let next = there_at turns j (inside j (first_here j block)) in
+        subst (λ (more : List NodeCode). BlockIs here (fused_code turn more)) (sym (picked_first turns j block next.0 next.1))
+        (block_append here turn.own (fused_code next.0 (picked turns block)) (own k turn at)
+        (fused-is own j block next.0 next.1 (λ i there. inside i (further j block i there)) last))
+
+    merged-is : ((k : ℕ) → OwnIs k) → (k : ℕ) (block : List ℕ) → AllWithin (k ∷ block) → AskedIs k → ControlIs (last_of k block) →
+        BlockIs here (merged_code (picked turns (k ∷ block)))
+    merged-is own k block inside asked last =
+        let first = there_at turns k (inside k (first_here k block)) in
+        let code : List CStmt = fused_code first.0 (picked turns block) in
+        subst (λ (some : List NodeCode). BlockIs here (merged_code some)) (sym (picked_first turns k block first.0 first.1))
+        (block_one here (c_if first.0.test code None)
+        (if-alone first.0.test code (asked first.0 first.1)
+        (fused-is own k block first.0 first.1 (λ i there. inside i (further k block i there)) last)))
+
+    -- nothing fails in blocks of such turns
+    pub blocks-are : ((k : ℕ) → OwnIs k) → (blocks : List (List ℕ)) → AllWithin (joined blocks) →
+        ((k : ℕ) → Contains (first_positions blocks) k → AskedIs k) → ((k : ℕ) → Contains (last_positions blocks) k → ControlIs k) →
+        BlockIs here (blocks_code turns blocks)
+    blocks-are own [] inside asked last = block_nil here
+    blocks-are own ([] ∷ rest) inside asked last = blocks-are own rest inside asked last
+    blocks-are own ((k ∷ block) ∷ rest) inside asked last =
+        block_append here (merged_code (picked turns (k ∷ block))) (blocks_code turns rest)
+        (merged-is own k block (λ i there. inside i (Contains-append_left (k ∷ block) (joined rest) i there))
+        (asked k (first_here k (first_positions rest))) (last (last_of k block) (first_here (last_of k block) (last_positions rest))))
+        (blocks-are own rest (λ i there. inside i (Contains-append_right (k ∷ block) (joined rest) i there))
+        (λ i there. asked i (further k (first_positions rest) i there)) (λ i there. last i (further (last_of k block) (last_positions rest) i there)))
 
   other-is : (block : List CStmt) → BlockIs here block → (looped : Bool) → OtherIn here looped (else_code block)
   other-is [] is looped = refl
@@ -222,7 +255,7 @@ module _ (units : List UnitDef) (entry k : ℕ) (a : Activity) (table : Table (T
 
   -- ---- nodes
 
-  module _ (rule : Transition) (has : Contains (rules_at a) rule) where
+  module _ (rule : Transition) (has : Contains (last_rules a) rule) where
     on_true-is : BlockIs here (changes_code view rule.on_true)
     on_true-is = changes-are units entry k a table known h rule.on_true (h.owns.on_true rule has)
 
@@ -272,41 +305,95 @@ module _ (units : List UnitDef) (entry k : ℕ) (a : Activity) (table : Table (T
         (block_append here (target_code view n arguments.target) (changes_code view rule.on_true)
         (target-is units entry k a table known h at n u runs arguments fitted) on_true-is) (λ looped. refl)))
 
-    node-is : (u : ℕ) (n : Node) → node_fits view.site u n ≡ true → named_there mine n ≡ true → HasRun view.run (runs_in_body a) u n →
-        BlockIs here (node_code view u rule n)
-    node-is u (ActAt l s) fit named runs =
-        block_append here (acted view s) (changes_code view rule.on_true)
-        (acted-by s (out-StmtKind (out-Stmt s).what) refl (and_left (fits view.site s) _ fit) named) on_true-is
-    node-is u (TestAt l at e) fit named runs =
+    control-is : (u : ℕ) (n : Node) → node_fits view.site u n ≡ true → named_there mine n ≡ true → HasRun view.run (runs_in_body a) u n →
+        BlockIs here (control_code view u rule n)
+    control-is u (ActAt l s) fit named runs = on_true-is
+    control-is u (TestAt l at e) fit named runs =
         tested-is (code_made view.site e) (test-is e (and_left (is_truth (type_of view.site e)) _ fit) named)
-    node-is u (CheckAt l at e) fit named runs =
+    control-is u (CheckAt l at e) fit named runs =
         tested-is (code_made view.site e) (test-is e (and_left (is_truth (type_of view.site e)) _ fit) named)
-    node-is u (EnterAt l at arguments) fit named runs = begun-is at (view.run at) u arguments runs fit named
-    node-is u (ResumeAt l at arguments) fit named runs = resumed-is at (view.run at) u arguments runs fit named
-    node-is u (PauseAt l at) fit named runs = on_true-is
-    node-is u (HeadAt l at) fit named runs = on_true-is
-    node-is u (StartAt l at) fit named runs = on_true-is
-    node-is u (SurfaceEndAt l at) fit named runs = on_true-is
-    node-is u (DepthEndAt l at) fit named runs = on_true-is
-    node-is u (ForkAt l at) fit named runs = on_true-is
-    node-is u (SurfaceJoinAt l at) fit named runs = on_true-is
-    node-is u (DepthJoinAt l at) fit named runs = on_true-is
+    control-is u (EnterAt l at arguments) fit named runs = begun-is at (view.run at) u arguments runs fit named
+    control-is u (ResumeAt l at arguments) fit named runs = resumed-is at (view.run at) u arguments runs fit named
+    control-is u (PauseAt l at) fit named runs = on_true-is
+    control-is u (HeadAt l at) fit named runs = on_true-is
+    control-is u (StartAt l at) fit named runs = on_true-is
+    control-is u (SurfaceEndAt l at) fit named runs = on_true-is
+    control-is u (DepthEndAt l at) fit named runs = on_true-is
+    control-is u (ForkAt l at) fit named runs = on_true-is
+    control-is u (SurfaceJoinAt l at) fit named runs = on_true-is
+    control-is u (DepthJoinAt l at) fit named runs = on_true-is
 
-    turn-is : (u : ℕ) → node_fits view.site u rule.node ≡ true → HasRun view.run (runs_in_body a) u rule.node →
-        TurnIs here (node_turn view u rule)
-    turn-is u fit runs =
-        (guard-is units entry k a table known h rule.node rule.condition (h.owns.asks rule has), node-is u rule.node fit (h.copies.named rule has) runs)
+  own-is : (u : ℕ) (n : Node) → node_fits view.site u n ≡ true → named_there mine n ≡ true → BlockIs here (own_code view n)
+  own-is u (ActAt l s) fit named = acted-by s (out-StmtKind (out-Stmt s).what) refl (and_left (fits view.site s) _ fit) named
+  own-is u (TestAt l at e) fit named = block_nil here
+  own-is u (CheckAt l at e) fit named = block_nil here
+  own-is u (EnterAt l at arguments) fit named = block_nil here
+  own-is u (ResumeAt l at arguments) fit named = block_nil here
+  own-is u (PauseAt l at) fit named = block_nil here
+  own-is u (HeadAt l at) fit named = block_nil here
+  own-is u (StartAt l at) fit named = block_nil here
+  own-is u (SurfaceEndAt l at) fit named = block_nil here
+  own-is u (DepthEndAt l at) fit named = block_nil here
+  own-is u (ForkAt l at) fit named = block_nil here
+  own-is u (SurfaceJoinAt l at) fit named = block_nil here
+  own-is u (DepthJoinAt l at) fit named = block_nil here
 
-  -- nothing fails in each turn
-  pub turns-in-source-are : (callees : List ℕ) (rules : List Transition) → all_fit a.sizes view.site callees rules ≡ true →
-      Pairs (RuleRuns view.run (runs_in_body a)) callees rules → ((rule : Transition) → Contains rules rule → Contains (rules_at a) rule) →
-      Each here (turns_of view callees rules)
-  turns-in-source-are [] rules all runs inside = tt
-  turns-in-source-are (u ∷ callees) [] all runs inside = tt
-  turns-in-source-are (u ∷ callees) (rule ∷ rules) all runs inside =
-      let own = and_left (rule_fits a.sizes rule && node_fits view.site u rule.node) (all_fit a.sizes view.site callees rules) all in (
-        turn-is rule (inside rule (first_here rule rules)) u (and_right (rule_fits a.sizes rule) (node_fits view.site u rule.node) own) runs.0,
-        turns-in-source-are callees rules
-            (and_right (rule_fits a.sizes rule && node_fits view.site u rule.node) (all_fit a.sizes view.site callees rules) all) runs.1
-            (λ other there. inside other (further rule rules other there)),
-      )
+  -- ---- turns by their positions
+
+  -- the rule of the turn at a position, and the activity that its node calls
+  record RuleOf (rules : List Transition) (p : ℕ) (turn : NodeCode) : Type 0 where
+    rule : Transition
+    unit : ℕ
+    at : slice_get rules p ≡ Some rule
+    is : node_turn view unit rule ≡ turn
+    fit : node_fits view.site unit rule.node ≡ true
+    runs : HasRun view.run (runs_in_body a) unit rule.node
+
+  rule_of : (callees : List ℕ) (rules : List Transition) (p : ℕ) (turn : NodeCode) → all_fit a.sizes view.site callees rules ≡ true →
+      Pairs (RuleRuns view.run (runs_in_body a)) callees rules → slice_get (turns_of view callees rules) p ≡ Some turn → RuleOf rules p turn
+  rule_of [] rules p turn all runs is = absurd (cc)
+  rule_of (u ∷ callees) [] p turn all runs is = absurd (cc)
+  rule_of (u ∷ callees) (rule ∷ rules) zero turn all runs is =
+      let own = and_left (rule_fits a.sizes rule && node_fits view.site u rule.node) (all_fit a.sizes view.site callees rules) all in
+      record {
+        rule = rule;
+        unit = u;
+        at = refl;
+        is = same_Some (node_turn view u rule) turn is;
+        fit = and_right (rule_fits a.sizes rule) (node_fits view.site u rule.node) own;
+        runs = runs.0;
+      }
+  rule_of (u ∷ callees) (rule ∷ rules) (suc p) turn all runs is =
+      let rest = and_right (rule_fits a.sizes rule && node_fits view.site u rule.node) (all_fit a.sizes view.site callees rules) all in
+      let found = rule_of callees rules p turn rest runs.1 is in
+      record { rule = found.rule; unit = found.unit; at = found.at; is = found.is; fit = found.fit; runs = found.runs }
+
+  module _ (runs : Pairs (RuleRuns view.run (runs_in_body a)) (callees_in (body_of a)) (rules_at a)) where
+    abbrev turns : List NodeCode
+    turns = turns_in_source a
+
+    of_turn : (p : ℕ) (turn : NodeCode) → slice_get turns p ≡ Some turn → RuleOf (rules_at a) p turn
+    of_turn p turn at = rule_of (callees_in (body_of a)) (rules_at a) p turn h.fitted runs at
+
+    named : (rule : Transition) (p : ℕ) → slice_get (rules_at a) p ≡ Some rule → named_there mine rule.node ≡ true
+    named rule p at = h.copies.named rule (contains_at (rules_at a) p rule at)
+
+    pub owns-are : (p : ℕ) → OwnIs here turns p
+    owns-are p turn at =
+        let found = of_turn p turn at in
+        subst (λ (turn : NodeCode). BlockIs here turn.own) found.is
+        (own-is found.unit found.rule.node found.fit (named found.rule p found.at))
+
+    pub asked-are : (p : ℕ) → Contains (first_positions a.blocks) p → AskedIs here turns p
+    asked-are p first turn at =
+        let found = of_turn p turn at in
+        subst (λ (turn : NodeCode). ExprIs here bool_type turn.test) found.is
+        (guard-is units entry k a table known h found.rule.node found.rule.condition
+        (h.owns.asks found.rule (picked-has (rules_at a) (first_positions a.blocks) p found.rule first found.at)))
+
+    pub controls-are : (p : ℕ) → Contains (last_positions a.blocks) p → ControlIs here turns p
+    controls-are p last turn at =
+        let found = of_turn p turn at in
+        subst (λ (turn : NodeCode). BlockIs here turn.control) found.is
+        (control-is found.rule (picked-has (rules_at a) (last_positions a.blocks) p found.rule last found.at) found.unit found.rule.node found.fit
+        (named found.rule p found.at) found.runs)

@@ -52,7 +52,7 @@ use Rattle.bl_emit_acts_laws_wellformed.proofs.OnFormed.SiteActs.{EarlierStand}
 use Rattle.bl_emit_acts_laws_wellformed.proofs.OnFormed.Typed.{pointer_place, variable_place}
 use Rattle.bl_emit_acts_laws_wellformed.proofs.OnFormed.Units.{roles_at, taken_there, vars_stand}
 use Rattle.bl_emit_spec.specs.Activities.{Activity, RunAt, activity_function, activity_locals, activity_params, copied_in, copies_of, copy_local}
-use Rattle.bl_emit_spec.specs.Activities.{counter_member, counters_read, flag_local, frame_member, frame_struct, given_local, is_flagged, mark_local}
+use Rattle.bl_emit_spec.specs.Activities.{counter_member, counters_read, first_rules, flag_local, frame_member, frame_struct, given_local, is_flagged, mark_local}
 use Rattle.bl_emit_spec.specs.Activities.{mark_locals, memory_member, memory_params, over_param, pointer_param, remembered, remembers_any}
 use Rattle.bl_emit_spec.specs.Activities.{activity_view, rested_local, result_params, rules_at, run_locals, runs_in_body, scalar_local, struct_member}
 use Rattle.bl_emit_spec.specs.Blocks.{counter_type, name_in}
@@ -286,7 +286,7 @@ module _ (units : List UnitDef) (entry k : ℕ) (a : Activity) (table : Table (T
       low j n less = grind (arith, nat_tests)
 
   abbrev of_flags : List CLocal
-  of_flags = joined (map (flag_local number) (rules_at a))
+  of_flags = joined (map (flag_local number) (first_rules a))
 
   abbrev of_marks : List CLocal
   of_marks = joined (map (mark_locals number) (rules_at a))
@@ -314,13 +314,13 @@ module _ (units : List UnitDef) (entry k : ℕ) (a : Activity) (table : Table (T
 
   pub flag-is : (n : ℕ) → (registered a).flags n ≡ true → PlaceIs context false bool_type (flag_place n)
   flag-is n on =
-      let one = any_found (asks_flag number n) (rules_at a) on in
+      let one = any_found (asks_flag number n) (first_rules a) on in
       let tests = both_ends (is_flagged one.one.condition) (nat_eq n (number one.one.node)) one.on in
       let same : n ≡ number one.one.node = eqb-true n (number one.one.node) tests.1 in
       local-place OfBool (flag_name n)
       (Contains-append_right of_rested (of_flags ++ (of_marks ++ (of_copies ++ of_runs))) (scalar_local OfBool (flag_name n))
       (Contains-append_left of_flags (of_marks ++ (of_copies ++ of_runs)) (scalar_local OfBool (flag_name n))
-      (joined-has (flag_local number) (rules_at a) one.one (scalar_local OfBool (flag_name n)) one.there
+      (joined-has (flag_local number) (first_rules a) one.one (scalar_local OfBool (flag_name n)) one.there
       (subst (λ m. Contains (flag_local number one.one) (scalar_local OfBool (flag_name m))) (sym same)
       (by one.one (is_flagged one.one.condition) tests.0)))))
     where

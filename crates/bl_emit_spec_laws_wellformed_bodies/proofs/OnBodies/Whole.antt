@@ -1,8 +1,8 @@
 -- Nothing fails in the statements of the C function of an activity.
 use Rattle.std.proofs.Common.{◌≡◌, ℕ, zero, suc, ◌<◌, Bool, true, false, List, [], ◌∷◌, ◌++◌, map, length, Some, refl, sym}
-use Rattle.std.proofs.Common.{ap, subst, arith, ⊎_elim, nat_eq, eq-eqb}
+use Rattle.std.proofs.Common.{ap, subst, arith, ⊎_elim, ◌∙◌}
 use Rattle.std.proofs.lemmas.Bool.Decides.{nat_tests}
-use Rattle.std.proofs.lemmas.List.Elements.{Contains-append_left, Contains-push_cases}
+use Rattle.std.proofs.lemmas.List.Elements.{Contains-push_cases}
 use Rattle.std.specs.Prelude.{Contains, filter, nat_lt, slice_get, if◌then◌else◌}
 use Rattle.bl_tree.specs.declared.c.CMember.{CMember}
 use Rattle.bl_tree.specs.declared.c.CStmt.{CStmt}
@@ -14,13 +14,14 @@ use Rattle.bl_tree.specs.declared.tree.StructDef.{StructDef}
 use Rattle.bl_tree.specs.declared.tree.Unit.{Unit as UnitDef}
 use Rattle.bl_tree.specs.declared.tree.Var.{Var}
 use Rattle.bl_tree.specs.Program.{IsWellTyped}
+use Rattle.bl_tree.specs.Reduce.{joined}
 use Rattle.bl_tree.specs.Typing.{fits, site_of}
 use Rattle.bl_ctext_semantics.specs.Faults.{Context, Signature, bool_type}
 use Rattle.bl_ctext_semantics.specs.Tables.{Table}
 use Rattle.bl_machine.specs.Blocks.{up_to}
-use Rattle.bl_graph_nodes.specs.Nodes.{Node, entry as entry_of}
+use Rattle.bl_graph_nodes.specs.Nodes.{entry as entry_of, nodes_in}
 use Rattle.bl_graph_nodes.specs.Plain.{Block, Done, Then}
-use Rattle.bl_machine_pass.specs.Transitions.{Finishes, Transition, enter, rules, rules_in, rules_of}
+use Rattle.bl_machine_pass.specs.Transitions.{Finishes}
 use Rattle.bl_emit_acts.specs.Acts.{act_code, c_copied, c_set}
 use Rattle.bl_emit_acts.specs.Places.{place_in}
 use Rattle.bl_emit_acts.specs.Trees.{c_place, c_read, c_two}
@@ -44,21 +45,24 @@ use Rattle.bl_emit_spec.specs.Activities.{
   copies_of,
   counters_read,
   entry_code,
-  is_flagged,
   rested_code,
   rules_at,
+  runs_in_body,
   turns_in_source,
 }
 use Rattle.bl_emit_spec.specs.Blocks.{ActivityView, counter_type, counter_value}
 use Rattle.bl_emit_spec.specs.Names.{counter_place, flag_place, rested_place}
-use Rattle.bl_emit_spec_laws.specs.Calls.Built.{asks_flag, registered}
+use Rattle.bl_emit_spec_laws.specs.Calls.Built.{registered}
 use Rattle.bl_emit_spec_laws_wellformed.specs.Names.{FrameDiffers, LocalsDiffer, MemoryDiffers}
-use Rattle.bl_emit_spec_laws.proofs.OnOwn.Members.{any_true, both_true, further, here as first_here}
+use Rattle.bl_emit_spec_laws.proofs.OnOwn.Members.{further, here as first_here, stands_at}
+use Rattle.bl_emit_spec_laws.proofs.OnPlaced.Lists.{number_below}
+use Rattle.bl_emit_spec_laws.proofs.OnRemember.Entering.{callees_in_many}
 use Rattle.bl_emit_spec_laws_wellformed_bodies.specs.Bodies.{ActivityBodiesWellFormed}
 use Rattle.bl_emit_spec_laws_wellformed_bodies.proofs.OnBodies.Guards.{begins-is, put-is}
-use Rattle.bl_emit_spec_laws_wellformed_bodies.proofs.OnBodies.Nodes.{Each, blocks-are, turns-in-source-are}
+use Rattle.bl_emit_spec_laws_wellformed_bodies.proofs.OnBodies.Nodes.{asked-are, blocks-are, controls-are, owns-are, turns_many}
 use Rattle.bl_emit_spec_laws_wellformed.proofs.OnNodes.Rules.{of_block}
-use Rattle.bl_emit_spec_laws_wellformed_bodies.proofs.OnBodies.Running.{body-runs, entry-flagged}
+use Rattle.bl_emit_spec_laws_wellformed.proofs.OnNumbers.Whole.{many-rules}
+use Rattle.bl_emit_spec_laws_wellformed_bodies.proofs.OnBodies.Running.{Pairs, RuleRuns, body-runs}
 use Rattle.bl_emit_spec_laws_wellformed_bodies.proofs.OnBodies.Variables.{Here, context, copied, counter-is, declared_here, earlier_here, flag-is, plain_here, rested-is}
 use Rattle.bl_emit_spec_laws_wellformed_bodies.proofs.OnBodies.Variables.{typed_here}
 
@@ -121,22 +125,10 @@ module _ (units : List UnitDef) (entry k : ℕ) (a : Activity) (table : Table (T
       (own_place view.site mine here declared h.well_typed.structs_stand (earlier_here units entry k a table known h) (typed_here units entry k a table known h)
       (plain_here units entry k a table known h) j var found.1))
 
-  flag_there : (rule : Transition) (n : Node) → Contains (rules_at a) rule → is_flagged rule.condition ≡ true → rule.node ≡ n →
-      (registered a).flags (view.number n) ≡ true
-  flag_there rule n there flagged same =
-      any_true (asks_flag view.number (view.number n)) (rules_at a) rule there
-      (both_true (is_flagged rule.condition) (nat_eq (view.number n) (view.number rule.node)) flagged
-      (eq-eqb (view.number n) (view.number rule.node) (ap view.number (sym same))))
-
   entry-is : (body : Block) → body_of a ≡ body → BlockIs here (entry_code view body)
   entry-is Done is = block_nil here
   entry-is (Then s rest) is =
-      let begins = entry-flagged a.slots s (enter rest Finishes) in
-      let there : Contains (rules_at a) begins.rule =
-      subst (λ body. Contains (rules a.slots body) begins.rule) (sym is)
-      (Contains-append_left (rules_of a.slots s (enter rest Finishes)) (rules_in a.slots rest Finishes) begins.rule begins.there) in
-      let flag : (registered a).flags (view.number (entry_of s)) ≡ true =
-      flag_there begins.rule (entry_of s) there (ap is_flagged begins.condition) begins.node in
+      let flag : (registered a).flags (view.number (entry_of s)) ≡ true = h.owns.begins s rest is in
       let set : CStmt = c_set (flag_place (view.number (entry_of s))) (c_two Eq (c_read (counter_place 0)) (counter_value a.sizes 0 0)) in
       block_one here set
       (put-is units entry k a table known h false bool_type (flag_place (view.number (entry_of s)))
@@ -144,10 +136,18 @@ module _ (units : List UnitDef) (entry k : ℕ) (a : Activity) (table : Table (T
       (flag-is units entry k a table known h (view.number (entry_of s)) flag)
       (begins-is units entry k a table known h (is_below 0 (length a.sizes) h.owns.some)))
 
-  turns : Each here (turns_in_source a)
-  turns =
-      turns-in-source-are units entry k a table known h acts (callees_in (body_of a)) (rules_at a) h.fitted
-      (body-runs (λ slots body. of_block slots body Finishes) a a.structs units entry h.well_typed k h.there) (λ rule there. there)
+  runs : Pairs (RuleRuns view.run (runs_in_body a)) (callees_in (body_of a)) (rules_at a)
+  runs = body-runs (λ slots body. of_block slots body Finishes) a a.structs units entry h.well_typed k h.there
+
+  many_turns : length (turns_in_source a) ≡ length (nodes_in (body_of a))
+  many_turns =
+      turns_many view (callees_in (body_of a)) (rules_at a) (callees_in_many (body_of a) ∙ sym (many-rules a)) ∙ many-rules a
+
+  -- each position in a block is that of a turn
+  inside : (p : ℕ) → Contains (joined a.blocks) p → p < length (turns_in_source a)
+  inside p has =
+      let at = stands_at (joined a.blocks) p has in
+      subst (λ n. p < n) (sym many_turns) (number_below (length (nodes_in (body_of a))) (joined a.blocks) h.owns.once p at.0 at.1)
 
   -- nothing fails in the statements
   pub code-is : BlockIs here (activity_code a)
@@ -159,7 +159,8 @@ module _ (units : List UnitDef) (entry k : ℕ) (a : Activity) (table : Table (T
       (block_append here (entry_code view (body_of a)) (copies ++ last) (entry-is (body_of a) refl)
       (block_append here copies last
       (filtered here mine (c_copied view.site) (up_to (length a.unit.vars)) (λ j there on. copied-code-is j (below (length a.unit.vars) j there) on))
-      (blocks-are here (turns_in_source a) a.blocks turns)))
+      (blocks-are here (turns_in_source a) (owns-are units entry k a table known h acts runs) a.blocks inside
+      (asked-are units entry k a table known h acts runs) (controls-are units entry k a table known h acts runs))))
 
 module _ (units : List UnitDef) (entry k : ℕ) (a : Activity) (table : Table (Table CMember)) (known : Table Signature)
     (h : Here units entry k a table known) (acts : ActsWellFormed a.structs units entry) where

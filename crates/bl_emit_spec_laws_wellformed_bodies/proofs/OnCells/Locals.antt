@@ -1,8 +1,9 @@
 -- The cells of the parameters and locals of the C function of an activity.
 use Rattle.std.proofs.Common.{◌≡◌, ℕ, zero, suc, ◌+◌, ◌*◌, ◌≤◌, Bool, true, false, List, [], ◌∷◌, ◌++◌, map, length}
-use Rattle.std.proofs.Common.{Option, Some, None, refl, ap, ◌∙◌, arith}
+use Rattle.std.proofs.Common.{Option, Some, None, refl, sym, ap, ◌∙◌, arith}
 use Rattle.std.proofs.lemmas.List.{length_push, map-append}
-use Rattle.std.specs.Prelude.{filter, is_some, option_and_then, slice_get, if◌then◌else◌}
+use Rattle.std.proofs.lemmas.List.Sums.{sum_by-cons}
+use Rattle.std.specs.Prelude.{filter, is_some, option_and_then, slice_get, sum_by, if◌then◌else◌}
 use Rattle.bl_tree.specs.declared.c.CLocal.{CLocal}
 use Rattle.bl_tree.specs.declared.c.CParam.{CParam}
 use Rattle.bl_tree.specs.declared.scalar.Scalar.{Scalar as ScalarType}
@@ -25,6 +26,7 @@ use Rattle.bl_emit_spec.specs.Activities.{
   copy_local,
   counter_member,
   counters_read,
+  first_rules,
   flag_local,
   given_local,
   is_flagged,
@@ -40,7 +42,9 @@ use Rattle.bl_emit_spec.specs.Activities.{
   runs_in_body,
 }
 use Rattle.bl_emit_acts.specs.Acts.{is_copied}
+use Rattle.bl_emit_spec_laws_wellformed.proofs.OnNumbers.Whole.{first-less}
 use Rattle.bl_emit_spec_laws_wellformed.specs.Costs.{extras, marks_in}
+use Rattle.bl_emit_spec_laws_wellformed.specs.Numbers.{EachStandsOnce}
 
 -- ---- sums
 
@@ -95,16 +99,24 @@ module _ (known : Sizes) where
   marks-many number (EndsWhen start surface depth ∷ rest) = marks-many number rest
   marks-many number (Finishes ∷ rest) = marks-many number rest
 
-  extras-many : (number : Node → ℕ) (listed : List Transition) →
-      cells (joined (map (flag_local number) listed)) + cells (joined (map (mark_locals number) listed)) ≡ extras listed
+  -- 1 for a rule that asks for its flag
+  abbrev flags_in : Transition → ℕ
+  flags_in rule = one_where (is_flagged rule.condition)
+
+  flags-many : (number : Node → ℕ) (listed : List Transition) → cells (joined (map (flag_local number) listed)) ≡ sum_by flags_in listed
+  flags-many number [] = refl
+  flags-many number (rule ∷ listed) =
+      cells-append (flag_local number rule) (joined (map (flag_local number) listed))
+      ∙ (λ i. flag-one number rule i + flags-many number listed i) ∙ sym (sum_by-cons flags_in rule listed)
+
+  extras-many : (number : Node → ℕ) (listed : List Transition) → sum_by flags_in listed + cells (joined (map (mark_locals number) listed)) ≡ extras listed
   extras-many number [] = refl
   extras-many number (rule ∷ listed) =
-      let flags = cells-append (flag_local number rule) (joined (map (flag_local number) listed)) in
+      let flags = sum_by-cons flags_in rule listed in
       let marks = cells-append (mark_locals number rule) (joined (map (mark_locals number) listed)) in
-      let flag = flag-one number rule in
       let mark = marks-many number rule.on_true in
       let rest = extras-many number listed in
-      omega (arith, flags, marks, flag, mark, rest)
+      omega (arith, flags, marks, mark, rest)
 
   given-one : (k : ℕ) (o : Option ScalarType) → cells (given_local k o) ≤ 1
   given-one k (Some s) = omega arith
@@ -118,12 +130,12 @@ module _ (known : Sizes) where
       let rest = runs-few a runs in
       omega (arith, split, given, rest)
 
-  pub locals-few : (a : Activity) →
+  pub locals-few : (a : Activity) → EachStandsOnce a →
       cells (activity_locals a) ≤ length a.sizes + extras (rules_at a) + length a.unit.vars + 2 * length (runs_in_body a)
-  locals-few a =
+  locals-few a once =
       let number = (activity_view a).number in
       let rested = map (rested_local a.sizes) (counters_read a) in
-      let flags = joined (map (flag_local number) (rules_at a)) in
+      let flags = joined (map (flag_local number) (first_rules a)) in
       let marks = joined (map (mark_locals number) (rules_at a)) in
       let copies = map (copy_local a) (copied_in a) in
       let runs = joined (map (run_locals a) (runs_in_body a)) in
@@ -133,11 +145,13 @@ module _ (known : Sizes) where
       let fourth = cells-append copies runs in
       let held = some-few (rested_local a.sizes) (λ k. refl) (activity_view a).is_read (up_to (length a.sizes)) in
       let counters = up-length (length a.sizes) in
+      let flagged = flags-many number (first_rules a) in
+      let fewer = first-less flags_in a once in
       let extra = extras-many number (rules_at a) in
       let copied = some-few (copy_local a) (λ k. refl) (is_copied (copies_of a.unit)) (up_to (length a.unit.vars)) in
       let vars = up-length (length a.unit.vars) in
       let run = runs-few a (runs_in_body a) in
-      omega (arith, first, second, third, fourth, held, counters, extra, copied, vars, run)
+      omega (arith, first, second, third, fourth, held, counters, flagged, fewer, extra, copied, vars, run)
 
   -- ---- parameters
 

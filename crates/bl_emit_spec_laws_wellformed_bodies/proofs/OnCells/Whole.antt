@@ -216,7 +216,7 @@ module _ (units : List UnitDef) (entry : ℕ) (a : Activity) (keeps : IsWellType
       + (length a.sizes + extras (rules_at a) + length a.unit.vars + 2 * length rs)
   owns_so =
       let params = params-are known a in
-      let locals = locals-few known a in
+      let locals = locals-few known a sized.once in
       let none : length (turns_in_block (activity_code a)) ≡ 0 = ap length (quiet a) in
       let as_many = many in
       omega (arith, params, locals, none, as_many)

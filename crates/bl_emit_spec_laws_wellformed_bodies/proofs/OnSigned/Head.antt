@@ -61,6 +61,7 @@ use Rattle.bl_emit_spec.specs.Activities.{
   copied_in,
   copy_local,
   counters_read,
+  first_rules,
   flag_local,
   given_local,
   is_flagged,
@@ -190,10 +191,10 @@ module _ (table : Table (Table CMember)) where
       let of_runs : List CLocal = joined (map (run_locals a) (runs_in_body a)) in
       let of_copies : List CLocal = map (copy_local a) (copied_in a) in
       let of_marks : List CLocal = joined (map (mark_locals number) (rules_at a)) in
-      let of_flags : List CLocal = joined (map (flag_local number) (rules_at a)) in
+      let of_flags : List CLocal = joined (map (flag_local number) (first_rules a)) in
       all_append fine (map (rested_local a.sizes) (counters_read a)) (of_flags ++ (of_marks ++ (of_copies ++ of_runs)))
       (all_mapped fine (rested_local a.sizes) (counters_read a) (λ c. refl))
-      (all_append fine of_flags (of_marks ++ (of_copies ++ of_runs)) (all_joined fine (flag_local number) (rules_at a) (flag_fine number))
+      (all_append fine of_flags (of_marks ++ (of_copies ++ of_runs)) (all_joined fine (flag_local number) (first_rules a) (flag_fine number))
       (all_append fine of_marks (of_copies ++ of_runs)
       (all_joined fine (mark_locals number) (rules_at a) (λ rule. all_joined fine (mark_local number) rule.on_true (mark_fine number)))
       (all_append fine of_copies of_runs (all_mapped fine (copy_local a) (copied_in a) (λ j. refl))

@@ -49,8 +49,8 @@ use Rattle.bl_emit_spec.specs.Activities.{
   rules_at,
   turns_in_source,
 }
-use Rattle.bl_emit_spec.specs.Blocks.{ActivityView, NodeCode, acted, change_code, changes_code, flagged_now, forgotten, layer_acted, merged_code, node_code}
-use Rattle.bl_emit_spec.specs.Blocks.{choice_code, run_code, spelled_truth, target_code, test_code, turn_code, turns_of}
+use Rattle.bl_emit_spec.specs.Blocks.{ActivityView, NodeCode, acted, change_code, changes_code, control_code, flagged_now, forgotten, fused_code}
+use Rattle.bl_emit_spec.specs.Blocks.{choice_code, layer_acted, merged_code, own_code, run_code, spelled_truth, target_code, test_code, turns_of}
 use Rattle.bl_emit_spec_laws_wellformed_bodies.specs.Signed.{NoneLoops}
 
 abbrev what : CStmtKind-F CStmtKind CStmt → CStmt
@@ -217,45 +217,63 @@ module _ (view : ActivityView) where
       by (Some true) = changes-quiet rule.on_true
       by (Some false) = changes-quiet rule.on_false
 
-  node-quiet : (u : ℕ) (rule : Transition) (n : Node) → Quiet (node_code view u rule n)
-  node-quiet u rule (ActAt l s) =
-      append-quiet (acted view s) (changes_code view rule.on_true) (acted-by s (out-StmtKind (out-Stmt s).what)) (changes-quiet rule.on_true)
-  node-quiet u rule (TestAt l at e) = tested-quiet _ rule
-  node-quiet u rule (CheckAt l at e) = tested-quiet _ rule
-  node-quiet u rule (EnterAt l at arguments) =
+  own-quiet : (n : Node) → Quiet (own_code view n)
+  own-quiet (ActAt l s) = acted-by s (out-StmtKind (out-Stmt s).what)
+  own-quiet (TestAt l at e) = nothing
+  own-quiet (CheckAt l at e) = nothing
+  own-quiet (EnterAt l at arguments) = nothing
+  own-quiet (ResumeAt l at arguments) = nothing
+  own-quiet (PauseAt l at) = nothing
+  own-quiet (HeadAt l at) = nothing
+  own-quiet (StartAt l at) = nothing
+  own-quiet (SurfaceEndAt l at) = nothing
+  own-quiet (DepthEndAt l at) = nothing
+  own-quiet (ForkAt l at) = nothing
+  own-quiet (SurfaceJoinAt l at) = nothing
+  own-quiet (DepthJoinAt l at) = nothing
+
+  control-quiet : (u : ℕ) (rule : Transition) (n : Node) → Quiet (control_code view u rule n)
+  control-quiet u rule (ActAt l s) = changes-quiet rule.on_true
+  control-quiet u rule (TestAt l at e) = tested-quiet _ rule
+  control-quiet u rule (CheckAt l at e) = tested-quiet _ rule
+  control-quiet u rule (EnterAt l at arguments) =
       let n : ℕ = view.run at in
       cons-quiet _ (run_code view n u arguments ++ changes_code view rule.on_true) (clear-still _ _)
       (append-quiet (run_code view n u arguments) (changes_code view rule.on_true) (run-quiet n u arguments) (changes-quiet rule.on_true))
-  node-quiet u rule (ResumeAt l at arguments) =
+  control-quiet u rule (ResumeAt l at arguments) =
       let n : ℕ = view.run at in
       let code : List CStmt = target_code view n arguments.target ++ changes_code view rule.on_true in
       append-quiet (run_code view n u arguments) (c_if _ code None ∷ []) (run-quiet n u arguments)
       (one-quiet (c_if _ code None)
       (if-still _ code None
       (append-quiet (target_code view n arguments.target) (changes_code view rule.on_true) (target-quiet n arguments.target) (changes-quiet rule.on_true)) refl))
-  node-quiet u rule (PauseAt l at) = changes-quiet rule.on_true
-  node-quiet u rule (HeadAt l at) = changes-quiet rule.on_true
-  node-quiet u rule (StartAt l at) = changes-quiet rule.on_true
-  node-quiet u rule (SurfaceEndAt l at) = changes-quiet rule.on_true
-  node-quiet u rule (DepthEndAt l at) = changes-quiet rule.on_true
-  node-quiet u rule (ForkAt l at) = changes-quiet rule.on_true
-  node-quiet u rule (SurfaceJoinAt l at) = changes-quiet rule.on_true
-  node-quiet u rule (DepthJoinAt l at) = changes-quiet rule.on_true
+  control-quiet u rule (PauseAt l at) = changes-quiet rule.on_true
+  control-quiet u rule (HeadAt l at) = changes-quiet rule.on_true
+  control-quiet u rule (StartAt l at) = changes-quiet rule.on_true
+  control-quiet u rule (SurfaceEndAt l at) = changes-quiet rule.on_true
+  control-quiet u rule (DepthEndAt l at) = changes-quiet rule.on_true
+  control-quiet u rule (ForkAt l at) = changes-quiet rule.on_true
+  control-quiet u rule (SurfaceJoinAt l at) = changes-quiet rule.on_true
+  control-quiet u rule (DepthJoinAt l at) = changes-quiet rule.on_true
 
-  -- no loops in what each turn does
+  -- no loops in what a turn does
+  abbrev TurnIs : NodeCode → Type 0
+  TurnIs turn = Quiet turn.own × Quiet turn.control
+
+  -- nor in what each of some turns does
   abbrev Each : List NodeCode → Type 0
   Each [] = ⊤
-  Each (turn ∷ rest) = Quiet turn.code × Each rest
+  Each (turn ∷ rest) = TurnIs turn × Each rest
 
   turns-quiet : (callees : List ℕ) (rules : List Transition) → Each (turns_of view callees rules)
   turns-quiet [] rules = tt
   turns-quiet (u ∷ callees) [] = tt
-  turns-quiet (u ∷ callees) (rule ∷ rules) = (node-quiet u rule rule.node, turns-quiet callees rules)
+  turns-quiet (u ∷ callees) (rule ∷ rules) = ((own-quiet rule.node, control-quiet u rule rule.node), turns-quiet callees rules)
 
   at-quiet : (turns : List NodeCode) (j : ℕ) (o : Option NodeCode) → Each turns → slice_get turns j ≡ o → Each (option_to_list o)
   at-quiet turns j None all is = tt
   at-quiet [] j (Some turn) all is = absurd (cc)
-  at-quiet (x ∷ turns) zero (Some turn) all is = (subst (λ (turn : NodeCode). Quiet turn.code) (same_Some x turn is) all.0, tt)
+  at-quiet (x ∷ turns) zero (Some turn) all is = (subst TurnIs (same_Some x turn is) all.0, tt)
   at-quiet (x ∷ turns) (suc j) (Some turn) all is = at-quiet turns j (Some turn) all.1 is
 
   append-each : (first second : List NodeCode) → Each first → Each second → Each (first ++ second)
@@ -268,17 +286,15 @@ module _ (view : ActivityView) where
       append-each (option_to_list (slice_get turns j)) (picked turns block) (at-quiet turns j (slice_get turns j) all refl)
       (picked-quiet turns block all)
 
-  inside-quiet : (turns : List NodeCode) → Each turns → Quiet (map turn_code turns)
-  inside-quiet [] all = nothing
-  inside-quiet (turn ∷ turns) all =
-      cons-quiet (turn_code turn) (map turn_code turns) (if-still turn.test turn.code None all.0 refl) (inside-quiet turns all.1)
+  fused-quiet : (turn : NodeCode) (turns : List NodeCode) → TurnIs turn → Each turns → Quiet (fused_code turn turns)
+  fused-quiet last [] own all = append-quiet last.own last.control own.0 own.1
+  fused-quiet turn (next ∷ rest) own all = append-quiet turn.own (fused_code next rest) own.0 (fused-quiet next rest all.0 all.1)
 
   merged-quiet : (turns : List NodeCode) → Each turns → Quiet (merged_code turns)
   merged-quiet [] all = nothing
   merged-quiet (first ∷ rest) all =
-      one-quiet (c_if first.test (first.code ++ map turn_code rest) None)
-      (if-still first.test (first.code ++ map turn_code rest) None
-      (append-quiet first.code (map turn_code rest) all.0 (inside-quiet rest all.1)) refl)
+      one-quiet (c_if first.test (fused_code first rest) None)
+      (if-still first.test (fused_code first rest) None (fused-quiet first rest all.0 all.1) refl)
 
   blocks-quiet : (turns : List NodeCode) (blocks : List (List ℕ)) → Each turns → Quiet (blocks_code turns blocks)
   blocks-quiet turns [] all = nothing

@@ -3,5 +3,6 @@ use Rattle.bl_machine_transitions.specs.Told.{rule_in}
 use Rattle.bl_emit_tables.specs.Told.{flags_told}
 use Rattle.bl_emit.proofs.registers.add_flags.Given as goal
 
-abbrev pub invariant-loop-rule : goal.invariant-loop-rule
-invariant-loop-rule l = l.locals ++ flags_told (map rule_in (drop l.rule-index l.rules)) ≡ l.initial.locals ++ flags_told (map rule_in l.rules)
+abbrev pub invariant-loop-block : goal.invariant-loop-block
+invariant-loop-block l =
+    l.locals ++ flags_told (map rule_in l.rules) (drop l.block-index l.blocks) ≡ l.initial.locals ++ flags_told (map rule_in l.rules) l.blocks

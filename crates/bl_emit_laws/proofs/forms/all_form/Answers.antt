@@ -14,6 +14,15 @@ returns c =
       small = c.needed_small.ensures;
       numbered = c.needed_numbered.ensures;
       spots = c.spots_differ.ensures;
+      placing = record {
+        keys = c.nodes_have_keys.ensures;
+        placed = c.trees_stay_placed.ensures;
+        listed = c.rules_are_listed.ensures;
+        within = c.graphs_stay_within.ensures;
+        before = c.flags_come_from_before.ensures;
+        asked = c.flags_are_asked.ensures;
+        reached = c.flags_are_reached.ensures;
+      };
       nodes = c.trees_stay_placed.ensures.nodes;
       copied = c.nodes_copied.ensures;
       runs = c.runs_copied.ensures;

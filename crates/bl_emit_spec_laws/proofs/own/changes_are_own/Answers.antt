@@ -2,5 +2,15 @@ use Rattle.bl_emit_spec_laws.proofs.OnOwn.Programs.{unit_changes}
 use Rattle.bl_emit_spec_laws.proofs.own.changes_are_own.Goals as goal
 
 pub returns : goal.returns
-returns c structs units machine activities k unit rule at there =
-    unit_changes c.spots_differ.ensures structs units machine activities k unit at rule there
+returns c structs units machine activities k unit rule at last =
+    unit_changes c.spots_differ.ensures structs units machine activities k unit at
+    (record {
+      keys = c.nodes_have_keys.ensures;
+      placed = c.trees_stay_placed.ensures;
+      listed = c.rules_are_listed.ensures;
+      within = c.graphs_stay_within.ensures;
+      before = c.flags_come_from_before.ensures;
+      asked = c.flags_are_asked.ensures;
+      reached = c.flags_are_reached.ensures;
+    })
+    rule last

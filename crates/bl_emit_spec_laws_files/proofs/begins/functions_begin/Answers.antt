@@ -5,3 +5,4 @@ pub returns : goal.returns
 returns c =
     functions_begin_all c.args.program.now.structs c.args.program.now.units c.args.program.now.entry c.accepted_programs_are_orderly.ensures
     c.hands_over.ensures c.calls_keep.ensures c.registers_apart.ensures c.guards_show.ensures c.frames_apart.ensures c.copies_begin.ensures
+    c.entries_are_own.ensures

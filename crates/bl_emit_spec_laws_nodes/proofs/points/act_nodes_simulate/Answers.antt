@@ -3,5 +3,5 @@ use Rattle.bl_emit_spec_laws_nodes.proofs.points.act_nodes_simulate.Goals as goa
 
 pub returns : goal.returns
 returns c =
-    act_nodes_simulate c.changes_stand.ensures c.blocks_choose.ensures c.frames_apart.ensures c.registers_apart.ensures c.args.program.now.structs
+    act_nodes_simulate c.changes_stand.ensures c.frames_apart.ensures c.registers_apart.ensures c.args.program.now.structs
     c.args.program.now.units c.args.program.now.entry c.acts_simulate.ensures

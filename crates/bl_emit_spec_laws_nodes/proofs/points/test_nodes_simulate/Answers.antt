@@ -3,5 +3,5 @@ use Rattle.bl_emit_spec_laws_nodes.proofs.points.test_nodes_simulate.Goals as go
 
 pub returns : goal.returns
 returns c =
-    tests_come_so c.changes_stand.ensures c.blocks_choose.ensures c.frames_apart.ensures c.args.program.now.structs c.args.program.now.units
+    tests_come_so c.changes_stand.ensures c.frames_apart.ensures c.args.program.now.structs c.args.program.now.units
     c.args.program.now.entry c.expressions_simulate.ensures

@@ -1,0 +1,428 @@
+-- The `if`s of an activity's function ask for its flags, one after another.
+use Rattle.std.proofs.Common.{◌≡◌, ℕ, zero, suc, ◌+◌, ◌/◌, ◌%◌, ◌<◌, Bool, true, false, ◌&&◌, cond, List, [], ◌∷◌, ◌++◌, Contains, map, length}
+use Rattle.std.proofs.Common.{Option, Some, None, refl, sym, ap, ◌∙◌, arith}
+use Rattle.std.proofs.lemmas.Bool.Decides.{nat_tests}
+use Rattle.std.proofs.lemmas.List.{append-nil, map-append}
+use Rattle.std.proofs.lemmas.List.Elements.{Contains-append_right, filter-append}
+use Rattle.std.proofs.lemmas.List.Folds.{list_all-append}
+use Rattle.std.specs.Char.{is_ascii_digit}
+use Rattle.std.specs.Fmt.{digit_glyph, digits, digits_onto}
+use Rattle.std.specs.List.{list_all}
+use Rattle.std.specs.Prelude.{◌==◌, filter, nat_eq, nat_lt, option_and_then, slice_get, if◌then◌else◌}
+use Rattle.bl_tree.specs.declared.text.Text.{Text}
+use Rattle.bl_tree.specs.declared.c.CExpr.{CExpr}
+use Rattle.bl_tree.specs.declared.c.CLocal.{CLocal}
+use Rattle.bl_tree.specs.declared.c.CStmt.{CStmt, out-roll-CStmt}
+use Rattle.bl_tree.specs.declared.c.CStmtKind.{CStmtKind-F, out-CStmtKind, out-roll-CStmtKind}
+use Rattle.bl_tree.specs.declared.c.CStmtKind.TheVariants as statement
+use Rattle.bl_tree.specs.declared.scalar.Op.{Op}
+use Rattle.bl_tree.specs.declared.scalar.Op.TheVariants.{And, Eq, Ge, Le, Ne, Or}
+use Rattle.bl_tree.specs.declared.scalar.Scalar.{Scalar as ScalarType}
+use Rattle.bl_tree.specs.declared.scalar.Scalar.TheVariants.{Bool as OfBool}
+use Rattle.bl_tree.specs.declared.tree.Unit.{Unit as UnitDef}
+use Rattle.bl_tree.specs.Reduce.{joined}
+use Rattle.bl_eval.proofs.PassLemmas.{and_left, and_right, both}
+use Rattle.bl_graph_nodes.specs.Nodes.{Node}
+use Rattle.bl_machine.specs.declared.slots.Slot.{Slot}
+use Rattle.bl_machine_pass.specs.Transitions.{Age, Change, Condition, Needed, Transition}
+use Rattle.bl_machine_pass.specs.Transitions.{ClearsBoth, ClearsCounter, Ended, EndsWhen, Finishes, Flagged, IsAny, IsNew, IsOld, Rested, RestedIn, SetsCounter, SetsFlag, SetsMark}
+use Rattle.bl_emit_acts.specs.Expressions.{c_compare}
+use Rattle.bl_emit_acts.specs.Trees.{c_not, c_read, c_two, nowhere}
+use Rattle.bl_emit_functions.specs.Trees.{c_if, c_truth}
+use Rattle.bl_emit_spec.specs.Activities.{
+  Activity,
+  RunAt,
+  activity_locals,
+  activity_view,
+  blocks_code,
+  copied_in,
+  copy_local,
+  counters_read,
+  first_rules,
+  first_positions,
+  flag_local,
+  given_local,
+  is_flagged,
+  mark_local,
+  mark_locals,
+  picked,
+  rested_local,
+  rules_at,
+  run_locals,
+  runs_in_body,
+  scalar_local,
+}
+use Rattle.bl_emit_spec.specs.Blocks.{
+  ActivityView,
+  NodeCode,
+  Sizes,
+  aged_test,
+  all_tests,
+  at_slot,
+  counter_type,
+  counter_value,
+  ends_test,
+  fused_code,
+  guard_of,
+  in_pairs,
+  in_tree,
+  is_greatest,
+  last_value,
+  merged_code,
+  node_turn,
+  rested_at,
+  rested_by,
+  rested_from,
+  rested_in,
+  rested_since,
+  rested_to,
+  rested_within,
+  some_test,
+  turns_of,
+}
+use Rattle.bl_emit_spec.specs.Names.{counter_name, counter_place, flag_name, flag_place, mark_name, mark_place, rested_name, rested_place}
+use Rattle.bl_emit_spec_laws.proofs.OnPlaced.Lists.{picked_first, some_is, there_at}
+use Rattle.bl_emit_spec_laws_wellformed.proofs.OnNumbers.Firsts.{picked-all}
+use Rattle.bl_emit_laws.specs.Counters.Flags.{decides, flags_asked, flags_read, inside, is_flag_name, kind_block, kind_flags}
+use Rattle.bl_emit_laws.specs.Counters.Own.{is_digit_run}
+use Rattle.bl_emit_laws.specs.Counters.Places.{CPath, places_in}
+use Rattle.bl_emit_laws.proofs.OnCounters.Decided.{IsNoFlag, NoFlag, begins, fused_decides, local-read, none-read, turn_decides, variables}
+use Rattle.bl_emit_laws.proofs.OnCounters.Fine.{Fine, same-fine}
+use Rattle.bl_emit_laws.proofs.OnCounters.Guards.{counter-names, own_counter}
+use Rattle.bl_emit_laws.proofs.OnCounters.Paths.{compare-fine, literal-fine, not-fine, read-fine, two-fine}
+use Rattle.bl_emit_laws.proofs.OnCounters.Shapes.{place-names, read-names}
+use Rattle.bl_emit_laws.proofs.OnKept.Lists.{further, here}
+
+-- ---- names of flags
+
+digit_so : (d : ℕ) → d < 10 → is_ascii_digit (48 + d) ≡ true
+digit_so d small = grind (arith, nat_tests)
+
+below_ten : (n : ℕ) → n % 10 < 10
+below_ten n = omega arith
+
+less_so : (d n : ℕ) → d < n → nat_lt d n ≡ true
+less_so d n less = grind (arith, nat_tests)
+
+glyph_so : (n : ℕ) → is_ascii_digit (digit_glyph false (n % 10)) ≡ true
+glyph_so n =
+    ap (λ (b : Bool). is_ascii_digit (if b then 48 + n % 10 else 87 + n % 10)) (less_so (n % 10) 10 (below_ten n))
+    ∙ digit_so (n % 10) (below_ten n)
+
+all_of_run : (digits : Text) → is_digit_run digits ≡ true → list_all is_ascii_digit digits ≡ true
+all_of_run [] run = refl
+all_of_run (first ∷ rest) run = run
+
+one_more : (n : ℕ) (digits : Text) → list_all is_ascii_digit digits ≡ true → is_digit_run (digit_glyph false (n % 10) ∷ digits) ≡ true
+one_more n digits all = both (is_ascii_digit (digit_glyph false (n % 10))) (list_all is_ascii_digit digits) (glyph_so n) all
+
+more_digits : (k n : ℕ) (digits : Text) → is_digit_run digits ≡ true → is_digit_run (digits_onto k 10 false n digits) ≡ true
+more_digits zero n digits run = run
+more_digits (suc k) n digits run = by (n / 10 == 0) (more_digits k (n / 10) (digit_glyph false (n % 10) ∷ digits) so)
+  where
+    so : is_digit_run (digit_glyph false (n % 10) ∷ digits) ≡ true
+    so = one_more n digits (all_of_run digits run)
+
+    by : (b : Bool) → is_digit_run (digits_onto k 10 false (n / 10) (digit_glyph false (n % 10) ∷ digits)) ≡ true →
+        is_digit_run (if b then digit_glyph false (n % 10) ∷ digits else digits_onto k 10 false (n / 10) (digit_glyph false (n % 10) ∷ digits)) ≡ true
+    by true more = so
+    by false more = more
+
+some_digits : (k n : ℕ) → is_digit_run (digits_onto (suc k) 10 false n []) ≡ true
+some_digits k n = by (n / 10 == 0)
+  where
+    next : Text
+    next = digit_glyph false (n % 10) ∷ []
+
+    by : (b : Bool) → is_digit_run (if b then next else digits_onto k 10 false (n / 10) next) ≡ true
+    by true = one_more n [] refl
+    by false = more_digits k (n / 10) next (one_more n [] refl)
+
+flag_named : (n : ℕ) → is_flag_name (flag_name n) ≡ true
+unfolding digits
+flag_named n = some_digits 63 n
+
+-- ---- the locals that are flags
+
+-- the names of those locals that are flags
+abbrev named : List CLocal → List Text
+named locals = filter is_flag_name (map (λ (local : CLocal). local.name) locals)
+
+named_both : (xs ys : List CLocal) → named (xs ++ ys) ≡ named xs ++ named ys
+named_both xs ys =
+    ap (filter is_flag_name) (map-append (λ (local : CLocal). local.name) xs ys)
+    ∙ filter-append is_flag_name (map (λ (local : CLocal). local.name) xs) (map (λ (local : CLocal). local.name) ys)
+
+-- the flag that a rule asks for
+abbrev asked_by : (Node → ℕ) → Transition → List Text
+asked_by number rule = if is_flagged rule.condition then flag_name (number rule.node) ∷ [] else []
+
+module _ (number : Node → ℕ) where
+  flag_is : (rule : Transition) → named (flag_local number rule) ≡ asked_by number rule
+  flag_is rule = by (is_flagged rule.condition)
+    where
+      by : (b : Bool) → named (if b then scalar_local OfBool (flag_name (number rule.node)) ∷ [] else [])
+          ≡ (if b then flag_name (number rule.node) ∷ [] else [])
+      by true = ap (λ (b : Bool). cond b (flag_name (number rule.node) ∷ []) []) (flag_named (number rule.node))
+      by false = refl
+
+  flags_are : (rules : List Transition) → named (joined (map (flag_local number) rules)) ≡ joined (map (asked_by number) rules)
+  flags_are [] = refl
+  flags_are (rule ∷ rules) =
+      named_both (flag_local number rule) (joined (map (flag_local number) rules)) ∙ (λ i. flag_is rule i ++ flags_are rules i)
+
+  mark_none : (change : Change) → named (mark_local number change) ≡ []
+  mark_none (SetsMark n) = refl
+  mark_none (SetsFlag n) = refl
+  mark_none (SetsCounter slot) = refl
+  mark_none (ClearsCounter k) = refl
+  mark_none (ClearsBoth k) = refl
+  mark_none (EndsWhen start surface depth) = refl
+  mark_none Finishes = refl
+
+  changes_none : (changes : List Change) → named (joined (map (mark_local number) changes)) ≡ []
+  changes_none [] = refl
+  changes_none (change ∷ changes) =
+      named_both (mark_local number change) (joined (map (mark_local number) changes)) ∙ (λ i. mark_none change i ++ changes_none changes i)
+
+  marks_none : (rules : List Transition) → named (joined (map (mark_locals number) rules)) ≡ []
+  marks_none [] = refl
+  marks_none (rule ∷ rules) =
+      named_both (mark_locals number rule) (joined (map (mark_locals number) rules)) ∙ (λ i. changes_none rule.on_true i ++ marks_none rules i)
+
+resteds_none : (sizes : Sizes) (ks : List ℕ) → named (map (rested_local sizes) ks) ≡ []
+resteds_none sizes [] = refl
+resteds_none sizes (k ∷ ks) = resteds_none sizes ks
+
+copies_none : (a : Activity) (ks : List ℕ) → named (map (copy_local a) ks) ≡ []
+copies_none a [] = refl
+copies_none a (k ∷ ks) = copies_none a ks
+
+given_none : (k : ℕ) (result : Option ScalarType) → named (given_local k result) ≡ []
+given_none k (Some s) = refl
+given_none k None = refl
+
+runs_none : (a : Activity) (runs : List RunAt) → named (joined (map (run_locals a) runs)) ≡ []
+runs_none a [] = refl
+runs_none a (run ∷ runs) =
+    named_both (run_locals a run) (joined (map (run_locals a) runs))
+    ∙ (λ i. given_none run.number (option_and_then (λ (unit : UnitDef). unit.result) (slice_get a.earlier run.unit)) i ++ runs_none a runs i)
+
+-- the flags of an activity's function are those that the rules of first nodes ask for
+pub locals_are : (a : Activity) → named (activity_locals a) ≡ joined (map (asked_by (activity_view a).number) (first_rules a))
+locals_are a =
+    let number : Node → ℕ = (activity_view a).number in
+    let rested : List CLocal = map (rested_local a.sizes) (counters_read a) in
+    let flags : List CLocal = joined (map (flag_local number) (first_rules a)) in
+    let marks : List CLocal = joined (map (mark_locals number) (rules_at a)) in
+    let copies : List CLocal = map (copy_local a) (copied_in a) in
+    let runs : List CLocal = joined (map (run_locals a) (runs_in_body a)) in
+    named_both rested (flags ++ (marks ++ (copies ++ runs)))
+    ∙ (λ i. resteds_none a.sizes (counters_read a) i ++ named_both flags (marks ++ (copies ++ runs)) i)
+    ∙ (λ i. flags_are number (first_rules a) i ++ named_both marks (copies ++ runs) i)
+    ∙ (λ i. joined (map (asked_by number) (first_rules a)) ++ (marks_none number (rules_at a) i ++ named_both copies runs i))
+    ∙ (λ i. joined (map (asked_by number) (first_rules a)) ++ (copies_none a (copied_in a) i ++ runs_none a (runs_in_body a) i))
+    ∙ append-nil (joined (map (asked_by number) (first_rules a)))
+
+-- they are as many as rules that ask for a flag
+pub asked_many : (number : Node → ℕ) (rules : List Transition) →
+    length (joined (map (asked_by number) rules)) ≡ length (filter (λ (rule : Transition). is_flagged rule.condition) rules)
+asked_many number [] = refl
+asked_many number (rule ∷ rules) = by (is_flagged rule.condition) (asked_many number rules)
+  where
+    later : List Text
+    later = joined (map (asked_by number) rules)
+
+    kept : List Transition
+    kept = filter (λ (rule : Transition). is_flagged rule.condition) rules
+
+    by : (b : Bool) → length later ≡ length kept →
+        length ((if b then flag_name (number rule.node) ∷ [] else []) ++ later) ≡ length (cond b (rule ∷ kept) kept)
+    by true same = ap suc same
+    by false same = same
+
+-- ---- what guards read
+
+-- what reads no flag
+abbrev Plain : CExpr → Type 0
+Plain e = Fine IsNoFlag (places_in e)
+
+two_plain : (op : Op) (a b : CExpr) → Plain a → Plain b → Plain (c_two op a b)
+two_plain = two-fine IsNoFlag NoFlag variables begins
+
+module _ (view : ActivityView) where
+  counter_plain : (k : ℕ) → Plain (c_read (counter_place k))
+  counter_plain k =
+      same-fine IsNoFlag (places_in (c_read (counter_place k))) (own_counter (counter_name k) ∷ []) (read-names (counter_place k) ∙ counter-names k)
+      (refl, tt)
+
+  value_plain : (k v : ℕ) → Plain (counter_value view.sizes k v)
+  value_plain k v = literal-fine IsNoFlag NoFlag variables begins (counter_type view.sizes k) _
+
+  truth_plain : (b : Bool) → Plain (c_truth b)
+  truth_plain true = literal-fine IsNoFlag NoFlag variables begins _ _
+  truth_plain false = literal-fine IsNoFlag NoFlag variables begins _ _
+
+  rested_plain : (k : ℕ) → Plain (c_read (rested_place k))
+  rested_plain k = local-read (rested_name k) refl
+
+  -- many tests
+
+  abbrev ArePlain : List CExpr → Type 0
+  ArePlain [] = Unit {0}
+  ArePlain (e ∷ rest) = Plain e × ArePlain rest
+
+  pairs_plain : (op : Op) (tests : List CExpr) → ArePlain tests → ArePlain (in_pairs op tests)
+  pairs_plain op [] all = tt
+  pairs_plain op (a ∷ []) all = all
+  pairs_plain op (a ∷ b ∷ rest) all = (two_plain op a b all.0 all.1.0, pairs_plain op rest all.1.1)
+
+  tree_plain : (none : CExpr) → Plain none → (op : Op) (fuel : ℕ) (tests : List CExpr) → ArePlain tests → Plain (in_tree none op fuel tests)
+  tree_plain none is op fuel [] all = is
+  tree_plain none is op fuel (a ∷ []) all = all.0
+  tree_plain none is op zero (a ∷ b ∷ rest) all = all.0
+  tree_plain none is op (suc fuel) (a ∷ b ∷ rest) all =
+      tree_plain none is op fuel (in_pairs op (a ∷ b ∷ rest)) (pairs_plain op (a ∷ b ∷ rest) all)
+
+  -- guards
+
+  slots_plain : (slots : List Slot) → ArePlain (map (at_slot view) slots)
+  slots_plain [] = tt
+  slots_plain (slot ∷ rest) = (
+    two_plain Eq (c_read (counter_place slot.counter)) (counter_value view.sizes slot.counter slot.value) (counter_plain slot.counter)
+        (value_plain slot.counter slot.value),
+    slots_plain rest,
+  )
+
+  since_plain : (k least : ℕ) → Plain (rested_since view k least)
+  since_plain k least = by (nat_eq least 1)
+    where
+      by : (one : Bool) → Plain (rested_from view k least one)
+      by true = two_plain Ne (c_read (rested_place k)) (counter_value view.sizes k 0) (rested_plain k) (value_plain k 0)
+      by false = two_plain Ge (c_read (rested_place k)) (counter_value view.sizes k least) (rested_plain k) (value_plain k least)
+
+  at_plain : (slot : Slot) → Plain (rested_at view slot)
+  at_plain slot = by (is_greatest view.sizes slot.counter slot.value)
+    where
+      by : (last : Bool) → Plain (rested_by view slot last)
+      by true = since_plain slot.counter slot.value
+      by false =
+          two_plain Eq (c_read (rested_place slot.counter)) (counter_value view.sizes slot.counter slot.value) (rested_plain slot.counter)
+          (value_plain slot.counter slot.value)
+
+  compare_plain : (op : Op) (k v : ℕ) → Plain (c_compare op (counter_type view.sizes k) (c_read (rested_place k)) (counter_value view.sizes k v))
+  compare_plain op k v =
+      compare-fine IsNoFlag NoFlag variables begins op (counter_type view.sizes k) (c_read (rested_place k)) (counter_value view.sizes k v)
+      (rested_plain k) (value_plain k v)
+
+  within_plain : (k least most : ℕ) → Plain (rested_within view k least most)
+  within_plain k least most = by (is_greatest view.sizes k most)
+    where
+      by : (top : Bool) → Plain (rested_to view k least most top)
+      by true = since_plain k least
+      by false =
+          two_plain And (c_compare Ge (counter_type view.sizes k) (c_read (rested_place k)) (counter_value view.sizes k least))
+          (c_compare Le (counter_type view.sizes k) (c_read (rested_place k)) (counter_value view.sizes k most)) (compare_plain Ge k least)
+          (compare_plain Le k most)
+
+  in_plain : (slots : List Slot) → Plain (rested_in view slots)
+  in_plain [] = truth_plain false
+  in_plain (slot ∷ []) = at_plain slot
+  in_plain (slot ∷ more ∷ rest) = within_plain slot.counter slot.value (last_value more.value rest)
+
+  ends_plain : (needed : Needed) → Plain (ends_test view needed)
+  ends_plain needed = by needed.all
+    where
+      tests : List CExpr
+      tests = map (at_slot view) needed.slots
+
+      by : (b : Bool) → Plain (if b then all_tests tests else some_test tests)
+      by true = tree_plain (c_truth true) (truth_plain true) And (length tests) tests (slots_plain needed.slots)
+      by false = tree_plain (c_truth false) (truth_plain false) Or (length tests) tests (slots_plain needed.slots)
+
+  mark_plain : (n : Node) → Plain (c_read (mark_place (view.number n)))
+  mark_plain n = local-read (mark_name (view.number n)) refl
+
+  aged_plain : (age : Age) (ends : CExpr) → Plain ends → Plain (aged_test view age ends)
+  aged_plain (IsNew n) ends all = two_plain And (c_read (mark_place (view.number n))) ends (mark_plain n) all
+  aged_plain (IsOld n) ends all =
+      two_plain And (c_not (c_read (mark_place (view.number n)))) ends
+      (not-fine IsNoFlag NoFlag variables begins (c_read (mark_place (view.number n))) (mark_plain n)) all
+  aged_plain IsAny ends all = all
+
+  flag_read : (k : ℕ) → flags_read (c_read (flag_place k)) ≡ flag_name k ∷ []
+  flag_read k =
+      ap (λ (places : List CPath). filter is_flag_name (map (λ (path : CPath). path.name) places))
+      (read-names (flag_place k) ∙ place-names false (flag_name k) [])
+      ∙ ap (λ (b : Bool). cond b (flag_name k ∷ []) []) (flag_named k)
+
+  -- a guard reads the flag that its rule asks for, and no other
+  guard_reads : (n : Node) (condition : Condition) →
+      flags_read (guard_of view n condition) ≡ (if is_flagged condition then flag_name (view.number n) ∷ [] else [])
+  guard_reads n Flagged = flag_read (view.number n)
+  guard_reads n (Rested slot) = none-read (rested_at view slot) (at_plain slot)
+  guard_reads n (RestedIn slots) = none-read (rested_in view slots) (in_plain slots)
+  guard_reads n (Ended age needed) =
+      none-read (aged_test view age (ends_test view needed)) (aged_plain age (ends_test view needed) (ends_plain needed))
+
+-- ---- blocks
+
+asks_so : (test : CExpr) (block : List CStmt) → flags_asked (c_if test block None) ≡ flags_read test
+asks_so test block =
+    ap (λ s. kind_flags (out-CStmtKind s.what)) (out-roll-CStmt (record { place = nowhere; what = statement.If test block None }))
+    ∙ (ap (λ k. kind_flags (out-CStmtKind k)) (sym (statement.rolls-If test block None))
+    ∙ ap kind_flags (out-roll-CStmtKind (CStmtKind-F.If test block None)))
+
+inside_so : (test : CExpr) (block : List CStmt) → inside (c_if test block None) ≡ block
+inside_so test block =
+    ap (λ s. kind_block (out-CStmtKind s.what)) (out-roll-CStmt (record { place = nowhere; what = statement.If test block None }))
+    ∙ (ap (λ k. kind_block (out-CStmtKind k)) (sym (statement.rolls-If test block None))
+    ∙ ap kind_block (out-roll-CStmtKind (CStmtKind-F.If test block None)))
+
+turn_at : (view : ActivityView) (callees : List ℕ) (rules : List Transition) (k u : ℕ) (rule : Transition) → slice_get callees k ≡ Some u →
+    slice_get rules k ≡ Some rule → slice_get (turns_of view callees rules) k ≡ Some (node_turn view u rule)
+turn_at view [] rules k u rule one two = absurd (cc)
+turn_at view (c ∷ callees) [] k u rule one two = absurd (cc)
+turn_at view (c ∷ callees) (r ∷ rules) zero u rule one two =
+    ap (λ a. Some (node_turn view a r)) (some_is c u one) ∙ ap (λ r. Some (node_turn view u r)) (some_is r rule two)
+turn_at view (c ∷ callees) (r ∷ rules) (suc k) u rule one two = turn_at view callees rules k u rule one two
+
+module _ (view : ActivityView) (callees : List ℕ) (rules : List Transition) (each : length callees ≡ length rules) where
+  abbrev turns : List NodeCode
+  turns = turns_of view callees rules
+
+  -- the `if`s of blocks ask for the flags of first nodes, one after another
+  pub blocks_ask : (blocks : List (List ℕ)) → ((k : ℕ) → Contains (joined blocks) k → k < length rules) →
+      joined (map flags_asked (blocks_code turns blocks)) ≡ joined (map (asked_by view.number) (picked rules (first_positions blocks)))
+  blocks_ask [] within = refl
+  blocks_ask ([] ∷ rest) within = blocks_ask rest within
+  blocks_ask ((k ∷ block) ∷ rest) within =
+      let less = within k (here k (block ++ joined rest)) in
+      let many = each in
+      let rule = there_at rules k less in
+      let called = there_at callees k (omega (arith, less, many)) in
+      let turn : NodeCode = node_turn view called.0 rule.0 in
+      let at : slice_get turns k ≡ Some turn = turn_at view callees rules k called.0 rule.0 called.1 rule.1 in
+      ap (λ (some : List NodeCode). joined (map flags_asked (merged_code some ++ blocks_code turns rest))) (picked_first turns k block turn at)
+      ∙ (λ i. (asks_so turn.test (fused_code turn (picked turns block)) ∙ guard_reads view rule.0.node rule.0.condition) i
+      ++ blocks_ask rest (λ j there. within j (Contains-append_right (k ∷ block) (joined rest) j there)) i)
+      ∙ sym (ap (λ (some : List Transition). joined (map (asked_by view.number) some)) (picked_first rules k (first_positions rest) rule.0 rule.1))
+
+-- what stands in the `if`s of blocks decides
+pub blocks_decide : (all : List NodeCode) (blocks : List (List ℕ)) → list_all turn_decides all ≡ true →
+    list_all decides (joined (map inside (blocks_code all blocks))) ≡ true
+blocks_decide all [] own = refl
+blocks_decide all (block ∷ rest) own = by (picked all block) (picked-all turn_decides all block own) (blocks_decide all rest own)
+  where
+    later : List CStmt
+    later = joined (map inside (blocks_code all rest))
+
+    by : (some : List NodeCode) → list_all turn_decides some ≡ true → list_all decides later ≡ true →
+        list_all decides (joined (map inside (merged_code some ++ blocks_code all rest))) ≡ true
+    by [] own more = more
+    by (first ∷ others) own more =
+        ap (λ (code : List CStmt). list_all decides (code ++ later)) (inside_so first.test (fused_code first others))
+        ∙ (list_all-append decides (fused_code first others) later
+        ∙ both (list_all decides (fused_code first others)) (list_all decides later)
+        (fused_decides first others (and_left (turn_decides first) (list_all turn_decides others) own)
+        (and_right (turn_decides first) (list_all turn_decides others) own)) more)

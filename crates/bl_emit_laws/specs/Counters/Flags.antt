@@ -1,0 +1,94 @@
+-- Which flags the C function of an activity has, and what asks for them.
+use Rattle.std.specs.Prelude.{◌≡◌, Bool, true, false, ◌&&◌, ◌==◌, not, List, [], ◌∷◌, map, Option, Some, None, filter, is_some, length, nat_eq}
+use Rattle.std.specs.List.{list_all}
+use Rattle.bl_tree.specs.declared.text.Text.{Text}
+use Rattle.bl_tree.specs.declared.c.CExpr.{CExpr}
+use Rattle.bl_tree.specs.declared.c.CFunc.{CFunc}
+use Rattle.bl_tree.specs.declared.c.CLocal.{CLocal}
+use Rattle.bl_tree.specs.declared.c.CStmt.{CStmt, fold-CStmt, out-CStmt}
+use Rattle.bl_tree.specs.declared.c.CStmtKind.{out-CStmtKind}
+use Rattle.bl_tree.specs.declared.c.CStmtKind.TheOpen.{CStmtKind-F, CStmt-F}
+use Rattle.bl_tree.specs.declared.tree.Unit.{Unit as UnitDef}
+use Rattle.bl_tree.specs.Reduce.{joined}
+use Rattle.bl_graph_nodes.specs.Plain.{plain_body}
+use Rattle.bl_machine.specs.declared.machine.Activity.{Activity as InMachine}
+use Rattle.bl_machine_pass.specs.Numbered.{slots_of}
+use Rattle.bl_machine_pass.specs.Transitions.{Transition, rules}
+use Rattle.bl_emit_spec.specs.Activities.{first_positions, is_flagged, picked}
+use Rattle.bl_emit_spec.specs.Blocks.{spelled_truth}
+use Rattle.bl_emit_laws.specs.Counters.Own.{is_digit_run}
+use Rattle.bl_emit_laws.specs.Counters.Places.{CPath, places_in}
+
+-- ---- names of flags
+
+-- whether a local has the name of a flag: `g` and one or more digits
+abbrev pub is_flag_name : Text → Bool
+is_flag_name [] = false
+is_flag_name (first ∷ rest) = first == 103 && is_digit_run rest
+
+-- the names of the locals that are flags, in order
+abbrev pub flags_of : CFunc → List Text
+flags_of function = filter is_flag_name (map (λ (local : CLocal). local.name) function.locals)
+
+-- the names of the flags that an expression reads
+abbrev pub flags_read : CExpr → List Text
+flags_read e = filter is_flag_name (map (λ (path : CPath). path.name) (places_in e))
+
+-- ---- conditions
+
+-- the flags that the condition of a form reads, where that is an `if`
+abbrev pub kind_flags : {X Y : Type 0} → CStmtKind-F X Y → List Text
+kind_flags (CStmtKind-F.If condition block other) = flags_read condition
+kind_flags _ = []
+
+-- the flags that the condition of a statement reads, where that is an `if`
+abbrev pub flags_asked : CStmt → List Text
+flags_asked s = kind_flags (out-CStmtKind (out-CStmt s).what)
+
+-- whether a condition is no literal, and reads no flag
+abbrev pub is_decided_here : CExpr → Bool
+is_decided_here condition = not (is_some (spelled_truth condition)) && nat_eq (length (flags_read condition)) 0
+
+-- the answers of an optional block
+abbrev pub optional_answers : Option (List Bool) → Bool
+optional_answers None = true
+optional_answers (Some answers) = list_all (λ answer. answer) answers
+
+-- whether each `if` in a form has a condition that is no literal and reads no flag
+abbrev pub kind_decides : CStmtKind-F Bool Bool → Bool
+kind_decides (CStmtKind-F.If condition block other) =
+    is_decided_here condition && (list_all (λ answer. answer) block && optional_answers other)
+kind_decides (CStmtKind-F.Loop turn condition body) = list_all (λ answer. answer) body
+kind_decides _ = true
+
+-- the answer for a statement is that for its form
+abbrev pub stmt_decides : CStmt-F Bool Bool → Bool
+stmt_decides stmt = stmt.what
+
+-- whether each `if` in a statement, itself included, has a condition that is no literal and reads no flag
+abbrev pub decides : CStmt → Bool
+decides = fold-CStmt Bool Bool kind_decides stmt_decides
+
+-- the statements of an `if` where its condition is true
+abbrev pub kind_block : {X : Type 0} → CStmtKind-F X CStmt → List CStmt
+kind_block (CStmtKind-F.If condition block other) = block
+kind_block _ = []
+
+-- the statements that stand in an `if`, directly
+abbrev pub inside : CStmt → List CStmt
+inside s = kind_block (out-CStmtKind (out-CStmt s).what)
+
+-- ---- functions
+
+-- the rules of the nodes that stand first in the activity's blocks in a machine
+abbrev pub rules_first : UnitDef → InMachine → List Transition
+rules_first unit one = picked (rules (slots_of (plain_body unit.body) one.slots) (plain_body unit.body)) (first_positions one.blocks)
+
+-- an activity's function has one flag for each block whose first node waits by its flag, and no other. Each is asked for by one of these `if`s, and in
+-- none of them
+pub record HasFlagForEach (unit : UnitDef) (one : InMachine) (function : CFunc) (blocks : List CStmt) : Type 0 where
+  -- the `if`s ask for the flags one after another, in the order of the locals
+  pub asked : joined (map flags_asked blocks) ≡ flags_of function
+  pub many : length (flags_of function) ≡ length (filter (λ (rule : Transition). is_flagged rule.condition) (rules_first unit one))
+  -- no `if` in these has a literal as its condition, nor asks for a flag
+  pub decided : list_all decides (joined (map inside blocks)) ≡ true

@@ -1,0 +1,16 @@
+use Rattle.bl_emit_spec_laws.proofs.OnOwn.Programs.{unit_entry}
+use Rattle.bl_emit_spec_laws.proofs.own.entries_are_own.Goals as goal
+
+pub returns : goal.returns
+returns c structs units machine activities k unit s rest at is =
+    unit_entry c.spots_differ.ensures structs units machine activities k unit at
+    (record {
+      keys = c.nodes_have_keys.ensures;
+      placed = c.trees_stay_placed.ensures;
+      listed = c.rules_are_listed.ensures;
+      within = c.graphs_stay_within.ensures;
+      before = c.flags_come_from_before.ensures;
+      asked = c.flags_are_asked.ensures;
+      reached = c.flags_are_reached.ensures;
+    })
+    s rest is
