@@ -1,0 +1,4 @@
+pub mod FaceLemmas
+pub mod Keeping
+pub mod Layers
+pub mod MapLemmas
