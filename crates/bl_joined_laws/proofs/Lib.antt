@@ -1,0 +1,11 @@
+pub mod Bytes
+pub mod Pieces
+pub mod Joining
+pub mod Reach
+pub mod Made
+pub mod Moved
+pub mod MovedExpr
+pub mod MovedStmt
+pub mod MovedItem
+pub mod Trees
+pub mod Depth
