@@ -1,0 +1,12 @@
+pub mod Runs
+pub mod Parts
+pub mod Operands
+pub mod Places
+pub mod Fetches
+pub mod Operators
+pub mod Calls
+pub mod Folds
+pub mod Expressions
+pub mod Statements
+pub mod Loops
+pub mod Files

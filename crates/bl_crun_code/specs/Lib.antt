@@ -1,0 +1,3 @@
+pub mod Vm
+pub mod Code
+pub mod Laws
