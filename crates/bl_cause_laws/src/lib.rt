@@ -1,7 +1,7 @@
 //! Each body has a tick graph, and each graph without a closed walk has an order: numbers for its nodes that rise along every
 //! edge (`specs/Orders.antt`). What a schedule has for an activity are such numbers: a function from nodes to them rises along
 //! the edges of the body. There is no code here: `bl_graph` makes the graphs and `bl_cause` the orders, and
-//! `bl_rules_laws` has the law that activities have orders where no rule fails. Laws, as contracts of functions that do
+//! `bl_ctree_laws_traces` has the law that activities have orders where no rule fails. Laws, as contracts of functions that do
 //! nothing.
 #![tactic(auto)]
 

@@ -6,4 +6,5 @@ pub mod Least
 pub mod Lowering
 pub mod Never
 pub mod Numbering
+pub mod Ordering
 pub mod Touching

@@ -3,11 +3,11 @@
 //! (`specs/Ready/Touching.antt`). So where numbers rise along all control and data edges of the bodies, the lowest step that could be taken
 //! may be taken (`specs/Ready/Ranks.antt`), and there is a lowest one (`specs/Ready/Least.antt`). So wherever something is left to do a
 //! step may be taken: there no tick of an accepted program is stuck (`specs/Ready/Never.antt`). Orders of the tick graphs of its activities
-//! are such numbers (`specs/Ready/Ordered.antt`).
+//! are such numbers (`specs/Ready/Ordered.antt`), and they exist where neither of the rules Twice and Cycle fails.
 
 ghost use Rattle.bl_ctree_laws_traces.specs.Ready.Least.{LeastMayAct, UnsettledHasLeast};
 ghost use Rattle.bl_ctree_laws_traces.specs.Ready.Never.{AcceptedNeverStuck, ReachedLowestMayAct, TypedCallsMatch, UnsettledMay};
-ghost use Rattle.bl_ctree_laws_traces.specs.Ready.Ordered.{OrderedNeverStuck, OrdersGiveRanks};
+ghost use Rattle.bl_ctree_laws_traces.specs.Ready.Ordered.{OrderedNeverStuck, OrdersGiveRanks, UnitsAreOrdered};
 ghost use Rattle.bl_ctree_laws_traces.specs.Ready.Ranks.{LowestMayAct};
 ghost use Rattle.bl_ctree_laws_traces.specs.Ready.Touching.{WritersTouchOnTheWay};
 
@@ -15,6 +15,8 @@ use crate::progress::{
     accepted_trees_fit_graphs, acts_or_waits, deeds_read_at_nodes, nodes_are_in_part,
     unsettled_could,
 };
+use bl_cause::laws::rules_leave_no_walk;
+use bl_cause_laws::{bodies_have_graphs, graphs_without_walks_have_ranks};
 use bl_ctree::laws::trees_stay_left;
 use bl_ctree_laws::bridge::{answers_are_plain, statements_are_plain};
 use bl_ctree_laws::runs::{lists_are_plain, reached_trees_are_armed, reached_trees_are_residual};
@@ -117,4 +119,13 @@ pub fn ordered_programs_are_never_stuck()
     orders_give_ranks();
     accepted_programs_are_orderly();
     accepted_programs_are_never_stuck();
+}
+
+/// Where neither Twice nor Cycle fails by the tick graphs of units themselves, that of each activity has an order.
+pub fn accepted_programs_are_ordered()
+    ensures { UnitsAreOrdered }
+{
+    bodies_have_graphs();
+    rules_leave_no_walk();
+    graphs_without_walks_have_ranks();
 }

@@ -1,3 +1,2 @@
 pub mod EarlierLemmas
 pub mod InstanceLemmas
-pub mod RunLemmas

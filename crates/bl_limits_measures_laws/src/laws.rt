@@ -1,6 +1,6 @@
 //! Each law is the contract of a function that does nothing.
 
-ghost use Rattle.bl_limits_measures_laws.specs.Laws.{InstancesAreCounted, OrderedRunsStandApart, TypedInstancesAreCounted, UnitsUseEarlierOnes};
+ghost use Rattle.bl_limits_measures_laws.specs.Laws.{InstancesAreCounted, TypedInstancesAreCounted, UnitsUseEarlierOnes};
 
 use bl_limits_measures::laws::{missing_units_count_nothing, units_add_up};
 use bl_types_laws::kept::what_is_typed_keeps;
@@ -17,11 +17,6 @@ pub fn instances_are_counted()
     units_add_up();
     missing_units_count_nothing();
 }
-
-/// Where the statements of units begin one after another, no two `run` statements have one place.
-pub fn ordered_runs_stand_apart()
-    ensures { OrderedRunsStandApart }
-{}
 
 /// The number of instances of a typed program that a raw tree has is how many the list of them has: its units use earlier ones.
 pub fn typed_instances_are_counted()

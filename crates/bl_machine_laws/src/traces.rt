@@ -15,9 +15,8 @@ use bl_ctree_laws::runs::reached_trees_are_armed;
 use bl_ctree_laws::shrinking::acting_is_open;
 use bl_ctree_laws_confluence::deeds::accepted_programs_are_orderly;
 use bl_ctree_laws_confluence::independent::accepted_programs_have_at_most_one_trace;
-use bl_ctree_laws_traces::ready::reached_lowest_may_act;
+use bl_ctree_laws_traces::ready::{accepted_programs_are_ordered, reached_lowest_may_act};
 use bl_graph::graphs_stay_within;
-use bl_rules_laws::traces::accepted_programs_are_ordered;
 
 /// Positions in the blocks of a machine rise along all edges of the tick graphs and tell the nodes of each body apart.
 pub fn machines_give_orders()

@@ -5,15 +5,14 @@
 //! program of the trees, and none is stuck. It expands to 4,096 activity instances at most (`specs/Traces/Instances.antt`).
 
 ghost use Rattle.bl_rules_laws.specs.Traces.Instances.{TreesHaveFewInstances};
-ghost use Rattle.bl_rules_laws.specs.Traces.OneTrace.{TreesHaveOneTrace, UnitsAreOrdered};
+ghost use Rattle.bl_rules_laws.specs.Traces.OneTrace.{TreesHaveOneTrace};
 ghost use Rattle.bl_rules_laws.specs.Traces.Trees.{AcceptedKeepOnTrees, TreesMeanTheSame};
 
-use bl_cause::laws::rules_leave_no_walk;
-use bl_cause_laws::{bodies_have_graphs, graphs_without_walks_have_ranks};
 use bl_cause_trees::laws::{trees_are_peeled, units_have_one_list_of_trees};
 use bl_ctree_laws_confluence::deeds::accepted_programs_are_orderly;
 use bl_ctree_laws_peeled::bodies::{peeled_programs_are_alike, peeled_programs_run_alike};
 use bl_ctree_laws_peeled_bounds::bounds::peeled_programs_are_bounded;
+use bl_ctree_laws_traces::ready::accepted_programs_are_ordered;
 use bl_ctree_laws_traces::traces::{
     bounded_programs_have_meanings, ordered_programs_are_numbered, ordered_programs_have_one_trace,
 };
@@ -21,15 +20,6 @@ use bl_limits_measures_laws::laws::{instances_are_counted, units_use_earlier_one
 use bl_rules::laws::{trees_keep_the_rules, trees_stay_typed};
 use bl_types_laws::kept::what_is_typed_keeps;
 use bl_types_laws::order::statements_begin_in_order;
-
-/// Where neither Twice nor Cycle fails by the tick graphs of units themselves, that of each activity has an order.
-pub fn accepted_programs_are_ordered()
-    ensures { UnitsAreOrdered }
-{
-    bodies_have_graphs();
-    rules_leave_no_walk();
-    graphs_without_walks_have_ranks();
-}
 
 /// Where no rule fails for a tree, its program and the program of the trees of its units are typed and pass the rules.
 pub fn accepted_trees_keep()

@@ -52,8 +52,10 @@ impl Ord for Static {
     ghost matches_eq = { λ a b. refl };
 
     fn cmp(&self, other: &Static) -> Ordering {
-        let fields = self.fields.as_slice().cmp(&other.fields.as_slice());
-        self.root.cmp(&other.root).then(fields)
+        match self.root.cmp(&other.root) {
+            Ordering::Equal => self.fields.as_slice().cmp(&other.fields.as_slice()),
+            order => order,
+        }
     }
 }
 

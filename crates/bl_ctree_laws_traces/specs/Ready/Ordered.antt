@@ -11,6 +11,7 @@ use Rattle.bl_graph_nodes.specs.Nodes.{Node}
 use Rattle.bl_graph_nodes.specs.Plain.{Block, plain_body}
 use Rattle.bl_graph.specs.Graph.{IsTickGraph}
 use Rattle.bl_cause.specs.Ranks.{Ranks}
+use Rattle.bl_cause.specs.Rules.{Passes as OwnGraphsPass}
 use Rattle.bl_ctree.specs.Instances.{Setting, unit_at}
 use Rattle.bl_ctree.specs.Reaches.{NeverStuck}
 use Rattle.bl_ctree_laws_traces.specs.Ready.Ranks.{Rising}
@@ -30,6 +31,10 @@ AllOrdered w = (i : ℕ) (unit : UnitDef) → unit_at w i ≡ Some unit → HasO
 -- the tick graph of each activity of a program has an order
 abbrev pub ActivitiesAreOrdered : List UnitDef → Type 0
 ActivitiesAreOrdered units = (unit : UnitDef) → Contains units unit → is_activity unit.kind ≡ true → HasOrder (plain_body unit.body)
+
+-- where neither Twice nor Cycle fails by the tick graphs of units themselves, the tick graph of each activity has an order
+abbrev pub UnitsAreOrdered : Type 0
+UnitsAreOrdered = (units : List UnitDef) → OwnGraphsPass units → ActivitiesAreOrdered units
 
 -- numbers for the nodes of each instance that rise
 pub record HasRanks (w : Setting) : Type 0 where

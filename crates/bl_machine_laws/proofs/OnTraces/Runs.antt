@@ -29,6 +29,7 @@ use Rattle.bl_ctree_laws.specs.Trees.{Tree, is_nil, is_settled, woken}
 use Rattle.bl_ctree_laws_confluence.specs.Deeds.Orderly.{AcceptedIsOrderly}
 use Rattle.bl_ctree_laws_confluence.specs.Independent.Accepted.{AcceptedTracesAreOne}
 use Rattle.bl_ctree_laws_traces.specs.Ready.Never.{ReachedLowestMayAct}
+use Rattle.bl_ctree_laws_traces.specs.Ready.Ordered.{UnitsAreOrdered}
 use Rattle.bl_machine_laws.proofs.OnWaiting.Quiet.{differ}
 use Rattle.bl_machine_laws.specs.Passes.Low.{LowTrap}
 use Rattle.bl_machine_laws.specs.Passes.Orders.{Orders}
@@ -36,7 +37,6 @@ use Rattle.bl_machine_laws.specs.Passes.Pass.{WholePass}
 use Rattle.bl_machine_laws.specs.Passes.Ticks.{TickPasses, TickTraps, TicksArePasses}
 use Rattle.bl_machine_laws.proofs.OnPasses.Steadying.{pass_settles}
 use Rattle.bl_machine_laws.proofs.OnPasses.Ticking.{locate, trap_there}
-use Rattle.bl_rules_laws.specs.Traces.OneTrace.{UnitsAreOrdered}
 use Rattle.bl_machine_laws.specs.Traces.Positions.{MachinesGiveOrders}
 use Rattle.bl_machine_laws.specs.Traces.Runs as runs
 use Rattle.bl_machine_laws.specs.Traces.Runs.{MachinesHaveOneTrace, PassRun, RunsAreMeant, no_row, row_before}

@@ -1,11 +1,8 @@
 -- What passes the rules of a tree has exactly one trace: that of the program of the trees of its units.
 use Rattle.std.proofs.Common.{◌≡◌, ◌∙◌, ℕ, ℤ, List, sym, subst}
 use Rattle.std.specs.Prelude.{◌↔◌}
-use Rattle.bl_tree.specs.declared.rule.Rule.TheVariants as rule
 use Rattle.bl_tree.specs.declared.tree.StructDef.{StructDef}
 use Rattle.bl_tree.specs.declared.tree.Unit.{Unit as UnitDef}
-use Rattle.bl_cause.specs.Laws.{RulesLeaveNoWalk}
-use Rattle.bl_cause_laws.specs.Orders.{BodiesHaveGraphs, UnwalkedHaveRanks}
 use Rattle.bl_ctree.specs.Instances.{setting_of}
 use Rattle.bl_ctree.specs.Means.{Means, ShownTrace, shown_trace}
 use Rattle.bl_ctree.specs.Measure.{steps}
@@ -16,18 +13,8 @@ use Rattle.bl_ctree_laws_peeled.specs.Bodies.{PeeledIsNeverStuck, PeeledMeans}
 use Rattle.bl_ctree_laws_peeled_bounds.specs.Bounds.{PeeledIsBounded}
 use Rattle.bl_ctree_laws_traces.specs.Traces.Maximal.{BoundedHaveMeanings}
 use Rattle.bl_ctree_laws_traces.specs.Traces.OneTrace.{HasOneTrace, OneTrace, OrderedAreNumbered, OrderedHaveOneTrace}
-use Rattle.bl_rules_laws.specs.Traces.OneTrace.{SourceHasOneTrace, TreesHaveOneTrace, UnitsAreOrdered}
+use Rattle.bl_rules_laws.specs.Traces.OneTrace.{SourceHasOneTrace, TreesHaveOneTrace}
 use Rattle.bl_rules_laws.specs.Traces.Trees.{AcceptedKeepOnTrees, KeepsOnTrees, TreesMeanTheSame}
-
-pub units_are_ordered : BodiesHaveGraphs → RulesLeaveNoWalk → UnwalkedHaveRanks → UnitsAreOrdered
-units_are_ordered graphs walks ranks units passes unit there activity =
-    let has = graphs unit.body in
-    let order = ranks has.graph.edges (walks has.graph
-    (λ at also fails. passes rule.Twice at also
-    (record { unit = unit; is_there = there; activity = activity; graph = has.graph; of_unit = has.is_graph; fails = fails }))
-    (λ at also fails. passes rule.Cycle at also
-    (record { unit = unit; is_there = there; activity = activity; graph = has.graph; of_unit = has.is_graph; fails = fails }))) in
-    record { nodes = has.graph.nodes; edges = has.graph.edges; is_graph = has.is_graph; ranks = order.ranks; rises = order.rises }
 
 -- the laws that the proof stands on
 pub record TraceLaws : Type 0 where

@@ -20,10 +20,10 @@ use Rattle.bl_effects.specs.Rules.{Passes as UnitsPass}
 use Rattle.bl_cause_trees.specs.Laws.{TreesArePeeled}
 use Rattle.bl_cause_trees.specs.Rules.{Passes as GraphsPass}
 use Rattle.bl_cause_trees.specs.Trees.{AreTrees}
+use Rattle.bl_ctree_laws_traces.specs.Ready.Ordered.{UnitsAreOrdered}
 use Rattle.bl_rules.specs.Accepted.{IsOfTree}
 use Rattle.bl_rules.specs.Laws.{TreesKeepGraphRules, TreesKeepUnitRules, TreesStayTyped}
 use Rattle.bl_rules.specs.Rules.{TreePasses, in_graphs, in_limits, in_names, in_program, in_types, in_units}
-use Rattle.bl_rules_laws.specs.Traces.OneTrace.{UnitsAreOrdered}
 use Rattle.bl_rules_laws.specs.Traces.Trees.{AcceptedKeepOnTrees, KeepsOnTrees}
 
 -- a typed program, by the raw tree that it is of

@@ -3,17 +3,11 @@ use Rattle.std.specs.Prelude.{ℕ, ℤ, List}
 use Rattle.bl_tree.specs.declared.program.Program.{Program}
 use Rattle.bl_tree.specs.declared.tree.StructDef.{StructDef}
 use Rattle.bl_tree.specs.declared.tree.Unit.{Unit as UnitDef}
-use Rattle.bl_cause.specs.Rules.{Passes as OwnGraphsPass}
 use Rattle.bl_cause_trees.specs.Trees.{AreTrees}
 use Rattle.bl_rules.specs.Accepted.{IsOfTree}
 use Rattle.bl_ctree.specs.Measure.{steps}
 use Rattle.bl_ctree.specs.Reaches.{Bounded, NeverStuck}
-use Rattle.bl_ctree_laws_traces.specs.Ready.Ordered.{ActivitiesAreOrdered}
 use Rattle.bl_ctree_laws_traces.specs.Traces.OneTrace.{OneTrace}
-
--- where neither Twice nor Cycle fails by the tick graphs of units themselves, the tick graph of each activity has an order
-abbrev pub UnitsAreOrdered : Type 0
-UnitsAreOrdered = (units : List UnitDef) → OwnGraphsPass units → ActivitiesAreOrdered units
 
 -- a program has exactly one trace over any rows, and no tick is stuck. The number of steps of the program of its units' trees bounds its ticks
 pub record SourceHasOneTrace (structs : List StructDef) (units : List UnitDef) (entry : ℕ) (trees : List UnitDef) : Type 0 where
