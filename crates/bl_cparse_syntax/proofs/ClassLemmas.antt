@@ -6,7 +6,7 @@ use Rattle.std.specs.List.{list_all, starts_with}
 use Rattle.std.specs.Cmp.Lexicographic.{pointwise}
 use Rattle.bl_tree.specs.declared.scalar.Width.TheVariants.{W8, W16, W32, W64}
 use Rattle.bl_ctext.specs.Token.{Token, is_word}
-use Rattle.bl_ctext.specs.Names.{is_among, is_name, is_turn_name, begins_with_digit, prelude_functions}
+use Rattle.bl_ctext.specs.Names.{begins_with_digit, c_keywords, grammar_words, is_among, is_name, is_turn_name, prelude_functions}
 use Rattle.bl_grammar.proofs.Predictive.{and_left, and_right, not_both}
 use Rattle.bl_cparse_syntax.specs.declared.grammar.Group.{Group}
 use Rattle.bl_cparse_syntax.specs.declared.grammar.Group.TheVariants.{
@@ -25,6 +25,7 @@ use Rattle.bl_cparse_syntax.specs.Classes.Class.{exactly, one_of, a_name, number
 use Rattle.bl_cparse_syntax.specs.Tables.{turn_name_for}
 use Rattle.bl_cparse_syntax.specs.Stack.{sample}
 use Rattle.bl_cparse_syntax.specs.Grammar.{with_turn_name}
+use Rattle.bl_cparse_syntax.specs.inner.Words.{is_numbered, is_unreserved}
 use Rattle.bl_cparse_syntax.proofs.SameLemmas.{is_same-same}
 
 pub not_true : (b : Bool) → (b ≡ true → ⊥) → b ≡ false
@@ -98,6 +99,15 @@ prelude_begin = refl
 -- no other word is a function of the prelude
 pub prelude_begins : (word : Token) → starts_with nat_eq word (codes "bl_") ≡ false → is_among word prelude_functions ≡ false
 prelude_begins word none = not_true _ (λ one. not_both _ (among_all (λ w. starts_with nat_eq w (codes "bl_")) prelude_functions word prelude_begin one) none)
+
+-- no list of words without a digit at the second place has a word with one
+unlisted : (words : List Token) (word : Token) → list_all (λ w. not (is_numbered w)) words ≡ true → is_numbered word ≡ true →
+    is_among word words ≡ false
+unlisted words word none is = not_true _ (λ one. not_both _ is (not_false _ (among_all (λ w. not (is_numbered w)) words word none one)))
+
+pub numbered_is_unreserved : (word : Token) → is_numbered word ≡ true → is_unreserved word ≡ true
+numbered_is_unreserved word is =
+    rw (unlisted grammar_words word refl is) (rw (unlisted c_keywords word refl is) (rw (unlisted (codes "abort" ∷ []) word refl is) refl))
 
 no_name : (word : Token) → starts_with nat_eq word (codes "bl_") ≡ true → is_name word ≡ false
 unfolding is_name

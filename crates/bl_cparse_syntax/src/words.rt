@@ -6,6 +6,7 @@ ghost use Rattle.bl_tree.specs.Reduce.{all_of};
 ghost use Rattle.bl_ctext.specs.Token.{is_word as is_c_word, is_word_byte as word_byte};
 ghost use Rattle.bl_ctext.specs.Names.{is_among as among, is_name as name, is_struct_name as struct_name, is_function_name as function_name};
 ghost use Rattle.bl_ctext.specs.Names.{is_callee as callee, is_turn_name as turn_name, begins_with_digit};
+ghost use Rattle.bl_cparse_syntax.specs.inner.Words.{is_numbered, is_unreserved};
 
 /// The words of the grammar that don't begin with `bl_`.
 static GRAMMAR_WORDS: [&str; 31] = [
@@ -295,15 +296,35 @@ fn is_digit_first(word: &[u8]) -> bool
     }
 }
 
+/// Whether the second byte is a digit, as in most names of an emitted text. No reserved word has one there.
+fn is_numbered(word: &[u8]) -> bool
+    ensures { result ≡ is_numbered word.now }
+{
+    match word {
+        [_, second, ..] => second.is_ascii_digit(),
+        _ => false,
+    }
+}
+
+/// Whether it is in no list of reserved words.
+fn is_unlisted(word: &[u8]) -> bool
+    ensures { result ≡ is_unreserved word.now }
+{
+    !is_among(word, &GRAMMAR_WORDS) && !is_among(word, &C_KEYWORDS) && !is_among(word, &OTHER_WORDS)
+}
+
+/// Whether it isn't reserved. The lists are looked through for few words alone.
+#[tactic(auto, using(crate::proofs::ClassLemmas::numbered_is_unreserved))]
+fn is_unreserved(word: &[u8]) -> bool
+    ensures { result ≡ is_unreserved word.now }
+{
+    is_numbered(word) || is_unlisted(word)
+}
+
 pub fn is_name(word: &[u8]) -> bool
     ensures { result ≡ name word.now }
 {
-    is_word(word)
-        && !is_digit_first(word)
-        && !word.starts_with(b"bl_")
-        && !is_among(word, &GRAMMAR_WORDS)
-        && !is_among(word, &C_KEYWORDS)
-        && !is_among(word, &OTHER_WORDS)
+    is_word(word) && !is_digit_first(word) && !word.starts_with(b"bl_") && is_unreserved(word)
 }
 
 pub fn is_struct_name(word: &[u8]) -> bool

@@ -27,9 +27,6 @@ impl Model for Writer {
     ghost invariant = { λ writer. IsText writer.text.items };
 }
 
-/// How deep lines are indented at most, so that the text stays linear in the size of its tree.
-const DEEPEST: u8 = 20;
-
 impl Writer {
     pub fn new(alloc: Global) -> Result<Writer, NoMemory>
         ensures { IfOk result (λ writer. writer ≡ []) }
@@ -60,11 +57,7 @@ impl Writer {
     pub fn line(&mut self, level: u8) -> Result<(), NoMemory>
         ensures { OnOk result (self.new ≡ self.old) }
     {
-        self.write("\n")?;
-        for _ in 0..level.min(DEEPEST) {
-            self.write("    ")?;
-        }
-        Ok(())
+        self.write(indentation(level))
     }
 
     pub fn finish(self) -> Vec<u8>
@@ -72,6 +65,36 @@ impl Writer {
     {
         let Writer { text } = self;
         text
+    }
+}
+
+/// A line feed and the blanks before a line inside so many blocks: at most 20 times four, so that the text stays linear in
+/// the size of its tree.
+fn indentation(level: u8) -> &'static str
+    ensures { tokens_in result.now ≡ [] }
+{
+    match level {
+        0 => "\n",
+        1 => "\n    ",
+        2 => "\n        ",
+        3 => "\n            ",
+        4 => "\n                ",
+        5 => "\n                    ",
+        6 => "\n                        ",
+        7 => "\n                            ",
+        8 => "\n                                ",
+        9 => "\n                                    ",
+        10 => "\n                                        ",
+        11 => "\n                                            ",
+        12 => "\n                                                ",
+        13 => "\n                                                    ",
+        14 => "\n                                                        ",
+        15 => "\n                                                            ",
+        16 => "\n                                                                ",
+        17 => "\n                                                                    ",
+        18 => "\n                                                                        ",
+        19 => "\n                                                                            ",
+        _ => "\n                                                                                ",
     }
 }
 
