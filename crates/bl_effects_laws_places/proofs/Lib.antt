@@ -1,0 +1,4 @@
+pub mod Aliases
+pub mod Failing
+pub mod Loops
+pub mod Parallels

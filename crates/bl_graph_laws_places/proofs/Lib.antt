@@ -1,0 +1,4 @@
+pub mod Edges
+pub mod GraphsMoved
+pub mod Nodes
+pub mod Plains

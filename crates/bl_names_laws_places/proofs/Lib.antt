@@ -1,0 +1,6 @@
+pub mod Exprs
+pub mod ItemsNamed
+pub mod Pieces
+pub mod Positions
+pub mod Stmts
+pub mod Types

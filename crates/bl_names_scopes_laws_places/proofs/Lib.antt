@@ -1,0 +1,5 @@
+pub mod Agreeing
+pub mod Failing
+pub mod MarksMoved
+pub mod RawExprs
+pub mod RawStmts

@@ -1,0 +1,5 @@
+pub mod Back
+pub mod Effects
+pub mod Exprs
+pub mod Lists
+pub mod Stmts
