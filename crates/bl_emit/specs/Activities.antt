@@ -106,7 +106,7 @@ abbrev pub params_told : List StructDef → UnitDef → Bool → List CParam
 params_told structs unit remembers =
     pointer_param (codes "f") (frame_name unit.name)
     ∷ (memory_params_told unit.name remembers
-    ++ (params_from structs 0 (parameters_of unit) ++ (result_params unit.result ++ over_param ∷ [])))
+    ++ (params_from structs unit.vars 0 (parameters_of unit) ++ (result_params unit.result ++ over_param ∷ [])))
 
 -- the counters of which some rule asks what they held, in order
 abbrev pub counters_told : Sizes → List NumberedTransition → List ℕ
@@ -114,7 +114,7 @@ counters_told sizes rules = filter (read_told rules) (up_to (length sizes))
 
 -- the local for the copy of a variable
 abbrev pub copy_told : UnitDef → ℕ → CLocal
-copy_told unit k = scalar_local (c_scalar (scalar_at (slice_get unit.vars k))) (copy_name k)
+copy_told unit k = scalar_local (c_scalar (scalar_at (slice_get unit.vars k))) (copy_name unit.vars k)
 
 -- the positions of the variables that are copied
 abbrev pub copied_told : UnitDef → List ℕ

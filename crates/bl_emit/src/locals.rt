@@ -11,7 +11,7 @@ use crate::names::{counter_type, scalar_of_variable};
 use crate::parts::local;
 use crate::registers::{add_flags, add_marks};
 use crate::runs::RunAt;
-use bl_emit_acts::parts::numbered;
+use bl_emit_acts::parts::{named, numbered};
 use bl_emit_acts::scalar_in_c;
 use bl_machine_transitions::Transition;
 use bl_tree::c::CLocal;
@@ -43,7 +43,7 @@ fn all_rested(alloc: Global, sizes: &[u32], counters: &[u32]) -> Result<List<CLo
 fn copy(alloc: Global, unit: &Unit, k: u32) -> Result<CLocal, NoMemory>
     ensures { IfOk result (λ made. made ≡ copy_told unit.now k) }
 {
-    let name = numbered(alloc, "p", u64::from(k))?;
+    let name = named(alloc, "p", &unit.vars, k as usize)?;
     Ok(local(scalar_in_c(scalar_of_variable(&unit.vars, k)), name))
 }
 
@@ -120,7 +120,8 @@ fn add_runs(
     Ok(())
 }
 
-/// The locals of the function of an activity: what the counters held, flags of the first nodes of blocks, marks, copies of the variables, and those of each `run`.
+/// The locals of the function of an activity: what the counters held, flags of the first nodes of blocks, marks, copies of the
+/// variables, and those of each `run`.
 pub fn locals(
     alloc: Global,
     earlier: &[Unit],

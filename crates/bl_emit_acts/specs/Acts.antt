@@ -66,7 +66,7 @@ initial_code site k None = zeroed site.structs (place_in site k []) (type_at (va
 
 -- the copy of a variable becomes what the variable is
 abbrev pub c_copied : TypingContext → ℕ → CStmt
-c_copied site k = c_set (c_place false (copy_name k) []) (c_read (place_in site k []))
+c_copied site k = c_set (c_place false (copy_name site.vars k) []) (c_read (place_in site k []))
 
 -- the statement that gives the copy of a declared variable its value, if it has a copy
 abbrev pub copy_code : TypingContext → Bool → ℕ → List CStmt

@@ -243,7 +243,7 @@ scalar_at var = unwrap_or (option_and_then scalar_in (type_at var)) OfBool
 abbrev pub kind_made : TypingContext → ExprKind-F Made PathStepTyping Made Stood → Made
 kind_made site (ExprKind-F.Literal n s) = Number s (c_literal (c_scalar s) n)
 kind_made site (ExprKind-F.Read path) = made_at (scalar_in path.ty) path.place
-kind_made site (ExprKind-F.Prev k) = Number (scalar_at (var_at site k)) (c_read (c_place false (copy_name k) []))
+kind_made site (ExprKind-F.Prev k) = Number (scalar_at (var_at site k)) (c_read (c_place false (copy_name site.vars k) []))
 kind_made site (ExprKind-F.One op a) = c_one op (type_made a) (code_of a)
 kind_made site (ExprKind-F.Two op a b) = c_both op (type_made a) (code_of a) (code_of b)
 kind_made site (ExprKind-F.Cast target a) = Number target (c_cast (type_made a) target (code_of a))

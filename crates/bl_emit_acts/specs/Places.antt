@@ -35,12 +35,12 @@ abbrev pub home_of : TypingContext → Option Var → Home
 home_of site (Some var) = home_of_role var.role (is_some (scalar_in var.ty)) (copies_inputs site)
 home_of site None = Held
 
--- the place to which the steps lead from the variable at a position. An activity is given a pointer to what it remembers; a function has it
-abbrev pub place_by_steps : Bool → Home → ℕ → List CStep → CPlace
-place_by_steps activity Held k steps = c_place activity (codes "m") (c_step (variable_name k) ∷ steps)
-place_by_steps activity Given k steps = c_place false (variable_name k) steps
-place_by_steps activity Lent k steps = c_place true (variable_name k) steps
+-- the place to which the steps lead from the variable at a position among its unit's. An activity is given a pointer to what it remembers; a function has it
+abbrev pub place_by_steps : Bool → Home → List Var → ℕ → List CStep → CPlace
+place_by_steps activity Held vars k steps = c_place activity (codes "m") (c_step (variable_name vars k) ∷ steps)
+place_by_steps activity Given vars k steps = c_place false (variable_name vars k) steps
+place_by_steps activity Lent vars k steps = c_place true (variable_name vars k) steps
 
 -- the place to which the steps lead from the variable at a position of the site
 abbrev pub place_in : TypingContext → ℕ → List CStep → CPlace
-place_in site k steps = place_by_steps (is_activity site.kind) (home_of site (var_at site k)) k steps
+place_in site k steps = place_by_steps (is_activity site.kind) (home_of site (var_at site k)) site.vars k steps

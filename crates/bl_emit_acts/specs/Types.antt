@@ -9,17 +9,27 @@ use Rattle.bl_tree.specs.declared.scalar.Scalar.TheVariants.{Bool as OfBool, Int
 use Rattle.bl_tree.specs.declared.tree.StructDef.{StructDef}
 use Rattle.bl_tree.specs.declared.tree.Ty.{Ty, fold-Ty, out-Ty}
 use Rattle.bl_tree.specs.declared.tree.Ty.TheOpen.{Ty-F}
+use Rattle.bl_tree.specs.declared.tree.Var.{Var}
 use Rattle.bl_ctext.specs.Spelling.{width_digits}
 
 -- ---- names. Each begins with a letter of its own, so that no name of a program becomes a name of C as it is
 
--- the name of the variable at a position of its unit
-abbrev pub variable_name : ℕ → Text
-variable_name k = codes "v" ++ decimal k
+-- the name of a variable in the source; empty where there is no variable
+abbrev pub source_name : Option Var → Text
+source_name (Some var) = var.name
+source_name None = []
 
--- the name of the copy of what this variable was when the tick began
-abbrev pub copy_name : ℕ → Text
-copy_name k = codes "p" ++ decimal k
+-- a position among a unit's variables, `_`, and the name of the variable there in the source. The number tells it from the names of all others
+abbrev pub numbered_name : List Var → ℕ → Text
+numbered_name vars k = decimal k ++ (codes "_" ++ source_name (slice_get vars k))
+
+-- the name of the variable at a position among its unit's variables
+abbrev pub variable_name : List Var → ℕ → Text
+variable_name vars k = codes "v" ++ numbered_name vars k
+
+-- the name of the copy of what the variable at a position was when the tick began
+abbrev pub copy_name : List Var → ℕ → Text
+copy_name vars k = codes "p" ++ numbered_name vars k
 
 -- the name of the member for a field
 abbrev pub field_name : Text → Text

@@ -7,7 +7,7 @@ ghost use Rattle.bl_emit_acts.specs.Sites.{site_in};
 
 use crate::expressions::{arguments, expression, place};
 use crate::operators::code;
-use crate::parts::{clear, literal, numbered, prefixed, read, set, single, statement, whole};
+use crate::parts::{clear, literal, named, prefixed, read, set, single, statement, whole};
 use crate::places::{type_of_variable, variable};
 use crate::site::UnitSite;
 use crate::types::{name_of_type, scalar_in, scalar_in_c};
@@ -72,7 +72,7 @@ fn initial(
 pub fn copied(alloc: Global, site: &UnitSite, k: u32) -> Result<CStmt, NoMemory>
     ensures { IfOk result (λ s. s ≡ acts.c_copied (site_in site.entry.now) k) }
 {
-    let copy = whole(alloc, false, numbered(alloc, "p", u64::from(k))?);
+    let copy = whole(alloc, false, named(alloc, "p", site.vars, k as usize)?);
     let from = variable(alloc, site, k, List::new(alloc))?;
     set(alloc, copy, read(from))
 }

@@ -10,7 +10,7 @@ ghost use Rattle.bl_emit_acts.specs.Types.{copy_name, field_name};
 
 use crate::made::Made;
 use crate::operators::{argument, both, call, cast, code, one, standing, type_made};
-use crate::parts::{element, literal, numbered, prefixed, read, step, whole};
+use crate::parts::{element, literal, named, prefixed, read, step, whole};
 use crate::places::{element_type, field, length, scalar_of_variable, type_of_variable, variable};
 use crate::site::UnitSite;
 use crate::types::{is_int, scalar_in, scalar_in_c};
@@ -149,8 +149,8 @@ fn to_field<'a>(alloc: Global, field: Option<&'a Field>) -> Result<Stepped<'a>, 
 /// What a variable was when the tick began.
 fn previous(alloc: Global, site: &UnitSite, k: u32) -> Result<Made, NoMemory>
     ensures { IfOk result (λ made. made
-        ≡ Number (scalar_at (var_at (site_in site.entry.now) k)) (c_read (c_place false (copy_name k) []))) }
+        ≡ Number (scalar_at (var_at (site_in site.entry.now) k)) (c_read (c_place false (copy_name (site_in site.entry.now).vars k) []))) }
 {
-    let at = whole(alloc, false, numbered(alloc, "p", u64::from(k))?);
+    let at = whole(alloc, false, named(alloc, "p", site.vars, k as usize)?);
     Ok(Made::Number(scalar_of_variable(site, k), read(at)))
 }

@@ -1,11 +1,14 @@
 //! Small parts of C trees. What is made has no place in a text.
 
-ghost use Rattle.std.specs.Prelude.{◌≡◌, ◌∷◌, ◌++◌, [], IfOk, true};
+ghost use Rattle.std.specs.Prelude.{◌≡◌, ◌∷◌, ◌++◌, [], IfOk, slice_get, true};
 ghost use Rattle.std.specs.Fmt.{decimal};
 ghost use Rattle.bl_emit_acts.specs.Acts.{c_clear, c_set, c_stmt};
 ghost use Rattle.bl_emit_acts.specs.Trees.{c_called, c_element, c_index, c_literal, c_not, c_place, c_read, c_step, c_two};
+ghost use Rattle.bl_emit_acts.specs.Types.{numbered_name, source_name as name_in_source};
 
 use bl_tree::c::{CArg, CCall, CExpr, CExprKind, CIndex, CPlace, CStep, CStmt, CStmtKind};
+use bl_tree::slices::element as element_of;
+use bl_tree::tree::Var;
 use bl_tree::{Box, List, NoMemory, Op, Place, Scalar, Text};
 use itoa::Buffer;
 use std::alloc::Global;
@@ -30,6 +33,27 @@ pub fn numbered(alloc: Global, prefix: &str, number: u64) -> Result<Text, NoMemo
 {
     let mut buffer = Buffer::new();
     prefixed(alloc, prefix, buffer.format(number))
+}
+
+fn source_name(vars: &[Var], k: usize) -> &str
+    ensures { result.now ≡ name_in_source (slice_get vars.now k) }
+{
+    match element_of(vars, k) {
+        Some(var) => var.name.as_str(),
+        None => "",
+    }
+}
+
+/// The name in C of the variable at a position, or of a copy of it: a letter, the position, and the name in the source.
+pub fn named(alloc: Global, letter: &str, vars: &[Var], k: usize) -> Result<Text, NoMemory>
+    ensures { IfOk result (λ text. text ≡ letter.now ++ numbered_name vars.now k) }
+{
+    let mut buffer = Buffer::new();
+    let mut text = String::from_str(alloc, letter)?;
+    text.push_str(buffer.format(k))?;
+    text.push_str("_")?;
+    text.push_str(source_name(vars, k))?;
+    Ok(Text::from_string(text))
 }
 
 /// A member, which is no array.

@@ -9,7 +9,7 @@ ghost use Rattle.bl_emit_acts.specs.Sites.{site_in};
 ghost use Rattle.bl_emit_acts.specs.Trees.{c_place, c_step};
 
 use crate::home::Home;
-use crate::parts::{numbered, step, target};
+use crate::parts::{named, step, target};
 use crate::site::UnitSite;
 use crate::types::scalar_in;
 use bl_tree::c::{CPlace, CStep};
@@ -79,7 +79,7 @@ pub fn variable(
 ) -> Result<CPlace, NoMemory>
     ensures { IfOk result (λ place. place ≡ homes.place_in (site_in site.entry.now) k steps) }
 {
-    let name = numbered(alloc, "v", u64::from(k))?;
+    let name = named(alloc, "v", site.vars, k as usize)?;
     match home(site, k) {
         Home::Held => held(alloc, is_activity(site.kind), name, steps),
         Home::Given => Ok(target(false, name, steps)),

@@ -166,9 +166,10 @@ module _ (structs : List StructDef) (units : List UnitDef) (entry : ℕ) (k : �
         });
         copies = record {
           each = λ j other value copied_j there stored.
-              holds_same structs other.ty value (value_at here (copy_location scope j)) (value_at (set_at here place held) (copy_location scope j))
-              (λ rest. sym (apart_same here place held (copy_location scope j)
-              (apart_inside scope site root way (copy_location scope j) (b.copies_apart.variables root j var known copied_j)) rest))
+              holds_same structs other.ty value (value_at here (copy_location scope site.vars j))
+              (value_at (set_at here place held) (copy_location scope site.vars j))
+              (λ rest. sym (apart_same here place held (copy_location scope site.vars j)
+              (apart_inside scope site root way (copy_location scope site.vars j) (b.copies_apart.variables root j var known copied_j)) rest))
               (b.beside.copies.each j other value copied_j there stored);
         };
         kept = λ at rest foreign. set_elsewhere here place held at rest (lies_inside scope site root way at rest (foreign.variables root var known writable));
@@ -219,10 +220,10 @@ module _ (structs : List StructDef) (units : List UnitDef) (entry : ℕ) (k : �
 
   -- where a variable stands
   variable_answer : (m : Memory) (j : ℕ) → (location_c (place_in site j []) scope m).answer ≡ Some (location_in scope site j [])
-  variable_answer m j = place_answer scope m (is_activity site.kind) (home_at site j) j []
+  variable_answer m j = place_answer scope m (is_activity site.kind) (home_at site j) site.vars j []
 
-  copy_answer : (m : Memory) (j : ℕ) → (location_c (c_place false (copy_name j) []) scope m).answer ≡ Some (copy_location scope j)
-  copy_answer m j = ap (λ (c : Counted Location). c.answer) (place-location scope m false (copy_name j) [])
+  copy_answer : (m : Memory) (j : ℕ) → (location_c (c_place false (copy_name site.vars j) []) scope m).answer ≡ Some (copy_location scope site.vars j)
+  copy_answer m j = ap (λ (c : Counted Location). c.answer) (place-location scope m false (copy_name site.vars j) [])
 
   -- the statement that sets a variable to its initial value
   record Begins (j : ℕ) (var : Var) (initial : Option Expr) : Type 0 where
@@ -296,7 +297,7 @@ module _ (structs : List StructDef) (units : List UnitDef) (entry : ℕ) (k : �
     at = location_in scope site j []
 
     abbrev copy : Location
-    copy = copy_location scope j
+    copy = copy_location scope site.vars j
 
     abbrev recalled : Memory
     recalled = set_at m copy (value_at m at)
@@ -315,15 +316,15 @@ module _ (structs : List StructDef) (units : List UnitDef) (entry : ℕ) (k : �
 
     copy_by : (copied j ≡ true) → (i : ℕ) (same : Bool) → nat_eq j i ≡ same → (other : Var)
         (v : Value) → copied i ≡ true → var_at site i ≡ Some other →
-        slice_get before i ≡ Some v → Encodes structs other.ty v (value_at recalled (copy_location scope i))
+        slice_get before i ≡ Some v → Encodes structs other.ty v (value_at recalled (copy_location scope site.vars i))
     copy_by has i true is other v copied_i known stored =
         let i_is : j ≡ i = eqb-true j i is in
         let one : var ≡ other = same_Some var other (sym there ∙ (ap (var_at site) i_is ∙ known)) in
-        subst (λ i. Encodes structs other.ty v (value_at recalled (copy_location scope i))) i_is
+        subst (λ i. Encodes structs other.ty v (value_at recalled (copy_location scope site.vars i))) i_is
         (subst (λ (other : Var). Encodes structs other.ty v (value_at recalled copy)) one (own_copy v (ap (slice_get before) i_is ∙ stored)))
     copy_by has i false is other v copied_i known stored =
-        holds_same structs other.ty v (value_at m (copy_location scope i)) (value_at recalled (copy_location scope i))
-        (λ way. sym (apart_same m copy (value_at m at) (copy_location scope i) (b.copies_apart.others j i var other there known has copied_i is) way))
+        holds_same structs other.ty v (value_at m (copy_location scope site.vars i)) (value_at recalled (copy_location scope site.vars i))
+        (λ way. sym (apart_same m copy (value_at m at) (copy_location scope site.vars i) (b.copies_apart.others j i var other there known has copied_i is) way))
         (left.copies.each i other v copied_i known (other_before i v is stored))
 
     pub recalls : copied j ≡ true → RepresentsAfter site copied scope here made before recalled
@@ -341,7 +342,7 @@ module _ (structs : List StructDef) (units : List UnitDef) (entry : ℕ) (k : �
 
     stays_by : copied j ≡ false → (i : ℕ) (same : Bool) → nat_eq j i ≡ same → (other : Var)
         (v : Value) → copied i ≡ true → var_at site i ≡ Some other →
-        slice_get before i ≡ Some v → Encodes structs other.ty v (value_at m (copy_location scope i))
+        slice_get before i ≡ Some v → Encodes structs other.ty v (value_at m (copy_location scope site.vars i))
     stays_by has i true is other v copied_i known stored =
         absurd (let no = sym has ∙ (ap copied (eqb-true j i is) ∙ copied_i) in cc)
     stays_by has i false is other v copied_i known stored = left.copies.each i other v copied_i known (other_before i v is stored)
@@ -361,7 +362,7 @@ module _ (structs : List StructDef) (units : List UnitDef) (entry : ℕ) (k : �
           (subst (λ value. Ends (runs_c (c_copied site j) scope m) (set_after scope m (Some copy) value))
           (read_gives structs scope m (place_in site j []) at (variable_answer m j))
           (subst (λ place. Ends (runs_c (c_copied site j) scope m) (set_after scope m place (value_c (c_read (place_in site j [])) scope m).answer))
-          (copy_answer m j) (set_ends scope m (c_place false (copy_name j) []) (c_read (place_in site j []))))),
+          (copy_answer m j) (set_ends scope m (c_place false (copy_name site.vars j) []) (c_read (place_in site j []))))),
       recalls is,
     )
     remembers false is = ((refl, refl), stays is)
@@ -383,7 +384,7 @@ module _ (structs : List StructDef) (units : List UnitDef) (entry : ℕ) (k : �
       let m : Memory = set_at here at held in
       let left : RepresentsAfter site copied scope here made view.before m = wrote j var [] var.ty new held made there writable refl shown put in
       let last = remembers j var there made new (set_same view.now j new stored.0 stored.1) m left (copied j) refl in
-      let final : Memory = if copied j then set_at m (copy_location scope j) (value_at m at) else m in
+      let final : Memory = if copied j then set_at m (copy_location scope site.vars j) (value_at m at) else m in
       let h : Ends (block_c (first ∷ copy_code site (copied j) j) scope here) (Some final) =
       then_ends scope here first (copy_code site (copied j) j) (Some m) (λ k. Some final) ends
       (λ n is. subst (λ n. Ends (block_c (copy_code site (copied j) j) scope n) (Some final)) (same_Some m n is) last.0) in

@@ -45,39 +45,41 @@ module _ (site : TypingContext) (copied : ℕ → Bool) (scope : Scope) (apart :
   at k = location_in scope site k []
 
   abbrev copied_in : Memory → ℕ → Memory
-  copied_in m j = set_at m (copy_location scope j) (value_at m (at j))
+  copied_in m j = set_at m (copy_location scope site.vars j) (value_at m (at j))
 
   variable_answer : (m : Memory) (j : ℕ) → (location_c (place_in site j []) scope m).answer ≡ Some (at j)
-  variable_answer m j = place_answer scope m (is_activity site.kind) (home_at site j) j []
+  variable_answer m j = place_answer scope m (is_activity site.kind) (home_at site j) site.vars j []
 
-  copy_answer : (m : Memory) (j : ℕ) → (location_c (c_place false (copy_name j) []) scope m).answer ≡ Some (copy_location scope j)
-  copy_answer m j = ap (λ (c : Counted Location). c.answer) (place-location scope m false (copy_name j) [])
+  copy_answer : (m : Memory) (j : ℕ) → (location_c (c_place false (copy_name site.vars j) []) scope m).answer ≡ Some (copy_location scope site.vars j)
+  copy_answer m j = ap (λ (c : Counted Location). c.answer) (place-location scope m false (copy_name site.vars j) [])
 
   copy_ends : (m : Memory) (j : ℕ) → Ends (runs_c (c_copied site j) scope m) (Some (copied_in m j))
   copy_ends m j =
-      subst (λ value. Ends (runs_c (c_copied site j) scope m) (set_after scope m (Some (copy_location scope j)) value))
+      subst (λ value. Ends (runs_c (c_copied site j) scope m) (set_after scope m (Some (copy_location scope site.vars j)) value))
       (read_gives site.structs scope m (place_in site j []) (at j) (variable_answer m j))
       (subst (λ place. Ends (runs_c (c_copied site j) scope m) (set_after scope m place (value_c (c_read (place_in site j [])) scope m).answer))
-      (copy_answer m j) (set_ends scope m (c_place false (copy_name j) []) (c_read (place_in site j []))))
+      (copy_answer m j) (set_ends scope m (c_place false (copy_name site.vars j) []) (c_read (place_in site j []))))
 
   variables_stay : (j : ℕ) → copied j ≡ true → (m : Memory) → VariablesEncoded site now scope m → VariablesEncoded site now scope (copied_in m j)
   variables_stay j has m variables = record {
     each = λ i other v known stored.
         holds_same site.structs other.ty v (value_at m (at i)) (value_at (copied_in m j) (at i))
-        (λ way. sym (apart_same m (copy_location scope j) (value_at m (at j)) (at i)
-        (apart_flip (at i) (copy_location scope j) (apart.variables i j other known has)) way))
+        (λ way. sym (apart_same m (copy_location scope site.vars j) (value_at m (at j)) (at i)
+        (apart_flip (at i) (copy_location scope site.vars j) (apart.variables i j other known has)) way))
         (variables.each i other v known stored);
   }
 
   -- what lies in the copy of a variable lies in no copy of others
   in_no_other : (j : ℕ) (var : Var) → var_at site j ≡ Some var → copied j ≡ true → (way : List Projection) (ks : List ℕ) → Known ks →
       list_any (nat_eq j) ks ≡ false →
-      list_any (λ k. lies_in (copy_location scope k) (copy_location scope j).root ((copy_location scope j).parts ++ way)) ks ≡ false
+      list_any (λ k. lies_in (copy_location scope site.vars k) (copy_location scope site.vars j).root ((copy_location scope site.vars j).parts ++ way))
+      ks ≡ false
   in_no_other j var there has way [] known none = refl
   in_no_other j var there has way (k ∷ ks) known none =
       let found = known k (or_first (nat_eq k k) (list_any (nat_eq k) ks) (eq-eqb k k refl)) in
-      ap (λ b. b || list_any (λ k. lies_in (copy_location scope k) (copy_location scope j).root ((copy_location scope j).parts ++ way)) ks)
-      (apart_lies (copy_location scope k) (copy_location scope j) way
+      ap (λ b. b || list_any (λ k. lies_in (copy_location scope site.vars k) (copy_location scope site.vars j).root
+      ((copy_location scope site.vars j).parts ++ way)) ks)
+      (apart_lies (copy_location scope site.vars k) (copy_location scope site.vars j) way
       (apart.others k j found.0 var found.1 there found.2 has (flipped j k (or_left (nat_eq j k) (list_any (nat_eq j) ks) none))))
       ∙ in_no_other j var there has way ks (λ i h. known i (or_last (nat_eq i k) (list_any (nat_eq i) ks) h))
       (or_right (nat_eq j k) (list_any (nat_eq j) ks) none)
@@ -85,9 +87,9 @@ module _ (site : TypingContext) (copied : ℕ → Bool) (scope : Scope) (apart :
   module _ (j : ℕ) (ks : List ℕ) (known : Known ks) (has : copied j ≡ true) (m after : Memory) (variables : VariablesEncoded site now scope m)
       (rest : BegunWith site scope (copied_in m j) now ks after) where
     own_copy : (var : Var) (value : Value) → var_at site j ≡ Some var → slice_get now j ≡ Some value → list_any (nat_eq j) ks ≡ false →
-        Encodes site.structs var.ty value (value_at after (copy_location scope j))
+        Encodes site.structs var.ty value (value_at after (copy_location scope site.vars j))
     own_copy var value there stored none =
-        let copy = copy_location scope j in
+        let copy = copy_location scope site.vars j in
         holds_same site.structs var.ty value (value_at m (at j)) (value_at after copy)
         (λ way. sym (rest.kept copy.root (copy.parts ++ way) (in_no_other j var there has way ks known none)
         ∙ same_object m copy (value_at m (at j)) way))
@@ -95,11 +97,11 @@ module _ (site : TypingContext) (copied : ℕ → Bool) (scope : Scope) (apart :
 
     copy_there : (i : ℕ) (later : Bool) → list_any (nat_eq i) ks ≡ later
         → (nat_eq i j || list_any (nat_eq i) ks) ≡ true → (var : Var) (value : Value) →
-        var_at site i ≡ Some var → slice_get now i ≡ Some value → Encodes site.structs var.ty value (value_at after (copy_location scope i))
+        var_at site i ≡ Some var → slice_get now i ≡ Some value → Encodes site.structs var.ty value (value_at after (copy_location scope site.vars i))
     copy_there i true is h var value there stored = rest.copies.each i var value is there stored
     copy_there i false is h var value there stored =
         let i_is : i ≡ j = eqb-true i j (or_other (nat_eq i j) (list_any (nat_eq i) ks) h is) in
-        subst (λ i. Encodes site.structs var.ty value (value_at after (copy_location scope i))) (sym i_is)
+        subst (λ i. Encodes site.structs var.ty value (value_at after (copy_location scope site.vars i))) (sym i_is)
         (own_copy var value (ap (var_at site) (sym i_is) ∙ there) (ap (slice_get now) (sym i_is) ∙ stored)
         (ap (λ i. list_any (nat_eq i) ks) (sym i_is) ∙ is))
 
@@ -108,9 +110,10 @@ module _ (site : TypingContext) (copied : ℕ → Bool) (scope : Scope) (apart :
       variables = rest.variables;
       copies = record { each = λ i var value h there stored. copy_there i (list_any (nat_eq i) ks) refl h var value there stored };
       kept = λ root way h.
-          rest.kept root way (or_right (lies_in (copy_location scope j) root way) (list_any (λ k. lies_in (copy_location scope k) root way) ks) h)
-          ∙ set_elsewhere m (copy_location scope j) (value_at m (at j)) root way
-          (or_left (lies_in (copy_location scope j) root way) (list_any (λ k. lies_in (copy_location scope k) root way) ks) h);
+          rest.kept root way (or_right (lies_in (copy_location scope site.vars j) root way)
+          (list_any (λ k. lies_in (copy_location scope site.vars k) root way) ks) h)
+          ∙ set_elsewhere m (copy_location scope site.vars j) (value_at m (at j)) root way
+          (or_left (lies_in (copy_location scope site.vars j) root way) (list_any (λ k. lies_in (copy_location scope site.vars k) root way) ks) h);
     }
 
   pub begun : (ks : List ℕ) (m : Memory) → VariablesEncoded site now scope m → Known ks →

@@ -253,7 +253,7 @@ module _ (structs : List StructDef) (units : List UnitDef) (entry : ℕ) (k : �
           };
           copies = record {
             each = λ j var value copied_j there stored.
-                let at = copy_location scope j in
+                let at = copy_location scope my_site.vars j in
                 holds_same structs var.ty value (value_at here at) (value_at after at)
                 (λ way. sym (kept at.root (at.parts ++ way) (number_itself scope.depth)
                 (outside at.root (at.parts ++ way)

@@ -125,8 +125,8 @@ ways_further (p ∷ ps) (q ∷ qs) more h = by (same_part p q) (ways_further ps 
 pub location_along : (scope : Scope) (site : TypingContext) (k : ℕ) (way : List Projection) →
     (location_in scope site k way).parts ≡ (location_in scope site k []).parts ++ way
 location_along scope site k way =
-    let start = start_in scope (is_activity site.kind) (home_at site k) k in
-    let lead = lead_in (home_at site k) k in
+    let start = start_in scope (is_activity site.kind) (home_at site k) site.vars k in
+    let lead = lead_in (home_at site k) site.vars k in
     ap (λ front. start.parts ++ (front ++ way)) (sym (append-nil lead)) ∙ sym (append_assoc start.parts (lead ++ []) way)
 
 or_split : (same a b : Bool) → (a ≡ true → b ≡ true) → (not same || a) ≡ true → (not same || b) ≡ true

@@ -197,8 +197,8 @@ module _ (structs : List StructDef) (earlier : List UnitDef) (unit : UnitDef) (c
       let whole : Encodes structs r.var.ty root_value.0 (memory.value_at here (location_in scope site root [])) =
       variables.each root r.var root_value.0 r.is_there root_value.1 in
       let inner = holds_part structs r.var.ty ty root_value.0 r.value (memory.value_at here (location_in scope site root [])) r.ks whole r.typed root_value.2 in
-      let start : Location = start_in scope (is_activity site.kind) (home_at site root) root in
-      let lead = lead_in (home_at site root) root in
+      let start : Location = start_in scope (is_activity site.kind) (home_at site root) site.vars root in
+      let lead = lead_in (home_at site root) site.vars root in
       let way = way_to structs r.ks (Some r.var.ty) in
       subst (λ place. Encodes structs ty r.value (memory.value_at here place)) (sym r.at)
       (holds_same structs ty r.value (λ rest. memory.value_at here (location_in scope site root []) (way ++ rest))
@@ -253,15 +253,15 @@ module _ (structs : List StructDef) (earlier : List UnitDef) (unit : UnitDef) (c
 
   -- ---- what variables were
 
-  copy_answer : (k : ℕ) → gives scope here (c_read (c_place false (copy_name k) []))
-      ≡ Some (memory.scalar_number (memory.value_at here (named_location scope false (copy_name k))))
+  copy_answer : (k : ℕ) → gives scope here (c_read (c_place false (copy_name site.vars k) []))
+      ≡ Some (memory.scalar_number (memory.value_at here (named_location scope false (copy_name site.vars k))))
   copy_answer k =
-      read_answer structs scope here (c_place false (copy_name k) [])
+      read_answer structs scope here (c_place false (copy_name site.vars k) [])
       ∙ ap (λ (c : Counted Location). option_map (λ p. memory.scalar_number (memory.value_at here p)) c.answer)
-      (place-location scope here false (copy_name k) [])
+      (place-location scope here false (copy_name site.vars k) [])
 
   prev_by : (k : ℕ) (ty : Ty) → copied k ≡ true → option_and_then (prev_type unit.kind) (var_at site k) ≡ Some ty →
-      ExpressionSimulates structs ty scope here (Number (scalar_at (var_at site k)) (c_read (c_place false (copy_name k) [])))
+      ExpressionSimulates structs ty scope here (Number (scalar_at (var_at site k)) (c_read (c_place false (copy_name site.vars k) [])))
       (option_map (datum_of (scalar_of (slice_get unit.vars k))) (slice_get view.before k))
   prev_by k ty copied_k typed =
       let found = some_found (prev_type unit.kind) (slice_get unit.vars k) ty typed in
@@ -270,26 +270,29 @@ module _ (structs : List StructDef) (earlier : List UnitDef) (unit : UnitDef) (c
       let same : var.ty ≡ ty = same_Some var.ty ty is.1 in
       let scalar_there = and_right (is_variable var.role) (is_some (scalar_in var.ty)) (and_right (is_activity unit.kind) _ is.0) in
       let stored = pass_at (λ (var : Var). value_fits structs var.ty) unit.vars view.before k var before_fits found.1 in
-      let holds : Encodes structs var.ty stored.0 (memory.value_at here (named_location scope false (copy_name k))) =
+      let holds : Encodes structs var.ty stored.0 (memory.value_at here (named_location scope false (copy_name site.vars k))) =
       copies.each k var stored.0 copied_k found.1 stored.1 in
-      subst (λ (at : Option Var). ExpressionSimulates structs ty scope here (Number (scalar_at at) (c_read (c_place false (copy_name k) [])))
+      subst (λ (at : Option Var). ExpressionSimulates structs ty scope here (Number (scalar_at at) (c_read (c_place false (copy_name site.vars k) [])))
       (option_map (datum_of (scalar_of at)) (slice_get view.before k))) (sym found.1)
-      (subst (λ at. ExpressionSimulates structs ty scope here (Number (scalar_at (Some var)) (c_read (c_place false (copy_name k) [])))
+      (subst (λ at. ExpressionSimulates structs ty scope here (Number (scalar_at (Some var)) (c_read (c_place false (copy_name site.vars k) [])))
       (option_map (datum_of (scalar_in var.ty)) at)) (sym stored.1)
-      (subst (λ ty. ExpressionSimulates structs ty scope here (Number (scalar_at (Some var)) (c_read (c_place false (copy_name k) [])))
+      (subst (λ ty. ExpressionSimulates structs ty scope here (Number (scalar_at (Some var)) (c_read (c_place false (copy_name site.vars k) [])))
       (Some (datum_of (scalar_in var.ty) stored.0))) same
       (prev_shown_by k var stored.0 (scalar_in var.ty) refl scalar_there holds stored.2)))
     where
       prev_shown_by : (k : ℕ) (var : Var) (value : Value) (s : Option ScalarType) → scalar_in var.ty ≡ s → is_some (scalar_in var.ty) ≡ true →
-          Encodes structs var.ty value (memory.value_at here (named_location scope false (copy_name k))) → Fits structs var.ty value →
-          ExpressionSimulates structs var.ty scope here (Number (scalar_at (Some var)) (c_read (c_place false (copy_name k) []))) (Some (datum_of (scalar_in var.ty) value))
+          Encodes structs var.ty value (memory.value_at here (named_location scope false (copy_name site.vars k))) → Fits structs var.ty value →
+          ExpressionSimulates structs var.ty scope here (Number (scalar_at (Some var)) (c_read (c_place false (copy_name site.vars k) [])))
+          (Some (datum_of (scalar_in var.ty) value))
       prev_shown_by k var value None is there holds fit = absurd (let none = sym (ap is_some is) ∙ there in cc)
       prev_shown_by k var value (Some s) is there holds fit =
-          subst (λ o. ExpressionSimulates structs var.ty scope here (Number (unwrap_or o OfBool) (c_read (c_place false (copy_name k) []))) (Some (datum_of o value)))
+          subst (λ o. ExpressionSimulates structs var.ty scope here (Number (unwrap_or o OfBool) (c_read (c_place false (copy_name site.vars k) [])))
+          (Some (datum_of o value)))
           (sym is) (
             is,
             copy_answer k
-                ∙ ap Some (number_held structs var.ty s value (memory.value_at here (named_location scope false (copy_name k))) (out-Value value) refl is holds
+                ∙ ap Some (number_held structs var.ty s value (memory.value_at here (named_location scope false (copy_name site.vars k)))
+                (out-Value value) refl is holds
                 (subst (λ o. DatumFits structs var.ty (datum_of o value)) is (datum_fits structs var.ty value fit))),
           )
 
@@ -562,7 +565,7 @@ module _ (structs : List StructDef) (earlier : List UnitDef) (unit : UnitDef) (c
   -- ---- paths
 
   abbrev led_to : ℕ → List (List memory.Projection) → Location
-  led_to root = led scope here (is_activity site.kind) (home_at site root) root
+  led_to root = led scope here (is_activity site.kind) (home_at site root) site.vars root
 
   leads_by : (root : ℕ) (var : Var) (written ty : Ty) (value : Value) (walked : Option (List (List memory.Projection))) (positions : View → Option (List ℕ)) →
       var_at site root ≡ Some var → slice_get view.now root ≡ Some value → ManySteps structs var.ty ty value walked (positions view) →
@@ -578,7 +581,8 @@ module _ (structs : List StructDef) (earlier : List UnitDef) (unit : UnitDef) (c
     ks = w.ks;
     are = w.are;
     typed = w.typed;
-    at = ap (λ way. further (start_in scope (is_activity site.kind) (home_at site root) root) (lead_in (home_at site root) root ++ way)) w.at;
+    at = ap (λ way. further (start_in scope (is_activity site.kind) (home_at site root) site.vars root)
+        (lead_in (home_at site root) site.vars root ++ way)) w.at;
     value = w.part;
     is = ap (option_and_then (value_at w.ks)) stored ∙ w.is;
   }
@@ -596,7 +600,7 @@ module _ (structs : List StructDef) (earlier : List UnitDef) (unit : UnitDef) (c
       let steps = parts_show parts each (rw fold-roll-Path at copies_named) var.ty ty (found.2 ∙ ap Some same) stored.0 stored.2 in
       rw (fold-roll-Path, fold-roll-Path) (
         subst (λ o. PlaceSimulates site view scope ty o (record { root = root; ty = written; positions = positions_of (map (part_of_path sees) parts) }))
-            (sym (place_answer scope here (is_activity site.kind) (home_at site root) root
+            (sym (place_answer scope here (is_activity site.kind) (home_at site root) site.vars root
             (steps_of (map (step_typing site) parts) (type_at (var_at site root)))
             ∙ ap (λ ty. option_map (led_to root) (walk_of parts ty)) (ap type_at found.1)))
             (leads_by root var written ty stored.0 (walk_of parts (Some var.ty)) (positions_of (map (part_of_path sees) parts)) found.1 stored.1 steps),

@@ -1,12 +1,9 @@
 -- The variables and copies of a unit keep apart, where its pointers lead to what does.
 use Rattle.std.proofs.Common.{◌≡◌, ℕ, ◌<◌, ◌≤◌, ◌^◌, arith, Bool, true, false, not, ◌&&◌, ◌||◌, List, [], ◌∷◌}
-use Rattle.std.proofs.Common.{◌++◌, drop, Some, refl, sym, ap, ◌∙◌}
+use Rattle.std.proofs.Common.{◌++◌, Some, refl, sym, ap, ◌∙◌}
 use Rattle.std.proofs.lemmas.Bool.{eq-eqb, eqb-true, le-leb, ltb-true}
-use Rattle.std.proofs.lemmas.Fmt.{decimal_injective}
 use Rattle.std.proofs.lemmas.Option.{slice_get_within}
-use Rattle.std.proofs.lemmas.Slice.Eq.{bytes_eq-Decides}
 use Rattle.std.specs.Prelude.{bytes_eq, codes, length, nat_eq, ◌==◌}
-use Rattle.std.specs.Fmt.{decimal}
 use Rattle.bl_tree.specs.declared.tree.Var.{Var}
 use Rattle.bl_tree.specs.Program.{is_input}
 use Rattle.bl_tree.specs.Typing.{TypingContext, is_activity, var_at}
@@ -14,12 +11,13 @@ use Rattle.bl_ctext_semantics.specs.Meaning.{Scope, further, named_location}
 use Rattle.bl_ctext_semantics.specs.Memory.{Location, Projection, Root, input_object, member, output_object, same_root, state_object, variable}
 use Rattle.bl_emit_acts.specs.declared.home.Home.{Home}
 use Rattle.bl_emit_acts.specs.declared.home.Home.TheVariants.{Held, Given, Lent}
-use Rattle.bl_emit_acts.specs.Types.{copy_name, variable_name}
+use Rattle.bl_emit_acts.specs.Types.{copy_name, numbered_name, variable_name}
 use Rattle.bl_emit_acts_laws_simulation.specs.Acts.{copy_location}
 use Rattle.bl_emit_acts_laws_simulation.specs.Frames.{FrameApart, PointersAreValid, is_older, lent_at, remembered_at}
 use Rattle.bl_emit_acts_laws_simulation.specs.Encodes.{are_apart, home_at, is_live, lead_in, start_in, ways_part}
 use Rattle.bl_emit_acts_laws_simulation.proofs.Calls.{number_itself}
 use Rattle.bl_emit_acts_laws_simulation.proofs.Cells.{apart_flip}
+use Rattle.bl_emit_acts_laws_simulation.proofs.NumberedNames as numbered
 use Rattle.bl_emit_acts_laws_simulation.proofs.Outlets.{behind_front, further_both}
 use Rattle.bl_emit_acts_laws_simulation.proofs.Outputs.{or_last}
 
@@ -28,16 +26,11 @@ use Rattle.bl_emit_acts_laws_simulation.proofs.Outputs.{or_last}
 no_such : true ≡ false → ⊥
 no_such h = cc
 
--- names of one letter with different numbers differ
-names_differ : (letter : ℕ) (j k : ℕ) → j < 2 ^ 64 → k < 2 ^ 64 → nat_eq j k ≡ false
-    → bytes_eq (letter ∷ decimal j) (letter ∷ decimal k) ≡ false
-names_differ letter j k less most differ = by (bytes_eq (letter ∷ decimal j) (letter ∷ decimal k)) refl
-  where
-    by : (same : Bool) → bytes_eq (letter ∷ decimal j) (letter ∷ decimal k) ≡ same → same ≡ false
-    by false is = refl
-    by true is =
-        let text : letter ∷ decimal j ≡ letter ∷ decimal k = (bytes_eq-Decides (letter ∷ decimal j) (letter ∷ decimal k)).0 is in
-        absurd (no_such (sym (eq-eqb j k (decimal_injective j k less most (ap (drop 1) text))) ∙ differ))
+-- names of one letter at different positions differ
+names_differ : (letter : ℕ) (vars : List Var) (j k : ℕ) → j < 2 ^ 64 → k < 2 ^ 64 → nat_eq j k ≡ false
+    → bytes_eq (letter ∷ numbered_name vars j) (letter ∷ numbered_name vars k) ≡ false
+names_differ letter vars j k less most differ =
+    numbered.names_differ letter vars j k less most (λ same. no_such (sym (eq-eqb j k same) ∙ differ))
 
 -- ---- roots
 
@@ -99,62 +92,66 @@ module _ (site : TypingContext) (copied : ℕ → Bool) (scope : Scope) (stand :
 
   -- where a variable of a home stands
   abbrev place_of : Bool → Home → ℕ → Location
-  place_of activity home k = further (start_in scope activity home k) (lead_in home k ++ [])
+  place_of activity home k = further (start_in scope activity home site.vars k) (lead_in home site.vars k ++ [])
 
   module _ (j k : ℕ) (a b : Var) (there : var_at site j ≡ Some a) (other : var_at site k ≡ Some b) (writable : is_input a.role ≡ false)
       (differ : nat_eq j k ≡ false) where
-    v_differ : bytes_eq (variable_name j) (variable_name k) ≡ false
-    v_differ = names_differ 118 j k (below j a there) (below k b other) differ
+    v_differ : bytes_eq (variable_name site.vars j) (variable_name site.vars k) ≡ false
+    v_differ = names_differ 118 site.vars j k (below j a there) (below k b other) differ
 
-    held_held : (start : Location) → are_apart (further start (member (variable_name j) ∷ [])) (further start (member (variable_name k) ∷ [])) ≡ true
+    held_held : (start : Location) →
+        are_apart (further start (member (variable_name site.vars j) ∷ [])) (further start (member (variable_name site.vars k) ∷ [])) ≡ true
     held_held start =
         or_last (not (same_root start.root start.root))
-        (ways_part (start.parts ++ member (variable_name j) ∷ []) (start.parts ++ member (variable_name k) ∷ []))
-        (behind_front start.parts (member (variable_name j) ∷ []) (member (variable_name k) ∷ []) ∙ ap (λ b. not b || false) v_differ)
+        (ways_part (start.parts ++ member (variable_name site.vars j) ∷ []) (start.parts ++ member (variable_name site.vars k) ∷ []))
+        (behind_front start.parts (member (variable_name site.vars j) ∷ []) (member (variable_name site.vars k) ∷ []) ∙ ap (λ b. not b || false) v_differ)
 
     apart_by : (activity : Bool) (x y : Home) → is_activity site.kind ≡ activity → home_at site j ≡ x → home_at site k ≡ y →
         are_apart (place_of activity x j) (place_of activity y k) ≡ true
     apart_by activity Held Held kind is at = held_held (named_location scope activity (codes "m"))
-    apart_by false Held Given kind is at = own_own (codes "m") (variable_name k) (place_of false Held j) (place_of false Given k) refl refl refl
+    apart_by false Held Given kind is at = own_own (codes "m") (variable_name site.vars k) (place_of false Held j) (place_of false Given k) refl refl refl
     apart_by true Held Given kind is at =
         apart_flip (place_of true Given k) (place_of true Held j)
-        (own_older (variable_name k) (place_of true Given k) (place_of true Held j) refl (stand.held_older j a there is kind))
+        (own_older (variable_name site.vars k) (place_of true Given k) (place_of true Held j) refl (stand.held_older j a there is kind))
     apart_by false Held Lent kind is at =
         own_older (codes "m") (place_of false Held j) (place_of false Lent k) refl (stand.lent_older k b other at)
     apart_by true Held Lent kind is at =
-        further_apart (remembered_at scope) (lent_at scope k) (lead_in Held j ++ []) (lead_in Lent k ++ []) (stand.held_apart kind k b other at)
-    apart_by false Given Held kind is at = own_own (variable_name j) (codes "m") (place_of false Given j) (place_of false Held k) refl refl refl
+        further_apart (remembered_at scope) (lent_at scope site.vars k) (lead_in Held site.vars j ++ []) (lead_in Lent site.vars k ++ [])
+        (stand.held_apart kind k b other at)
+    apart_by false Given Held kind is at = own_own (variable_name site.vars j) (codes "m") (place_of false Given j) (place_of false Held k) refl refl refl
     apart_by true Given Held kind is at =
-        own_older (variable_name j) (place_of true Given j) (place_of true Held k) refl (stand.held_older k b other at kind)
+        own_older (variable_name site.vars j) (place_of true Given j) (place_of true Held k) refl (stand.held_older k b other at kind)
     apart_by activity Given Given kind is at =
-        own_own (variable_name j) (variable_name k) (place_of activity Given j) (place_of activity Given k) refl refl v_differ
+        own_own (variable_name site.vars j) (variable_name site.vars k) (place_of activity Given j) (place_of activity Given k) refl refl v_differ
     apart_by activity Given Lent kind is at =
-        own_older (variable_name j) (place_of activity Given j) (place_of activity Lent k) refl (stand.lent_older k b other at)
+        own_older (variable_name site.vars j) (place_of activity Given j) (place_of activity Lent k) refl (stand.lent_older k b other at)
     apart_by false Lent Held kind is at =
         apart_flip (place_of false Held k) (place_of false Lent j)
         (own_older (codes "m") (place_of false Held k) (place_of false Lent j) refl (stand.lent_older j a there is))
     apart_by true Lent Held kind is at =
         apart_flip (place_of true Held k) (place_of true Lent j)
-        (further_apart (remembered_at scope) (lent_at scope j) (lead_in Held k ++ []) (lead_in Lent j ++ []) (stand.held_apart kind j a there is))
+        (further_apart (remembered_at scope) (lent_at scope site.vars j) (lead_in Held site.vars k ++ []) (lead_in Lent site.vars j ++ [])
+        (stand.held_apart kind j a there is))
     apart_by activity Lent Given kind is at =
         apart_flip (place_of activity Given k) (place_of activity Lent j)
-        (own_older (variable_name k) (place_of activity Given k) (place_of activity Lent j) refl (stand.lent_older j a there is))
+        (own_older (variable_name site.vars k) (place_of activity Given k) (place_of activity Lent j) refl (stand.lent_older j a there is))
     apart_by activity Lent Lent kind is at =
-        further_apart (lent_at scope j) (lent_at scope k) (lead_in Lent j ++ []) (lead_in Lent k ++ [])
+        further_apart (lent_at scope site.vars j) (lent_at scope site.vars k) (lead_in Lent site.vars j ++ []) (lead_in Lent site.vars k ++ [])
         (stand.lent_apart j k a b there other is at writable differ)
 
   copy_by : (j k : ℕ) (var : Var) → var_at site j ≡ Some var → (activity : Bool) (x : Home)
       → is_activity site.kind ≡ activity → home_at site j ≡ x →
-      are_apart (place_of activity x j) (copy_location scope k) ≡ true
-  copy_by j k var there false Held kind is = own_own (codes "m") (copy_name k) (place_of false Held j) (copy_location scope k) refl refl refl
+      are_apart (place_of activity x j) (copy_location scope site.vars k) ≡ true
+  copy_by j k var there false Held kind is =
+      own_own (codes "m") (copy_name site.vars k) (place_of false Held j) (copy_location scope site.vars k) refl refl refl
   copy_by j k var there true Held kind is =
-      apart_flip (copy_location scope k) (place_of true Held j)
-      (own_older (copy_name k) (copy_location scope k) (place_of true Held j) refl (stand.held_older j var there is kind))
+      apart_flip (copy_location scope site.vars k) (place_of true Held j)
+      (own_older (copy_name site.vars k) (copy_location scope site.vars k) (place_of true Held j) refl (stand.held_older j var there is kind))
   copy_by j k var there activity Given kind is =
-      own_own (variable_name j) (copy_name k) (place_of activity Given j) (copy_location scope k) refl refl refl
+      own_own (variable_name site.vars j) (copy_name site.vars k) (place_of activity Given j) (copy_location scope site.vars k) refl refl refl
   copy_by j k var there activity Lent kind is =
-      apart_flip (copy_location scope k) (place_of activity Lent j)
-      (own_older (copy_name k) (copy_location scope k) (place_of activity Lent j) refl (stand.lent_older j var there is))
+      apart_flip (copy_location scope site.vars k) (place_of activity Lent j)
+      (own_older (copy_name site.vars k) (copy_location scope site.vars k) (place_of activity Lent j) refl (stand.lent_older j var there is))
 
   live_by : (k : ℕ) (var : Var) → var_at site k ≡ Some var → (activity : Bool) (x : Home)
       → is_activity site.kind ≡ activity → home_at site k ≡ x →
@@ -162,7 +159,7 @@ module _ (site : TypingContext) (copied : ℕ → Bool) (scope : Scope) (stand :
   live_by k var there false Held kind is = number_itself scope.depth
   live_by k var there true Held kind is = older_live scope.depth (remembered_at scope).root (stand.held_older k var there is kind)
   live_by k var there activity Given kind is = number_itself scope.depth
-  live_by k var there activity Lent kind is = older_live scope.depth (lent_at scope k).root (stand.lent_older k var there is)
+  live_by k var there activity Lent kind is = older_live scope.depth (lent_at scope site.vars k).root (stand.lent_older k var there is)
 
   pub frame_apart : FrameApart site copied scope
   frame_apart = record {
@@ -173,8 +170,8 @@ module _ (site : TypingContext) (copied : ℕ → Bool) (scope : Scope) (stand :
     copies = record {
       variables = λ j k var there has. copy_by j k var there (is_activity site.kind) (home_at site j) refl refl;
       others = λ j k a b there other has too differ.
-          own_own (copy_name j) (copy_name k) (copy_location scope j) (copy_location scope k) refl refl
-          (names_differ 112 j k (below j a there) (below k b other) differ);
+          own_own (copy_name site.vars j) (copy_name site.vars k) (copy_location scope site.vars j) (copy_location scope site.vars k) refl refl
+          (names_differ 112 site.vars j k (below j a there) (below k b other) differ);
     };
     live = record { each = λ k var there. live_by k var there (is_activity site.kind) (home_at site k) refl refl };
   }

@@ -2,6 +2,7 @@ pub mod Arguments
 pub mod Evaluated
 mod Expressions
 mod Names
+pub mod NumberedNames
 mod Numbers
 mod Operators
 mod Parts

@@ -5,6 +5,7 @@ use Rattle.std.specs.Prelude.{option_and_then, option_map}
 use Rattle.bl_tree.specs.declared.c.CStep.{CStep}
 use Rattle.bl_tree.specs.declared.tree.StructDef.{StructDef}
 use Rattle.bl_tree.specs.declared.tree.Ty.{Ty}
+use Rattle.bl_tree.specs.declared.tree.Var.{Var}
 use Rattle.bl_tree.specs.declared.value.Value.{Value}
 use Rattle.bl_eval.specs.Values.{part_of, value_at}
 use Rattle.bl_ctext_semantics.specs.Memory.{Location, Memory, Projection, member}
@@ -116,31 +117,32 @@ module _ (scope : Scope) (here : Memory) where
   through_answer through name steps = mapped-answer (λ walked. further (named_location scope through name) (way_of walked)) (walks steps)
 
   -- where the steps lead from the home of a variable
-  abbrev pub led : Bool → Home → ℕ → List (List Projection) → Location
-  led activity home k walked = further (start_in scope activity home k) (lead_in home k ++ way_of walked)
+  abbrev pub led : Bool → Home → List Var → ℕ → List (List Projection) → Location
+  led activity home vars k walked = further (start_in scope activity home vars k) (lead_in home vars k ++ way_of walked)
 
-  held_by : (activity : Bool) (k : ℕ) (o : Option (List (List Projection))) →
+  held_by : (activity : Bool) (vars : List Var) (k : ℕ) (o : Option (List (List Projection))) →
       option_map (λ walked. further (named_location scope activity (codes "m")) (way_of walked))
-      (option_map (λ others. (member (variable_name k) ∷ []) ∷ others) o)
-      ≡ option_map (led activity Held k) o
-  held_by activity k None = refl
-  held_by activity k (Some walked) = refl
+      (option_map (λ others. (member (variable_name vars k) ∷ []) ∷ others) o)
+      ≡ option_map (led activity Held vars k) o
+  held_by activity vars k None = refl
+  held_by activity vars k (Some walked) = refl
 
-  held_walks : (k : ℕ) (steps : List CStep) → (walks (c_step (variable_name k) ∷ steps)).answer
-      ≡ option_map (λ others. (member (variable_name k) ∷ []) ∷ others) (walks steps).answer
-  held_walks k steps =
-      listed-answer (ways (c_step (variable_name k)) scope here) (walks steps)
+  held_walks : (vars : List Var) (k : ℕ) (steps : List CStep) → (walks (c_step (variable_name vars k) ∷ steps)).answer
+      ≡ option_map (λ others. (member (variable_name vars k) ∷ []) ∷ others) (walks steps).answer
+  held_walks vars k steps =
+      listed-answer (ways (c_step (variable_name vars k)) scope here) (walks steps)
       ∙ ap (λ (c : Counted (List Projection)). option_and_then (λ a. option_map (λ others. a ∷ others) (walks steps).answer) c.answer)
-      (step-way scope here (variable_name k))
+      (step-way scope here (variable_name vars k))
 
-  pub place_answer : (activity : Bool) (home : Home) (k : ℕ) (steps : List CStep) → (location_c (place_by_steps activity home k steps) scope here).answer
-      ≡ option_map (led activity home k) (walks steps).answer
-  place_answer activity Held k steps =
-      ap (λ (c : Counted Location). c.answer) (place-location scope here activity (codes "m") (c_step (variable_name k) ∷ steps))
-      ∙ (through_answer activity (codes "m") (c_step (variable_name k) ∷ steps)
-      ∙ (ap (option_map (λ walked. further (named_location scope activity (codes "m")) (way_of walked))) (held_walks k steps)
-      ∙ held_by activity k (walks steps).answer))
-  place_answer activity Given k steps =
-      ap (λ (c : Counted Location). c.answer) (place-location scope here false (variable_name k) steps) ∙ through_answer false (variable_name k) steps
-  place_answer activity Lent k steps =
-      ap (λ (c : Counted Location). c.answer) (place-location scope here true (variable_name k) steps) ∙ through_answer true (variable_name k) steps
+  pub place_answer : (activity : Bool) (home : Home) (vars : List Var) (k : ℕ) (steps : List CStep) →
+      (location_c (place_by_steps activity home vars k steps) scope here).answer
+      ≡ option_map (led activity home vars k) (walks steps).answer
+  place_answer activity Held vars k steps =
+      ap (λ (c : Counted Location). c.answer) (place-location scope here activity (codes "m") (c_step (variable_name vars k) ∷ steps))
+      ∙ (through_answer activity (codes "m") (c_step (variable_name vars k) ∷ steps)
+      ∙ (ap (option_map (λ walked. further (named_location scope activity (codes "m")) (way_of walked))) (held_walks vars k steps)
+      ∙ held_by activity vars k (walks steps).answer))
+  place_answer activity Given vars k steps =
+      ap (λ (c : Counted Location). c.answer) (place-location scope here false (variable_name vars k) steps) ∙ through_answer false (variable_name vars k) steps
+  place_answer activity Lent vars k steps =
+      ap (λ (c : Counted Location). c.answer) (place-location scope here true (variable_name vars k) steps) ∙ through_answer true (variable_name vars k) steps

@@ -86,10 +86,10 @@ module _ (site : TypingContext) (stand : structs_stand_from 0 site.structs ≡ t
     (holds : Encodes site.structs ty new held) (now made : List Value) (variables : VariablesEncoded site now scope here) (apart : VariablesApart site scope)
     (fits : (value : Value) → slice_get now root ≡ Some value → Fits site.structs var.ty value) (put : put_at root ks new now ≡ Some made) where
   abbrev start : Location
-  start = start_in scope (is_activity site.kind) (home_at site root) root
+  start = start_in scope (is_activity site.kind) (home_at site root) site.vars root
 
   abbrev lead : List Projection
-  lead = lead_in (home_at site root) root
+  lead = lead_in (home_at site root) site.vars root
 
   abbrev way : List Projection
   way = way_to site.structs ks (Some var.ty)

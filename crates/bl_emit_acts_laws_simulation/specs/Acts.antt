@@ -43,17 +43,17 @@ is_act _ = false
 
 -- ---- copies
 
--- the location of the copy of a variable
-abbrev pub copy_location : Scope → ℕ → Location
-copy_location scope k = named_location scope false (copy_name k)
+-- the location of the copy of the variable at a position among its unit's
+abbrev pub copy_location : Scope → List Var → ℕ → Location
+copy_location scope vars k = named_location scope false (copy_name vars k)
 
 -- the copies have nothing in common with the variables, nor with one another
 pub record CopiesApart (site : TypingContext) (copied : ℕ → Bool) (scope : Scope) : Type 0 where
   pub variables : (j k : ℕ) (var : Var) → var_at site j ≡ Some var → copied k ≡ true →
-      are_apart (location_in scope site j []) (copy_location scope k) ≡ true
+      are_apart (location_in scope site j []) (copy_location scope site.vars k) ≡ true
   pub others : (j k : ℕ) (a b : Var) → var_at site j ≡ Some a → var_at site k ≡ Some b
       → copied j ≡ true → copied k ≡ true → nat_eq j k ≡ false →
-      are_apart (copy_location scope j) (copy_location scope k) ≡ true
+      are_apart (copy_location scope site.vars j) (copy_location scope site.vars k) ≡ true
 
 -- whether all that an act names under a `prev` is copied
 abbrev pub copied_in_layer : {A B C D : Type 0} → (ℕ → Bool) → StmtKind-F A B C D → Bool
@@ -78,7 +78,7 @@ pub record Foreign (site : TypingContext) (copied : ℕ → Bool) (scope : Scope
   pub live : is_live scope.depth root ≡ true
   pub variables : (k : ℕ) (var : Var) → var_at site k ≡ Some var → is_input var.role ≡ false
       → lies_in (location_in scope site k []) root way ≡ false
-  pub copies : (k : ℕ) → copied k ≡ true → lies_in (copy_location scope k) root way ≡ false
+  pub copies : (k : ℕ) → copied k ≡ true → lies_in (copy_location scope site.vars k) root way ≡ false
 
 -- the memory represents these current and earlier values of the variables, and agrees with the one before on all that an act may not write
 pub record RepresentsAfter (site : TypingContext) (copied : ℕ → Bool) (scope : Scope) (here : Memory) (now before : List Value) (after : Memory) : Type 0 where
@@ -95,7 +95,8 @@ Simulates site copied scope here before (Some now) o = (o.end ≡ goes_on) × Re
 pub record BegunWith (site : TypingContext) (scope : Scope) (here : Memory) (now : List Value) (ks : List ℕ) (after : Memory) : Type 0 where
   pub variables : VariablesEncoded site now scope after
   pub copies : CopiesEncoded site now (λ k. list_any (nat_eq k) ks) scope after
-  pub kept : (root : Root) (way : List Projection) → list_any (λ k. lies_in (copy_location scope k) root way) ks ≡ false → after root way ≡ here root way
+  pub kept : (root : Root) (way : List Projection) → list_any (λ k. lies_in (copy_location scope site.vars k) root way) ks ≡ false →
+      after root way ≡ here root way
 
 -- ---- functions without a result
 

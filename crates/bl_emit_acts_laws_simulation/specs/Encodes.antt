@@ -68,17 +68,17 @@ pub record Encodes (structs : List StructDef) (ty : Ty) (value : Value) (held : 
 
 -- ---- variables
 
--- the location at which the place of a variable starts
-abbrev pub start_in : Scope → Bool → Home → ℕ → Location
-start_in scope activity Held k = named_location scope activity (codes "m")
-start_in scope activity Given k = named_location scope false (variable_name k)
-start_in scope activity Lent k = named_location scope true (variable_name k)
+-- the location at which the place of the variable at a position among its unit's starts
+abbrev pub start_in : Scope → Bool → Home → List Var → ℕ → Location
+start_in scope activity Held vars k = named_location scope activity (codes "m")
+start_in scope activity Given vars k = named_location scope false (variable_name vars k)
+start_in scope activity Lent vars k = named_location scope true (variable_name vars k)
 
 -- the steps from the start of a variable's place to the variable, by its home
-abbrev pub lead_in : Home → ℕ → List Projection
-lead_in Held k = member (variable_name k) ∷ []
-lead_in Given k = []
-lead_in Lent k = []
+abbrev pub lead_in : Home → List Var → ℕ → List Projection
+lead_in Held vars k = member (variable_name vars k) ∷ []
+lead_in Given vars k = []
+lead_in Lent vars k = []
 
 -- the home of the variable at a position
 abbrev pub home_at : TypingContext → ℕ → Home
@@ -87,7 +87,7 @@ home_at site k = home_of site (var_at site k)
 -- the location of what lies at a way in the variable at a position
 abbrev pub location_in : Scope → TypingContext → ℕ → List Projection → Location
 location_in scope site k way =
-    further (start_in scope (is_activity site.kind) (home_at site k) k) (lead_in (home_at site k) k ++ way)
+    further (start_in scope (is_activity site.kind) (home_at site k) site.vars k) (lead_in (home_at site k) site.vars k ++ way)
 
 -- each variable of a unit has its value at its place
 pub record VariablesEncoded (site : TypingContext) (now : List Value) (scope : Scope) (here : Memory) : Type 0 where
@@ -97,7 +97,7 @@ pub record VariablesEncoded (site : TypingContext) (now : List Value) (scope : S
 -- each copy of a variable, of those that are copied, has what the variable was when the tick began
 pub record CopiesEncoded (site : TypingContext) (before : List Value) (copied : ℕ → Bool) (scope : Scope) (here : Memory) : Type 0 where
   pub each : (k : ℕ) (var : Var) (value : Value) → copied k ≡ true → var_at site k ≡ Some var → slice_get before k ≡ Some value →
-      Encodes site.structs var.ty value (memory.value_at here (named_location scope false (copy_name k)))
+      Encodes site.structs var.ty value (memory.value_at here (named_location scope false (copy_name site.vars k)))
 
 -- ---- copies that an expression needs
 

@@ -3,7 +3,7 @@ use Rattle.std.specs.Prelude.{ℕ, List, [], ◌∷◌, ◌++◌, Option, Some, 
 use Rattle.bl_tree.specs.declared.c.CStmt.{CStmt}
 use Rattle.bl_emit_spec.specs.Blocks.{NodeCode, turn_code}
 
--- a turn with another one behind it: both do themselves what they do, the first asks, and the second tells how it goes on
+-- two turns as one: the test of the first, the own code of both, and the control code of the second
 abbrev pub followed : NodeCode → NodeCode → NodeCode
 followed first next = record { test = first.test; own = first.own ++ next.own; control = next.control }
 

@@ -34,20 +34,21 @@ use Rattle.bl_emit_functions.specs.Trees.{c_return_zero, flag_name}
 
 -- ---- parameters
 
--- a parameter: a scalar input by value, all others by pointer
-abbrev pub param_of : List StructDef → ℕ → Var → CParam
-param_of structs k var = record { ty = c_type structs var.ty; pointer = is_output var.role || is_none (scalar_in var.ty); name = variable_name k }
+-- the parameter of the variable at a position among all of its unit's: a scalar input by value, all others by pointer
+abbrev pub param_of : List StructDef → List Var → ℕ → Var → CParam
+param_of structs vars k var =
+    record { ty = c_type structs var.ty; pointer = is_output var.role || is_none (scalar_in var.ty); name = variable_name vars k }
 
--- the parameters for variables, the first of which is at this position of its unit
-abbrev pub params_from : List StructDef → ℕ → List Var → List CParam
-params_from structs k [] = []
-params_from structs k (var ∷ rest) = param_of structs k var ∷ params_from structs (k + 1) rest
+-- the parameters for variables, the first of which is at this position among all of its unit's
+abbrev pub params_from : List StructDef → List Var → ℕ → List Var → List CParam
+params_from structs vars k [] = []
+params_from structs vars k (var ∷ rest) = param_of structs vars k var ∷ params_from structs vars (k + 1) rest
 
 -- ---- variables
 
--- the member of a variable
-abbrev pub held_member : List StructDef → ℕ → Var → CMember
-held_member structs k var = record { ty = c_type structs var.ty; name = variable_name k; length = None }
+-- the member of the variable at a position among all of its unit's
+abbrev pub held_member : List StructDef → List Var → ℕ → Var → CMember
+held_member structs vars k var = record { ty = c_type structs var.ty; name = variable_name vars k; length = None }
 
 -- whether the unit holds what has this home
 abbrev pub is_held : Home → Bool
@@ -56,14 +57,15 @@ is_held Given = false
 is_held Lent = false
 
 -- the member of a variable that the unit holds; others have none
-abbrev pub member_of : Bool → List StructDef → ℕ → Var → List CMember
-member_of true structs k var = held_member structs k var ∷ []
-member_of false structs k var = []
+abbrev pub member_of : Bool → List StructDef → List Var → ℕ → Var → List CMember
+member_of true structs vars k var = held_member structs vars k var ∷ []
+member_of false structs vars k var = []
 
 -- the members of the variables that the unit holds, of those from this position on
 abbrev pub members_from : TypingContext → ℕ → List Var → List CMember
 members_from site k [] = []
-members_from site k (var ∷ rest) = member_of (is_held (home_of site (Some var))) site.structs k var ++ members_from site (k + 1) rest
+members_from site k (var ∷ rest) =
+    member_of (is_held (home_of site (Some var))) site.structs site.vars k var ++ members_from site (k + 1) rest
 
 -- the members of the variables that a function holds
 abbrev pub members_of : List StructDef → List UnitDef → UnitDef → List CMember
@@ -104,7 +106,7 @@ flag_locals (suc n) = flag_locals n ++ flag_local n ∷ []
 
 -- a variable becomes what the parameter of its name points to
 abbrev pub c_input_copied : TypingContext → ℕ → CStmt
-c_input_copied site k = c_set (place_in site k []) (c_read (c_place true (variable_name k) []))
+c_input_copied site k = c_set (place_in site k []) (c_read (c_place true (variable_name site.vars k) []))
 
 -- an input that the unit holds is copied from what its parameter points to; others aren't
 abbrev pub input_copied : TypingContext → Home → ℕ → List CStmt
@@ -167,7 +169,7 @@ function_code structs earlier unit = record {
   fixed = true;
   result = option_map c_scalar unit.result;
   name = unit_name unit.name;
-  params = params_from structs 0 (parameters_of unit);
+  params = params_from structs unit.vars 0 (parameters_of unit);
   locals = memory_local unit.name (holds_any (site_of structs earlier unit) unit.vars)
       ++ flag_locals (body_coded (site_of structs earlier unit) unit).free.flags;
   body = whole_code (site_of structs earlier unit) unit;

@@ -16,7 +16,9 @@ use crate::homes::home_of_var;
 use crate::parts::returning;
 use crate::reads::in_block;
 use crate::statements::block;
-use bl_emit_acts::parts::{NOWHERE, joined, literal, numbered, prefixed, read, set, single, whole};
+use bl_emit_acts::parts::{
+    NOWHERE, joined, literal, named, numbered, prefixed, read, set, single, whole,
+};
 use bl_emit_acts::{Home, UnitSite, c_type, scalar_in, scalar_in_c, variable};
 use bl_tree::c::{CFunc, CLocal, CMember, CParam, CStmt, CStruct, CType};
 use bl_tree::tree::{Role, Stmt, StmtKind, StructDef, Unit, Var};
@@ -92,12 +94,19 @@ fn is_output_role(role: Role) -> bool
     matches!(role, Role::Output)
 }
 
-/// A scalar input is given by value, all others by pointer.
-fn param(alloc: Global, structs: &[StructDef], k: u64, var: &Var) -> Result<CParam, NoMemory>
-    ensures { IfOk result (λ made. made ≡ functions.param_of structs.now k var.now) }
+/// The parameter of the variable at a position among all of its unit's: a scalar input is given by value, all others by
+/// pointer.
+fn param(
+    alloc: Global,
+    structs: &[StructDef],
+    vars: &[Var],
+    k: usize,
+    var: &Var,
+) -> Result<CParam, NoMemory>
+    ensures { IfOk result (λ made. made ≡ functions.param_of structs.now vars.now k var.now) }
 {
     let ty = c_type(alloc, structs, &var.ty)?;
-    let name = numbered(alloc, "v", k)?;
+    let name = named(alloc, "v", vars, k)?;
     Ok(CParam {
         ty,
         pointer: is_output_role(var.role) || scalar_in(&var.ty).is_none(),
@@ -107,18 +116,24 @@ fn param(alloc: Global, structs: &[StructDef], k: u64, var: &Var) -> Result<CPar
 
 /// The parameters of a unit's function for its inputs and outputs. Fails only for want of memory.
 pub fn params(alloc: Global, structs: &[StructDef], unit: &Unit) -> Result<List<CParam>, NoMemory>
-    ensures { IfOk result (λ made. made ≡ functions.params_from structs.now 0 (parameters_of unit.now)) }
+    ensures { IfOk result (λ made. made ≡ functions.params_from structs.now unit.now.vars 0 (parameters_of unit.now)) }
 {
     let count = unit.inputs as usize + unit.outputs as usize;
-    params_of(alloc, structs, first(&unit.vars, count))
+    params_of(alloc, structs, &unit.vars, first(&unit.vars, count))
 }
 
-fn params_of(alloc: Global, structs: &[StructDef], vars: &[Var]) -> Result<List<CParam>, NoMemory>
-    ensures { IfOk result (λ made. made ≡ functions.params_from structs.now 0 vars.now) }
+/// The parameters of a unit's first variables.
+fn params_of(
+    alloc: Global,
+    structs: &[StructDef],
+    vars: &[Var],
+    parameters: &[Var],
+) -> Result<List<CParam>, NoMemory>
+    ensures { IfOk result (λ made. made ≡ functions.params_from structs.now vars.now 0 parameters.now) }
 {
     let mut made = List::new(alloc);
-    for k in 0..vars.len() {
-        made.push(param(alloc, structs, k as u64, &vars[k])?)?;
+    for k in 0..parameters.len() {
+        made.push(param(alloc, structs, vars, k, &parameters[k])?)?;
     }
     Ok(made)
 }
@@ -151,7 +166,7 @@ fn members(alloc: Global, site: &UnitSite, vars: &[Var]) -> Result<List<CMember>
     ensures { IfOk result (λ made. made ≡ functions.members_from (site_in site.entry.now) 0 vars.now) }
 {
     let mut made = List::new(alloc);
-    let mut k: u64 = 0;
+    let mut k: usize = 0;
     for var in vars {
         made = with_member(alloc, made, site, k, var)?;
         k = k.checked_add(1).ok_or(NoMemory)?;
@@ -164,15 +179,16 @@ fn with_member(
     alloc: Global,
     members: List<CMember>,
     site: &UnitSite,
-    k: u64,
+    k: usize,
     var: &Var,
 ) -> Result<List<CMember>, NoMemory>
     ensures { IfOk result (λ made. made ≡ members
-        ++ functions.member_of (functions.is_held (home_of (site_in site.entry.now) (Some var.now))) (site_in site.entry.now).structs k var.now) }
+        ++ functions.member_of (functions.is_held (home_of (site_in site.entry.now) (Some var.now)))
+        (site_in site.entry.now).structs (site_in site.entry.now).vars k var.now) }
 {
     let mut made = members;
     if is_held(site, var) {
-        made.push(member(alloc, site.structs, k, var)?)?;
+        made.push(member(alloc, site, k, var)?)?;
     }
     Ok(made)
 }
@@ -183,11 +199,12 @@ fn is_held(site: &UnitSite, var: &Var) -> bool
     matches!(home_of_var(site, var), Home::Held)
 }
 
-fn member(alloc: Global, structs: &[StructDef], k: u64, var: &Var) -> Result<CMember, NoMemory>
-    ensures { IfOk result (λ made. made ≡ functions.held_member structs.now k var.now) }
+fn member(alloc: Global, site: &UnitSite, k: usize, var: &Var) -> Result<CMember, NoMemory>
+    ensures { IfOk result (λ made. made
+        ≡ functions.held_member (site_in site.entry.now).structs (site_in site.entry.now).vars k var.now) }
 {
-    let ty = c_type(alloc, structs, &var.ty)?;
-    let name = numbered(alloc, "v", k)?;
+    let ty = c_type(alloc, site.structs, &var.ty)?;
+    let name = named(alloc, "v", site.vars, k)?;
     Ok(CMember {
         ty,
         name,
@@ -286,7 +303,7 @@ fn copy(alloc: Global, site: &UnitSite, k: u32) -> Result<CStmt, NoMemory>
     ensures { IfOk result (λ s. s ≡ functions.c_input_copied (site_in site.entry.now) k) }
 {
     let to = variable(alloc, site, k, List::new(alloc))?;
-    let from = whole(alloc, true, numbered(alloc, "v", u64::from(k))?);
+    let from = whole(alloc, true, named(alloc, "v", site.vars, k as usize)?);
     set(alloc, to, read(from))
 }
 

@@ -121,7 +121,7 @@ pub record FrameBegun (site : TypingContext) (scope : Scope) (now : List Value) 
       Encodes site.structs var.ty value (value_at here (location_in scope site k []))
   pub inputs : (k : ℕ) (var : Var) (value : Value) → var_at site k ≡ Some var
       → slice_get now k ≡ Some value → is_copied_input site k var ≡ true →
-      (is_older scope.depth (lent_at scope k).root ≡ true) × Encodes site.structs var.ty value (value_at here (lent_at scope k))
+      (is_older scope.depth (lent_at scope site.vars k).root ≡ true) × Encodes site.structs var.ty value (value_at here (lent_at scope site.vars k))
 
 -- a call of the C function of each function begins a frame as `FrameBegun` says, from the arguments that are handed over
 abbrev pub FramesBegin : List StructDef → List UnitDef → ℕ → Type 0

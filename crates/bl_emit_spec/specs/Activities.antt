@@ -215,7 +215,7 @@ abbrev pub activity_params : Activity → List CParam
 activity_params a =
     pointer_param (codes "f") (frame_name a.unit.name)
     ∷ (memory_params a (remembers_any a)
-    ++ (params_from a.structs 0 (parameters_of a.unit) ++ (result_params a.unit.result ++ over_param ∷ [])))
+    ++ (params_from a.structs a.unit.vars 0 (parameters_of a.unit) ++ (result_params a.unit.result ++ over_param ∷ [])))
 
 -- a local that is a number or a bool
 abbrev pub scalar_local : Scalar → Text → CLocal
@@ -244,7 +244,7 @@ mark_locals number rule = joined (map (mark_local number) rule.on_true)
 
 -- the local for the copy of a variable
 abbrev pub copy_local : Activity → ℕ → CLocal
-copy_local a k = scalar_local (c_scalar (scalar_at (slice_get a.unit.vars k))) (copy_name k)
+copy_local a k = scalar_local (c_scalar (scalar_at (slice_get a.unit.vars k))) (copy_name a.unit.vars k)
 
 -- the positions of the variables that are copied
 abbrev pub copied_in : Activity → List ℕ

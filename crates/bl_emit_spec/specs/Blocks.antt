@@ -28,7 +28,8 @@ use Rattle.bl_emit_acts.specs.Trees.{c_call, c_literal, c_not, c_read, c_two}
 use Rattle.bl_emit_functions.specs.Statements.{else_code}
 use Rattle.bl_emit_functions.specs.Trees.{c_if, c_truth}
 use Rattle.bl_machine_pass.specs.Transitions.{Age, Change, Condition, Needed, Transition}
-use Rattle.bl_machine_pass.specs.Transitions.{ClearsBoth, ClearsCounter, Ended, EndsWhen, Finishes, Flagged, IsAny, IsNew, IsOld, Rested, RestedIn, SetsCounter, SetsFlag, SetsMark}
+use Rattle.bl_machine_pass.specs.Transitions.{ClearsBoth, ClearsCounter, Ended, EndsWhen, Finishes, Flagged, IsAny, IsNew, IsOld, Rested, RestedIn}
+use Rattle.bl_machine_pass.specs.Transitions.{SetsCounter, SetsFlag, SetsMark}
 use Rattle.bl_emit_spec.specs.Names.{callee_frame, callee_memory, counter_place, ended_place, flag_place, frame_name, given_place}
 use Rattle.bl_emit_spec.specs.Names.{mark_place, over_place, rested_place, result_place}
 
@@ -292,7 +293,7 @@ control_code view a rule n = changes_code view rule.on_true
 abbrev pub node_code : ActivityView → ℕ → Transition → Node → List CStmt
 node_code view a rule n = own_code view n ++ control_code view a rule n
 
--- the turn of a node in C: what is asked before it, what it does itself, and how it goes on
+-- the code of a node in C: the test that guards it, its own code, and the control code, which tells what goes on after it
 pub record NodeCode : Type 0 where
   pub test : CExpr
   pub own : List CStmt
@@ -306,13 +307,13 @@ whole_code turn = turn.own ++ turn.control
 abbrev pub turn_code : NodeCode → CStmt
 turn_code turn = c_if turn.test (whole_code turn) None
 
--- what the nodes of a block do, from one of them on: each does itself what it does, and the last one tells how it goes on. Each other one goes on with the
--- node behind it, and with no other
+-- The code of a block from one of its nodes on: the own code of each node, and the control code of the last one. The control code of the others is left
+-- out, since each of them leads to the node behind it and nowhere else
 abbrev pub fused_code : NodeCode → List NodeCode → List CStmt
 fused_code last [] = whole_code last
 fused_code turn (next ∷ rest) = turn.own ++ fused_code next rest
 
--- the `if` of a block: it asks what is asked before its first node, and in it stands what its nodes do
+-- the `if` of a block: its condition is the test of the first node, and its statements are the code of all nodes
 abbrev pub merged_code : List NodeCode → List CStmt
 merged_code [] = []
 merged_code (first ∷ rest) = c_if first.test (fused_code first rest) None ∷ []

@@ -19,7 +19,7 @@ use Rattle.bl_emit_spec.specs.Activities.{activity_function, remembers_any}
 use Rattle.bl_emit_spec_laws.specs.Registers.Registers.{frame_at, over_at}
 use Rattle.bl_machine.specs.declared.machine.Activity.{Activity as InMachine}
 use Rattle.bl_machine_pass_laws_execution.specs.Frames.{Frames}
-use Rattle.bl_emit_spec_laws.specs.Calls.Built.{Activities, activity_at}
+use Rattle.bl_emit_spec_laws.specs.Calls.Built.{Activities, activity_at, site_at}
 use Rattle.bl_emit_spec_laws.specs.Calls.Calls.{ActivitySimulates, CallAddresses, CallBegins, MayGive}
 use Rattle.bl_emit_spec_laws.specs.Calls.Laws.{ActivitiesSimulate, CompilationContext, FunctionsBegin, PassesSimulate, scope_in}
 use Rattle.bl_emit_spec_laws.specs.Calls.Invariant.{result_at_c}
@@ -32,7 +32,7 @@ pub record PointersLead (w : Setting) (activities : Activities) (i : ℕ) (unit 
   pub over : over_at scope ≡ given.over
   pub memory : remembers_any (activity_at w activities i) ≡ true → remembered_at scope ≡ given.memory
   pub result : is_some unit.result ≡ true → result_at_c scope ≡ given.result
-  pub outputs : (k : ℕ) (place : Location) → slice_get given.outputs k ≡ Some place → lent_at scope (unit.inputs + k) ≡ place
+  pub outputs : (k : ℕ) (place : Location) → slice_get given.outputs k ≡ Some place → lent_at scope (site_at w activities i).vars (unit.inputs + k) ≡ place
 
 -- the pointers of the called function lead to the places that it was given, in each call
 abbrev pub PointersAreGiven : List StructDef → List UnitDef → ℕ → List InMachine → Activities → Type 0

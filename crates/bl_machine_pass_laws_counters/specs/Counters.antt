@@ -14,13 +14,14 @@ use Rattle.bl_machine.specs.Uses.{Slots}
 use Rattle.bl_machine_pass_laws_execution.specs.Frames.{Frames, FramesMatchTree}
 use Rattle.bl_machine_pass_laws_execution.specs.Machines.{slots_at}
 
--- two trees of the entry have the same numbers: some numbers for the counters of all instances match both trees. They may be any for what a tree doesn't call
+-- One choice of numbers for the counters of all instances matches both trees of the entry. The counters of an instance that neither tree calls may hold any
+-- numbers
 pub record SameNumbers (slots : ℕ → Slots) (c d : Tree) : Type 0 where
   pub frames : Frames
   pub first : FramesMatchTree slots frames 0 c
   pub second : FramesMatchTree slots frames 0 d
 
--- the tree is none before the first tick
+-- the tree is that of a body that has begun: it is none from before the first tick
 abbrev pub HasBegun : Control → Type 0
 HasBegun (Idle items) = ⊥
 HasBegun _ = ⊤

@@ -115,9 +115,9 @@ module _ (site : TypingContext) (copied : ℕ → Bool) (context : Context) (dec
   pub own_place : (k : ℕ) (var : Var) → var_at site k ≡ Some var → PlaceIs context (leads_through site k) (c_type structs var.ty) (place_in site k [])
   own_place k var there =
       subst (λ o. PlaceIs context (home_leads (is_activity site.kind) (home_of site o)) (c_type structs var.ty)
-      (place_by_steps (is_activity site.kind) (home_of site o) k []))
+      (place_by_steps (is_activity site.kind) (home_of site o) site.vars k []))
       (sym there)
-      (home_place context (is_activity site.kind) (home_of site (Some var)) k (c_type structs var.ty) (c_type structs var.ty) []
+      (home_place context (is_activity site.kind) (home_of site (Some var)) site.vars k (c_type structs var.ty) (c_type structs var.ty) []
       (declared.variables k var there)
       (λ at. refl))
 
@@ -140,8 +140,8 @@ module _ (site : TypingContext) (copied : ℕ → Bool) (context : Context) (dec
 
   copy_is : (k : ℕ) (var : Var) → var_at site k ≡ Some var → copied k ≡ true → StmtIs context (c_copied site k)
   copy_is k var there copied_k =
-      set-is context false (c_type structs var.ty) (c_place false (copy_name k) []) (c_read (place_in site k []))
-      (variable_place context (copy_name k) (c_type structs var.ty) (declared.copies k var copied_k there))
+      set-is context false (c_type structs var.ty) (c_place false (copy_name site.vars k) []) (c_read (place_in site k []))
+      (variable_place context (copy_name site.vars k) (c_type structs var.ty) (declared.copies k var copied_k there))
       (read-is context (leads_through site k) (c_type structs var.ty) (place_in site k []) (own_place k var there)) (no_more context.is_read_only)
 
   copies_are : (k : ℕ) (var : Var) → var_at site k ≡ Some var → (b : Bool) → copied k ≡ b → BlockIs context (copy_code site b k)

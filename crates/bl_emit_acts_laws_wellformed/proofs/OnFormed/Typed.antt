@@ -94,22 +94,25 @@ module _ (context : Context) where
   pointer_place name ty is = place-is context true name [] ty ty (λ at. root_pointer name ty at is) (λ at. refl)
 
   -- steps from a variable
-  pub home_place : (activity : Bool) (home : Home) (k : ℕ) (ty last : CType) (steps : List CStep) → IsDeclaredAt context activity home k ty →
+  pub home_place : (activity : Bool) (home : Home) (vars : List Var) (k : ℕ) (ty last : CType) (steps : List CStep) →
+      IsDeclaredAt context activity home vars k ty →
       ((at : Place) → steps_judged context steps at (Some ty) ≡ sound last) →
-      PlaceIs context (home_leads activity home) last (place_by_steps activity home k steps)
-  home_place activity Held k ty last steps held ends =
-      place-is context activity (codes "m") (c_step (variable_name k) ∷ steps) (OfStruct held.name) last
+      PlaceIs context (home_leads activity home) last (place_by_steps activity home vars k steps)
+  home_place activity Held vars k ty last steps held ends =
+      place-is context activity (codes "m") (c_step (variable_name vars k) ∷ steps) (OfStruct held.name) last
       (λ at. root_memory activity (OfStruct held.name) at held.memory)
       (λ at. ap (λ (first : Judged). record {
         ty = (steps_judged context steps at first.ty).ty;
         faults = first.faults ++
             (steps_judged context steps at first.ty).faults;
       })
-      (step-judged context (variable_name k) at (Some (OfStruct held.name))
-      ∙ into_member context (variable_name k) (OfStruct held.name) ty at held.member)
+      (step-judged context (variable_name vars k) at (Some (OfStruct held.name))
+      ∙ into_member context (variable_name vars k) (OfStruct held.name) ty at held.member)
       ∙ ends at)
-  home_place activity Given k ty last steps is ends = place-is context false (variable_name k) steps ty last (λ at. root_plain (variable_name k) ty at is) ends
-  home_place activity Lent k ty last steps is ends = place-is context true (variable_name k) steps ty last (λ at. root_pointer (variable_name k) ty at is) ends
+  home_place activity Given vars k ty last steps is ends =
+      place-is context false (variable_name vars k) steps ty last (λ at. root_plain (variable_name vars k) ty at is) ends
+  home_place activity Lent vars k ty last steps is ends =
+      place-is context true (variable_name vars k) steps ty last (λ at. root_pointer (variable_name vars k) ty at is) ends
 
 -- ---- paths
 
@@ -175,7 +178,7 @@ module _ (site : TypingContext) (copied : ℕ → Bool) (context : Context) (dec
     prev_scalar var (Some s) is there = is
 
     prev_by : (k : ℕ) (ty : Ty) → InActivity site (copied k) → option_and_then (prev_type site.kind) (var_at site k) ≡ Some ty →
-        Made_of ty (Number (scalar_at (var_at site k)) (c_read (c_place false (copy_name k) [])))
+        Made_of ty (Number (scalar_at (var_at site k)) (c_read (c_place false (copy_name site.vars k) [])))
     prev_by k ty copied_k typed =
         let found = some_found (prev_type site.kind) (var_at site k) ty typed in
         let var : Var = found.0 in
@@ -184,14 +187,14 @@ module _ (site : TypingContext) (copied : ℕ → Bool) (context : Context) (dec
         (and_right (is_activity site.kind) _ is.0) in
         let s : ScalarType = unwrap_or (scalar_in var.ty) OfBool in
         let scalar_is : scalar_in var.ty ≡ Some s = prev_scalar var (scalar_in var.ty) refl there in
-        let place : PlaceIs context false (c_type structs var.ty) (c_place false (copy_name k) []) =
-        variable_place context (copy_name k) (c_type structs var.ty) (declared.copies k var
+        let place : PlaceIs context false (c_type structs var.ty) (c_place false (copy_name site.vars k) []) =
+        variable_place context (copy_name site.vars k) (c_type structs var.ty) (declared.copies k var
         (copied_k (and_left (is_activity site.kind) (is_variable var.role && is_some (scalar_in var.ty)) is.0)) found.1) in
-        subst (λ at. Made_of ty (Number (scalar_at at) (c_read (c_place false (copy_name k) [])))) (sym found.1)
-        (subst (λ ty. Made_of ty (Number s (c_read (c_place false (copy_name k) [])))) (same_Some var.ty ty is.1) (
+        subst (λ at. Made_of ty (Number (scalar_at at) (c_read (c_place false (copy_name site.vars k) [])))) (sym found.1)
+        (subst (λ ty. Made_of ty (Number s (c_read (c_place false (copy_name site.vars k) [])))) (same_Some var.ty ty is.1) (
           scalar_is,
-          subst (λ t. ExprIs context t (c_read (c_place false (copy_name k) []))) (c_scalar_type structs var.ty s scalar_is)
-              (read-is context false (c_type structs var.ty) (c_place false (copy_name k) []) place),
+          subst (λ t. ExprIs context t (c_read (c_place false (copy_name site.vars k) []))) (c_scalar_type structs var.ty s scalar_is)
+              (read-is context false (c_type structs var.ty) (c_place false (copy_name site.vars k) []) place),
         ))
 
     prev_typed : (place : Place) (k : ℕ) → P (expr place (ExprKind-F.Prev k))
@@ -495,10 +498,10 @@ module _ (site : TypingContext) (copied : ℕ → Bool) (context : Context) (dec
         λ at. steps_are parts each (λ act. let named_now = named act in rw fold-roll-Path at named_now) var.ty ty
         (found.2 ∙ ap Some same) (declared.types.variables root var found.1) at in
         let home : (o : Option Var) → o ≡ Some var → PlaceIs context (home_leads (is_activity site.kind) (home_of site o)) (c_type structs ty)
-        (place_by_steps (is_activity site.kind) (home_of site o) root (steps_of (map (step_typing site) parts) (type_at o))) =
+        (place_by_steps (is_activity site.kind) (home_of site o) site.vars root (steps_of (map (step_typing site) parts) (type_at o))) =
         λ o there. subst (λ o. PlaceIs context (home_leads (is_activity site.kind) (home_of site o)) (c_type structs ty)
-        (place_by_steps (is_activity site.kind) (home_of site o) root (steps_of (map (step_typing site) parts) (type_at o)))) (sym there)
-        (home_place context (is_activity site.kind) (home_of site (Some var)) root (c_type structs var.ty) (c_type structs ty)
+        (place_by_steps (is_activity site.kind) (home_of site o) site.vars root (steps_of (map (step_typing site) parts) (type_at o)))) (sym there)
+        (home_place context (is_activity site.kind) (home_of site (Some var)) site.vars root (c_type structs var.ty) (c_type structs ty)
         (steps_of (map (step_typing site) parts) (Some var.ty)) (declared.variables root var found.1) ends) in
         rw fold-roll-Path (rooted_at (roll-Path (record { place = place; root = root; parts = parts; ty = written })) root ty _
         (ap (λ p. p.root) (out-roll-Path (record { place = place; root = root; parts = parts; ty = written }))) (record {

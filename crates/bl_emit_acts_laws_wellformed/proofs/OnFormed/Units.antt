@@ -7,9 +7,10 @@ use Rattle.std.specs.List.{list_all}
 use Rattle.bl_tree.specs.declared.tree.StructDef.{StructDef}
 use Rattle.bl_tree.specs.declared.tree.Unit.{Unit as UnitDef}
 use Rattle.bl_tree.specs.declared.tree.Var.{Var}
-use Rattle.bl_tree.specs.Program.{IsWellTyped, is_input, is_output, roles_stand, unit_stands, units_stand_after}
+use Rattle.bl_tree.specs.Program.{IsWellTyped, is_input, is_output, names_of, roles_stand, unit_stands, units_stand_after}
 use Rattle.bl_tree.specs.Types.{type_stands}
 use Rattle.bl_tree.specs.Typing.{fits, inputs_of, outputs_of, site_of}
+use Rattle.bl_tree.specs.Words.{is_name}
 use Rattle.bl_eval.proofs.PassLemmas.{and_left, and_right}
 
 -- what stands among the first of a list stands in the list
@@ -37,6 +38,9 @@ module _ (structs : List StructDef) (units : List UnitDef) (entry : ℕ) (keeps 
 
   pub roles_at : (k : ℕ) (unit : UnitDef) → slice_get units k ≡ Some unit → roles_stand unit ≡ true
   roles_at k unit there = and_left _ _ (and_left _ _ (unit_at k unit there))
+
+  pub vars_named : (k : ℕ) (unit : UnitDef) → slice_get units k ≡ Some unit → list_all is_name (names_of unit.vars) ≡ true
+  vars_named k unit there = and_left _ _ (and_right _ _ (and_left _ _ (unit_at k unit there)))
 
   pub inputs_stand : (k : ℕ) (unit : UnitDef) → slice_get units k ≡ Some unit → list_all (λ (var : Var). is_input var.role) (inputs_of unit) ≡ true
   inputs_stand k unit there = and_left _ _ (and_right _ _ (roles_at k unit there))

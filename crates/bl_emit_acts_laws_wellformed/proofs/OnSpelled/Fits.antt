@@ -28,7 +28,7 @@ use Rattle.bl_tree.specs.declared.tree.Unit.{Unit as UnitDef}
 use Rattle.bl_tree.specs.declared.tree.Var.{Var}
 use Rattle.bl_tree.specs.Depths.{expr_depth, expr_layer_depth, kind_depth, part_depth, path_depth, path_layer_depth}
 use Rattle.bl_tree.specs.Numbers.{takes_one, takes_two, type_of_result}
-use Rattle.bl_tree.specs.Program.{field_names, structs_stand_from}
+use Rattle.bl_tree.specs.Program.{field_names, names_of, structs_stand_from}
 use Rattle.bl_tree.specs.Reduce.{greatest}
 use Rattle.bl_tree.specs.Scalar.{in_range, is_int, is_whole}
 use Rattle.bl_tree.specs.Types.{same_scalar, same_type, scalar, scalar_in, type_stands, type_stands_level}
@@ -80,6 +80,7 @@ source_name name h = h
 
 module _ (site : TypingContext) (stand : structs_stand_from 0 site.structs ≡ true) (few : length site.vars ≤ 2 ^ 64)
     (named : (f : ℕ) (callee : UnitDef) → slice_get site.earlier f ≡ Some callee → words.is_name callee.name ≡ true)
+    (vars_named : list_all words.is_name (names_of site.vars) ≡ true)
     (typed_vars : (k : ℕ) (var : Var) → var_at site k ≡ Some var → type_stands (length site.structs) var.ty ≡ true) where
   abbrev structs : List StructDef
   structs = site.structs
@@ -132,18 +133,19 @@ module _ (site : TypingContext) (stand : structs_stand_from 0 site.structs ≡ t
   prev_scalar var (Some s) is there = is
 
   prev_by : (k : ℕ) (ty : Ty) → option_and_then (prev_type site.kind) (var_at site k) ≡ Some ty →
-      MadeFits 2 ty (Number (scalar_at (var_at site k)) (c_read (c_place false (copy_name k) [])))
+      MadeFits 2 ty (Number (scalar_at (var_at site k)) (c_read (c_place false (copy_name site.vars k) [])))
   prev_by k ty typed =
       let found = some_found (prev_type site.kind) (var_at site k) ty typed in
       let var : Var = found.0 in
       let is = where_holds (is_activity site.kind && (is_variable var.role && is_some (scalar_in var.ty))) (Some var.ty) ty found.2 in
       let there : is_some (scalar_in var.ty) ≡ true = and_right (is_variable var.role) (is_some (scalar_in var.ty))
       (and_right (is_activity site.kind) _ is.0) in
-      subst (λ at. MadeFits 2 ty (Number (scalar_at at) (c_read (c_place false (copy_name k) [])))) (sym found.1)
-      (subst (λ ty. MadeFits 2 ty (Number (unwrap_or (scalar_in var.ty) OfBool) (c_read (c_place false (copy_name k) [])))) (same_Some var.ty ty is.1) (
+      subst (λ at. MadeFits 2 ty (Number (scalar_at at) (c_read (c_place false (copy_name site.vars k) [])))) (sym found.1)
+      (subst (λ ty. MadeFits 2 ty (Number (unwrap_or (scalar_in var.ty) OfBool) (c_read (c_place false (copy_name site.vars k) []))))
+      (same_Some var.ty ty is.1) (
         prev_scalar var (scalar_in var.ty) refl there,
-        read-fits 2 nowhere (c_place false (copy_name k) [])
-            (place-fits 2 false (copy_name k) [] (omega arith) (copy-name k (below k var found.1)) refl),
+        read-fits 2 nowhere (c_place false (copy_name site.vars k) [])
+            (place-fits 2 false (copy_name site.vars k) [] (omega arith) (copy-name site.vars k vars_named (below k var found.1)) refl),
       ))
 
   prev_fits : (place : Place) (k : ℕ) → P (expr place (ExprKind-F.Prev k))
@@ -415,12 +417,13 @@ module _ (site : TypingContext) (stand : structs_stand_from 0 site.structs ≡ t
       (steps_fit rest (All-tail (λ part. OfIndex P (out-Part part)) part rest each) c b d later found.2 one.2))
 
   home_fits : (d : ℕ) (activity : Bool) (home : Home) (k : ℕ) (steps : List CStep) → 1 ≤ d → k < 2 ^ 64 → list_all (step_fits d) steps ≡ true →
-      place_fits d (place_by_steps activity home k steps) ≡ true
+      place_fits d (place_by_steps activity home site.vars k steps) ≡ true
   home_fits d activity Held k steps low small all =
-      place-fits d activity (codes "m") (c_step (variable_name k) ∷ steps) low memory-name
-      (both (step_fits d (c_step (variable_name k))) (list_all (step_fits d) steps) (step-fits d (variable_name k) (variable-name k small)) all)
-  home_fits d activity Given k steps low small all = place-fits d false (variable_name k) steps low (variable-name k small) all
-  home_fits d activity Lent k steps low small all = place-fits d true (variable_name k) steps low (variable-name k small) all
+      place-fits d activity (codes "m") (c_step (variable_name site.vars k) ∷ steps) low memory-name
+      (both (step_fits d (c_step (variable_name site.vars k))) (list_all (step_fits d) steps)
+      (step-fits d (variable_name site.vars k) (variable-name site.vars k vars_named small)) all)
+  home_fits d activity Given k steps low small all = place-fits d false (variable_name site.vars k) steps low (variable-name site.vars k vars_named small) all
+  home_fits d activity Lent k steps low small all = place-fits d true (variable_name site.vars k) steps low (variable-name site.vars k vars_named small) all
 
   path_fits : (place : Place) (root : ℕ) (parts : List Part) (written : Ty) → EachIndex P parts →
       Q (roll-Path (record { place = place; root = root; parts = parts; ty = written }))

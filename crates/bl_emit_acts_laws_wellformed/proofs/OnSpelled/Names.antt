@@ -1,18 +1,21 @@
 -- A letter with a number behind it begins a name of the subset: no word of C or of the grammar has a digit as its second byte.
-use Rattle.std.proofs.Common.{◌≡◌, ℕ, ◌<◌, ◌^◌, Bool, true, false, not, ◌&&◌, ◌||◌, nat_eq, List, [], ◌∷◌, ◌++◌}
+use Rattle.std.proofs.Common.{◌≡◌, ℕ, zero, suc, ◌<◌, ◌^◌, Bool, true, false, not, ◌&&◌, ◌||◌, nat_eq, List, [], ◌∷◌, ◌++◌}
 use Rattle.std.proofs.Common.{map, length, take, Some}
 use Rattle.std.proofs.Common.{refl, sym, ap, ◌∙◌, arith, codes}
 use Rattle.std.proofs.lemmas.Bool.{eqb-true}
 use Rattle.std.proofs.lemmas.Bool.Decides.{nat_tests}
 use Rattle.std.proofs.lemmas.Fmt.{decimal_is_IsNumeral}
-use Rattle.std.specs.Prelude.{bytes_eq, if◌then◌else◌}
+use Rattle.std.specs.Prelude.{bytes_eq, if◌then◌else◌, slice_get}
 use Rattle.std.specs.Char.{digit_value, is_ascii_digit}
 use Rattle.std.specs.Cmp.Lexicographic.{pointwise}
 use Rattle.std.specs.Fmt.{decimal}
-use Rattle.std.specs.List.{starts_with}
+use Rattle.std.specs.List.{list_all, starts_with}
 use Rattle.std.specs.Str.Parse.{AllDigits}
 use Rattle.bl_tree.specs.declared.text.Text.{Text}
+use Rattle.bl_tree.specs.declared.tree.Var.{Var}
+use Rattle.bl_tree.specs.Program.{names_of}
 use Rattle.bl_tree.specs.Reduce.{all_of, any_of}
+use Rattle.bl_tree.specs.Words as words
 use Rattle.bl_ctext.specs.declared.builtin.Builtin.{Builtin}
 use Rattle.bl_ctext.specs.Builtins.{builtins}
 use Rattle.bl_ctext.specs.Token.{is_word, is_word_byte}
@@ -22,7 +25,7 @@ use Rattle.bl_ctext.proofs.Bytes.{and-fst, and-snd, both, or-snd}
 use Rattle.bl_ctext.proofs.PrefixedNames.{name-callee, name-with_prefix}
 use Rattle.bl_ctext_semantics.specs.Builtin.{builtin_of}
 use Rattle.bl_ctext_semantics.specs.Tables.{found}
-use Rattle.bl_emit_acts.specs.Types.{copy_name, elements_name, field_name, unit_name, variable_name}
+use Rattle.bl_emit_acts.specs.Types.{copy_name, elements_name, field_name, numbered_name, source_name, unit_name, variable_name}
 
 -- ---- digits
 
@@ -106,13 +109,50 @@ numbered-name b k h i small =
     let numeral = decimal_is_IsNumeral k small in
     lettered-name b (decimal k) h i (begins_itself (decimal k) numeral.0.0 numeral.0.1) (digits_word (decimal k) numeral.0.1)
 
+-- ---- names of the source
+
+word_bytes : (text : List ℕ) → list_all words.is_word_byte text ≡ true → all_of (map is_word_byte text) ≡ true
+word_bytes [] h = refl
+word_bytes (b ∷ bs) h =
+    both (is_word_byte b) (all_of (map is_word_byte bs)) (and-fst (words.is_word_byte b) (list_all words.is_word_byte bs) h)
+    (word_bytes bs (and-snd (words.is_word_byte b) (list_all words.is_word_byte bs) h))
+
+plain_bytes : (text : List ℕ) → words.is_plain_word text ≡ true → list_all words.is_word_byte text ≡ true
+plain_bytes [] h = refl
+plain_bytes (b ∷ bs) h = and-snd (not (is_ascii_digit b)) (list_all words.is_word_byte (b ∷ bs)) h
+
+name_bytes : (name : Text) → words.is_name name ≡ true → all_of (map is_word_byte name) ≡ true
+name_bytes name h = word_bytes name (plain_bytes name (and-fst (words.is_plain_word name) _ h))
+
+-- what a variable's name has in C of its name in the source
+named_bytes : (vars : List Var) (k : ℕ) → list_all words.is_name (names_of vars) ≡ true →
+    all_of (map is_word_byte (source_name (slice_get vars k))) ≡ true
+named_bytes [] k all = refl
+named_bytes (var ∷ vars) zero all = name_bytes var.name (and-fst (words.is_name var.name) (list_all words.is_name (names_of vars)) all)
+named_bytes (var ∷ vars) (suc k) all =
+    named_bytes vars k (and-snd (words.is_name var.name) (list_all words.is_name (names_of vars)) all)
+
+bytes_behind : (ds more : List ℕ) → AllDigits 10 ds → all_of (map is_word_byte more) ≡ true → all_of (map is_word_byte (ds ++ more)) ≡ true
+bytes_behind [] more all h = h
+bytes_behind (c ∷ ds) more all h =
+    both (is_word_byte c) (all_of (map is_word_byte (ds ++ more))) (word_digit c all.0) (bytes_behind ds more all.1 h)
+
+-- a letter, the position of a variable, `_`, and its name in the source
+source-name : (b : ℕ) (vars : List Var) (k : ℕ) → is_word_byte b ≡ true → is_ascii_digit b ≡ false → list_all words.is_name (names_of vars) ≡ true →
+    k < 2 ^ 64 → is_name (b ∷ numbered_name vars k) ≡ true
+source-name b vars k h i all small =
+    let numeral = decimal_is_IsNumeral k small in
+    let behind : List ℕ = 95 ∷ source_name (slice_get vars k) in
+    lettered-name b (numbered_name vars k) h i (digits_begin (decimal k) behind numeral.0.0 numeral.0.1)
+    (bytes_behind (decimal k) behind numeral.0.1 (both (is_word_byte 95) _ refl (named_bytes vars k all)))
+
 -- ---- names that are made
 
-pub variable-name : (k : ℕ) → k < 2 ^ 64 → is_name (variable_name k) ≡ true
-variable-name k small = numbered-name 118 k refl refl small
+pub variable-name : (vars : List Var) (k : ℕ) → list_all words.is_name (names_of vars) ≡ true → k < 2 ^ 64 → is_name (variable_name vars k) ≡ true
+variable-name vars k all small = source-name 118 vars k refl refl all small
 
-pub copy-name : (k : ℕ) → k < 2 ^ 64 → is_name (copy_name k) ≡ true
-copy-name k small = numbered-name 112 k refl refl small
+pub copy-name : (vars : List Var) (k : ℕ) → list_all words.is_name (names_of vars) ≡ true → k < 2 ^ 64 → is_name (copy_name vars k) ≡ true
+copy-name vars k all small = source-name 112 vars k refl refl all small
 
 pub memory-name : is_name (codes "m") ≡ true
 unfolding is_name is_among

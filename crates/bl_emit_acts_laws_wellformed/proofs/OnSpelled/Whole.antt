@@ -14,7 +14,7 @@ use Rattle.bl_tree.specs.Typing.{TypingContext, site_of}
 use Rattle.bl_tree.specs.Words as words
 use Rattle.bl_eval.proofs.PassLemmas.{all_at, and_left, and_right}
 use Rattle.bl_emit_acts.specs.Expressions.{made_of}
-use Rattle.bl_emit_acts_laws_wellformed.proofs.OnFormed.Units.{taken_there, vars_stand}
+use Rattle.bl_emit_acts_laws_wellformed.proofs.OnFormed.Units.{taken_there, vars_named, vars_stand}
 use Rattle.bl_emit_acts_laws_wellformed.specs.Spelled.{ExpressionsFit, PlacesFit}
 use Rattle.bl_emit_acts_laws_wellformed.proofs.OnSpelled.Fits.{made_fits, place_fit, room}
 use Rattle.bl_emit_acts_laws_wellformed.proofs.OnSpelled.Operators.{code-fits}
@@ -46,9 +46,10 @@ pub expressions : (structs : List StructDef) (units : List UnitDef) (entry : ℕ
 expressions structs units entry k unit e ty keeps there few typed =
     let site : TypingContext = site_of structs (take k units) unit in
     code-fits (room (expr_depth e)) ty (made_of site e)
-    (made_fits site keeps.structs_stand few (earlier_named structs units entry keeps k) (vars_typed structs units entry keeps k unit there) e ty typed)
+    (made_fits site keeps.structs_stand few (earlier_named structs units entry keeps k) (vars_named structs units entry keeps k unit there)
+    (vars_typed structs units entry keeps k unit there) e ty typed)
 
 pub places : (structs : List StructDef) (units : List UnitDef) (entry : ℕ) → PlacesFit structs units entry
 places structs units entry k unit path ty keeps there few typed =
     (place_fit (site_of structs (take k units) unit) keeps.structs_stand few (earlier_named structs units entry keeps k)
-    (vars_typed structs units entry keeps k unit there) path ty typed).0
+    (vars_named structs units entry keeps k unit there) (vars_typed structs units entry keeps k unit there) path ty typed).0

@@ -45,17 +45,17 @@ variable_of pointer ty = record { pointer = pointer; ty = ty }
 abbrev pub plain_member : Text → CType → CMember
 plain_member name ty = record { ty = ty; name = name; length = None }
 
--- a variable of a unit is a member of the struct `m`: an activity is given a pointer to it, a function has it
-pub record HeldIn (context : Context) (activity : Bool) (k : ℕ) (ty : CType) : Type 0 where
+-- the variable at a position among its unit's is a member of the struct `m`: an activity is given a pointer to it, a function has it
+pub record HeldIn (context : Context) (activity : Bool) (vars : List Var) (k : ℕ) (ty : CType) : Type 0 where
   pub name : Text
   pub memory : context.variables (codes "m") ≡ Some (variable_of activity (OfStruct name))
-  pub member : member_of context (OfStruct name) (variable_name k) ≡ Some (plain_member (variable_name k) ty)
+  pub member : member_of context (OfStruct name) (variable_name vars k) ≡ Some (plain_member (variable_name vars k) ty)
 
--- a variable of a unit stands in C where its home is, with its C type
-abbrev pub IsDeclaredAt : Context → Bool → Home → ℕ → CType → Type 0
-IsDeclaredAt context activity Held k ty = HeldIn context activity k ty
-IsDeclaredAt context activity Given k ty = context.variables (variable_name k) ≡ Some (variable_of false ty)
-IsDeclaredAt context activity Lent k ty = context.variables (variable_name k) ≡ Some (variable_of true ty)
+-- the variable at a position among its unit's stands in C where its home is, with its C type
+abbrev pub IsDeclaredAt : Context → Bool → Home → List Var → ℕ → CType → Type 0
+IsDeclaredAt context activity Held vars k ty = HeldIn context activity vars k ty
+IsDeclaredAt context activity Given vars k ty = context.variables (variable_name vars k) ≡ Some (variable_of false ty)
+IsDeclaredAt context activity Lent vars k ty = context.variables (variable_name vars k) ≡ Some (variable_of true ty)
 
 -- whether the place of a variable with this home begins with what a pointer leads to
 abbrev pub home_leads : Bool → Home → Bool
@@ -92,8 +92,8 @@ InActivity site holds = is_activity site.kind ≡ true → holds ≡ true
 pub record Declared (site : TypingContext) (copied : ℕ → Bool) (context : Context) : Type 0 where
   pub types : TypesDeclared site context.structs
   pub variables : (k : ℕ) (var : Var) → var_at site k ≡ Some var →
-      IsDeclaredAt context (is_activity site.kind) (home_of site (Some var)) k (c_type site.structs var.ty)
+      IsDeclaredAt context (is_activity site.kind) (home_of site (Some var)) site.vars k (c_type site.structs var.ty)
   pub copies : (k : ℕ) (var : Var) → copied k ≡ true → var_at site k ≡ Some var →
-      context.variables (copy_name k) ≡ Some (variable_of false (c_type site.structs var.ty))
+      context.variables (copy_name site.vars k) ≡ Some (variable_of false (c_type site.structs var.ty))
   pub functions : (f : ℕ) (callee : UnitDef) → slice_get site.earlier f ≡ Some callee → is_function callee.kind ≡ true →
       context.functions (unit_name callee.name) ≡ Some (signature_for site.structs callee)

@@ -53,5 +53,5 @@ module _ (scope : Scope) (m : Memory) where
   read_alike site (Some k) true rest = (refl, refl)
   read_alike site (Some k) false rest =
       let o = runs_c (c_set_again site k) scope m in
-      let ends = again_ends (place_in site k []) _ (place_answer scope m (is_activity site.kind) (home_of site (var_at site k)) k []) in
+      let ends = again_ends (place_in site k []) _ (place_answer scope m (is_activity site.kind) (home_of site (var_at site k)) site.vars k []) in
       goes_alike o.count o.memory m o.end (block_c rest scope) ends.0 ends.1

@@ -128,11 +128,11 @@ module _ (site : TypingContext) (function : is_activity site.kind ≡ false) (sc
 
   -- no variable stands at a flag
   home_differs : (j k : ℕ) (var : Var) → var_at site k ≡ Some var → (home : Home) → home_at site k ≡ home → (activity : Bool) →
-      activity ≡ false → same_root (variable scope.depth (flag_name j)) (start_in scope activity home k).root ≡ false
+      activity ≡ false → same_root (variable scope.depth (flag_name j)) (start_in scope activity home site.vars k).root ≡ false
   home_differs j k var there Held is false none = own_differ scope.depth (flag_name j) (codes "m") refl
-  home_differs j k var there Given is false none = own_differ scope.depth (flag_name j) (variable_name k) refl
+  home_differs j k var there Given is false none = own_differ scope.depth (flag_name j) (variable_name site.vars k) refl
   home_differs j k var there Lent is false none =
-      older_differs scope.depth (flag_name j) (named_location scope true (variable_name k)).root (pointers.lent_older k var there is)
+      older_differs scope.depth (flag_name j) (named_location scope true (variable_name site.vars k)).root (pointers.lent_older k var there is)
   home_differs j k var there home is true none = absurd (no_such none)
 
   flag_differs : (j k : ℕ) (var : Var) → var_at site k ≡ Some var →

@@ -223,29 +223,29 @@ module _ (structs : List StructDef) (earlier : List UnitDef) (unit : UnitDef) (s
 
   -- ---- pointers
 
-  pub leads : (j : ℕ) (at : Location) → j < n → slice_get passed j ≡ Some (by_address at) → lent_at scope j ≡ at
+  pub leads : (j : ℕ) (at : Location) → j < n → slice_get passed j ≡ Some (by_address at) → lent_at scope site.vars j ≡ at
   leads j at less is =
-      ap (unwrap_or_at (record { root = variable depth (variable_name j); parts = [] }))
-      (pointer_given structs depth (parameters_of unit) 0 j j passed at (omega arith) (omega (arith, less, parameters))
+      ap (unwrap_or_at (record { root = variable depth (variable_name site.vars j); parts = [] }))
+      (pointer_given structs unit.vars depth (parameters_of unit) 0 j j passed at (omega arith) (omega (arith, less, parameters))
       (omega (arith, few, parameters, within)) is)
     where
       unwrap_or_at : Location → Option Location → Location
       unwrap_or_at other o = unwrap_or o other
 
-  lent_older : (j : ℕ) (var : Var) → home_at site j ≡ Lent → At j var → is_older depth (lent_at scope j).root ≡ true
+  lent_older : (j : ℕ) (var : Var) → home_at site j ≡ Lent → At j var → is_older depth (lent_at scope site.vars j).root ≡ true
   lent_older j var is (Where.number held value p v m less given isnt) = absurd (let isnt = sym given ∙ is in cc)
   lent_older j var is (Where.place at value p v older holds less isnt lent role) = ap (λ (l : Location). is_older depth l.root) (leads j at less p) ∙ older
   lent_older j var is (Where.local more isnt held) = absurd (let isnt = sym held ∙ is in cc)
 
   lent_apart : (i j : ℕ) (a b : Var) → var_at site i ≡ Some a → home_at site i ≡ Lent → home_at site j ≡ Lent → is_input a.role ≡ false →
-      nat_eq i j ≡ false → At i a → At j b → are_apart (lent_at scope i) (lent_at scope j) ≡ true
+      nat_eq i j ≡ false → At i a → At j b → are_apart (lent_at scope site.vars i) (lent_at scope site.vars j) ≡ true
   lent_apart i j a b there is other writable differ (Where.number held value p v m less given isnt) second = absurd (let isnt = sym given ∙ is in cc)
   lent_apart i j a b there is other writable differ (Where.local more isnt held) second = absurd (let isnt = sym held ∙ is in cc)
   lent_apart i j a b there is other writable differ first (Where.number held value p v m less given isnt) = absurd (let isnt = sym given ∙ other in cc)
   lent_apart i j a b there is other writable differ first (Where.local more isnt held) = absurd (let isnt = sym held ∙ other in cc)
   lent_apart i j a b there is other writable differ (Where.place at value p v older holds less isnt lent role)
       (Where.place to v2 q w older2 holds2 less2 no2 lent2 role2) =
-      ap (λ l. are_apart l (lent_at scope j)) (leads i at less p) ∙ ap (are_apart at) (leads j to less2 q)
+      ap (λ l. are_apart l (lent_at scope site.vars j)) (leads i at less p) ∙ ap (are_apart at) (leads j to less2 q)
       ∙ handed.apart i j a at to (parameter_at i a there less) (output_of a.role role writable) p q differ
 
   pointers : PointersAreValid site scope
@@ -263,7 +263,10 @@ module _ (structs : List StructDef) (earlier : List UnitDef) (unit : UnitDef) (s
   -- where a variable of a home stands
   abbrev stands_in : Bool → Home → ℕ → Location
   stands_in activity home j =
-      record { root = (start_in scope activity home j).root; parts = (start_in scope activity home j).parts ++ (lead_in home j ++ []) }
+      record {
+        root = (start_in scope activity home site.vars j).root;
+        parts = (start_in scope activity home site.vars j).parts ++ (lead_in home site.vars j ++ []);
+      }
 
   same_home : (j : ℕ) (home : Home) (ty : Ty) (value : Value) → home_at site j ≡ home →
       Encodes structs ty value (value_at begun (stands_in false home j)) → Encodes structs ty value (value_at begun (location_in scope site j []))
@@ -281,7 +284,7 @@ module _ (structs : List StructDef) (earlier : List UnitDef) (unit : UnitDef) (s
 
   memory_zero : (way : List Projection) → begun (variable depth (codes "m")) way ≡ pos 0
   memory_zero way =
-      other_stays structs depth (parameters_of unit) 0 passed (without_frame depth here) (codes "m") way (λ i more less. refl)
+      other_stays structs unit.vars depth (parameters_of unit) 0 passed (without_frame depth here) (codes "m") way (λ i more less. refl)
       ∙ ap (λ b. (if b then zeros else here (variable depth (codes "m"))) way) (eq-eqb depth depth refl)
 
   variable_holds : (j : ℕ) (var : Var) (value : Value) → var_at site j ≡ Some var → slice_get (frame_of structs unit values) j ≡ Some value →
@@ -289,7 +292,7 @@ module _ (structs : List StructDef) (earlier : List UnitDef) (unit : UnitDef) (s
   variable_holds j var value there at isnt (Where.number held mine p v m less given role) =
       same_home j Given var.ty value given
       (holds_same structs var.ty value held (value_at begun (stands_in false Given j))
-      (λ way. sym (value_given structs depth (parameters_of unit) 0 j j passed (without_frame depth here) held way (omega arith)
+      (λ way. sym (value_given structs unit.vars depth (parameters_of unit) 0 j j passed (without_frame depth here) held way (omega arith)
       (omega (arith, less, parameters))
       (omega (arith, few, parameters, within)) p))
       (number_alone structs var.ty value held (ap number_in (sym (frame_value j value mine v at)) ∙ m)))
@@ -303,7 +306,7 @@ module _ (structs : List StructDef) (earlier : List UnitDef) (unit : UnitDef) (s
       same_home j Held var.ty value held
       (subst (λ value. Encodes structs var.ty value (value_at begun (stands_in false Held j)))
       (made_behind (λ (var : Var). zero_of structs var.ty) values n unit.vars j value var handed.as_many more there at)
-      (zero_holds structs var.ty (value_at begun (stands_in false Held j)) (λ way. memory_zero ((member (variable_name j) ∷ []) ++ way))))
+      (zero_holds structs var.ty (value_at begun (stands_in false Held j)) (λ way. memory_zero ((member (variable_name site.vars j) ∷ []) ++ way))))
 
   and_first : (a b : Bool) → (a && b) ≡ true → a ≡ true
   and_first true b h = refl
@@ -315,7 +318,7 @@ module _ (structs : List StructDef) (earlier : List UnitDef) (unit : UnitDef) (s
   held_home Lent h = absurd (cc)
 
   input_there : (j : ℕ) (var : Var) (value : Value) → slice_get (frame_of structs unit values) j ≡ Some value → is_copied_input site j var ≡ true →
-      At j var → (is_older depth (lent_at scope j).root ≡ true) × Encodes structs var.ty value (value_at begun (lent_at scope j))
+      At j var → (is_older depth (lent_at scope site.vars j).root ≡ true) × Encodes structs var.ty value (value_at begun (lent_at scope site.vars j))
   input_there j var value at is (Where.number held mine p v m less given role) =
       absurd (let held = held_home (home_at site j) (and_right (is_input var.role) (is_held (home_at site j)) is) in
       let isnt = sym given ∙ held in cc)

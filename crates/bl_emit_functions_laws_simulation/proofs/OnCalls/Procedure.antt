@@ -188,7 +188,7 @@ module _ (structs : List StructDef) (units : List UnitDef) (entry k : ℕ) (unit
       where_is structs (take k units) unit (roles structs (take k units) unit (stands_at structs units entry k unit keeps there)) function may_run.vars known
       (depth + 1) (values ++ given) args here handed
 
-  leads_at : (j : ℕ) (at : Location) → j < unit.inputs + unit.outputs → slice_get args j ≡ Some (by_address at) → lent_at scope j ≡ at
+  leads_at : (j : ℕ) (at : Location) → j < unit.inputs + unit.outputs → slice_get args j ≡ Some (by_address at) → lent_at scope site.vars j ≡ at
   leads_at =
       leads structs (take k units) unit (roles structs (take k units) unit (stands_at structs units entry k unit keeps there)) function may_run.vars known
       (depth + 1) (values ++ given) args here handed
@@ -282,12 +282,13 @@ module _ (structs : List StructDef) (units : List UnitDef) (entry k : ℕ) (unit
       let is_passed : slice_get args m ≡ Some (by_address place) =
       get_behind passed (map by_address outputs) unit.inputs j m (many ∙ input_count) refl
       ∙ (slice_get-map by_address outputs j ∙ ap (option_map by_address) place_there) in
-      let leads : lent_at scope m ≡ place = leads_at m place (omega (arith, less)) is_passed in
+      let leads : lent_at scope site.vars m ≡ place = leads_at m place (omega (arith, less)) is_passed in
       let live : is_older (depth + 1) place.root ≡ true =
       live_older depth place.root (all_at (λ (place : Location). is_live depth place.root) outputs j place may.live place_there) in
       let found : Encodes structs var.ty value (value_at done.memory (location_in scope site m [])) = stand.variables.each m var value var_is value_is in
-      let lent : Encodes structs var.ty value (value_at done.memory (further (lent_at scope m) [])) =
-      subst (λ home. Encodes structs var.ty value (value_at done.memory (further (start_in scope (is_activity unit.kind) home m) (lead_in home m ++ [])))) home
+      let lent : Encodes structs var.ty value (value_at done.memory (further (lent_at scope site.vars m) [])) =
+      subst (λ home. Encodes structs var.ty value (value_at done.memory
+      (further (start_in scope (is_activity unit.kind) home site.vars m) (lead_in home site.vars m ++ [])))) home
       found in
       holds_same structs var.ty value (value_at done.memory (further place [])) (value_at called.memory place)
       (λ way. ap (λ parts. done.memory place.root (parts ++ way)) (append-nil place.parts) ∙ sym (older_back place.root (place.parts ++ way) live))
@@ -299,18 +300,18 @@ module _ (structs : List StructDef) (units : List UnitDef) (entry k : ℕ) (unit
     where
       by : (activity : Bool) (home : Home) → is_activity unit.kind ≡ activity → home_at site j ≡ home →
           Where site (depth + 1) here (values ++ given) args (unit.inputs + unit.outputs) j var →
-          lies_in (further (start_in scope activity home j) (lead_in home j ++ [])) root way ≡ false
+          lies_in (further (start_in scope activity home site.vars j) (lead_in home site.vars j ++ [])) root way ≡ false
       by true home kind is found = absurd (function_kind (is_activity unit.kind) function kind)
         where
           function_kind : (activity : Bool) → not activity ≡ true → activity ≡ true → ⊥
           function_kind true h i = no_such (sym h)
           function_kind false h i = no_such (sym i)
       by false Held kind is found =
-          ap (λ b. b && is_some (left_after (further (start_in scope false Held j) (lead_in Held j ++ [])).parts way))
+          ap (λ b. b && is_some (left_after (further (start_in scope false Held site.vars j) (lead_in Held site.vars j ++ [])).parts way))
           (older_differs (depth + 1) (codes "m") root older)
       by false Given kind is found =
-          ap (λ b. b && is_some (left_after (further (start_in scope false Given j) (lead_in Given j ++ [])).parts way))
-          (older_differs (depth + 1) (variable_name j) root older)
+          ap (λ b. b && is_some (left_after (further (start_in scope false Given site.vars j) (lead_in Given site.vars j ++ [])).parts way))
+          (older_differs (depth + 1) (variable_name site.vars j) root older)
       by false Lent kind is (Where.number held value p v m less given_home role) = absurd (let other = sym given_home ∙ is in cc)
       by false Lent kind is (Where.local more role held) = absurd (let other = sym held ∙ is in cc)
       by false Lent kind is (Where.place at value p v older_at holds_at less given_home lent role) =

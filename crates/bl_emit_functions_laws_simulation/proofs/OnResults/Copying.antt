@@ -59,41 +59,41 @@ held_home Lent h = absurd (cc)
 -- ---- what is set in the struct of a function's variables
 
 -- the variable at a position of that struct
-abbrev held_at : ℕ → ℕ → Location
-held_at depth j = record { root = variable depth (codes "m"); parts = member (variable_name j) ∷ [] }
+abbrev held_at : ℕ → List Var → ℕ → Location
+held_at depth vars j = record { root = variable depth (codes "m"); parts = member (variable_name vars j) ∷ [] }
 
-module _ (depth j : ℕ) (m : Memory) (v : CValue) where
+module _ (depth : ℕ) (vars : List Var) (j : ℕ) (m : Memory) (v : CValue) where
   -- what stands at another root stays
   other_root : (root : Root) (way : List Projection) → same_root (variable depth (codes "m")) root ≡ false →
-      set_at m (held_at depth j) v root way ≡ m root way
-  other_root root way h = ap (λ b. (if b then with_part (m root) (member (variable_name j) ∷ []) v else m root) way) h
+      set_at m (held_at depth vars j) v root way ≡ m root way
+  other_root root way h = ap (λ b. (if b then with_part (m root) (member (variable_name vars j) ∷ []) v else m root) way) h
 
   -- a variable of another name stays
-  other_member : (i : ℕ) (way : List Projection) → bytes_eq (variable_name j) (variable_name i) ≡ false →
-      set_at m (held_at depth j) v (variable depth (codes "m")) (member (variable_name i) ∷ way) ≡ m (variable depth (codes "m"))
-      (member (variable_name i) ∷ way)
+  other_member : (i : ℕ) (way : List Projection) → bytes_eq (variable_name vars j) (variable_name vars i) ≡ false →
+      set_at m (held_at depth vars j) v (variable depth (codes "m")) (member (variable_name vars i) ∷ way) ≡ m (variable depth (codes "m"))
+      (member (variable_name vars i) ∷ way)
   other_member i way h = by (same_root (variable depth (codes "m")) (variable depth (codes "m")))
     where
       old : CValue
       old = m (variable depth (codes "m"))
 
-      by : (same : Bool) → (if same then with_part old (member (variable_name j) ∷ []) v else old) (member (variable_name i) ∷ way)
-          ≡ old (member (variable_name i) ∷ way)
+      by : (same : Bool) → (if same then with_part old (member (variable_name vars j) ∷ []) v else old) (member (variable_name vars i) ∷ way)
+          ≡ old (member (variable_name vars i) ∷ way)
       by true =
-          ap (λ b. number_or (if b then left_after [] way else None) v (old (member (variable_name i) ∷ way))) h
+          ap (λ b. number_or (if b then left_after [] way else None) v (old (member (variable_name vars i) ∷ way))) h
       by false = refl
 
   -- the variable itself has what it was set to
-  own_member : (way : List Projection) → set_at m (held_at depth j) v (variable depth (codes "m")) (member (variable_name j) ∷ way) ≡ v way
+  own_member : (way : List Projection) → set_at m (held_at depth vars j) v (variable depth (codes "m")) (member (variable_name vars j) ∷ way) ≡ v way
   own_member way =
-      ap (λ b. (if b then with_part old (member (variable_name j) ∷ []) v else old) (member (variable_name j) ∷ way)) root_itself
-      ∙ ap (λ b. number_or (if b then left_after [] way else None) v (old (member (variable_name j) ∷ way))) name_itself
+      ap (λ b. (if b then with_part old (member (variable_name vars j) ∷ []) v else old) (member (variable_name vars j) ∷ way)) root_itself
+      ∙ ap (λ b. number_or (if b then left_after [] way else None) v (old (member (variable_name vars j) ∷ way))) name_itself
     where
       old : CValue
       old = m (variable depth (codes "m"))
 
-      name_itself : bytes_eq (variable_name j) (variable_name j) ≡ true
-      name_itself = (bytes_eq-Decides (variable_name j) (variable_name j)).1 refl
+      name_itself : bytes_eq (variable_name vars j) (variable_name vars j) ≡ true
+      name_itself = (bytes_eq-Decides (variable_name vars j) (variable_name vars j)).1 refl
 
       root_itself : same_root (variable depth (codes "m")) (variable depth (codes "m")) ≡ true
       root_itself = ap (λ b. b && bytes_eq (codes "m") (codes "m")) (eq-eqb depth depth refl)
@@ -127,54 +127,55 @@ module _ (site : TypingContext) (function : is_activity site.kind ≡ false) (sc
       omega (arith, less, few)
 
   -- where a held variable stands
-  held_is : (k : ℕ) → home_at site k ≡ Held → at k ≡ held_at scope.depth k
+  held_is : (k : ℕ) → home_at site k ≡ Held → at k ≡ held_at scope.depth site.vars k
   held_is k is =
-      ap (λ activity. further (start_in scope activity (home_at site k) k) (lead_in (home_at site k) k ++ [])) function
-      ∙ ap (λ home. further (start_in scope false home k) (lead_in home k ++ [])) is
+      ap (λ activity. further (start_in scope activity (home_at site k) site.vars k) (lead_in (home_at site k) site.vars k ++ [])) function
+      ∙ ap (λ home. further (start_in scope false home site.vars k) (lead_in home site.vars k ++ [])) is
 
   -- ---- one input
 
   module _ (j : ℕ) (var : Var) (there : var_at site j ≡ Some var) (home : home_at site j ≡ Held) (m : Memory) where
     abbrev lent : CValue
-    lent = value_at m (further (lent_at scope j) [])
+    lent = value_at m (further (lent_at scope site.vars j) [])
 
     abbrev next : Memory
     next = set_at m (at j) lent
 
     abbrev next_held : Memory
-    next_held = set_at m (held_at scope.depth j) lent
+    next_held = set_at m (held_at scope.depth site.vars j) lent
 
     next_is : next ≡ next_held
     next_is = ap (λ place. set_at m place lent) (held_is j home)
 
     place_answers : (location_c (place_in site j []) scope m).answer ≡ Some (at j)
-    place_answers = place_answer scope m (is_activity site.kind) (home_at site j) j []
+    place_answers = place_answer scope m (is_activity site.kind) (home_at site j) site.vars j []
 
-    pointer_answers : (location_c (c_place true (variable_name j) []) scope m).answer ≡ Some (further (lent_at scope j) [])
-    pointer_answers = place_answer scope m (is_activity site.kind) Lent j []
+    pointer_answers : (location_c (c_place true (variable_name site.vars j) []) scope m).answer ≡ Some (further (lent_at scope site.vars j) [])
+    pointer_answers = place_answer scope m (is_activity site.kind) Lent site.vars j []
 
     copy_ends : Ends (runs_c (c_input_copied site j) scope m) (Some next)
     copy_ends =
         subst (λ value. Ends (runs_c (c_input_copied site j) scope m) (set_after scope m (Some (at j)) value))
-        (read_gives site.structs scope m (c_place true (variable_name j) []) (further (lent_at scope j) []) pointer_answers)
+        (read_gives site.structs scope m (c_place true (variable_name site.vars j) []) (further (lent_at scope site.vars j) []) pointer_answers)
         (subst (λ place. Ends (runs_c (c_input_copied site j) scope m)
-        (set_after scope m place (value_c (c_read (c_place true (variable_name j) [])) scope m).answer))
-        place_answers (set_ends scope m (place_in site j []) (c_read (c_place true (variable_name j) []))))
+        (set_after scope m place (value_c (c_read (c_place true (variable_name site.vars j) [])) scope m).answer))
+        place_answers (set_ends scope m (place_in site j []) (c_read (c_place true (variable_name site.vars j) []))))
 
     -- variables at other positions stay
     by_home : (k : ℕ) (other : Var) → var_at site k ≡ Some other → (k ≡ j → ⊥) → (way : List Projection) → (activity : Bool) (x : Home) →
         activity ≡ false → home_at site k ≡ x →
-        value_at next_held (further (start_in scope activity x k) (lead_in x k ++ [])) way
-        ≡ value_at m (further (start_in scope activity x k) (lead_in x k ++ [])) way
+        value_at next_held (further (start_in scope activity x site.vars k) (lead_in x site.vars k ++ [])) way
+        ≡ value_at m (further (start_in scope activity x site.vars k) (lead_in x site.vars k ++ [])) way
     by_home k other known differ way true x none is = absurd (no_such none)
     by_home k other known differ way false Held none is =
-        other_member scope.depth j m lent k way
-        (names_differ j k (below j var there) (below k other known) (λ same. differ (sym same)))
+        other_member scope.depth site.vars j m lent k way
+        (names_differ site.vars j k (below j var there) (below k other known) (λ same. differ (sym same)))
     by_home k other known differ way false Given none is =
-        other_root scope.depth j m lent (variable scope.depth (variable_name k)) way (own_differ scope.depth (codes "m") (variable_name k) refl)
+        other_root scope.depth site.vars j m lent (variable scope.depth (variable_name site.vars k)) way
+        (own_differ scope.depth (codes "m") (variable_name site.vars k) refl)
     by_home k other known differ way false Lent none is =
-        other_root scope.depth j m lent (lent_at scope k).root (((lent_at scope k).parts ++ []) ++ way)
-        (older_differs scope.depth (codes "m") (lent_at scope k).root (begun.pointers.lent_older k other known is))
+        other_root scope.depth site.vars j m lent (lent_at scope site.vars k).root (((lent_at scope site.vars k).parts ++ []) ++ way)
+        (older_differs scope.depth (codes "m") (lent_at scope site.vars k).root (begun.pointers.lent_older k other known is))
 
     stays : (k : ℕ) (other : Var) → var_at site k ≡ Some other → (k ≡ j → ⊥) → (way : List Projection)
         → value_at next (at k) way ≡ value_at m (at k) way
@@ -185,12 +186,12 @@ module _ (site : TypingContext) (function : is_activity site.kind ≡ false) (sc
     own : (way : List Projection) → value_at next (at j) way ≡ lent way
     own way =
         ap (λ (m : Memory). value_at m (at j) way) next_is
-        ∙ (ap (λ place. value_at next_held place way) (held_is j home) ∙ own_member scope.depth j m lent way)
+        ∙ (ap (λ place. value_at next_held place way) (held_is j home) ∙ own_member scope.depth site.vars j m lent way)
 
     older_stays : (root : Root) (way : List Projection) → is_older scope.depth root ≡ true → next root way ≡ m root way
     older_stays root way h =
         ap (λ (m : Memory). m root way) next_is
-        ∙ other_root scope.depth j m lent root way (older_differs scope.depth (codes "m") root h)
+        ∙ other_root scope.depth site.vars j m lent root way (older_differs scope.depth (codes "m") root h)
 
     module _ (input : is_input var.role ≡ true) (before : Copied j m) where
       copied_here : is_copied_input site j var ≡ true
@@ -200,10 +201,10 @@ module _ (site : TypingContext) (function : is_activity site.kind ≡ false) (sc
       copy_holds : (value : Value) → slice_get now j ≡ Some value → Encodes site.structs var.ty value (value_at next (at j))
       copy_holds value stored =
           let argument = begun.inputs j var value there stored copied_here in
-          holds_same site.structs var.ty value (value_at here (lent_at scope j)) (value_at next (at j))
+          holds_same site.structs var.ty value (value_at here (lent_at scope site.vars j)) (value_at next (at j))
           (λ way. sym (own way
-          ∙ (ap (λ parts. m (lent_at scope j).root (parts ++ way)) (append-nil (lent_at scope j).parts)
-          ∙ before.older (lent_at scope j).root ((lent_at scope j).parts ++ way) argument.0)))
+          ∙ (ap (λ parts. m (lent_at scope site.vars j).root (parts ++ way)) (append-nil (lent_at scope site.vars j).parts)
+          ∙ before.older (lent_at scope site.vars j).root ((lent_at scope site.vars j).parts ++ way) argument.0)))
           argument.1
 
       not_here : (k : ℕ) (other : Var) → var_at site k ≡ Some other → is_copied_input site k other ≡ false → k ≡ j → ⊥
@@ -297,7 +298,7 @@ module _ (site : TypingContext) (function : is_activity site.kind ≡ false) (sc
 
       by : (home : Home) → home_at site j ≡ home → Behind (j + 1) vars → Came j (var ∷ vars) (block_c (copies_from site j (var ∷ vars)) scope m)
       by Held is rest =
-          let next : Memory = set_at m (at j) (value_at m (further (lent_at scope j) [])) in
+          let next : Memory = set_at m (at j) (value_at m (further (lent_at scope site.vars j) [])) in
           let came = rest next (one_more j var there is m (and_left _ _ inputs) before) in
           let after : Memory = (block_c (copies_from site (j + 1) vars) scope next).memory in
           let ends : Ends (block_c (c_input_copied site j ∷ copies_from site (j + 1) vars) scope m) (Some after) =

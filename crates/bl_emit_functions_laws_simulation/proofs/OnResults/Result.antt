@@ -226,14 +226,14 @@ module _ (structs : List StructDef) (units : List UnitDef) (entry k : ℕ) (unit
   outside root way older j isnt = by (is_activity unit.kind) (home_at site j) (no_activity (is_activity unit.kind) function) isnt
     where
       by : (activity : Bool) (home : Home) → activity ≡ false → (home ≡ Lent → ⊥) →
-          lies_in (further (start_in scope activity home j) (lead_in home j ++ [])) root way ≡ false
+          lies_in (further (start_in scope activity home site.vars j) (lead_in home site.vars j ++ [])) root way ≡ false
       by true home is isnt = absurd (no_such is)
       by false Held is isnt =
-          ap (λ b. b && is_some (left_after (further (start_in scope false Held j) (lead_in Held j ++ [])).parts way))
+          ap (λ b. b && is_some (left_after (further (start_in scope false Held site.vars j) (lead_in Held site.vars j ++ [])).parts way))
           (older_differs (depth + 1) (codes "m") root older)
       by false Given is isnt =
-          ap (λ b. b && is_some (left_after (further (start_in scope false Given j) (lead_in Given j ++ [])).parts way))
-          (older_differs (depth + 1) (variable_name j) root older)
+          ap (λ b. b && is_some (left_after (further (start_in scope false Given site.vars j) (lead_in Given site.vars j ++ [])).parts way))
+          (older_differs (depth + 1) (variable_name site.vars j) root older)
       by false Lent is isnt = absurd (isnt refl)
 
   untouched : (root : Root) (way : List Projection) → is_older (depth + 1) root ≡ true → Untouched site scope 0 root way

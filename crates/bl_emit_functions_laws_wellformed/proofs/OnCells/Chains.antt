@@ -134,14 +134,14 @@ module _ (structs : List StructDef) (units : List UnitDef) (entry : ℕ) (keeps 
   param-by k var (Some s) true stands is = scalars var.ty keeps stands
   param-by k var (Some s) false stands is = sizes.types var.ty stands
 
-  params-less : (k : ℕ) (vars : List Var) → list_all (λ (var : Var). type_stands (length structs) var.ty) vars ≡ true →
-      total (map (size_of_param known) (params_from structs k vars)) ≤ total (map (λ (var : Var). size_by (struct_sizes structs) var.ty) vars)
-  params-less k [] stand = omega arith
-  params-less k (var ∷ rest) stand =
-      let one : size_of_param known (param_of structs k var) ≤ size structs var.ty =
+  params-less : (all : List Var) (k : ℕ) (vars : List Var) → list_all (λ (var : Var). type_stands (length structs) var.ty) vars ≡ true →
+      total (map (size_of_param known) (params_from structs all k vars)) ≤ total (map (λ (var : Var). size_by (struct_sizes structs) var.ty) vars)
+  params-less all k [] stand = omega arith
+  params-less all k (var ∷ rest) stand =
+      let one : size_of_param known (param_of structs all k var) ≤ size structs var.ty =
       param-by k var (scalar_in var.ty) (is_output var.role)
       (and_left (type_stands (length structs) var.ty) (list_all (λ (var : Var). type_stands (length structs) var.ty) rest) stand) refl in
-      let later = params-less (k + 1) rest
+      let later = params-less all (k + 1) rest
       (and_right (type_stands (length structs) var.ty) (list_all (λ (var : Var). type_stands (length structs) var.ty) rest) stand) in
       omega (arith, one, later)
 
@@ -172,7 +172,7 @@ module _ (structs : List StructDef) (units : List UnitDef) (entry : ℕ) (keeps 
     own-less =
         let n : ℕ = unit.inputs + unit.outputs in
         let flags : ℕ = (body_coded site unit).free.flags in
-        let some = params-less 0 (parameters_of unit) (taken-all (λ (var : Var). type_stands (length structs) var.ty) n unit.vars stand) in
+        let some = params-less unit.vars 0 (parameters_of unit) (taken-all (λ (var : Var). type_stands (length structs) var.ty) n unit.vars stand) in
         let all : total (map (λ (var : Var). size_by (struct_sizes structs) var.ty) (parameters_of unit)) ≤ variables_of structs unit =
         taken-less (λ (var : Var). size_by (struct_sizes structs) var.ty) n unit.vars in
         let memory = memory-less (holds_any site unit.vars) in

@@ -224,11 +224,11 @@ module _ (structs : List StructDef) (units : List UnitDef) (entry most : ℕ) (k
 
   -- ---- the struct of variables
 
-  member_less : (known : Sizes) → Bounded known → (held : Bool) (k : ℕ) (var : Var) → type_stands (length structs) var.ty ≡ true →
-      total (map (size_of_member known) (member_of held structs k var)) ≤ size structs var.ty
-  member_less known bounded true k var stands =
+  member_less : (known : Sizes) → Bounded known → (held : Bool) (all : List Var) (k : ℕ) (var : Var) → type_stands (length structs) var.ty ≡ true →
+      total (map (size_of_member known) (member_of held structs all k var)) ≤ size structs var.ty
+  member_less known bounded true all k var stands =
       let one : size_of_type known (c_type structs var.ty) ≤ size structs var.ty = bounded var.ty stands in omega (arith, one)
-  member_less known bounded false k var stands = omega arith
+  member_less known bounded false all k var stands = omega arith
 
   total_append : (xs ys : List ℕ) → total (xs ++ ys) ≡ total xs + total ys
   total_append [] ys = omega arith
@@ -239,18 +239,18 @@ module _ (structs : List StructDef) (units : List UnitDef) (entry most : ℕ) (k
       total (map (size_of_member known) (members_from site k vars)) ≤ total (map (λ (var : Var). size_by (struct_sizes structs) var.ty) vars)
   members_less known bounded site same k [] stand = omega arith
   members_less known bounded site same k (var ∷ rest) stand =
-      let one : total (map (size_of_member known) (member_of (is_held (home_of site (Some var))) site.structs k var)) ≤ size structs var.ty =
-      subst (λ structs'. total (map (size_of_member known) (member_of (is_held (home_of site (Some var))) structs' k var)) ≤ size structs var.ty)
+      let one : total (map (size_of_member known) (member_of (is_held (home_of site (Some var))) site.structs site.vars k var)) ≤ size structs var.ty =
+      subst (λ structs'. total (map (size_of_member known) (member_of (is_held (home_of site (Some var))) structs' site.vars k var)) ≤ size structs var.ty)
       (sym same)
-      (member_less known bounded (is_held (home_of site (Some var))) k var
+      (member_less known bounded (is_held (home_of site (Some var))) site.vars k var
       (and_left (type_stands (length structs) var.ty) (list_all (λ (var : Var). type_stands (length structs) var.ty) rest) stand)) in
       let later = members_less known bounded site same (k + 1) rest
       (and_right (type_stands (length structs) var.ty) (list_all (λ (var : Var). type_stands (length structs) var.ty) rest) stand) in
       let split : total (map (size_of_member known) (members_from site k (var ∷ rest)))
-      ≡ total (map (size_of_member known) (member_of (is_held (home_of site (Some var))) site.structs k var))
+      ≡ total (map (size_of_member known) (member_of (is_held (home_of site (Some var))) site.structs site.vars k var))
       + total (map (size_of_member known) (members_from site (k + 1) rest)) =
-      ap total (map-append (size_of_member known) (member_of (is_held (home_of site (Some var))) site.structs k var) (members_from site (k + 1) rest))
-      ∙ total_append (map (size_of_member known) (member_of (is_held (home_of site (Some var))) site.structs k var))
+      ap total (map-append (size_of_member known) (member_of (is_held (home_of site (Some var))) site.structs site.vars k var) (members_from site (k + 1) rest))
+      ∙ total_append (map (size_of_member known) (member_of (is_held (home_of site (Some var))) site.structs site.vars k var))
       (map (size_of_member known) (members_from site (k + 1) rest)) in
       omega (arith, one, later, split)
 

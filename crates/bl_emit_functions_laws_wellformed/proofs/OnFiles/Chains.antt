@@ -41,8 +41,8 @@ module _ (weight : Text → ℕ) (prelude : (word : Text) (s : ScalarType) → w
   copied_few : (home : Home) (k : ℕ) → Few weight prelude n (input_copied site home k)
   copied_few Held k =
       one_few weight prelude n (c_input_copied site k)
-      (set_few weight prelude n (place_in site k []) (c_read (c_place true (variable_name k) [])) (own_few weight prelude site by callees n k)
-      (read-light weight prelude n (c_place true (variable_name k) []) (root-light weight prelude n true (variable_name k))))
+      (set_few weight prelude n (place_in site k []) (c_read (c_place true (variable_name site.vars k) [])) (own_few weight prelude site by callees n k)
+      (read-light weight prelude n (c_place true (variable_name site.vars k) []) (root-light weight prelude n true (variable_name site.vars k))))
   copied_few Given k = none_few weight prelude n
   copied_few Lent k = none_few weight prelude n
 

@@ -41,7 +41,8 @@ use Rattle.bl_emit_acts.specs.Expressions.{type_at, type_made}
 use Rattle.bl_emit_acts.specs.Places.{home_of, place_by_steps, place_in}
 use Rattle.bl_emit_acts.specs.Trees.{c_call, c_called, c_literal, c_not, c_place, c_read, c_step, c_two}
 use Rattle.bl_emit_acts.specs.Types.{c_scalar, copy_name, elements_name, variable_name}
-use Rattle.bl_emit_functions_laws_wellformed.proofs.OnFiles.Shapes.{address-calls, call-calls, called-calls, element-calls, literal-calls, not-calls, place-calls}
+use Rattle.bl_emit_functions_laws_wellformed.proofs.OnFiles.Shapes.{address-calls, call-calls, called-calls, element-calls, literal-calls, not-calls}
+use Rattle.bl_emit_functions_laws_wellformed.proofs.OnFiles.Shapes.{place-calls}
 use Rattle.bl_emit_functions_laws_wellformed.proofs.OnFiles.Shapes.{read-calls, step-calls, two-calls, value-calls}
 use Rattle.bl_emit_functions_laws_wellformed.proofs.OnFiles.Under.{Under, append-under, back-under, cons-under, front-under, head-under, none-under, same-under}
 use Rattle.bl_emit_functions_laws_wellformed.proofs.OnFiles.Under.{tail-under}
@@ -214,7 +215,7 @@ module _ (weight : Text → ℕ) (prelude : (word : Text) (s : ScalarType) → w
 
     prev_case : (place : Place) (k : ℕ) → P (expr place (ExprKind-F.Prev k))
     prev_case place k n few =
-        rw (fold-roll-Expr, fold-roll-ExprKind) (read-light n (c_place false (copy_name k) []) (root-light n false (copy_name k)))
+        rw (fold-roll-Expr, fold-roll-ExprKind) (read-light n (c_place false (copy_name site.vars k) []) (root-light n false (copy_name site.vars k)))
 
     one_case : (place : Place) (op : Op) (a : Expr) → P a → P (expr place (ExprKind-F.One op a))
     one_case place op a is n few =
@@ -278,17 +279,19 @@ module _ (weight : Text → ℕ) (prelude : (word : Text) (s : ScalarType) → w
         (back-under by n (calls_in_part part) (joined (map calls_in_part rest)) few))
 
     home_light : (n : ℕ) (activity : Bool) (home : Home) (k : ℕ) (steps : List CStep) → Light n (joined (map calls_in_step steps)) →
-        Light n (calls_in_place (place_by_steps activity home k steps))
+        Light n (calls_in_place (place_by_steps activity home site.vars k steps))
     home_light n activity Held k steps all =
-        same-light n (calls_in_place (c_place activity (codes "m") (c_step (variable_name k) ∷ steps)))
-        (calls_in_step (c_step (variable_name k)) ++ joined (map calls_in_step steps))
-        (place-calls activity (codes "m") (c_step (variable_name k) ∷ steps))
-        (append-under weight n (calls_in_step (c_step (variable_name k))) (joined (map calls_in_step steps))
-        (none-light n (calls_in_step (c_step (variable_name k))) (step-calls (variable_name k))) all)
+        same-light n (calls_in_place (c_place activity (codes "m") (c_step (variable_name site.vars k) ∷ steps)))
+        (calls_in_step (c_step (variable_name site.vars k)) ++ joined (map calls_in_step steps))
+        (place-calls activity (codes "m") (c_step (variable_name site.vars k) ∷ steps))
+        (append-under weight n (calls_in_step (c_step (variable_name site.vars k))) (joined (map calls_in_step steps))
+        (none-light n (calls_in_step (c_step (variable_name site.vars k))) (step-calls (variable_name site.vars k))) all)
     home_light n activity Given k steps all =
-        same-light n (calls_in_place (c_place false (variable_name k) steps)) (joined (map calls_in_step steps)) (place-calls false (variable_name k) steps) all
+        same-light n (calls_in_place (c_place false (variable_name site.vars k) steps)) (joined (map calls_in_step steps))
+        (place-calls false (variable_name site.vars k) steps) all
     home_light n activity Lent k steps all =
-        same-light n (calls_in_place (c_place true (variable_name k) steps)) (joined (map calls_in_step steps)) (place-calls true (variable_name k) steps) all
+        same-light n (calls_in_place (c_place true (variable_name site.vars k) steps)) (joined (map calls_in_step steps))
+        (place-calls true (variable_name site.vars k) steps) all
 
     -- the place of a variable calls nothing
     pub own_light : (n k : ℕ) → Light n (calls_in_place (place_in site k []))

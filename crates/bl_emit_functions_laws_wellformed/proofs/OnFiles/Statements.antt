@@ -20,7 +20,8 @@ use Rattle.bl_tree.specs.Reduce.{joined}
 use Rattle.bl_tree.specs.Types.{scalar_in}
 use Rattle.bl_tree.specs.Typing.{TypingContext, var_at}
 use Rattle.bl_tree.proofs.StmtInduction.{Cases, Each, EachArm, induct}
-use Rattle.bl_limits_measures.specs.Calls.{arm_calls, branch_calls, calls_in_arm, calls_in_expr, calls_in_path, optional_calls, stmt_kind_calls, stmt_layer_calls}
+use Rattle.bl_limits_measures.specs.Calls.{arm_calls, branch_calls, calls_in_arm, calls_in_expr, calls_in_path, optional_calls, stmt_kind_calls}
+use Rattle.bl_limits_measures.specs.Calls.{stmt_layer_calls}
 use Rattle.bl_limits_measures.specs.Calls.{argument_calls, calls_in as named_in}
 use Rattle.bl_ctext_semantics.specs.Calls.{calls_in, calls_in_arg, calls_in_block, calls_in_call, calls_in_place, calls_in_stmt, calls_or_none}
 use Rattle.bl_emit_acts.specs.Acts.{c_calling, c_clear, c_set, c_zeroed, call_args, call_made, code_made, copy_code, initial_code, is_copied}
@@ -202,8 +203,8 @@ module _ (weight : Text → ℕ) (prelude : (word : Text) (s : ScalarType) → w
 
     copy_few : (n k : ℕ) (copied : Bool) → Few n (copy_code site copied k)
     copy_few n k true =
-        one_few n (c_set (c_place false (copy_name k) []) (c_read (place_in site k [])))
-        (set_few n (c_place false (copy_name k) []) (c_read (place_in site k [])) (root-light weight prelude n false (copy_name k))
+        one_few n (c_set (c_place false (copy_name site.vars k) []) (c_read (place_in site k [])))
+        (set_few n (c_place false (copy_name site.vars k) []) (c_read (place_in site k [])) (root-light weight prelude n false (copy_name site.vars k))
         (read-light weight prelude n (place_in site k []) (own_few n k)))
     copy_few n k false = none_few n
 

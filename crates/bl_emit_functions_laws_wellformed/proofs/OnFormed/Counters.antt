@@ -70,10 +70,10 @@ read-turns site (Some k) false = one-turns _ [] (set-turns _ _)
 abbrev entries : List Text → List (Text × Unit {0})
 entries names = map (λ name. (name, tt)) names
 
-no_param : (structs : List StructDef) (base : ℕ) (vars : List Var) (k : ℕ) → found (turn_name k)
-    (entries (map (λ (p : CParam). p.name) (params_from structs base vars))) ≡ None
-no_param structs base [] k = refl
-no_param structs base (v ∷ vars) k = no_param structs (base + 1) vars k
+no_param : (structs : List StructDef) (all : List Var) (base : ℕ) (vars : List Var) (k : ℕ) → found (turn_name k)
+    (entries (map (λ (p : CParam). p.name) (params_from structs all base vars))) ≡ None
+no_param structs all base [] k = refl
+no_param structs all base (v ∷ vars) k = no_param structs all (base + 1) vars k
 
 entries_append : (xs ys : List Text) → entries (xs ++ ys) ≡ entries xs ++ entries ys
 entries_append xs ys = map-append (λ (name : Text). (name, tt)) xs ys
@@ -110,11 +110,11 @@ module _ (structs : List StructDef) (earlier : List UnitDef) (unit : UnitDef) (n
 
   no_name : (k : ℕ) → names_table (variable_names (function_code structs earlier unit)) (turn_name k) ≡ None
   no_name k =
-      ap (found (turn_name k)) (entries_append (map (λ (p : CParam). p.name) (params_from structs 0 (parameters_of unit)))
+      ap (found (turn_name k)) (entries_append (map (λ (p : CParam). p.name) (params_from structs unit.vars 0 (parameters_of unit)))
       (map (λ (l : CLocal). l.name) (memory_local unit.name (holds_any site unit.vars) ++ flag_locals (body_coded site unit).free.flags)))
-      ∙ found_behind (turn_name k) (entries (map (λ (p : CParam). p.name) (params_from structs 0 (parameters_of unit))))
+      ∙ found_behind (turn_name k) (entries (map (λ (p : CParam). p.name) (params_from structs unit.vars 0 (parameters_of unit))))
       (entries (map (λ (l : CLocal). l.name) (memory_local unit.name (holds_any site unit.vars) ++ flag_locals (body_coded site unit).free.flags)))
-      (no_param structs 0 (parameters_of unit) k)
+      (no_param structs unit.vars 0 (parameters_of unit) k)
       ∙ no_local unit.name (holds_any site unit.vars) (body_coded site unit).free.flags k
 
   pub turns_differ : repeated (names_table (variable_names (function_code structs earlier unit)))

@@ -76,7 +76,7 @@ module _ (structs : List StructDef) (units : List UnitDef) (entry k : ℕ) (unit
   copied_is j var in_params in_vars input Lent is = block_nil context
   copied_is j var in_params in_vars input Held is =
       let pointer : (is_output var.role || is_none (scalar_in var.ty)) ≡ true = pointed_by var.role (scalar_in var.ty) (copies_inputs site) input is in
-      let param : context.variables (variable_name j) ≡ Some (variable_of true (c_type structs var.ty)) =
+      let param : context.variables (variable_name unit.vars j) ≡ Some (variable_of true (c_type structs var.ty)) =
       param_there structs units entry k unit keeps there function table functions before numbers j var in_params in_vars
       ∙ ap (λ p. Some (variable_of p (c_type structs var.ty))) pointer in
       let leads : leads_through site j ≡ false =
@@ -87,8 +87,9 @@ module _ (structs : List StructDef) (units : List UnitDef) (entry k : ℕ) (unit
       (typed_here structs units entry k unit keeps there function table functions before numbers)
       (plain_here structs units entry k unit keeps there function table functions before numbers) j var in_vars in
       block_one context (c_input_copied site j)
-      (set-is context (leads_through site j) (c_type structs var.ty) (place_in site j []) (c_read (c_place true (variable_name j) [])) own
-      (read-is context true (c_type structs var.ty) (c_place true (variable_name j) []) (pointer_place context (variable_name j) (c_type structs var.ty) param))
+      (set-is context (leads_through site j) (c_type structs var.ty) (place_in site j []) (c_read (c_place true (variable_name unit.vars j) [])) own
+      (read-is context true (c_type structs var.ty) (c_place true (variable_name unit.vars j) [])
+      (pointer_place context (variable_name unit.vars j) (c_type structs var.ty) param))
       (ap (λ b. context.is_read_only && b) leads ∙ no_more context.is_read_only))
 
   copies_are : (base : ℕ) (vars : List Var) → ((j : ℕ) (var : Var) → slice_get vars j ≡ Some var

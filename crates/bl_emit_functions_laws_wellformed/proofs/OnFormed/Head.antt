@@ -35,7 +35,9 @@ use Rattle.bl_tree.specs.Typing.{TypingContext, inputs_of, is_activity, var_at}
 use Rattle.bl_tree.specs.Words.{are_distinct, is_among}
 use Rattle.bl_tree.proofs.StmtInduction.{stmt}
 use Rattle.bl_eval.proofs.PassLemmas.{and_left, and_right, both}
-use Rattle.bl_ctext_semantics.specs.Faults.{Context, Signature, all_distinct, declared_before, depth_of_function, distinct_names, faults_in_head, is_declared, is_scalar, last_or, last_returns, returns_result, scalar_parameter, short_chain, surely_returns, variable_names}
+use Rattle.bl_ctext_semantics.specs.Faults.{Context, Signature, all_distinct, declared_before, depth_of_function, distinct_names, faults_in_head}
+use Rattle.bl_ctext_semantics.specs.Faults.{is_declared, is_scalar, last_or, last_returns, returns_result, scalar_parameter, short_chain}
+use Rattle.bl_ctext_semantics.specs.Faults.{surely_returns, variable_names}
 use Rattle.bl_ctext_semantics.specs.Tables.{Table, no_entries}
 use Rattle.bl_emit_acts.specs.Acts.{code_made}
 use Rattle.bl_emit_acts.specs.Places.{home_of}
@@ -43,7 +45,9 @@ use Rattle.bl_emit_acts.specs.Trees.{nowhere}
 use Rattle.bl_emit_acts.specs.Types.{c_scalar, c_type, variable_name}
 use Rattle.bl_emit_structs.specs.Structs.{arrays_of}
 use Rattle.bl_emit_functions.specs.declared.coded.Free.{Free}
-use Rattle.bl_emit_functions.specs.Functions.{body_code, body_coded, copies_from, end_code, flag_local, flag_locals, function_code, holds_any, is_held, member_of, members_from, memory_local, memory_name, none_taken, param_of, params_from, returns_last, struct_of}
+use Rattle.bl_emit_functions.specs.Functions.{body_code, body_coded, copies_from, end_code, flag_local, flag_locals, function_code, holds_any}
+use Rattle.bl_emit_functions.specs.Functions.{is_held, member_of, members_from, memory_local, memory_name, none_taken, param_of, params_from}
+use Rattle.bl_emit_functions.specs.Functions.{returns_last, struct_of}
 use Rattle.bl_emit_functions.specs.Functions.{first_held, read_code}
 use Rattle.bl_emit_functions.specs.Statements.{block_codes, codes_of}
 use Rattle.bl_emit_functions.specs.Trees.{c_return, flag_name}
@@ -55,7 +59,7 @@ use Rattle.bl_emit_acts_laws_wellformed.proofs.OnFormed.TypeNames.{type_declared
 use Rattle.bl_emit_acts_laws_wellformed.proofs.OnFormed.Units.{taken_there}
 use Rattle.bl_emit_structs_laws_wellformed.proofs.OnFormed.Faultless.{all_differ}
 use Rattle.bl_emit_functions_laws_wellformed.specs.Formed.{IsNumbered, StandsBefore}
-use Rattle.bl_emit_functions_laws_wellformed.proofs.OnFormed.Lookups.{numbers_differ}
+use Rattle.bl_emit_functions_laws_wellformed.proofs.OnFormed.Lookups.{numbers_differ, variables_differ}
 use Rattle.bl_emit_functions_laws_wellformed.proofs.OnFormed.Variables.{declared_here, my_context, my_site, typed_here}
 
 -- ---- names of parameters and locals differ
@@ -63,8 +67,8 @@ use Rattle.bl_emit_functions_laws_wellformed.proofs.OnFormed.Variables.{declared
 abbrev local_names : List CLocal → List Text
 local_names locals = map (λ (l : CLocal). l.name) locals
 
-abbrev param_names : List StructDef → ℕ → List Var → List Text
-param_names structs base vars = map (λ (p : CParam). p.name) (params_from structs base vars)
+abbrev param_names : List StructDef → List Var → ℕ → List Var → List Text
+param_names structs all base vars = map (λ (p : CParam). p.name) (params_from structs all base vars)
 
 swapped : (a b : Text) → bytes_eq a b ≡ false → bytes_eq b a ≡ false
 swapped a b other = by (bytes_eq b a) refl
@@ -127,40 +131,41 @@ locals_differ name true n few =
     both (not (is_among (codes "m") (local_names (flag_locals n)))) (are_distinct (local_names (flag_locals n)))
     (ap not (flags_other (codes "m") n (λ k less. refl))) (flags_differ n few)
 
-no_local : (name : Text) (holds : Bool) (n k : ℕ) → is_among (variable_name k) (local_names (memory_local name holds ++ flag_locals n)) ≡ false
-no_local name false n k = flags_other (variable_name k) n (λ j less. refl)
-no_local name true n k = flags_other (variable_name k) n (λ j less. refl)
+no_local : (all : List Var) (name : Text) (holds : Bool) (n k : ℕ) →
+    is_among (variable_name all k) (local_names (memory_local name holds ++ flag_locals n)) ≡ false
+no_local all name false n k = flags_other (variable_name all k) n (λ j less. refl)
+no_local all name true n k = flags_other (variable_name all k) n (λ j less. refl)
 
-module _ (structs : List StructDef) where
+module _ (structs : List StructDef) (all : List Var) where
   later_params : (j base : ℕ) (vars : List Var) → j < base → base + length vars ≤ 2 ^ 64 → is_among
-      (variable_name j) (param_names structs base vars) ≡ false
+      (variable_name all j) (param_names structs all base vars) ≡ false
   later_params j base [] less few = refl
   later_params j base (v ∷ vars) less few =
       let small : base < 2 ^ 64 = omega (arith, few) in
       let more : j < base + 1 = omega (arith, less) in
       let room : (base + 1) + length vars ≤ 2 ^ 64 = omega (arith, few) in
-      false_both (bytes_eq (variable_name j) (variable_name base)) (is_among (variable_name j) (param_names structs (base + 1) vars))
-      (numbers_differ 118 j base less small) (later_params j (base + 1) vars more room)
+      false_both (bytes_eq (variable_name all j) (variable_name all base)) (is_among (variable_name all j) (param_names structs all (base + 1) vars))
+      (variables_differ all j base less small) (later_params j (base + 1) vars more room)
 
   params_differ : (base : ℕ) (vars : List Var) (others : List Text) → base + length vars ≤ 2 ^ 64 → are_distinct others ≡ true →
-      ((k : ℕ) → is_among (variable_name k) others ≡ false) → are_distinct (param_names structs base vars ++ others) ≡ true
+      ((k : ℕ) → is_among (variable_name all k) others ≡ false) → are_distinct (param_names structs all base vars ++ others) ≡ true
   params_differ base [] others few differ new = differ
   params_differ base (v ∷ vars) others few differ new =
       let own : base < base + 1 = omega arith in
       let room : (base + 1) + length vars ≤ 2 ^ 64 = omega (arith, few) in
-      both (not (is_among (variable_name base) (param_names structs (base + 1) vars ++ others)))
-      (are_distinct (param_names structs (base + 1) vars ++ others))
-      (ap not (among_neither (variable_name base) (param_names structs (base + 1) vars) others (later_params base (base + 1) vars own room) (new base)))
+      both (not (is_among (variable_name all base) (param_names structs all (base + 1) vars ++ others)))
+      (are_distinct (param_names structs all (base + 1) vars ++ others))
+      (ap not (among_neither (variable_name all base) (param_names structs all (base + 1) vars) others (later_params base (base + 1) vars own room) (new base)))
       (params_differ (base + 1) vars others room differ new)
 
   -- ---- what holds of each parameter
 
   params_all : (test : CParam → Bool) (base : ℕ) (vars : List Var) →
-      ((k j : ℕ) (var : Var) → slice_get vars j ≡ Some var → test (param_of structs k var) ≡ true)
-      → list_all test (params_from structs base vars) ≡ true
+      ((k j : ℕ) (var : Var) → slice_get vars j ≡ Some var → test (param_of structs all k var) ≡ true)
+      → list_all test (params_from structs all base vars) ≡ true
   params_all test base [] each = refl
   params_all test base (v ∷ vars) each =
-      both (test (param_of structs base v)) (list_all test (params_from structs (base + 1) vars)) (each base 0 v refl)
+      both (test (param_of structs all base v)) (list_all test (params_from structs all (base + 1) vars)) (each base 0 v refl)
       (params_all test (base + 1) vars (λ k j var found. each k (suc j) var found))
 
   -- a parameter that is no pointer is a scalar
@@ -269,9 +274,9 @@ module _ (structs : List StructDef) (units : List UnitDef) (entry k : ℕ) (unit
   names_differ : all_distinct no_entries (variable_names f) ≡ true
   names_differ =
       all_differ (variable_names f)
-      (params_differ structs 0 (parameters_of unit) (local_names f.locals) few_params
+      (params_differ structs unit.vars 0 (parameters_of unit) (local_names f.locals) few_params
       (locals_differ unit.name (holds_any site unit.vars) (body_coded site unit).free.flags numbers.flags)
-      (no_local unit.name (holds_any site unit.vars) (body_coded site unit).free.flags))
+      (no_local unit.vars unit.name (holds_any site unit.vars) (body_coded site unit).free.flags))
 
   -- ---- types
 
@@ -291,13 +296,13 @@ module _ (structs : List StructDef) (units : List UnitDef) (entry k : ℕ) (unit
 
   params_declared : list_all (λ (p : CParam). is_declared table p.ty) f.params ≡ true
   params_declared =
-      params_all structs (λ (p : CParam). is_declared table p.ty) 0 (parameters_of unit)
+      params_all structs unit.vars (λ (p : CParam). is_declared table p.ty) 0 (parameters_of unit)
       (λ i j var found. var_declared j var (taken_there unit.vars (unit.inputs + unit.outputs) j var found))
 
   params_scalar : list_all (λ (p : CParam). p.pointer || is_scalar p.ty) f.params ≡ true
   params_scalar =
-      params_all structs (λ (p : CParam). p.pointer || is_scalar p.ty) 0 (parameters_of unit)
-      (λ i j var found. scalar_or_pointer structs var (scalar_in var.ty) refl)
+      params_all structs unit.vars (λ (p : CParam). p.pointer || is_scalar p.ty) 0 (parameters_of unit)
+      (λ i j var found. scalar_or_pointer structs unit.vars var (scalar_in var.ty) refl)
 
   -- a unit that holds a variable has a struct
   members_some : (base : ℕ) (vars : List Var) → list_any (λ (var : Var). is_held (home_of site (Some var))) vars ≡ true → (m : CMember) ×
@@ -308,7 +313,7 @@ module _ (structs : List StructDef) (units : List UnitDef) (entry k : ℕ) (unit
       by : (b : Bool) → (b || list_any (λ (var : Var). is_held (home_of site (Some var))) vars) ≡ true →
           (list_any (λ (var : Var). is_held (home_of site (Some var))) vars ≡ true → (m : CMember) × ((rest : List CMember)
           × (members_from site (base + 1) vars ≡ m ∷ rest))) →
-          (m : CMember) × ((rest : List CMember) × (member_of b structs base v ++ members_from site (base + 1) vars ≡ m ∷ rest))
+          (m : CMember) × ((rest : List CMember) × (member_of b structs unit.vars base v ++ members_from site (base + 1) vars ≡ m ∷ rest))
       by true h later = (_, (_, refl))
       by false h later = later h
 

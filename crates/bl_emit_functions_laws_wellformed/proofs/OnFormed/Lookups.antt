@@ -23,6 +23,7 @@ use Rattle.bl_emit_acts.specs.Places.{home_of}
 use Rattle.bl_emit_acts.specs.Types.{variable_name}
 use Rattle.bl_emit_functions.specs.Functions.{flag_local, flag_locals, held_member, is_held, member_of, members_from, memory_local, memory_name, params_from}
 use Rattle.bl_emit_functions.specs.Trees.{flag_name}
+use Rattle.bl_emit_acts_laws_simulation.proofs.NumberedNames.{names_differ}
 use Rattle.bl_emit_acts_laws_wellformed.specs.Formed.Declared.{parameter_for, variable_of}
 
 -- ---- lists one behind the other
@@ -75,37 +76,42 @@ numbers_differ letter j k less small = by (bytes_eq (letter ∷ decimal j) (lett
         let equal : j ≡ k = decimal_injective j k low small (ap (drop 1) text) in
         absurd (omega (arith, equal, less))
 
+-- names of variables at different positions differ
+pub variables_differ : (vars : List Var) (j k : ℕ) → j < k → k < 2 ^ 64 → bytes_eq (variable_name vars j) (variable_name vars k) ≡ false
+variables_differ vars j k less small =
+    let low : j < 2 ^ 64 = omega (arith, less, small) in names_differ 118 vars j k low small (λ same. omega (arith, same, less))
+
 itself : (name : Text) → bytes_eq name name ≡ true
 itself name = (bytes_eq-Decides name name).1 refl
 
 -- ---- parameters
 
-module _ (structs : List StructDef) where
+module _ (structs : List StructDef) (all : List Var) where
   abbrev pub param_entries : ℕ → List Var → List (Text × Variable)
-  param_entries base vars = map param_variable (params_from structs base vars)
+  param_entries base vars = map param_variable (params_from structs all base vars)
 
   pub found_param : (base : ℕ) (vars : List Var) (k : ℕ) (var : Var) → slice_get vars k ≡ Some var → base + k < 2 ^ 64 →
-      found (variable_name (base + k)) (param_entries base vars) ≡ Some (parameter_for structs var)
+      found (variable_name all (base + k)) (param_entries base vars) ≡ Some (parameter_for structs var)
   found_param base [] k var there small = absurd (cc)
   found_param base (v ∷ vars) zero var there small =
       let none : base + 0 ≡ base = omega arith in
-      ap (λ n. found (variable_name n) (param_entries base (v ∷ vars))) none
-      ∙ found_here (variable_name base) (variable_name base, parameter_for structs v) (param_entries (base + 1) vars) (itself (variable_name base))
+      ap (λ n. found (variable_name all n) (param_entries base (v ∷ vars))) none
+      ∙ found_here (variable_name all base) (variable_name all base, parameter_for structs v) (param_entries (base + 1) vars) (itself (variable_name all base))
       ∙ ap (λ (v : Var). Some (parameter_for structs v)) (same_Some v var there)
   found_param base (v ∷ vars) (suc k) var there small =
       let less : base < base + suc k = omega arith in
       let same : base + suc k ≡ (base + 1) + k = omega arith in
       let low : (base + 1) + k < 2 ^ 64 = omega (arith, small) in
-      found_next (variable_name (base + suc k)) (variable_name base, parameter_for structs v) (param_entries (base + 1) vars)
-      (numbers_differ 118 base (base + suc k) less small)
-      ∙ ap (λ n. found (variable_name n) (param_entries (base + 1) vars)) same ∙ found_param (base + 1) vars k var there low
+      found_next (variable_name all (base + suc k)) (variable_name all base, parameter_for structs v) (param_entries (base + 1) vars)
+      (variables_differ all base (base + suc k) less small)
+      ∙ ap (λ n. found (variable_name all n) (param_entries (base + 1) vars)) same ∙ found_param (base + 1) vars k var there low
 
   -- no parameter has a name that doesn't begin as theirs do
-  pub no_param : (base : ℕ) (vars : List Var) (name : Text) → ((k : ℕ) → bytes_eq (variable_name k) name ≡ false)
+  pub no_param : (base : ℕ) (vars : List Var) (name : Text) → ((k : ℕ) → bytes_eq (variable_name all k) name ≡ false)
       → found name (param_entries base vars) ≡ None
   no_param base [] name other = refl
   no_param base (v ∷ vars) name other =
-      found_next name (variable_name base, parameter_for structs v) (param_entries (base + 1) vars) (other base) ∙ no_param (base + 1) vars name other
+      found_next name (variable_name all base, parameter_for structs v) (param_entries (base + 1) vars) (other base) ∙ no_param (base + 1) vars name other
 
 -- ---- locals
 
@@ -160,34 +166,40 @@ module _ (site : TypingContext) where
   member_entries members = map (λ (m : CMember). (m.name, m)) members
 
   pub found_member : (base : ℕ) (vars : List Var) (k : ℕ) (var : Var) → slice_get vars k ≡ Some var → is_held (home_of site (Some var)) ≡ true →
-      base + k < 2 ^ 64 → found (variable_name (base + k)) (member_entries (members_from site base vars)) ≡ Some (held_member site.structs (base + k) var)
+      base + k < 2 ^ 64 → found (variable_name site.vars (base + k)) (member_entries (members_from site base vars)) ≡ Some
+      (held_member site.structs site.vars (base + k) var)
   found_member base [] k var there held small = absurd (cc)
   found_member base (v ∷ vars) zero var there held small =
       let none : base + 0 ≡ base = omega arith in
       let same : v ≡ var = same_Some v var there in
-      subst (λ n. found (variable_name n) (member_entries (members_from site base (v ∷ vars))) ≡ Some (held_member site.structs n var)) (sym none)
-      (ap (λ (b : Bool). found (variable_name base) (member_entries (member_of b site.structs base v ++ members_from site (base + 1) vars)))
+      subst (λ n. found (variable_name site.vars n) (member_entries (members_from site base (v ∷ vars))) ≡ Some (held_member site.structs site.vars n var))
+      (sym none)
+      (ap (λ (b : Bool). found (variable_name site.vars base) (member_entries (member_of b site.structs site.vars base v ++ members_from site (base + 1) vars)))
       (ap (λ (v : Var). is_held (home_of site (Some v))) same ∙ held)
-      ∙ found_here (variable_name base) (variable_name base, held_member site.structs base v) (member_entries (members_from site (base + 1) vars))
-      (itself (variable_name base))
-      ∙ ap (λ (v : Var). Some (held_member site.structs base v)) same)
+      ∙ found_here (variable_name site.vars base) (variable_name site.vars base, held_member site.structs site.vars base v)
+      (member_entries (members_from site (base + 1) vars))
+      (itself (variable_name site.vars base))
+      ∙ ap (λ (v : Var). Some (held_member site.structs site.vars base v)) same)
   found_member base (v ∷ vars) (suc k) var there held small =
       let less : base < base + suc k = omega arith in
       let same : base + suc k ≡ (base + 1) + k = omega arith in
       let low : (base + 1) + k < 2 ^ 64 = omega (arith, small) in
-      let later : found (variable_name (base + suc k)) (member_entries (members_from site (base + 1) vars)) ≡ Some
-      (held_member site.structs (base + suc k) var) =
-      subst (λ n. found (variable_name n) (member_entries (members_from site (base + 1) vars)) ≡ Some (held_member site.structs n var)) (sym same)
+      let later : found (variable_name site.vars (base + suc k)) (member_entries (members_from site (base + 1) vars)) ≡ Some
+      (held_member site.structs site.vars (base + suc k) var) =
+      subst (λ n. found (variable_name site.vars n) (member_entries (members_from site (base + 1) vars)) ≡ Some (held_member site.structs site.vars n var))
+      (sym same)
       (found_member (base + 1) vars k var there held low) in
       by (is_held (home_of site (Some v))) less later
     where
       by : (b : Bool) → base < base + suc k →
-          found (variable_name (base + suc k)) (member_entries (members_from site (base + 1) vars)) ≡ Some (held_member site.structs (base + suc k) var) →
-          found (variable_name (base + suc k)) (member_entries (member_of b site.structs base v ++ members_from site (base + 1) vars))
-          ≡ Some (held_member site.structs (base + suc k) var)
+          found (variable_name site.vars (base + suc k)) (member_entries (members_from site (base + 1) vars)) ≡ Some
+          (held_member site.structs site.vars (base + suc k) var) →
+          found (variable_name site.vars (base + suc k)) (member_entries (member_of b site.structs site.vars base v ++ members_from site (base + 1) vars))
+          ≡ Some (held_member site.structs site.vars (base + suc k) var)
       by true less later =
-          found_next (variable_name (base + suc k)) (variable_name base, held_member site.structs base v) (member_entries (members_from site (base + 1) vars))
-          (numbers_differ 118 base (base + suc k) less small) ∙ later
+          found_next (variable_name site.vars (base + suc k)) (variable_name site.vars base, held_member site.structs site.vars base v)
+          (member_entries (members_from site (base + 1) vars))
+          (variables_differ site.vars base (base + suc k) less small) ∙ later
       by false less later = later
 
   -- a unit that holds one holds any

@@ -18,7 +18,7 @@ use Rattle.bl_emit_acts.specs.Types.{c_type, variable_name}
 use Rattle.bl_emit_functions.specs.Functions.{held_member, is_held, member_of, members_from, members_of, memory_struct, struct_of}
 use Rattle.bl_emit_structs_laws_wellformed.specs.Formed.{IsMemory, OfVariable}
 use Rattle.bl_emit_functions_laws_wellformed.specs.Formed.{MemoriesHold}
-use Rattle.bl_emit_functions_laws_wellformed.proofs.OnFormed.Lookups.{numbers_differ}
+use Rattle.bl_emit_functions_laws_wellformed.proofs.OnFormed.Lookups.{variables_differ}
 
 abbrev names : List CMember → List Text
 names members = map (λ (m : CMember). m.name) members
@@ -42,23 +42,23 @@ record OfList (structs : List StructDef) (vars : List Var) (m : CMember) : Type 
 
 module _ (site : TypingContext) where
   later_members : (j base : ℕ) (vars : List Var) → j < base → base + length vars ≤ 2 ^ 64 →
-      is_among (variable_name j) (names (members_from site base vars)) ≡ false
+      is_among (variable_name site.vars j) (names (members_from site base vars)) ≡ false
   later_members j base [] less few = refl
   later_members j base (v ∷ vars) less few =
       let small : base < 2 ^ 64 = omega (arith, few) in
       let more : j < base + 1 = omega (arith, less) in
       let room : (base + 1) + length vars ≤ 2 ^ 64 = omega (arith, few) in
-      by (is_held (home_of site (Some v))) (numbers_differ 118 j base less small) (later_members j (base + 1) vars more room)
+      by (is_held (home_of site (Some v))) (variables_differ site.vars j base less small) (later_members j (base + 1) vars more room)
     where
       false_both : (a b : Bool) → a ≡ false → b ≡ false → (a || b) ≡ false
       false_both false b one other = other
       false_both true b one other = absurd (cc)
 
-      by : (b : Bool) → bytes_eq (variable_name j) (variable_name base) ≡ false → is_among (variable_name j)
+      by : (b : Bool) → bytes_eq (variable_name site.vars j) (variable_name site.vars base) ≡ false → is_among (variable_name site.vars j)
           (names (members_from site (base + 1) vars)) ≡ false →
-          is_among (variable_name j) (names (member_of b site.structs base v ++ members_from site (base + 1) vars)) ≡ false
-      by true one rest = false_both (bytes_eq (variable_name j) (variable_name base))
-          (is_among (variable_name j) (names (members_from site (base + 1) vars))) one rest
+          is_among (variable_name site.vars j) (names (member_of b site.structs site.vars base v ++ members_from site (base + 1) vars)) ≡ false
+      by true one rest = false_both (bytes_eq (variable_name site.vars j) (variable_name site.vars base))
+          (is_among (variable_name site.vars j) (names (members_from site (base + 1) vars))) one rest
       by false one rest = rest
 
   members_differ : (base : ℕ) (vars : List Var) → base + length vars ≤ 2 ^ 64 → are_distinct (names (members_from site base vars)) ≡ true
@@ -68,11 +68,12 @@ module _ (site : TypingContext) where
       let room : (base + 1) + length vars ≤ 2 ^ 64 = omega (arith, few) in
       by (is_held (home_of site (Some v))) (later_members base (base + 1) vars own room) (members_differ (base + 1) vars room)
     where
-      by : (b : Bool) → is_among (variable_name base) (names (members_from site (base + 1) vars)) ≡ false
+      by : (b : Bool) → is_among (variable_name site.vars base) (names (members_from site (base + 1) vars)) ≡ false
           → are_distinct (names (members_from site (base + 1) vars)) ≡ true →
-          are_distinct (names (member_of b site.structs base v ++ members_from site (base + 1) vars)) ≡ true
+          are_distinct (names (member_of b site.structs site.vars base v ++ members_from site (base + 1) vars)) ≡ true
       by true new rest =
-          both (not (is_among (variable_name base) (names (members_from site (base + 1) vars)))) (are_distinct (names (members_from site (base + 1) vars)))
+          both (not (is_among (variable_name site.vars base) (names (members_from site (base + 1) vars))))
+          (are_distinct (names (members_from site (base + 1) vars)))
           (ap not new) rest
       by false new rest = rest
 
@@ -80,10 +81,10 @@ module _ (site : TypingContext) where
   members_are base [] m has = absurd (none_has m has)
   members_are base (v ∷ vars) m has =
       ⊎_elim (own (is_held (home_of site (Some v)))) (λ later. further (members_are (base + 1) vars m later))
-      (Contains-append_cases (member_of (is_held (home_of site (Some v))) site.structs base v) (members_from site (base + 1) vars) m has)
+      (Contains-append_cases (member_of (is_held (home_of site (Some v))) site.structs site.vars base v) (members_from site (base + 1) vars) m has)
     where
-      own : (b : Bool) → Contains (member_of b site.structs base v) m → OfList site.structs (v ∷ vars) m
-      own true here = record { j = 0; var = v; there = refl; is = ap (λ (m : CMember). m.ty) (sym (alone (held_member site.structs base v) m here)) }
+      own : (b : Bool) → Contains (member_of b site.structs site.vars base v) m → OfList site.structs (v ∷ vars) m
+      own true here = record { j = 0; var = v; there = refl; is = ap (λ (m : CMember). m.ty) (sym (alone (held_member site.structs site.vars base v) m here)) }
       own false here = absurd (none_has m here)
 
       further : OfList site.structs vars m → OfList site.structs (v ∷ vars) m

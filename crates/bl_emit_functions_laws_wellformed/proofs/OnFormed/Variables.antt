@@ -33,9 +33,11 @@ use Rattle.bl_emit_acts.specs.declared.home.Home.TheVariants.{Held, Given, Lent}
 use Rattle.bl_emit_acts.specs.Places.{copies_inputs, home_of, home_of_role}
 use Rattle.bl_emit_acts.specs.Types.{c_scalar, c_type, variable_name}
 use Rattle.bl_emit_structs.specs.Structs.{arrays_of, structs_for_definition, structs_for_unit}
-use Rattle.bl_emit_functions.specs.Functions.{body_coded, flag_locals, function_code, holds_any, held_member, is_held, members_of, memory_local, memory_name, struct_of}
+use Rattle.bl_emit_functions.specs.Functions.{body_coded, flag_locals, function_code, holds_any, held_member, is_held, members_of, memory_local}
+use Rattle.bl_emit_functions.specs.Functions.{memory_name, struct_of}
 use Rattle.bl_emit_functions.specs.Trees.{flag_name}
-use Rattle.bl_emit_acts_laws_wellformed.specs.Formed.Declared.{AreDeclared, Declared, HeldIn, IsDeclaredAt, home_leads, leads_through, parameter_for, plain_member}
+use Rattle.bl_emit_acts_laws_wellformed.specs.Formed.Declared.{AreDeclared, Declared, HeldIn, IsDeclaredAt, home_leads, leads_through, parameter_for}
+use Rattle.bl_emit_acts_laws_wellformed.specs.Formed.Declared.{plain_member}
 use Rattle.bl_emit_acts_laws_wellformed.specs.Formed.Declared.{variable_of}
 use Rattle.bl_emit_acts_laws_wellformed.proofs.OnFormed.Parts.{joined_has}
 use Rattle.bl_emit_acts_laws_wellformed.proofs.OnFormed.SiteActs.{EarlierStand}
@@ -107,11 +109,11 @@ module _ (structs : List StructDef) (units : List UnitDef) (entry k : ℕ) (unit
   -- ---- parameters
 
   pub param_there : (j : ℕ) (var : Var) → slice_get (parameters_of unit) j ≡ Some var → slice_get unit.vars j ≡ Some var →
-      my_context.variables (variable_name j) ≡ Some (parameter_for structs var)
+      my_context.variables (variable_name unit.vars j) ≡ Some (parameter_for structs var)
   param_there j var in_params in_vars =
-      found_front (variable_name j) (param_entries structs 0 (parameters_of unit)) locals_here (parameter_for structs var)
-      (subst (λ n. found (variable_name n) (param_entries structs 0 (parameters_of unit)) ≡ Some (parameter_for structs var)) none
-      (found_param structs 0 (parameters_of unit) j var in_params low))
+      found_front (variable_name unit.vars j) (param_entries structs unit.vars 0 (parameters_of unit)) locals_here (parameter_for structs var)
+      (subst (λ n. found (variable_name unit.vars n) (param_entries structs unit.vars 0 (parameters_of unit)) ≡ Some (parameter_for structs var)) none
+      (found_param structs unit.vars 0 (parameters_of unit) j var in_params low))
     where
       none : 0 + j ≡ j
       none = omega arith
@@ -120,10 +122,10 @@ module _ (structs : List StructDef) (units : List UnitDef) (entry k : ℕ) (unit
       low = let less = below j var in_vars in omega (arith, less)
 
   -- a name that no parameter has is one of a local's
-  local_there : (name : Text) (x : faults.Variable) → ((j : ℕ) → bytes_eq (variable_name j) name ≡ false) → found name locals_here ≡ Some x →
+  local_there : (name : Text) (x : faults.Variable) → ((j : ℕ) → bytes_eq (variable_name unit.vars j) name ≡ false) → found name locals_here ≡ Some x →
       my_context.variables name ≡ Some x
   local_there name x other is =
-      found_behind name (param_entries structs 0 (parameters_of unit)) locals_here (no_param structs 0 (parameters_of unit) name other) ∙ is
+      found_behind name (param_entries structs unit.vars 0 (parameters_of unit)) locals_here (no_param structs unit.vars 0 (parameters_of unit) name other) ∙ is
 
   pub flag_there : (j : ℕ) → j < n_flags → my_context.variables (flag_name j) ≡ Some (variable_of false bool_type)
   flag_there j less =
@@ -139,13 +141,14 @@ module _ (structs : List StructDef) (units : List UnitDef) (entry k : ℕ) (unit
       ap (option_and_then (λ (t : Table CMember). t name)) (declared _ (0, omega arith, refl)) ∙ is
 
   held_there : (j : ℕ) (var : Var) → slice_get unit.vars j ≡ Some var → is_held (home_of my_site (Some var)) ≡ true →
-      HeldIn my_context false j (c_type structs var.ty)
+      HeldIn my_context false unit.vars j (c_type structs var.ty)
   held_there j var in_vars held = record {
     name = memory_name unit.name;
     memory = local_there (codes "m") (variable_of false (OfStruct (memory_name unit.name))) (λ i. refl)
         (ap (λ b. found (codes "m") (local_entries (memory_local unit.name b ++ flag_locals n_flags))) (any_held my_site unit.vars j var in_vars held)
         ∙ memory_found unit.name n_flags);
-    member = memory_is (members_of structs (take k units) unit) (variable_name j) (plain_member (variable_name j) (c_type structs var.ty)) member before.memory;
+    member = memory_is (members_of structs (take k units) unit) (variable_name unit.vars j)
+        (plain_member (variable_name unit.vars j) (c_type structs var.ty)) member before.memory;
   }
     where
       none : 0 + j ≡ j
@@ -154,10 +157,11 @@ module _ (structs : List StructDef) (units : List UnitDef) (entry k : ℕ) (unit
       low : 0 + j < 2 ^ 64
       low = let less = below j var in_vars in omega (arith, less)
 
-      member : found (variable_name j) (member_entries my_site (members_of structs (take k units) unit)) ≡ Some
-          (plain_member (variable_name j) (c_type structs var.ty))
+      member : found (variable_name unit.vars j) (member_entries my_site (members_of structs (take k units) unit)) ≡ Some
+          (plain_member (variable_name unit.vars j) (c_type structs var.ty))
       member =
-          subst (λ n. found (variable_name n) (member_entries my_site (members_of structs (take k units) unit)) ≡ Some (held_member structs n var)) none
+          subst (λ n. found (variable_name unit.vars n) (member_entries my_site (members_of structs (take k units) unit)) ≡ Some
+          (held_member structs unit.vars n var)) none
           (found_member my_site 0 unit.vars j var in_vars held low)
 
   -- ---- variables by their homes
@@ -185,12 +189,12 @@ module _ (structs : List StructDef) (units : List UnitDef) (entry k : ℕ) (unit
   lent_by Fixed s copies is = absurd (cc)
 
   param_of_kind : (j : ℕ) (var : Var) (pointer : Bool) → slice_get unit.vars j ≡ Some var → (is_variable var.role || is_fixed var.role) ≡ false →
-      pointer_of var ≡ pointer → my_context.variables (variable_name j) ≡ Some (variable_of pointer (c_type structs var.ty))
+      pointer_of var ≡ pointer → my_context.variables (variable_name unit.vars j) ≡ Some (variable_of pointer (c_type structs var.ty))
   param_of_kind j var pointer in_vars parameter is =
       param_there j var (parameter_at unit roles j var in_vars parameter) in_vars ∙ ap (λ p. Some (variable_of p (c_type structs var.ty))) is
 
   stands_by : (j : ℕ) (var : Var) (home : Home) → slice_get unit.vars j ≡ Some var → home_of my_site (Some var) ≡ home →
-      IsDeclaredAt my_context false home j (c_type structs var.ty)
+      IsDeclaredAt my_context false home unit.vars j (c_type structs var.ty)
   stands_by j var Held in_vars is = held_there j var in_vars (ap is_held is)
   stands_by j var Given in_vars is =
       let found = given_by var.role (scalar_in var.ty) (copies_inputs my_site) is in param_of_kind j var false in_vars found.0 found.1
@@ -198,9 +202,9 @@ module _ (structs : List StructDef) (units : List UnitDef) (entry k : ℕ) (unit
       let found = lent_by var.role (scalar_in var.ty) (copies_inputs my_site) is in param_of_kind j var true in_vars found.0 found.1
 
   pub variable_there : (j : ℕ) (var : Var) → var_at my_site j ≡ Some var →
-      IsDeclaredAt my_context (is_activity unit.kind) (home_of my_site (Some var)) j (c_type structs var.ty)
+      IsDeclaredAt my_context (is_activity unit.kind) (home_of my_site (Some var)) unit.vars j (c_type structs var.ty)
   variable_there j var in_vars =
-      subst (λ b. IsDeclaredAt my_context b (home_of my_site (Some var)) j (c_type structs var.ty)) (sym function)
+      subst (λ b. IsDeclaredAt my_context b (home_of my_site (Some var)) unit.vars j (c_type structs var.ty)) (sym function)
       (stands_by j var (home_of my_site (Some var)) in_vars refl)
 
   -- ---- types

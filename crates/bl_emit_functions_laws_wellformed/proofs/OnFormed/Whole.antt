@@ -22,12 +22,12 @@ functions structs units entry k unit table known depths keeps there function bef
     (λ i. head_is structs units entry k unit keeps there function table known before numbers depths new short i
     ++ (turns structs units k unit there numbers i ++ whole_is structs units entry k unit keeps there function table known before numbers false i))
 
-params_are : (structs : List StructDef) (base : ℕ) (vars : List Var) →
-    map (λ (p : CParam). record { pointer = p.pointer; ty = p.ty }) (params_from structs base vars) ≡ map (parameter_for structs) vars
-params_are structs base [] = refl
-params_are structs base (var ∷ vars) = ap (λ rest. parameter_for structs var ∷ rest) (params_are structs (base + 1) vars)
+params_are : (structs : List StructDef) (all : List Var) (base : ℕ) (vars : List Var) →
+    map (λ (p : CParam). record { pointer = p.pointer; ty = p.ty }) (params_from structs all base vars) ≡ map (parameter_for structs) vars
+params_are structs all base [] = refl
+params_are structs all base (var ∷ vars) = ap (λ rest. parameter_for structs var ∷ rest) (params_are structs all (base + 1) vars)
 
 pub signed : FunctionsSigned
 signed structs earlier unit =
     ap (λ (params : List Variable). record { widens = false; params = params; result = (signature_for structs unit).result })
-    (params_are structs 0 (parameters_of unit))
+    (params_are structs unit.vars 0 (parameters_of unit))

@@ -20,6 +20,7 @@ use Rattle.bl_tree.specs.Reduce.{greatest}
 use Rattle.bl_tree.specs.Types.{same_type, scalar_in, type_stands}
 use Rattle.bl_tree.specs.Typing.{TypingContext, are_same, arguments_fit, call_fits, declaration_fits, inputs_of, is_activity, is_assignable, is_fixed}
 use Rattle.bl_tree.specs.Typing.{is_procedure, is_variable, outputs_of, type_of, type_of_path, types_match, var_at}
+use Rattle.bl_tree.specs.Program.{names_of}
 use Rattle.bl_tree.specs.Words as words
 use Rattle.bl_eval.proofs.PassLemmas.{and_left, and_right, both}
 use Rattle.bl_ctext.specs.Spellable.{is_literal}
@@ -69,12 +70,13 @@ argument_by d (Number s code) h = value-fits d code h
 argument_by d (Whole place) h = address-fits d place (read-place d place h)
 
 -- the variable with a place of its own
-home_fits : (d : ℕ) (activity : Bool) (home : Home) (k : ℕ) → 1 ≤ d → k < 2 ^ 64 → place_fits d (place_by_steps activity home k []) ≡ true
-home_fits d activity Held k low small =
-    place-fits d activity (codes "m") (c_step (variable_name k) ∷ []) low memory-name
-    (both (step_fits d (c_step (variable_name k))) true (step-fits d (variable_name k) (variable-name k small)) refl)
-home_fits d activity Given k low small = place-fits d false (variable_name k) [] low (variable-name k small) refl
-home_fits d activity Lent k low small = place-fits d true (variable_name k) [] low (variable-name k small) refl
+home_fits : (vars : List Var) → list_all words.is_name (names_of vars) ≡ true → (d : ℕ) (activity : Bool) (home : Home) (k : ℕ) → 1 ≤ d → k < 2 ^ 64 →
+    place_fits d (place_by_steps activity home vars k []) ≡ true
+home_fits vars vars_named d activity Held k low small =
+    place-fits d activity (codes "m") (c_step (variable_name vars k) ∷ []) low memory-name
+    (both (step_fits d (c_step (variable_name vars k))) true (step-fits d (variable_name vars k) (variable-name vars k vars_named small)) refl)
+home_fits vars vars_named d activity Given k low small = place-fits d false (variable_name vars k) [] low (variable-name vars k vars_named small) refl
+home_fits vars vars_named d activity Lent k low small = place-fits d true (variable_name vars k) [] low (variable-name vars k vars_named small) refl
 
 pub one-fits : (d : ℕ) (s : CStmt) → stmt_fits d s ≡ true → stmts_fit d (s ∷ []) ≡ true
 one-fits d s h = both (stmt_fits d s) true h refl
@@ -82,6 +84,7 @@ one-fits d s h = both (stmt_fits d s) true h refl
 module _ (site : TypingContext) (few : length site.vars ≤ 2 ^ 64)
     (names : list_all words.is_name (map (λ (def : StructDef). def.name) site.structs) ≡ true)
     (named : (f : ℕ) (callee : UnitDef) → slice_get site.earlier f ≡ Some callee → words.is_name callee.name ≡ true)
+    (vars_named : list_all words.is_name (names_of site.vars) ≡ true)
     (typed_vars : (k : ℕ) (var : Var) → var_at site k ≡ Some var → type_stands (length site.structs) var.ty ≡ true)
     (exprs : (e : Expr) (ty : Ty) → type_of site e ≡ Some ty → expr_fits (room (expr_depth e)) (code_made site e) ≡ true)
     (paths : (path : Path) (ty : Ty) → type_of_path site path ≡ Some ty →
@@ -90,7 +93,7 @@ module _ (site : TypingContext) (few : length site.vars ≤ 2 ^ 64)
   below k var there = let within : k < length site.vars = slice_get_within site.vars k var there in omega (arith, within, few)
 
   pub own-fits : (d k : ℕ) → 1 ≤ d → k < 2 ^ 64 → place_fits d (place_in site k []) ≡ true
-  own-fits d k low small = home_fits d (is_activity site.kind) (home_of site (var_at site k)) k low small
+  own-fits d k low small = home_fits site.vars vars_named d (is_activity site.kind) (home_of site (var_at site k)) k low small
 
   -- ---- expressions of known types
 
@@ -156,8 +159,8 @@ module _ (site : TypingContext) (few : length site.vars ≤ 2 ^ 64)
   copied_by d k low small false = refl
   copied_by d k low small true =
       one-fits d (c_copied site k)
-      (set-fits d nowhere (c_place false (copy_name k) []) (c_read (place_in site k []))
-      (place-fits d false (copy_name k) [] low (copy-name k small) refl)
+      (set-fits d nowhere (c_place false (copy_name site.vars k) []) (c_read (place_in site k []))
+      (place-fits d false (copy_name site.vars k) [] low (copy-name site.vars k vars_named small) refl)
       (read-fits d nowhere (place_in site k []) (own-fits d k low small)))
 
   pub declared-fits : (d : ℕ) (copies : List Bool) (k : ℕ) (initial : Option Expr) → declaration_fits site initial (var_at site k) ≡ true →

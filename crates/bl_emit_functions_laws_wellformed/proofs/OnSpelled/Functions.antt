@@ -37,7 +37,7 @@ use Rattle.bl_emit_acts.specs.declared.home.Home.TheVariants.{Held, Given, Lent}
 use Rattle.bl_emit_acts.specs.Places.{home_of, place_in}
 use Rattle.bl_emit_acts.specs.Trees.{c_literal, c_place, c_read, nowhere}
 use Rattle.bl_emit_acts.specs.Types.{c_scalar, c_type, unit_name, variable_name}
-use Rattle.bl_emit_acts_laws_wellformed.proofs.OnFormed.Units.{body_stands, taken_there, unit_at, vars_stand}
+use Rattle.bl_emit_acts_laws_wellformed.proofs.OnFormed.Units.{body_stands, taken_there, unit_at, vars_named, vars_stand}
 use Rattle.bl_emit_acts_laws_wellformed.specs.Spelled.{ExpressionsFit, PlacesFit}
 use Rattle.bl_emit_acts_laws_wellformed.proofs.OnSpelled.Names.{memory-name, variable-name}
 use Rattle.bl_emit_functions.specs.Functions.{body_coded, c_input_copied, copies_from, end_code, flag_local, flag_locals}
@@ -103,6 +103,9 @@ module _ (structs : List StructDef) (units : List UnitDef) (entry k : ℕ) (unit
   own_name : words.is_name unit.name ≡ true
   own_name = named_at units k unit unit_names there
 
+  own_vars : list_all words.is_name (names_of unit.vars) ≡ true
+  own_vars = vars_named structs units entry keeps k unit there
+
   pub earlier_named : (f : ℕ) (callee : UnitDef) → slice_get (take k units) f ≡ Some callee → words.is_name callee.name ≡ true
   earlier_named f callee found = named_at units f callee unit_names (taken_there units k f callee found)
 
@@ -118,12 +121,12 @@ module _ (structs : List StructDef) (units : List UnitDef) (entry k : ℕ) (unit
   -- ---- the variables that it holds
 
   member_by : (held : Bool) (base : ℕ) (var : Var) → base < 2 ^ 64 → type_stands (length structs) var.ty ≡ true →
-      list_all spells_member (member_of held structs base var) ≡ true
+      list_all spells_member (member_of held structs unit.vars base var) ≡ true
   member_by false base var small h = refl
   member_by true base var small h =
-      both (spells_member (held_member structs base var)) true
-      (both (spells_type (c_type structs var.ty)) (is_name (variable_name base) && true) (spelled var h)
-      (both (is_name (variable_name base)) true (variable-name base small) refl)) refl
+      both (spells_member (held_member structs unit.vars base var)) true
+      (both (spells_type (c_type structs var.ty)) (is_name (variable_name unit.vars base) && true) (spelled var h)
+      (both (is_name (variable_name unit.vars base)) true (variable-name unit.vars base own_vars small) refl)) refl
 
   members_by : (base : ℕ) (vars : List Var) → base + length vars ≤ 2 ^ 64 →
       list_all (λ (var : Var). type_stands (length structs) var.ty) vars ≡ true →
@@ -132,7 +135,7 @@ module _ (structs : List StructDef) (units : List UnitDef) (entry k : ℕ) (unit
   members_by base (var ∷ rest) room h =
       let small : base < 2 ^ 64 = omega (arith, room) in
       let later : (base + 1) + length rest ≤ 2 ^ 64 = omega (arith, room) in
-      all_append spells_member (member_of (is_held (home_of site (Some var))) structs base var) (members_from site (base + 1) rest)
+      all_append spells_member (member_of (is_held (home_of site (Some var))) structs unit.vars base var) (members_from site (base + 1) rest)
       (member_by (is_held (home_of site (Some var))) base var small
       (and_left (type_stands (length structs) var.ty) (list_all (λ (var : Var). type_stands (length structs) var.ty) rest) h))
       (members_by (base + 1) rest later
@@ -155,19 +158,19 @@ module _ (structs : List StructDef) (units : List UnitDef) (entry k : ℕ) (unit
 
   params_by : (base : ℕ) (vars : List Var) → base + length vars ≤ 2 ^ 64 →
       list_all (λ (var : Var). type_stands (length structs) var.ty) vars ≡ true →
-      list_all spells_param (params_from structs base vars) ≡ true
+      list_all spells_param (params_from structs unit.vars base vars) ≡ true
   params_by base [] room h = refl
   params_by base (var ∷ rest) room h =
       let small : base < 2 ^ 64 = omega (arith, room) in
       let later : (base + 1) + length rest ≤ 2 ^ 64 = omega (arith, room) in
-      both (spells_param (param_of structs base var)) (list_all spells_param (params_from structs (base + 1) rest))
-      (both (spells_type (c_type structs var.ty)) (is_name (variable_name base))
+      both (spells_param (param_of structs unit.vars base var)) (list_all spells_param (params_from structs unit.vars (base + 1) rest))
+      (both (spells_type (c_type structs var.ty)) (is_name (variable_name unit.vars base))
       (spelled var (and_left (type_stands (length structs) var.ty) (list_all (λ (var : Var). type_stands (length structs) var.ty) rest) h))
-      (variable-name base small))
+      (variable-name unit.vars base own_vars small))
       (params_by (base + 1) rest later
       (and_right (type_stands (length structs) var.ty) (list_all (λ (var : Var). type_stands (length structs) var.ty) rest) h))
 
-  pub params-spelled : list_all spells_param (params_from structs 0 (parameters_of unit)) ≡ true
+  pub params-spelled : list_all spells_param (params_from structs unit.vars 0 (parameters_of unit)) ≡ true
   params-spelled =
       let some : length (parameters_of unit) ≤ length unit.vars = taken_few (unit.inputs + unit.outputs) unit.vars in
       let room : 0 + length (parameters_of unit) ≤ 2 ^ 64 = omega (arith, some, few) in
@@ -201,10 +204,11 @@ module _ (structs : List StructDef) (units : List UnitDef) (entry k : ℕ) (unit
     copied_by d base low small Lent = refl
     copied_by d base low small Held =
         one-fits d (c_input_copied site base)
-        (set-fits d nowhere (place_in site base []) (c_read (c_place true (variable_name base) []))
-        (own-fits site few names earlier_named typed (λ e ty typed. fit k unit e ty keeps there few typed)
+        (set-fits d nowhere (place_in site base []) (c_read (c_place true (variable_name unit.vars base) []))
+        (own-fits site few names earlier_named own_vars typed (λ e ty typed. fit k unit e ty keeps there few typed)
         (λ path ty typed. fit_places k unit path ty keeps there few typed) d base low small)
-        (read-fits d nowhere (c_place true (variable_name base) []) (place-fits d true (variable_name base) [] low (variable-name base small) refl)))
+        (read-fits d nowhere (c_place true (variable_name unit.vars base) [])
+        (place-fits d true (variable_name unit.vars base) [] low (variable-name unit.vars base own_vars small) refl)))
 
     copies_by : (d base : ℕ) (vars : List Var) → 1 ≤ d → base + length vars ≤ 2 ^ 64 → stmts_fit d (copies_from site base vars) ≡ true
     copies_by d base [] low room = refl
@@ -229,9 +233,10 @@ module _ (structs : List StructDef) (units : List UnitDef) (entry k : ℕ) (unit
         let less : j < length unit.vars = slice_get_within unit.vars j found.0 found.1 in
         let small : j < 2 ^ 64 = omega (arith, less, few) in
         let own =
-        own-fits site few names earlier_named typed (λ e ty typed. fit k unit e ty keeps there few typed)
+        own-fits site few names earlier_named own_vars typed (λ e ty typed. fit k unit e ty keeps there few typed)
         (λ path ty typed. fit_places k unit path ty keeps there few typed) d j low small in
-        one-fits d (c_set_again site j) (set-fits d nowhere (place_in site j []) (c_read (place_in site j [])) own (read-fits d nowhere (place_in site j []) own))
+        one-fits d (c_set_again site j)
+        (set-fits d nowhere (place_in site j []) (c_read (place_in site j [])) own (read-fits d nowhere (place_in site j []) own))
 
     shallow : (nat_le (block 0 (map depth_of unit.body)).blocks 200 && nat_le (of_all (map depth_of unit.body)).exprs 200) ≡ true
     shallow =
@@ -257,7 +262,7 @@ module _ (structs : List StructDef) (units : List UnitDef) (entry k : ℕ) (unit
 
     body_is : Good 1999 (block_codes (map (codes_of site) unit.body))
     body_is =
-        body_good site few names earlier_named typed (λ e ty typed. fit k unit e ty keeps there few typed)
+        body_good site few names earlier_named own_vars typed (λ e ty typed. fit k unit e ty keeps there few typed)
         (λ path ty typed. fit_places k unit path ty keeps there few typed) unit.body
         (all_listed (fits site) unit.body (body_stands structs units entry keeps k unit there)) 1999 space_there
 

@@ -30,6 +30,7 @@ use Rattle.bl_tree.specs.Reduce.{all_of}
 use Rattle.bl_tree.specs.Types.{scalar, type_stands}
 use Rattle.bl_tree.specs.Typing.{TypingContext, arm_fits, branch_fits, fits, is_inhabited, is_truth, kind_fits, return_fits}
 use Rattle.bl_tree.specs.Typing.{stmt_fits as stmt_fitted, type_of, type_of_path, var_at}
+use Rattle.bl_tree.specs.Program.{names_of}
 use Rattle.bl_tree.specs.Words as words
 use Rattle.bl_tree.proofs.StmtInduction.{Cases, Each, EachArm, induct, stmt}
 use Rattle.bl_eval.proofs.PassLemmas.{and_left, and_right, both}
@@ -252,6 +253,7 @@ depth_of_arm = fold-Arm Depth Depth Depth Depth stmt_kind_depth arm_depth branch
 module _ (site : TypingContext) (few : length site.vars ≤ 2 ^ 64)
     (names : list_all words.is_name (map (λ (def : StructDef). def.name) site.structs) ≡ true)
     (named : (f : ℕ) (callee : UnitDef) → slice_get site.earlier f ≡ Some callee → words.is_name callee.name ≡ true)
+    (vars_named : list_all words.is_name (names_of site.vars) ≡ true)
     (typed_vars : (k : ℕ) (var : Var) → var_at site k ≡ Some var → type_stands (length site.structs) var.ty ≡ true)
     (exprs : (e : Expr) (ty : Ty) → type_of site e ≡ Some ty → expr_fits (room (expr_depth e)) (code_made site e) ≡ true)
     (paths : (path : Path) (ty : Ty) → type_of_path site path ≡ Some ty →
@@ -325,7 +327,7 @@ module _ (site : TypingContext) (few : length site.vars ≤ 2 ^ 64)
       only_good d (c_return (Some (code_made site e)) ∷ [])
       (one-fits d (c_return (Some (code_made site e)))
       (return-fits d nowhere (code_made site e)
-      (code-fits site few names named typed_vars exprs paths d e (Some (scalar s)) fitted le)))
+      (code-fits site few names named vars_named typed_vars exprs paths d e (Some (scalar s)) fitted le)))
   return_good d (Some e) None fitted le = absurd (cc)
   return_good d None (Some s) fitted le = absurd (cc)
   return_good d None None fitted le = only_good d (c_return None ∷ []) (one-fits d (c_return None) (end-fits d))
@@ -389,7 +391,7 @@ module _ (site : TypingContext) (few : length site.vars ≤ 2 ^ 64)
         let room_for : room (optional_depth initial) ≤ d = omega (arith, deep) in
         as_codes d _ _ (declare_codes k initial)
         (only_good d (declared_code site [] k initial)
-        (declared-fits site few names named typed_vars exprs paths d [] k initial (rw (fold-roll-Stmt, fold-roll-StmtKind) at fitted) room_for))
+        (declared-fits site few names named vars_named typed_vars exprs paths d [] k initial (rw (fold-roll-Stmt, fold-roll-StmtKind) at fitted) room_for))
 
     assign_case : (path : Path) (e : Expr) → S (stmt place (StmtKind-F.Assign path e))
     assign_case path e fitted d le =
@@ -398,7 +400,7 @@ module _ (site : TypingContext) (few : length site.vars ≤ 2 ^ 64)
         as_codes d _ _ (assign_codes path e)
         (only_good d (c_set (stands site path).place (code_made site e) ∷ [])
         (one-fits d (c_set (stands site path).place (code_made site e))
-        (assigned-fits site few names named typed_vars exprs paths d path e (rw (fold-roll-Stmt, fold-roll-StmtKind) at fitted) room_for)))
+        (assigned-fits site few names named vars_named typed_vars exprs paths d path e (rw (fold-roll-Stmt, fold-roll-StmtKind) at fitted) room_for)))
 
     call_case : (f : ℕ) (inputs : List Expr) (outputs : List Path) → S (stmt place (StmtKind-F.Call f inputs outputs))
     call_case f inputs outputs fitted d le =
@@ -407,7 +409,7 @@ module _ (site : TypingContext) (few : length site.vars ≤ 2 ^ 64)
         as_codes d _ _ (call_codes f inputs outputs)
         (only_good d (c_calling (call_made site f inputs outputs) ∷ [])
         (one-fits d (c_calling (call_made site f inputs outputs))
-        (called-fits site few names named typed_vars exprs paths d f inputs outputs (rw (fold-roll-Stmt, fold-roll-StmtKind) at fitted) room_for)))
+        (called-fits site few names named vars_named typed_vars exprs paths d f inputs outputs (rw (fold-roll-Stmt, fold-roll-StmtKind) at fitted) room_for)))
 
     branching_case : (arms : List Arm) (other : List Stmt) → EachArm S arms → Each S other → S (stmt place (StmtKind-F.If arms other))
     branching_case arms other each others fitted d le =

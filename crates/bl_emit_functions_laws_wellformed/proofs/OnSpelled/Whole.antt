@@ -17,7 +17,7 @@ use Rattle.bl_tree.specs.declared.tree.Ty.{Ty}
 use Rattle.bl_tree.specs.declared.tree.Unit.{Unit as UnitDef}
 use Rattle.bl_tree.specs.declared.tree.Var.{Var}
 use Rattle.bl_tree.specs.Depths.{arguments_depth, depth_of, expr_depth, optional_depth, path_depth}
-use Rattle.bl_tree.specs.Program.{IsWellTyped}
+use Rattle.bl_tree.specs.Program.{IsWellTyped, names_of}
 use Rattle.bl_tree.specs.Types.{type_stands}
 use Rattle.bl_tree.specs.Typing.{TypingContext, fits, site_of, type_of, type_of_path}
 use Rattle.bl_tree.specs.Words as words
@@ -26,6 +26,7 @@ use Rattle.bl_ctext.specs.inner.Fits.{expr_fits, place_fits, stmts_fit}
 use Rattle.bl_emit_acts.specs.Acts.{act_code, c_calling, c_set, call_made, code_made, layer_code}
 use Rattle.bl_emit_acts.specs.Expressions.{stands}
 use Rattle.bl_emit_acts_laws_wellformed.specs.Spelled.{ExpressionsFit, PlacesFit}
+use Rattle.bl_emit_acts_laws_wellformed.proofs.OnFormed.Units.{vars_named}
 use Rattle.bl_emit_functions_laws_wellformed.specs.Spelled.{ActsFit, FunctionsFit, MembersSpelled, MemoriesSpelled, StructsSpelled, TypesSpelled}
 use Rattle.bl_emit_functions_laws_wellformed.proofs.OnSpelled.Acts.{assigned-fits, called-fits, declared-fits, one-fits, room}
 use Rattle.bl_emit_functions_laws_wellformed.proofs.OnSpelled.Functions.{earlier_named, function-fits, members-spelled, memory-spelled, names, typed}
@@ -84,6 +85,9 @@ module _ (structs : List StructDef) (units : List UnitDef) (entry : ℕ) (fit : 
   named_here : (f : ℕ) (callee : UnitDef) → slice_get (take k units) f ≡ Some callee → words.is_name callee.name ≡ true
   named_here = earlier_named structs units entry k unit keeps there few
 
+  vars_here : list_all words.is_name (names_of unit.vars) ≡ true
+  vars_here = vars_named structs units entry keeps k unit there
+
   typed_here : (j : ℕ) (var : Var) → slice_get unit.vars j ≡ Some var → type_stands (length structs) var.ty ≡ true
   typed_here = typed structs units entry k unit keeps there few
 
@@ -91,7 +95,7 @@ module _ (structs : List StructDef) (units : List UnitDef) (entry : ℕ) (fit : 
   act_declare place j initial fitted =
       rw (fold-roll-Stmt, fold-roll-StmtKind)
       (subst (λ code. stmts_fit (2 * optional_depth initial + 3) code ≡ true) (sym (act_is place (StmtKind-F.Declare j initial)))
-      (declared-fits site few names_here named_here typed_here exprs_here paths_here (2 * optional_depth initial + 3) copies j initial
+      (declared-fits site few names_here named_here vars_here typed_here exprs_here paths_here (2 * optional_depth initial + 3) copies j initial
       (rw (fold-roll-Stmt, fold-roll-StmtKind) at fitted) (omega arith)))
 
   act_assign : (place : Place) (path : Path) (e : Expr) → P (stmt place (StmtKind-F.Assign path e))
@@ -100,7 +104,7 @@ module _ (structs : List StructDef) (units : List UnitDef) (entry : ℕ) (fit : 
       rw (fold-roll-Stmt, fold-roll-StmtKind)
       (subst (λ code. stmts_fit (2 * max (path_depth path) (expr_depth e) + 3) code ≡ true) (sym (act_is place (StmtKind-F.Assign path e)))
       (one-fits d (c_set (stands site path).place (code_made site e))
-      (assigned-fits site few names_here named_here typed_here exprs_here paths_here d path e
+      (assigned-fits site few names_here named_here vars_here typed_here exprs_here paths_here d path e
       (rw (fold-roll-Stmt, fold-roll-StmtKind) at fitted) (omega arith))))
 
   act_call : (place : Place) (f : ℕ) (inputs : List Expr) (outputs : List Path) → P (stmt place (StmtKind-F.Call f inputs outputs))
@@ -109,7 +113,7 @@ module _ (structs : List StructDef) (units : List UnitDef) (entry : ℕ) (fit : 
       rw (fold-roll-Stmt, fold-roll-StmtKind)
       (subst (λ code. stmts_fit (2 * arguments_depth inputs outputs + 3) code ≡ true) (sym (act_is place (StmtKind-F.Call f inputs outputs)))
       (one-fits d (c_calling (call_made site f inputs outputs))
-      (called-fits site few names_here named_here typed_here exprs_here paths_here d f inputs outputs
+      (called-fits site few names_here named_here vars_here typed_here exprs_here paths_here d f inputs outputs
       (rw (fold-roll-Stmt, fold-roll-StmtKind) at fitted) (omega arith))))
 
   cases : Cases P

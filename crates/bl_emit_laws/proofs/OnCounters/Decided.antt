@@ -78,7 +78,7 @@ abbrev pub NoFlag : Text → Type 0
 NoFlag name = is_flag_name name ≡ false
 
 pub variables : OfVariables NoFlag
-variables = record { variable = λ k. refl; copy = λ k. refl; memory = refl }
+variables = record { variable = λ vars k. refl; copy = λ vars k. refl; memory = refl }
 
 pub begins : (place : CPath) → names_counter place ≡ false → NoFlag place.name → IsNoFlag place
 begins place none named = named

@@ -26,7 +26,7 @@ abbrev Any : Text → Type 0
 Any name = Unit {0}
 
 abbrev any : paths.OfVariables Any
-any = record { variable = λ k. tt; copy = λ k. tt; memory = tt }
+any = record { variable = λ vars k. tt; copy = λ vars k. tt; memory = tt }
 
 module _ (P : CPath → Type 0) (plain : (place : CPath) → names_counter place ≡ false → P place) where
   abbrev pub ExprFine : CExpr → Type 0

@@ -38,8 +38,8 @@ module _ (P : CPath → Type 0) (plain : (place : CPath) → names_counter place
   input_fine : (site : TypingContext) (home : Home) (k : ℕ) → CodeFine P plain (input_copied site home k)
   input_fine site Held k =
       one_stmt P plain (c_input_copied site k)
-      (set-fine P plain (place_in site k []) (c_read (c_place true (variable_name k) [])) (own_fine P plain site k)
-      (read-fine P plain (c_place true (variable_name k) []) (root-fine P plain true (variable_name k))))
+      (set-fine P plain (place_in site k []) (c_read (c_place true (variable_name site.vars k) [])) (own_fine P plain site k)
+      (read-fine P plain (c_place true (variable_name site.vars k) []) (root-fine P plain true (variable_name site.vars k))))
   input_fine site Given k = tt
   input_fine site Lent k = tt
 

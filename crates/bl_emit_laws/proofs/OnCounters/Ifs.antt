@@ -92,7 +92,7 @@ entries view (Then s rest) =
 copies : (site : TypingContext) (ks : List ℕ) → AreSettings (map (c_copied site) ks)
 copies site [] = no_settings
 copies site (k ∷ rest) =
-    first_setting (c_place false (copy_name k) []) (c_read (place_in site k [])) (map (c_copied site) rest) (copies site rest)
+    first_setting (c_place false (copy_name site.vars k) []) (c_read (place_in site k [])) (map (c_copied site) rest) (copies site rest)
 
 -- what stands before the blocks
 abbrev before : Activity → List CStmt

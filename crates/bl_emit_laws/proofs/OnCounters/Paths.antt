@@ -24,6 +24,7 @@ use Rattle.bl_tree.specs.declared.tree.Part.{Part, fold-roll-Part, out-Part, out
 use Rattle.bl_tree.specs.declared.tree.Path.{Path, fold-roll-Path, roll-Path}
 use Rattle.bl_tree.specs.declared.tree.Ty.{Ty}
 use Rattle.bl_tree.specs.declared.tree.Unit.{Unit as UnitDef}
+use Rattle.bl_tree.specs.declared.tree.Var.{Var}
 use Rattle.bl_tree.specs.Reduce.{joined}
 use Rattle.bl_tree.specs.Scalar.{is_int}
 use Rattle.bl_tree.specs.Types.{scalar_in}
@@ -51,8 +52,8 @@ neither false b one other = other
 
 -- all names are these with which what is made of expressions begins
 pub record OfVariables (Named : Text → Type 0) : Type 0 where
-  pub variable : (k : ℕ) → Named (variable_name k)
-  pub copy : (k : ℕ) → Named (copy_name k)
+  pub variable : (vars : List Var) (k : ℕ) → Named (variable_name vars k)
+  pub copy : (vars : List Var) (k : ℕ) → Named (copy_name vars k)
   pub memory : Named (codes "m")
 
 module _ (P : CPath → Type 0) (Named : Text → Type 0) (names : OfVariables Named)
@@ -241,7 +242,8 @@ module _ (P : CPath → Type 0) (Named : Text → Type 0) (names : OfVariables N
         rw (fold-roll-Expr, fold-roll-ExprKind) (at_fine (scalar_in (stands site path).ty) (stands site path).place is)
 
     prev_case : (place : Place) (k : ℕ) → OfExpr (expr place (ExprKind-F.Prev k))
-    prev_case place k = rw (fold-roll-Expr, fold-roll-ExprKind) (read-fine (c_place false (copy_name k) []) (root-fine false (copy_name k) (names.copy k)))
+    prev_case place k = rw (fold-roll-Expr, fold-roll-ExprKind)
+        (read-fine (c_place false (copy_name site.vars k) []) (root-fine false (copy_name site.vars k) (names.copy site.vars k)))
 
     one_case : (place : Place) (op : Op) (a : Expr) → OfExpr a → OfExpr (expr place (ExprKind-F.One op a))
     one_case place op a is =
@@ -288,11 +290,11 @@ module _ (P : CPath → Type 0) (Named : Text → Type 0) (names : OfVariables N
       steps_fine rest (All-tail (λ part. OfIndex OfExpr (out-Part part)) part rest each) (step_typing site part ty).ty,
     )
 
-    home_fine : (activity : Bool) (home : Home) (k : ℕ) (steps : List CStep) → StepsFine steps → PlaceFine (place_by_steps activity home k steps)
+    home_fine : (activity : Bool) (home : Home) (k : ℕ) (steps : List CStep) → StepsFine steps → PlaceFine (place_by_steps activity home site.vars k steps)
     home_fine activity Held k steps all =
-        place-fine activity (codes "m") (c_step (variable_name k) ∷ steps) names.memory (member-fine (variable_name k) refl, all)
-    home_fine activity Given k steps all = place-fine false (variable_name k) steps (names.variable k) all
-    home_fine activity Lent k steps all = place-fine true (variable_name k) steps (names.variable k) all
+        place-fine activity (codes "m") (c_step (variable_name site.vars k) ∷ steps) names.memory (member-fine (variable_name site.vars k) refl, all)
+    home_fine activity Given k steps all = place-fine false (variable_name site.vars k) steps (names.variable site.vars k) all
+    home_fine activity Lent k steps all = place-fine true (variable_name site.vars k) steps (names.variable site.vars k) all
 
     -- the place of a variable names no counter
     pub own_fine : (k : ℕ) → PlaceFine (place_in site k [])

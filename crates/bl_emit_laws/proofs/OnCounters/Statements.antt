@@ -176,13 +176,13 @@ module _ (P : CPath → Type 0) (plain : (place : CPath) → names_counter place
         (set-fine (place_in site k []) (code_made site e) (own_fine P plain site k) (code_fine e))
     initial_fine k None = zero_fine (place_in site k []) (type_at (var_at site k)) (own_fine P plain site k)
 
-    copied_fine : (k : ℕ) → StmtFine (c_set (c_place false (copy_name k) []) (c_read (place_in site k [])))
+    copied_fine : (k : ℕ) → StmtFine (c_set (c_place false (copy_name site.vars k) []) (c_read (place_in site k [])))
     copied_fine k =
-        set-fine (c_place false (copy_name k) []) (c_read (place_in site k [])) (root-fine P plain false (copy_name k))
+        set-fine (c_place false (copy_name site.vars k) []) (c_read (place_in site k [])) (root-fine P plain false (copy_name site.vars k))
         (read-fine P plain (place_in site k []) (own_fine P plain site k))
 
     copy_fine : (k : ℕ) (copied : Bool) → CodeFine (copy_code site copied k)
-    copy_fine k true = one_stmt (c_set (c_place false (copy_name k) []) (c_read (place_in site k []))) (copied_fine k)
+    copy_fine k true = one_stmt (c_set (c_place false (copy_name site.vars k) []) (c_read (place_in site k []))) (copied_fine k)
     copy_fine k false = tt
 
     pub declared_fine : (copies : List Bool) (k : ℕ) (initial : Option Expr) → CodeFine (declared_code site copies k initial)
@@ -190,7 +190,7 @@ module _ (P : CPath → Type 0) (plain : (place : CPath) → names_counter place
         then_code (initial_code site k initial) (copy_code site (is_copied copies k) k) (initial_fine k initial) (copy_fine k (is_copied copies k))
 
     -- the copies of variables
-    pub copy-fine : (k : ℕ) → StmtFine (c_set (c_place false (copy_name k) []) (c_read (place_in site k [])))
+    pub copy-fine : (k : ℕ) → StmtFine (c_set (c_place false (copy_name site.vars k) []) (c_read (place_in site k [])))
     copy-fine k = copied_fine k
 
     pub assigned_fine : (path : Path) (e : Expr) → CodeFine (c_set (stands site path).place (code_made site e) ∷ [])

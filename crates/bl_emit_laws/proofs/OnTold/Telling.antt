@@ -214,7 +214,14 @@ module _ (law : RulesAreListed) (bodies : BodiesAreNumbered) (alike : BlocksAlik
       ∙ sym (entries_are (activity_view a) (plain_body unit.body)))
 
   views : Alike (view_told t) (activity_view a)
-  views = record { site = refl; copies = refl; run = λ at. ap (λ (run : Place → ℕ). run at) (sym run_so); sizes = refl; is_read = read_at; remembers = λ k. refl }
+  views = record {
+    site = refl;
+    copies = refl;
+    run = λ at. ap (λ (run : Place → ℕ). run at) (sym run_so);
+    sizes = refl;
+    is_read = read_at;
+    remembers = λ k. refl;
+  }
 
   turns_so : map (numbered_turn (view_told t)) t.rules ≡ map (numbered_turn (activity_view a)) t.rules
   turns_so = ap (λ (turn : NumberedTransition → NodeCode). map turn t.rules) (λ i rule. alike (view_told t) (activity_view a) views rule i)
@@ -244,7 +251,7 @@ module _ (law : RulesAreListed) (bodies : BodiesAreNumbered) (alike : BlocksAlik
   params_so : params_told structs unit (nat_lt 0 (length (remembered a))) ≡ (activity_function a).params
   params_so =
       ap (λ (memory : List CParam). pointer_param (codes "f") (frame_name unit.name)
-      ∷ (memory ++ (params_from structs 0 (parameters_of unit) ++ (result_params unit.result ++ over_param ∷ []))))
+      ∷ (memory ++ (params_from structs unit.vars 0 (parameters_of unit) ++ (result_params unit.result ++ over_param ∷ []))))
       (sym (memory_is a (nat_lt 0 (length (remembered a)))))
 
   function_so : function_told t ≡ activity_function a

@@ -84,11 +84,12 @@ inside s = kind_block (out-CStmtKind (out-CStmt s).what)
 abbrev pub rules_first : UnitDef → InMachine → List Transition
 rules_first unit one = picked (rules (slots_of (plain_body unit.body) one.slots) (plain_body unit.body)) (first_positions one.blocks)
 
--- an activity's function has one flag for each block whose first node waits by its flag, and no other. Each is asked for by one of these `if`s, and in
--- none of them
+-- An activity's function has as many flags as there are blocks whose first node waits by a flag. The conditions of these `if`s read them, each once. No
+-- condition of an `if` within them reads one
 pub record HasFlagForEach (unit : UnitDef) (one : InMachine) (function : CFunc) (blocks : List CStmt) : Type 0 where
-  -- the `if`s ask for the flags one after another, in the order of the locals
+  -- the conditions of the `if`s read the flags one after another, in the order of the locals
   pub asked : joined (map flags_asked blocks) ≡ flags_of function
+  -- there are as many flags as nodes that stand first in a block and wait by a flag
   pub many : length (flags_of function) ≡ length (filter (λ (rule : Transition). is_flagged rule.condition) (rules_first unit one))
-  -- no `if` in these has a literal as its condition, nor asks for a flag
+  -- the condition of each `if` within them is no literal, and reads no flag
   pub decided : list_all decides (joined (map inside blocks)) ≡ true

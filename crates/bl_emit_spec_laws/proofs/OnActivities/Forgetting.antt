@@ -27,22 +27,22 @@ use Rattle.bl_emit_spec_laws.specs.Activities.{CalleesRemember}
 no_such : true ≡ false → ⊥
 no_such h = cc
 
-one_more : (b : Bool) (structs : List StructDef) (k : ℕ) (var : Var) → b ≡ true → 0 < length (member_of b structs k var)
-one_more true structs k var is = omega arith
-one_more false structs k var is = absurd (cc)
+one_more : (b : Bool) (structs : List StructDef) (all : List Var) (k : ℕ) (var : Var) → b ≡ true → 0 < length (member_of b structs all k var)
+one_more true structs all k var is = omega arith
+one_more false structs all k var is = absurd (cc)
 
 -- a variable that is held is a member
 held_member : (site : TypingContext) (k : ℕ) (vars : List Var) (x : ℕ) (var : Var) → slice_get vars x ≡ Some var →
     is_held (home_of site (Some var)) ≡ true → 0 < length (members_from site k vars)
 held_member site k [] x var there held = absurd (cc)
 held_member site k (first ∷ rest) zero var there held =
-    let here = one_more (is_held (home_of site (Some first))) site.structs k first
+    let here = one_more (is_held (home_of site (Some first))) site.structs site.vars k first
     (ap (λ (v : Var). is_held (home_of site (Some v))) (same_Some first var there) ∙ held) in
-    let all = length-append (member_of (is_held (home_of site (Some first))) site.structs k first) (members_from site (k + 1) rest) in
+    let all = length-append (member_of (is_held (home_of site (Some first))) site.structs site.vars k first) (members_from site (k + 1) rest) in
     omega (arith, here, all)
 held_member site k (first ∷ rest) (suc x) var there held =
     let later = held_member site (k + 1) rest x var there held in
-    let all = length-append (member_of (is_held (home_of site (Some first))) site.structs k first) (members_from site (k + 1) rest) in
+    let all = length-append (member_of (is_held (home_of site (Some first))) site.structs site.vars k first) (members_from site (k + 1) rest) in
     omega (arith, later, all)
 
 less_true : (n : ℕ) → 0 < n → nat_lt 0 n ≡ true

@@ -137,10 +137,10 @@ module _ (structs : List StructDef) (units : List UnitDef) (entry : ℕ) (machin
 
     -- where a variable that the activity remembers stands
     held_location : (x : ℕ) → home_at site x ≡ Held →
-        location_in scope site x [] ≡ further (remembered_at scope) (member (variable_name x) ∷ [])
+        location_in scope site x [] ≡ further (remembered_at scope) (member (variable_name site.vars x) ∷ [])
     held_location x held =
-        ap (λ (h : Home). further (start_in scope (is_activity site.kind) h x) (lead_in h x ++ [])) held
-        ∙ ap (λ (b : Bool). further (named_location scope b (Rattle.std.specs.Prelude.codes "m")) (member (variable_name x) ∷ [])) active
+        ap (λ (h : Home). further (start_in scope (is_activity site.kind) h site.vars x) (lead_in h site.vars x ++ [])) held
+        ∙ ap (λ (b : Bool). further (named_location scope b (Rattle.std.specs.Prelude.codes "m")) (member (variable_name site.vars x) ∷ [])) active
 
     -- the counters
     counters_held : {k : ℕ} {f' m m' : Location} → Nests W activities i (frame_at scope) m k f' m' → (c : ℕ) →
@@ -168,15 +168,15 @@ module _ (structs : List StructDef) (units : List UnitDef) (entry : ℕ) (machin
         (remembers_any a ≡ true → remembered_at scope ≡ m) → (x : ℕ) (var : Var) (value : Value) → var_at (site_at W activities k) x
         ≡ Some var →
         home_at (site_at W activities k) x ≡ Held → slice_get (view_at W store k).now x ≡ Some value →
-        Encodes structs var.ty value (value_at after (further m' (member (variable_name x) ∷ [])))
+        Encodes structs var.ty value (value_at after (further m' (member (variable_name (site_at W activities k).vars x) ∷ [])))
     variables_held {m = m} memories.here leads x var value there held is_value =
         let remembers = holder_remembers a x var there held in
-        let place = further (remembered_at scope) (member (variable_name x) ∷ []) in
+        let place = further (remembered_at scope) (member (variable_name site.vars x) ∷ []) in
         let own = stands.variables.each x var value there is_value in
         let stood : Encodes structs var.ty value (value_at here place) =
         subst (λ (s : List StructDef). Encodes s var.ty value (value_at here place)) same_structs
         (subst (λ (p : Location). Encodes site.structs var.ty value (value_at here p)) (held_location x held) own) in
-        subst (λ (p : Location). Encodes structs var.ty value (value_at after (further p (member (variable_name x) ∷ [])))) (leads remembers)
+        subst (λ (p : Location). Encodes structs var.ty value (value_at after (further p (member (variable_name site.vars x) ∷ [])))) (leads remembers)
         (kept_holds var value place (function.places.memory remembers).older stood)
     variables_held {k} {m} {f'} {m'} (memories.inside {j = j} {unit = other} {l = l} {at = at} {arguments = arguments} is within calls rest) leads x
         var value there held is_value =
@@ -187,7 +187,7 @@ module _ (structs : List StructDef) (units : List UnitDef) (entry : ℕ) (machin
         let own = subst (λ (u : UnitDef). Contains (nodes_in (plain_body u.body)) (EnterAt l at arguments)) same within in
         let holds = stands.callees l at arguments j own calls in
         let there_now = subst (λ (p : Location). Nests W activities j (inner (frame_at scope) n) (inner p n) k f' m') (sym (leads remembers)) rest in
-        kept_holds var value (further m' (member (variable_name x) ∷ []))
+        kept_holds var value (further m' (member (variable_name (site_at W activities k).vars x) ∷ []))
         (older_there m' (remembered_at scope) (function.places.memory remembers).older (nested_memory there_now))
         (holds.variables k f' m' there_now x var value there held is_value)
 

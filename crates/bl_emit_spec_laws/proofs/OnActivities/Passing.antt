@@ -200,10 +200,10 @@ module _ (structs : List StructDef) (units : List UnitDef) (entry : ℕ) (machin
       same_structs = compiled.built.structures (unit_number W i) unit (unit_there W i unit is_there)
 
       -- where a variable that is lent stands
-      lent_location : (x : ℕ) → home_at site x ≡ Lent → location_in scope site x [] ≡ lent_at scope x
+      lent_location : (x : ℕ) → home_at site x ≡ Lent → location_in scope site x [] ≡ lent_at scope site.vars x
       lent_location x lent =
-          ap (λ (h : Home). further (start_in scope (is_activity site.kind) h x) (lead_in h x ++ [])) lent
-          ∙ ap (λ (ps : List Projection). record { root = (lent_at scope x).root; parts = ps }) (append-nil (lent_at scope x).parts)
+          ap (λ (h : Home). further (start_in scope (is_activity site.kind) h site.vars x) (lead_in h site.vars x ++ [])) lent
+          ∙ ap (λ (ps : List Projection). record { root = (lent_at scope site.vars x).root; parts = ps }) (append-nil (lent_at scope site.vars x).parts)
 
       output_left : (k : ℕ) (var : Var) (value : Value) (place : Location) → slice_get (outputs_of unit) k ≡ Some var →
           slice_get (output_values W left i unit) k ≡ Some value → slice_get given.outputs k ≡ Some place →
@@ -216,12 +216,12 @@ module _ (structs : List StructDef) (units : List UnitDef) (entry : ℕ) (machin
           let is_now = get_drop unit.inputs (view_at W left i).now k value
           (get_take unit.outputs (drop unit.inputs (view_at W left i).now) k value is_value) in
           let held = part.stands.variables.each x var value own.0 is_now in
-          let at_lent : Encodes structs var.ty value (value_at rest.memory (lent_at scope x)) =
-          subst (λ (s : List StructDef). Encodes s var.ty value (value_at rest.memory (lent_at scope x))) same_structs
+          let at_lent : Encodes structs var.ty value (value_at rest.memory (lent_at scope site.vars x)) =
+          subst (λ (s : List StructDef). Encodes s var.ty value (value_at rest.memory (lent_at scope site.vars x))) same_structs
           (subst (λ (p : Location). Encodes site.structs var.ty value (value_at rest.memory p)) (lent_location x lent) held) in
           let older = function.places.pointers.lent_older x var own.0 lent in
           subst (λ (p : Location). Encodes structs var.ty value (value_at called.memory p)) (lead.outputs k place at)
-          (record { each = λ ks n is. kept_after (lent_at scope x).root ((lent_at scope x).parts ++ _) older ∙ at_lent.each ks n is })
+          (record { each = λ ks n is. kept_after (lent_at scope site.vars x).root ((lent_at scope site.vars x).parts ++ _) older ∙ at_lent.each ks n is })
 
       values_length : length (view_at W left i).now ≡ length unit.vars
       values_length =
@@ -267,7 +267,7 @@ module _ (structs : List StructDef) (units : List UnitDef) (entry : ℕ) (machin
                 (let at = lent_output site unit x var roles same_vars there lent input in
                 let place = output_place structs here (outputs_of unit) (output_values W store i unit) given.outputs at.position var begins.outputs
                 at.there in
-                ap (λ (n : ℕ). lies (lent_at scope n)) at.is ∙ ap lies (lead.outputs at.position place.0 place.1)
+                ap (λ (n : ℕ). lies (lent_at scope site.vars n)) at.is ∙ ap lies (lead.outputs at.position place.0 place.1)
                 ∙ any_at lies given.outputs at.position place.0 (any_left lies given.outputs (results ++ given.over ∷ []) later) place.1);
           }
 

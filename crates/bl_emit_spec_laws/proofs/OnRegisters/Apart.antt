@@ -165,17 +165,17 @@ module _ (scope : Scope) (frame : FramePointersAreValid scope) where
       (from_over : ApartFromPointers site scope (over_at scope)) where
     -- where a variable of a home stands
     abbrev place_of : Bool → Home → ℕ → Location
-    place_of activity home k = further (start_in scope activity home k) (lead_in home k ++ [])
+    place_of activity home k = further (start_in scope activity home site.vars k) (lead_in home site.vars k ++ [])
 
     -- a local of another name keeps apart from a variable
     local_by : (name : Text) (k : ℕ) (var : Var) → var_at site k ≡ Some var → bytes_eq name (codes "m") ≡ false →
-        bytes_eq name (variable_name k) ≡ false → (activity : Bool) (x : Home) → is_activity site.kind ≡ activity → home_at site k ≡ x →
+        bytes_eq name (variable_name site.vars k) ≡ false → (activity : Bool) (x : Home) → is_activity site.kind ≡ activity → home_at site k ≡ x →
         are_apart (local_at name) (place_of activity x k) ≡ true
     local_by name k var there no_m no_v false Held kind is =
         roots_differ (local_at name) (place_of false Held k) (own_differ scope.depth name (codes "m") no_m)
     local_by name k var there no_m no_v true Held kind is = local_older name (place_of true Held k) (older.remembered k var there is kind)
     local_by name k var there no_m no_v activity Given kind is =
-        roots_differ (local_at name) (place_of activity Given k) (own_differ scope.depth name (variable_name k) no_v)
+        roots_differ (local_at name) (place_of activity Given k) (own_differ scope.depth name (variable_name site.vars k) no_v)
     local_by name k var there no_m no_v activity Lent kind is = local_older name (place_of activity Lent k) (older.lent k var there is)
 
     -- so does what lies behind a pointer that leads elsewhere
@@ -187,12 +187,12 @@ module _ (scope : Scope) (frame : FramePointersAreValid scope) where
         apart_flip (place_of false Held k) (further place more)
         (roots_differ (place_of false Held k) (further place more) (older_differs scope.depth (codes "m") place.root old))
     behind_by place more old from k var there true Held kind is =
-        further_apart place (remembered_at scope) more (lead_in Held k ++ []) (from.remembered k var there is kind)
+        further_apart place (remembered_at scope) more (lead_in Held site.vars k ++ []) (from.remembered k var there is kind)
     behind_by place more old from k var there activity Given kind is =
         apart_flip (place_of activity Given k) (further place more)
-        (roots_differ (place_of activity Given k) (further place more) (older_differs scope.depth (variable_name k) place.root old))
+        (roots_differ (place_of activity Given k) (further place more) (older_differs scope.depth (variable_name site.vars k) place.root old))
     behind_by place more old from k var there activity Lent kind is =
-        further_apart place (lent_at scope k) more (lead_in Lent k ++ []) (from.lent k var there is)
+        further_apart place (lent_at scope site.vars k) more (lead_in Lent site.vars k ++ []) (from.lent k var there is)
 
     variables_apart : (x : Register) (k : ℕ) (var : Var) → var_at site k ≡ Some var →
         are_apart (register_at scope x) (place_of (is_activity site.kind) (home_at site k) k) ≡ true
@@ -205,17 +205,17 @@ module _ (scope : Scope) (frame : FramePointersAreValid scope) where
     variables_apart Over k var there =
         behind_by (over_at scope) [] frame.over_older from_over k var there (is_activity site.kind) (home_at site k) refl refl
 
-  copies_apart : (x : Register) (k : ℕ) → are_apart (register_at scope x) (copy_location scope k) ≡ true
-  copies_apart (Counter j) k = older_local (register_at scope (Counter j)) (copy_name k) frame.frame_older
-  copies_apart (Before j) k = local_local (rested_name j) (copy_name k) refl
-  copies_apart (Flag j) k = local_local (flag_name j) (copy_name k) refl
-  copies_apart (Mark j) k = local_local (mark_name j) (copy_name k) refl
-  copies_apart Over k = older_local (register_at scope Over) (copy_name k) frame.over_older
+  copies_apart : (vars : List Var) (x : Register) (k : ℕ) → are_apart (register_at scope x) (copy_location scope vars k) ≡ true
+  copies_apart vars (Counter j) k = older_local (register_at scope (Counter j)) (copy_name vars k) frame.frame_older
+  copies_apart vars (Before j) k = local_local (rested_name j) (copy_name vars k) refl
+  copies_apart vars (Flag j) k = local_local (flag_name j) (copy_name vars k) refl
+  copies_apart vars (Mark j) k = local_local (mark_name j) (copy_name vars k) refl
+  copies_apart vars Over k = older_local (register_at scope Over) (copy_name vars k) frame.over_older
 
 pub keep_apart : (site : TypingContext) (has : Registered) (scope : Scope) → FewRegisters has → FramePointersAreValid scope → PointersOlder site scope →
     ApartFromPointers site scope (frame_at scope) → ApartFromPointers site scope (over_at scope) →
     RegistersApart has scope × RegistersBeside site scope
 keep_apart site has scope few frame older from_frame from_over = (
   record { each = registers_differ scope frame has few; live = registers_live scope frame has few },
-  record { variables = variables_apart scope frame site older from_frame from_over; copies = copies_apart scope frame },
+  record { variables = variables_apart scope frame site older from_frame from_over; copies = copies_apart scope frame site.vars },
 )

@@ -37,7 +37,7 @@ pub record PlaceIsSeparate (site : TypingContext) (scope : Scope) (place : Locat
   pub older : is_older scope.depth place.root ≡ true
   pub frame : are_apart place (frame_at scope) ≡ true
   pub over : are_apart place (over_at scope) ≡ true
-  pub lent : (k : ℕ) (var : Var) → var_at site k ≡ Some var → home_at site k ≡ Lent → are_apart place (lent_at scope k) ≡ true
+  pub lent : (k : ℕ) (var : Var) → var_at site k ≡ Some var → home_at site k ≡ Lent → are_apart place (lent_at scope site.vars k) ≡ true
 
 -- all pointers of the function lead to what was there before, and those through which is written apart from all others
 pub record PlacesAreSeparate (site : TypingContext) (unit : UnitDef) (remembers : Bool) (scope : Scope) : Type 0 where

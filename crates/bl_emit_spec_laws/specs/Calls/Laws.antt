@@ -82,7 +82,7 @@ pub record PassOutside (site : TypingContext) (unit : UnitDef) (remembers : Bool
   pub memory : remembers ≡ true → lies_in (remembered_at scope) root way ≡ false
   pub result : is_some unit.result ≡ true → lies_in (result_at_c scope) root way ≡ false
   pub outputs : (k : ℕ) (var : Var) → var_at site k ≡ Some var → home_at site k ≡ Lent → is_input var.role ≡ false →
-      lies_in (lent_at scope k) root way ≡ false
+      lies_in (lent_at scope site.vars k) root way ≡ false
 
 -- memory from before the call is unchanged where the function of an activity may not write
 abbrev pub PassKeepsFrame : TypingContext → UnitDef → Bool → Scope → Memory → Memory → Type 0

@@ -37,4 +37,4 @@ pub record MemoryEncodes (w : Setting) (activities : Activities) (i : ℕ) (f m 
       scalar_number (value_at here (further f' (member (counter_name c) ∷ []))) ≡ pos (frames k c)
   pub variables : (k : ℕ) (f' m' : Location) → Nests w activities i f m k f' m' → (x : ℕ) (var : Var) (value : Value) →
       var_at (site_at w activities k) x ≡ Some var → home_at (site_at w activities k) x ≡ Held → slice_get (view_at w store k).now x ≡ Some value →
-      Encodes w.structs var.ty value (value_at here (further m' (member (variable_name x) ∷ [])))
+      Encodes w.structs var.ty value (value_at here (further m' (member (variable_name (site_at w activities k).vars x) ∷ [])))

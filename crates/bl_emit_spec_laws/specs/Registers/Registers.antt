@@ -110,7 +110,7 @@ pub record RegistersApart (has : Registered) (scope : Scope) : Type 0 where
 pub record RegistersBeside (site : TypingContext) (scope : Scope) : Type 0 where
   pub variables : (x : Register) (k : ℕ) (var : Var) → var_at site k ≡ Some var →
       are_apart (register_at scope x) (location_in scope site k []) ≡ true
-  pub copies : (x : Register) (k : ℕ) → are_apart (register_at scope x) (copy_location scope k) ≡ true
+  pub copies : (x : Register) (k : ℕ) → are_apart (register_at scope x) (copy_location scope site.vars k) ≡ true
 
 -- the pointers to the counters and to the end lead to what was there before the function began, and apart from each other
 pub record FramePointersAreValid (scope : Scope) : Type 0 where
@@ -121,12 +121,12 @@ pub record FramePointersAreValid (scope : Scope) : Type 0 where
 -- A place has nothing in common with what the pointers for a unit's variables lead to. They lead to what was there before the function
 -- began; of these a pointer to what an activity remembers matters only where it remembers a variable
 pub record ApartFromPointers (site : TypingContext) (scope : Scope) (place : Location) : Type 0 where
-  pub lent : (k : ℕ) (var : Var) → var_at site k ≡ Some var → home_at site k ≡ Lent → are_apart place (lent_at scope k) ≡ true
+  pub lent : (k : ℕ) (var : Var) → var_at site k ≡ Some var → home_at site k ≡ Lent → are_apart place (lent_at scope site.vars k) ≡ true
   pub remembered : (k : ℕ) (var : Var) → var_at site k ≡ Some var → home_at site k ≡ Held → is_activity site.kind ≡ true →
       are_apart place (remembered_at scope) ≡ true
 
 -- the pointers for a unit's variables lead to what was there before the function began
 pub record PointersOlder (site : TypingContext) (scope : Scope) : Type 0 where
-  pub lent : (k : ℕ) (var : Var) → var_at site k ≡ Some var → home_at site k ≡ Lent → is_older scope.depth (lent_at scope k).root ≡ true
+  pub lent : (k : ℕ) (var : Var) → var_at site k ≡ Some var → home_at site k ≡ Lent → is_older scope.depth (lent_at scope site.vars k).root ≡ true
   pub remembered : (k : ℕ) (var : Var) → var_at site k ≡ Some var → home_at site k ≡ Held → is_activity site.kind ≡ true →
       is_older scope.depth (remembered_at scope).root ≡ true

@@ -155,7 +155,7 @@ module _ (structs : List StructDef) (units : List UnitDef) (entry_at : ℕ) (ord
   over_older : is_older (depth + 1) given.over.root ≡ true
   over_older = ap (λ (p : Location). is_older (depth + 1) p.root) (sym go.over) ∙ places.frame.over_older
 
-  zero_at : (name : List ℕ) → ((k : ℕ) → bytes_eq (variable_name k) name ≡ false) → (way : List Projection)
+  zero_at : (name : List ℕ) → ((k : ℕ) → bytes_eq (variable_name site.vars k) name ≡ false) → (way : List Projection)
       → begun (variable (depth + 1) name) way ≡ pos 0
   zero_at name differ way =
       subst (λ (u : UnitDef). memory_begun (activity_function a) (depth + 1) (passed_to u (remembers_any a) given) here
@@ -336,15 +336,15 @@ module _ (structs : List StructDef) (units : List UnitDef) (entry_at : ℕ) (ord
     module _ (m after : Memory) (stands : Mid third m) (left : BegunWith site scope m now Copied after) where
       after_older : (root : Root) (way : List Projection) → is_older (depth + 1) root ≡ true → after root way ≡ begun root way
       after_older root way older =
-          left.kept root way (any_false (λ k. lies_in (copy_location scope k) root way) Copied
-          (λ k. ap (λ b. b && is_some (left_after [] way)) (older_differs (depth + 1) (copy_name k) root older)))
+          left.kept root way (any_false (λ k. lies_in (copy_location scope site.vars k) root way) Copied
+          (λ k. ap (λ b. b && is_some (left_after [] way)) (older_differs (depth + 1) (copy_name site.vars k) root older)))
           ∙ stands.older root way older
 
       after_holds : (x : Register) → has_register has x ≡ true → scalar_number (value_at after (register_at scope x)) ≡ held_in r x
       after_holds x its =
           left.kept (register_at scope x).root ((register_at scope x).parts ++ [])
-          (any_false (λ k. lies_in (copy_location scope k) (register_at scope x).root ((register_at scope x).parts ++ [])) Copied
-          (λ k. apart_lies (register_at scope x) (copy_location scope k) [] (beside.copies x k)))
+          (any_false (λ k. lies_in (copy_location scope site.vars k) (register_at scope x).root ((register_at scope x).parts ++ [])) Copied
+          (λ k. apart_lies (register_at scope x) (copy_location scope site.vars k) [] (beside.copies x k)))
           ∙ (stands.hold.each x its ∙ same x its)
 
       after_copied : CopiesEncoded site now (is_copied (copies_of unit)) scope after

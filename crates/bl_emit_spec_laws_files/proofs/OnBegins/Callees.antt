@@ -84,18 +84,18 @@ module _ (structs : List StructDef) (units : List UnitDef) (entry : ℕ) (machin
         (x : ℕ) (var : Var) (value : Value) →
         var_at (site_at W activities k) x ≡ Some var → home_at (site_at W activities k) x ≡ Held →
         slice_get (view_at W store k).now x ≡ Some value →
-        Encodes structs var.ty value (value_at after (further m' (member (variable_name x) ∷ [])))
+        Encodes structs var.ty value (value_at after (further m' (member (variable_name (site_at W activities k).vars x) ∷ [])))
     variables_kept k f' m' nests x var value var_there held known =
         let remembers : remembers_any (activity_at W activities i) ≡ true =
         remember i j unit l at arguments compiled there within calls (inner_remembers nests x var var_there held) in
         let moved : Nests W activities j (inner f n) (inner m n) k f' m' =
         subst (λ (p : Location). Nests W activities j (inner f n) (inner p n) k f' m') (is remembers) nests in
-        let before : Encodes structs var.ty value (value_at here (further m' (member (variable_name x) ∷ []))) =
+        let before : Encodes structs var.ty value (value_at here (further m' (member (variable_name (site_at W activities k).vars x) ∷ []))) =
         memory.variables k f' m'
         (memories.inside {unit = unit} {l = l} {at = at} {arguments = arguments} there within calls moved) x var value var_there held known in
         record {
           each = λ ks number number_is.
-              older m'.root ((m'.parts ++ member (variable_name x) ∷ []) ++ way_to structs ks (Some var.ty))
+              older m'.root ((m'.parts ++ member (variable_name (site_at W activities k).vars x) ∷ []) ++ way_to structs ks (Some var.ty))
               (ap (is_older depth) (nests_roots W activities moved).1 ∙ memory_older remembers)
               ∙ before.each ks number number_is;
         }

@@ -1,8 +1,7 @@
 -- Where the parameters of a C function stand once it is called.
 use Rattle.std.proofs.Common.{◌≡◌, ℕ, zero, suc, ◌+◌, ◌<◌, ◌≤◌, ◌^◌, arith, Bool, true, false}
-use Rattle.std.proofs.Common.{◌&&◌, List, [], ◌∷◌, ◌++◌, length, drop, Option, Some, None, refl, ap, ◌∙◌, subst}
+use Rattle.std.proofs.Common.{◌&&◌, List, [], ◌∷◌, ◌++◌, length, Option, Some, None, refl, ap, ◌∙◌, subst}
 use Rattle.std.proofs.lemmas.Bool.{eq-eqb}
-use Rattle.std.proofs.lemmas.Fmt.{decimal_injective}
 use Rattle.std.proofs.lemmas.Option.{same_Some}
 use Rattle.std.proofs.lemmas.Slice.Eq.{bytes_eq-Decides}
 use Rattle.std.specs.Prelude.{bytes_eq, slice_get, ◌==◌, if◌then◌else◌}
@@ -15,6 +14,7 @@ use Rattle.bl_ctext_semantics.specs.Memory.{CValue, Location, Memory, Projection
 use Rattle.bl_ctext_semantics.specs.Tables.{found}
 use Rattle.bl_emit_acts.specs.Types.{variable_name}
 use Rattle.bl_emit_functions.specs.Functions.{params_from}
+use Rattle.bl_emit_acts_laws_simulation.proofs.NumberedNames.{names_differ}
 
 no_such : true ≡ false → ⊥
 no_such h = cc
@@ -26,53 +26,43 @@ and_false false = refl
 pub own_differ : (depth : ℕ) (m n : List ℕ) → bytes_eq m n ≡ false → same_root (variable depth m) (variable depth n) ≡ false
 own_differ depth m n h = ap (λ b. (depth == depth) && b) h ∙ and_false (depth == depth)
 
--- variables at different positions have different names
-pub names_differ : (j k : ℕ) → j < 2 ^ 64 → k < 2 ^ 64 → (j ≡ k → ⊥) → bytes_eq (variable_name j) (variable_name k) ≡ false
-names_differ j k less most differ = by (bytes_eq (variable_name j) (variable_name k)) refl
-  where
-    by : (same : Bool) → bytes_eq (variable_name j) (variable_name k) ≡ same → same ≡ false
-    by false is = refl
-    by true is =
-        let text : variable_name j ≡ variable_name k = (bytes_eq-Decides (variable_name j) (variable_name k)).0 is in
-        absurd (differ (decimal_injective j k less most (ap (drop 1) text)))
-
 name_itself : (name : List ℕ) → bytes_eq name name ≡ true
 name_itself name = (bytes_eq-Decides name name).1 refl
 
 variable_itself : (d : ℕ) (name : List ℕ) → same_root (variable d name) (variable d name) ≡ true
 variable_itself d name = ap (λ b. b && bytes_eq name name) (eq-eqb d d refl) ∙ name_itself name
 
-module _ (structs : List StructDef) (depth : ℕ) where
+module _ (structs : List StructDef) (all : List Var) (depth : ℕ) where
   -- a variable of the frame whose name no parameter has keeps what it has
   pub other_stays : (vars : List Var) (n : ℕ) (passed : List ArgumentValue) (m : Memory) (name : List ℕ) (way : List Projection) →
-      ((i : ℕ) → n ≤ i → i < n + length vars → bytes_eq (variable_name i) name ≡ false) →
-      with_params depth (params_from structs n vars) passed m (variable depth name) way ≡ m (variable depth name) way
+      ((i : ℕ) → n ≤ i → i < n + length vars → bytes_eq (variable_name all i) name ≡ false) →
+      with_params depth (params_from structs all n vars) passed m (variable depth name) way ≡ m (variable depth name) way
   other_stays [] n [] m name way h = refl
   other_stays [] n (by_value v ∷ rest) m name way h = refl
   other_stays [] n (by_address p ∷ rest) m name way h = refl
   other_stays (var ∷ vars) n [] m name way h = refl
   other_stays (var ∷ vars) n (by_value v ∷ rest) m name way h =
-      other_stays vars (n + 1) rest (set_at m (record { root = variable depth (variable_name n); parts = [] }) v) name way
+      other_stays vars (n + 1) rest (set_at m (record { root = variable depth (variable_name all n); parts = [] }) v) name way
       (λ i more less. h i (omega (arith, more)) (omega (arith, less)))
       ∙ ap (λ b. (if b then with_part (m (variable depth name)) [] v else m (variable depth name)) way)
-      (own_differ depth (variable_name n) name (h n (omega arith) (omega arith)))
+      (own_differ depth (variable_name all n) name (h n (omega arith) (omega arith)))
   other_stays (var ∷ vars) n (by_address p ∷ rest) m name way h =
       other_stays vars (n + 1) rest m name way (λ i more less. h i (omega (arith, more)) (omega (arith, less)))
 
   -- a parameter by value has the number of its argument
   pub value_given : (vars : List Var) (n i j : ℕ) (passed : List ArgumentValue) (m : Memory) (held : CValue) (way : List Projection) → j ≡ n + i →
       i < length vars → n + length vars ≤ 2 ^ 64 → slice_get passed i ≡ Some (by_value held) →
-      with_params depth (params_from structs n vars) passed m (variable depth (variable_name j)) way ≡ held way
+      with_params depth (params_from structs all n vars) passed m (variable depth (variable_name all j)) way ≡ held way
   value_given [] n i j passed m held way is less few there = absurd (omega (arith, less))
   value_given (var ∷ vars) n i j [] m held way is less few there = absurd (cc)
   value_given (var ∷ vars) n zero j (by_value v ∷ rest) m held way is less few there =
       let at : n ≡ j = omega (arith, is) in
-      subst (λ j. with_params depth (params_from structs n (var ∷ vars)) (by_value v ∷ rest) m
-      (variable depth (variable_name j)) way ≡ held way) at
-      (other_stays vars (n + 1) rest (set_at m (record { root = variable depth (variable_name n); parts = [] }) v) (variable_name n) way
-      (λ i more less. names_differ i n (omega (arith, less, few)) (omega (arith, few)) (λ same. omega (arith, same, more)))
-      ∙ ap (λ b. (if b then with_part (m (variable depth (variable_name n))) [] v else m (variable depth (variable_name n))) way)
-      (variable_itself depth (variable_name n))
+      subst (λ j. with_params depth (params_from structs all n (var ∷ vars)) (by_value v ∷ rest) m
+      (variable depth (variable_name all j)) way ≡ held way) at
+      (other_stays vars (n + 1) rest (set_at m (record { root = variable depth (variable_name all n); parts = [] }) v) (variable_name all n) way
+      (λ i more less. names_differ 118 all i n (omega (arith, less, few)) (omega (arith, few)) (λ same. omega (arith, same, more)))
+      ∙ ap (λ b. (if b then with_part (m (variable depth (variable_name all n))) [] v else m (variable depth (variable_name all n))) way)
+      (variable_itself depth (variable_name all n))
       ∙ ap (λ value. value way) (same_value (same_Some (by_value v) (by_value held) there)))
     where
       same_value : by_value v ≡ by_value held → v ≡ held
@@ -83,7 +73,7 @@ module _ (structs : List StructDef) (depth : ℕ) where
           held_in (by_address place) = v
   value_given (var ∷ vars) n zero j (by_address p ∷ rest) m held way is less few there = absurd (cc)
   value_given (var ∷ vars) n (suc i) j (by_value v ∷ rest) m held way is less few there =
-      value_given vars (n + 1) i j rest (set_at m (record { root = variable depth (variable_name n); parts = [] }) v) held way (omega (arith, is))
+      value_given vars (n + 1) i j rest (set_at m (record { root = variable depth (variable_name all n); parts = [] }) v) held way (omega (arith, is))
       (omega (arith, less)) (omega (arith, few)) there
   value_given (var ∷ vars) n (suc i) j (by_address p ∷ rest) m held way is less few there =
       value_given vars (n + 1) i j rest m held way (omega (arith, is)) (omega (arith, less)) (omega (arith, few)) there
@@ -91,14 +81,14 @@ module _ (structs : List StructDef) (depth : ℕ) where
   -- a pointer leads to the place of its argument
   pub pointer_given : (vars : List Var) (n i j : ℕ) (passed : List ArgumentValue) (place : Location) → j ≡ n + i →
       i < length vars → n + length vars ≤ 2 ^ 64 → slice_get passed i ≡ Some (by_address place) →
-      found (variable_name j) (pointers_of (params_from structs n vars) passed) ≡ Some place
+      found (variable_name all j) (pointers_of (params_from structs all n vars) passed) ≡ Some place
   pointer_given [] n i j passed place is less few there = absurd (omega (arith, less))
   pointer_given (var ∷ vars) n i j [] place is less few there = absurd (cc)
   pointer_given (var ∷ vars) n zero j (by_value v ∷ rest) place is less few there = absurd (cc)
   pointer_given (var ∷ vars) n zero j (by_address p ∷ rest) place is less few there =
       let at : n ≡ j = omega (arith, is) in
-      subst (λ j. found (variable_name j) (pointers_of (params_from structs n (var ∷ vars)) (by_address p ∷ rest)) ≡ Some place) at
-      (ap (λ b. if b then Some p else found (variable_name n) (pointers_of (params_from structs (n + 1) vars) rest)) (name_itself (variable_name n))
+      subst (λ j. found (variable_name all j) (pointers_of (params_from structs all n (var ∷ vars)) (by_address p ∷ rest)) ≡ Some place) at
+      (ap (λ b. if b then Some p else found (variable_name all n) (pointers_of (params_from structs all (n + 1) vars) rest)) (name_itself (variable_name all n))
       ∙ ap place_in (same_Some (by_address p) (by_address place) there))
     where
       place_in : ArgumentValue → Option Location
@@ -107,41 +97,41 @@ module _ (structs : List StructDef) (depth : ℕ) where
   pointer_given (var ∷ vars) n (suc i) j (by_value v ∷ rest) place is less few there =
       pointer_given vars (n + 1) i j rest place (omega (arith, is)) (omega (arith, less)) (omega (arith, few)) there
   pointer_given (var ∷ vars) n (suc i) j (by_address p ∷ rest) place is less few there =
-      ap (λ b. if b then Some p else found (variable_name j) (pointers_of (params_from structs (n + 1) vars) rest))
-      (names_differ n j (omega (arith, few)) (omega (arith, is, less, few)) (λ same. omega (arith, same, is)))
+      ap (λ b. if b then Some p else found (variable_name all j) (pointers_of (params_from structs all (n + 1) vars) rest))
+      (names_differ 118 all n j (omega (arith, few)) (omega (arith, is, less, few)) (λ same. omega (arith, same, is)))
       ∙ pointer_given vars (n + 1) i j rest place (omega (arith, is)) (omega (arith, less)) (omega (arith, few)) there
 
   -- ---- what stands behind the parameters for variables
 
   pub pointers_both : (vars : List Var) (n : ℕ) (passed : List ArgumentValue) (ps : List CParam) (qs : List ArgumentValue) → length passed ≡ length vars →
-      pointers_of (params_from structs n vars ++ ps) (passed ++ qs) ≡ pointers_of (params_from structs n vars) passed ++ pointers_of ps qs
+      pointers_of (params_from structs all n vars ++ ps) (passed ++ qs) ≡ pointers_of (params_from structs all n vars) passed ++ pointers_of ps qs
   pointers_both [] n [] ps qs many = refl
   pointers_both [] n (a ∷ passed) ps qs many = absurd (omega (arith, many))
   pointers_both (var ∷ vars) n [] ps qs many = absurd (omega (arith, many))
   pointers_both (var ∷ vars) n (by_value v ∷ passed) ps qs many = pointers_both vars (n + 1) passed ps qs (omega (arith, many))
   pointers_both (var ∷ vars) n (by_address p ∷ passed) ps qs many =
-      ap (λ all. (variable_name n, p) ∷ all) (pointers_both vars (n + 1) passed ps qs (omega (arith, many)))
+      ap (λ entries. (variable_name all n, p) ∷ entries) (pointers_both vars (n + 1) passed ps qs (omega (arith, many)))
 
   -- none of them has a name that no variable has
-  pub no_pointer : (vars : List Var) (n : ℕ) (passed : List ArgumentValue) (name : Text) → ((i : ℕ) → bytes_eq (variable_name i) name ≡ false) →
-      found name (pointers_of (params_from structs n vars) passed) ≡ None
+  pub no_pointer : (vars : List Var) (n : ℕ) (passed : List ArgumentValue) (name : Text) → ((i : ℕ) → bytes_eq (variable_name all i) name ≡ false) →
+      found name (pointers_of (params_from structs all n vars) passed) ≡ None
   no_pointer [] n [] name differ = refl
   no_pointer [] n (a ∷ passed) name differ = refl
   no_pointer (var ∷ vars) n [] name differ = refl
   no_pointer (var ∷ vars) n (by_value v ∷ passed) name differ = no_pointer vars (n + 1) passed name differ
   no_pointer (var ∷ vars) n (by_address p ∷ passed) name differ =
-      ap (λ b. if b then Some p else found name (pointers_of (params_from structs (n + 1) vars) passed)) (differ n)
+      ap (λ b. if b then Some p else found name (pointers_of (params_from structs all (n + 1) vars) passed)) (differ n)
       ∙ no_pointer vars (n + 1) passed name differ
 
   pub values_both : (vars : List Var) (n : ℕ) (passed : List ArgumentValue) (ps : List CParam) (qs : List ArgumentValue) (m : Memory) →
       length passed ≡ length vars →
-      with_params depth (params_from structs n vars ++ ps) (passed ++ qs) m ≡ with_params depth ps qs (with_params depth
-      (params_from structs n vars) passed m)
+      with_params depth (params_from structs all n vars ++ ps) (passed ++ qs) m ≡ with_params depth ps qs (with_params depth
+      (params_from structs all n vars) passed m)
   values_both [] n [] ps qs m many = refl
   values_both [] n (a ∷ passed) ps qs m many = absurd (omega (arith, many))
   values_both (var ∷ vars) n [] ps qs m many = absurd (omega (arith, many))
   values_both (var ∷ vars) n (by_value v ∷ passed) ps qs m many =
-      values_both vars (n + 1) passed ps qs (set_at m (record { root = variable depth (variable_name n); parts = [] }) v) (omega (arith, many))
+      values_both vars (n + 1) passed ps qs (set_at m (record { root = variable depth (variable_name all n); parts = [] }) v) (omega (arith, many))
   values_both (var ∷ vars) n (by_address p ∷ passed) ps qs m many = values_both vars (n + 1) passed ps qs m (omega (arith, many))
 
 -- ---- entries

@@ -166,7 +166,7 @@ module _ (a : Activity) (standing : roles_stand a.unit ≡ true) (active : is_ac
   LentAt = LentTo (depth + 1) Args n
 
   pub lead_to : (j : ℕ) (at : Location) → j < a.unit.inputs + a.unit.outputs → slice_get (given.inputs ++ map by_address given.outputs) j
-      ≡ Some (by_address at) → lent_at (Begun a known (depth + 1) given as_many) j ≡ at
+      ≡ Some (by_address at) → lent_at (Begun a known (depth + 1) given as_many) a.unit.vars j ≡ at
   lead_to j at less is =
       let all : length (parameters_of a.unit) ≡ n = parameters a.structs a.earlier a.unit standing active (depth + 1) values Args here handed in
       let most : n ≤ length a.unit.vars = within a.structs a.earlier a.unit standing active (depth + 1) values Args here handed in
@@ -177,10 +177,10 @@ module _ (a : Activity) (standing : roles_stand a.unit ≡ true) (active : is_ac
       lent_to a.structs a.earlier a.unit standing active (depth + 1) values Args here handed k var home
       (where_is a.structs a.earlier a.unit standing active (depth + 1) values Args here handed k var there)
 
-  lent_leads : (k : ℕ) (var : Var) (to : LentAt k var) → lent_at scope k ≡ to.place
+  lent_leads : (k : ℕ) (var : Var) (to : LentAt k var) → lent_at scope site.vars k ≡ to.place
   lent_leads k var to = lead_to k to.place to.less to.is_passed
 
-  lent_older : (k : ℕ) (var : Var) (to : LentAt k var) → is_older (depth + 1) (lent_at scope k).root ≡ true
+  lent_older : (k : ℕ) (var : Var) (to : LentAt k var) → is_older (depth + 1) (lent_at scope site.vars k).root ≡ true
   lent_older k var to = ap (λ (p : Location). is_older (depth + 1) p.root) (lent_leads k var to) ∙ to.older
 
   older_place : (at place : Location) → place ≡ at → is_live depth at.root ≡ true → is_older (depth + 1) place.root ≡ true
@@ -188,7 +188,7 @@ module _ (a : Activity) (standing : roles_stand a.unit ≡ true) (active : is_ac
 
   lent_place : (at place : Location) → place ≡ at → list_all (are_apart at) (places_in_args given.inputs) ≡ true →
       list_all (are_apart at) given.outputs ≡ true → (k : ℕ) (var : Var) → var_at site k ≡ Some var → home_at site k ≡ Lent →
-      are_apart place (lent_at scope k) ≡ true
+      are_apart place (lent_at scope site.vars k) ≡ true
   lent_place at place is inputs outputs k var there home =
       let to : LentAt k var = lent k var there home in
       ap₂ are_apart is (lent_leads k var to)
@@ -238,17 +238,17 @@ module _ (a : Activity) (standing : roles_stand a.unit ≡ true) (active : is_ac
   -- ---- the whole
 
   memory_lent : (k : ℕ) (var : Var) → var_at site k ≡ Some var → home_at site k ≡ Lent →
-      are_apart (remembered_at scope) (lent_at scope k) ≡ true
+      are_apart (remembered_at scope) (lent_at scope site.vars k) ≡ true
   memory_lent k var there home = by remembers refl
     where
-      by : (b : Bool) → remembers ≡ b → are_apart (remembered_at scope) (lent_at scope k) ≡ true
+      by : (b : Bool) → remembers ≡ b → are_apart (remembered_at scope) (lent_at scope site.vars k) ≡ true
       by true is =
           lent_place given.memory (remembered_at scope) (memory_is is) (for_memory FromInputs may.inputs_apart is)
           (memory_outputs is) k var there home
       by false is =
-          ap (λ (p : Location). are_apart p (lent_at scope k)) (no_memory a known (depth + 1) given as_many is)
-          ∙ roots_apart (record { root = variable (depth + 1) (codes "m"); parts = [] }) (lent_at scope k)
-          (older_differs (depth + 1) (codes "m") (lent_at scope k).root (lent_older k var (lent k var there home)))
+          ap (λ (p : Location). are_apart p (lent_at scope site.vars k)) (no_memory a known (depth + 1) given as_many is)
+          ∙ roots_apart (record { root = variable (depth + 1) (codes "m"); parts = [] }) (lent_at scope site.vars k)
+          (older_differs (depth + 1) (codes "m") (lent_at scope site.vars k).root (lent_older k var (lent k var there home)))
 
   pub pointers_stand : PointersAreValid (activity_view a).site (Begun a known (depth + 1) given as_many)
   pointers_stand = record {
@@ -272,11 +272,11 @@ module _ (a : Activity) (standing : roles_stand a.unit ≡ true) (active : is_ac
   }
 
   frame_lent : (k : ℕ) (var : Var) → var_at site k ≡ Some var → home_at site k ≡ Lent →
-      are_apart (frame_at scope) (lent_at scope k) ≡ true
+      are_apart (frame_at scope) (lent_at scope site.vars k) ≡ true
   frame_lent = lent_place given.frame (frame_at scope) frame_is (for_frame FromInputs may.inputs_apart) frame_outputs
 
   over_lent : (k : ℕ) (var : Var) → var_at site k ≡ Some var → home_at site k ≡ Lent →
-      are_apart (over_at scope) (lent_at scope k) ≡ true
+      are_apart (over_at scope) (lent_at scope site.vars k) ≡ true
   over_lent =
       lent_place given.over (over_at scope) over_is (for_over FromInputs may.inputs_apart) (one_flip given.outputs given.over output_ends.1)
 

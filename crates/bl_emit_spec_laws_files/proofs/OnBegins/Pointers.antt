@@ -70,7 +70,7 @@ module _ (a : Activity) (known : Table Meaning) (depth : ℕ) (given : CallAddre
 
   -- the entries for variables, and what stands behind them
   abbrev Own : Entries
-  Own = pointers_of (params_from a.structs 0 (parameters_of a.unit)) Args
+  Own = pointers_of (params_from a.structs a.unit.vars 0 (parameters_of a.unit)) Args
 
   abbrev Behind : Entries
   Behind = where_true (is_some a.unit.result) (codes "r", given.result) ++ (codes "e", given.over) ∷ []
@@ -80,10 +80,10 @@ module _ (a : Activity) (known : Table Meaning) (depth : ℕ) (given : CallAddre
   pointers_are =
       ap (λ (rest : Entries). (codes "f", given.frame) ∷ rest)
       (memory_pointers a (remembers_any a) given.memory
-      (params_from a.structs 0 (parameters_of a.unit) ++ (result_params a.unit.result ++ over_param ∷ []))
+      (params_from a.structs a.unit.vars 0 (parameters_of a.unit) ++ (result_params a.unit.result ++ over_param ∷ []))
       (Args ++ (where_true (is_some a.unit.result) (by_address given.result) ++ by_address given.over ∷ []))
       ∙ ap (λ (rest : Entries). where_true (remembers_any a) (codes "m", given.memory) ++ rest)
-      (pointers_both a.structs depth (parameters_of a.unit) 0 Args (result_params a.unit.result ++ over_param ∷ [])
+      (pointers_both a.structs a.unit.vars depth (parameters_of a.unit) 0 Args (result_params a.unit.result ++ over_param ∷ [])
       (where_true (is_some a.unit.result) (by_address given.result) ++ by_address given.over ∷ []) many
       ∙ ap (λ (rest : Entries). Own ++ rest) (result_pointers a.unit.result given.result given.over)))
 
@@ -110,7 +110,7 @@ module _ (a : Activity) (known : Table Meaning) (depth : ℕ) (given : CallAddre
   over_given =
       leads (codes "e") given.over refl
       (skip_where (remembers_any a) (codes "m", given.memory) (Own ++ Behind) (codes "e") refl
-      ∙ (found_behind (codes "e") Own Behind (no_pointer a.structs depth (parameters_of a.unit) 0 Args (codes "e") (λ i. refl))
+      ∙ (found_behind (codes "e") Own Behind (no_pointer a.structs a.unit.vars depth (parameters_of a.unit) 0 Args (codes "e") (λ i. refl))
       ∙ skip_where (is_some a.unit.result) (codes "r", given.result) ((codes "e", given.over) ∷ []) (codes "e") refl))
 
   pub memory_given : remembers_any a ≡ true → remembered_at Begun ≡ given.memory
@@ -123,41 +123,41 @@ module _ (a : Activity) (known : Table Meaning) (depth : ℕ) (given : CallAddre
   no_memory is =
       nowhere_found (codes "m") refl
       (ap (λ b. found (codes "m") (where_true b (codes "m", given.memory) ++ (Own ++ Behind))) is
-      ∙ (found_behind (codes "m") Own Behind (no_pointer a.structs depth (parameters_of a.unit) 0 Args (codes "m") (λ i. refl))
+      ∙ (found_behind (codes "m") Own Behind (no_pointer a.structs a.unit.vars depth (parameters_of a.unit) 0 Args (codes "m") (λ i. refl))
       ∙ skip_where (is_some a.unit.result) (codes "r", given.result) ((codes "e", given.over) ∷ []) (codes "m") refl))
 
   pub result_given : is_some a.unit.result ≡ true → result_at_c Begun ≡ given.result
   result_given is =
       leads (codes "r") given.result refl
       (skip_where (remembers_any a) (codes "m", given.memory) (Own ++ Behind) (codes "r") refl
-      ∙ (found_behind (codes "r") Own Behind (no_pointer a.structs depth (parameters_of a.unit) 0 Args (codes "r") (λ i. refl))
+      ∙ (found_behind (codes "r") Own Behind (no_pointer a.structs a.unit.vars depth (parameters_of a.unit) 0 Args (codes "r") (λ i. refl))
       ∙ take_where (is_some a.unit.result) (codes "r", given.result) ((codes "e", given.over) ∷ []) (codes "r") is refl))
 
   pub lent_given : (j : ℕ) (at : Location) → length (parameters_of a.unit) ≤ 2 ^ 64 → j < length (parameters_of a.unit) →
-      slice_get Args j ≡ Some (by_address at) → lent_at Begun j ≡ at
+      slice_get Args j ≡ Some (by_address at) → lent_at Begun a.unit.vars j ≡ at
   lent_given j at few less is =
-      leads (variable_name j) at refl
-      (skip_where (remembers_any a) (codes "m", given.memory) (Own ++ Behind) (variable_name j) refl
-      ∙ found_front (variable_name j) Own Behind at
-      (pointer_given a.structs depth (parameters_of a.unit) 0 j j Args at (omega arith) less (omega (arith, few)) is))
+      leads (variable_name a.unit.vars j) at refl
+      (skip_where (remembers_any a) (codes "m", given.memory) (Own ++ Behind) (variable_name a.unit.vars j) refl
+      ∙ found_front (variable_name a.unit.vars j) Own Behind at
+      (pointer_given a.structs a.unit.vars depth (parameters_of a.unit) 0 j j Args at (omega arith) less (omega (arith, few)) is))
 
   -- ---- the memory in which it begins
 
   pub begun_is : (here : Memory) → memory_begun (activity_function a) depth (passed_to a.unit (remembers_any a) given) here
-      ≡ with_params depth (params_from a.structs 0 (parameters_of a.unit)) Args (without_frame depth here)
+      ≡ with_params depth (params_from a.structs a.unit.vars 0 (parameters_of a.unit)) Args (without_frame depth here)
   begun_is here =
       memory_values depth a (remembers_any a) given.memory
-      (params_from a.structs 0 (parameters_of a.unit) ++ (result_params a.unit.result ++ over_param ∷ []))
+      (params_from a.structs a.unit.vars 0 (parameters_of a.unit) ++ (result_params a.unit.result ++ over_param ∷ []))
       (Args ++ (where_true (is_some a.unit.result) (by_address given.result) ++ by_address given.over ∷ [])) (without_frame depth here)
-      ∙ (values_both a.structs depth (parameters_of a.unit) 0 Args (result_params a.unit.result ++ over_param ∷ [])
+      ∙ (values_both a.structs a.unit.vars depth (parameters_of a.unit) 0 Args (result_params a.unit.result ++ over_param ∷ [])
       (where_true (is_some a.unit.result) (by_address given.result) ++ by_address given.over ∷ []) (without_frame depth here) many
       ∙ result_values depth a.unit.result given.result given.over
-      (with_params depth (params_from a.structs 0 (parameters_of a.unit)) Args (without_frame depth here)))
+      (with_params depth (params_from a.structs a.unit.vars 0 (parameters_of a.unit)) Args (without_frame depth here)))
 
   -- what is no parameter begins at 0
-  pub local_zero : (here : Memory) (name : Text) → ((i : ℕ) → bytes_eq (variable_name i) name ≡ false) → (way : List Projection) →
+  pub local_zero : (here : Memory) (name : Text) → ((i : ℕ) → bytes_eq (variable_name a.unit.vars i) name ≡ false) → (way : List Projection) →
       memory_begun (activity_function a) depth (passed_to a.unit (remembers_any a) given) here (variable depth name) way ≡ pos 0
   local_zero here name differ way =
       ap (λ (m : Memory). m (variable depth name) way) (begun_is here)
-      ∙ (other_stays a.structs depth (parameters_of a.unit) 0 Args (without_frame depth here) name way (λ i more less. differ i)
+      ∙ (other_stays a.structs a.unit.vars depth (parameters_of a.unit) 0 Args (without_frame depth here) name way (λ i more less. differ i)
       ∙ ap (λ b. (if b then zeros else here (variable depth name)) way) (eq-eqb depth depth refl))

@@ -71,7 +71,7 @@ module _ (a : Activity) (standing : roles_stand a.unit ≡ true) (active : is_ac
     (may : MayGive a.unit (remembers_any a) depth given) (keeps : CallsKeepFrame) (now : List Value)
     (front : (j : ℕ) → j < a.unit.inputs + a.unit.outputs → slice_get values j ≡ slice_get now j)
     (held : (j : ℕ) (var : Var) (value : Value) → var_at (activity_view a).site j ≡ Some var → home_at (activity_view a).site j ≡ Held →
-    slice_get now j ≡ Some value → Encodes a.structs var.ty value (value_at here (further given.memory (member (variable_name j) ∷ [])))) where
+    slice_get now j ≡ Some value → Encodes a.structs var.ty value (value_at here (further given.memory (member (variable_name a.unit.vars j) ∷ [])))) where
   abbrev site : TypingContext
   site = (activity_view a).site
 
@@ -96,7 +96,8 @@ module _ (a : Activity) (standing : roles_stand a.unit ≡ true) (active : is_ac
   -- where a variable of a home stands
   abbrev stands_in : Bool → Home → ℕ → Location
   stands_in activity home j =
-      record { root = (start_in scope activity home j).root; parts = (start_in scope activity home j).parts ++ (lead_in home j ++ []) }
+      let start = start_in scope activity home site.vars j in
+      record { root = start.root; parts = start.parts ++ (lead_in home site.vars j ++ []) }
 
   same_home : (j : ℕ) (home : Home) (ty : Ty) (value : Value) → home_at site j ≡ home →
       Encodes a.structs ty value (value_at begun (stands_in true home j)) → Encodes a.structs ty value (value_at begun (location_in scope site j []))
@@ -108,13 +109,13 @@ module _ (a : Activity) (standing : roles_stand a.unit ≡ true) (active : is_ac
   same_value j mine value less is at = same_Some mine value (sym is ∙ (front j less ∙ at))
 
   value_stands : (j : ℕ) (value : CValue) (way : List memory.Projection) → j < n → slice_get Args j ≡ Some (by_value value) →
-      begun (variable (depth + 1) (variable_name j)) way ≡ value way
+      begun (variable (depth + 1) (variable_name site.vars j)) way ≡ value way
   value_stands j value way less is =
       let all : length (parameters_of a.unit) ≡ n = parameters a.structs a.earlier a.unit standing active (depth + 1) values Args here handed in
       let most : n ≤ length a.unit.vars = within a.structs a.earlier a.unit standing active (depth + 1) values Args here handed in
-      ap (λ (m : Memory). m (variable (depth + 1) (variable_name j)) way)
+      ap (λ (m : Memory). m (variable (depth + 1) (variable_name site.vars j)) way)
       (begun_is a known (depth + 1) given (as_many a standing active few known depth given values here handed many may) here)
-      ∙ value_given a.structs (depth + 1) (parameters_of a.unit) 0 j j Args (without_frame (depth + 1) here) value way (omega arith)
+      ∙ value_given a.structs a.unit.vars (depth + 1) (parameters_of a.unit) 0 j j Args (without_frame (depth + 1) here) value way (omega arith)
       (omega (arith, all, less)) (omega (arith, all, most, few)) is
 
   variable_holds : (j : ℕ) (var : Var) (value : Value) → var_at site j ≡ Some var → slice_get now j ≡ Some value →
@@ -132,10 +133,10 @@ module _ (a : Activity) (standing : roles_stand a.unit ≡ true) (active : is_ac
       (subst (λ value. Encodes a.structs var.ty value (value_at here to)) (same_value j mine value less v at) holds)))
   variable_holds j var value there at (homes.local more home) =
       let is : remembers_any a ≡ true = holder_remembers a j var there home in
-      let inner : Location = further given.memory (member (variable_name j) ∷ []) in
+      let inner : Location = further given.memory (member (variable_name site.vars j) ∷ []) in
       same_home j Held var.ty value home
       (subst (λ (l : Location). Encodes a.structs var.ty value
-      (value_at begun (record { root = l.root; parts = l.parts ++ ((member (variable_name j) ∷ []) ++ []) })))
+      (value_at begun (record { root = l.root; parts = l.parts ++ ((member (variable_name site.vars j) ∷ []) ++ []) })))
       (sym (memory_given a known (depth + 1) given (as_many a standing active few known depth given values here handed many may) is))
       (holds_same a.structs var.ty value (value_at here inner) (value_at begun inner)
       (λ way. sym (older_same inner way (memory_older a standing active few known depth given values here handed many may is)))
@@ -176,6 +177,6 @@ variables_begin_all structs units entry orderly hands keeps machine activities i
     (gives structs units entry orderly hands machine activities i unit known depth given frames store here compiled there may begins) keeps now
     (λ j less. front_values unit now j (subst (λ (u : UnitDef). j < u.inputs + u.outputs) is less))
     (λ j var value at home is_value.
-    subst (λ (s : List StructDef). Encodes s var.ty value (value_at here (further given.memory (member (variable_name j) ∷ []))))
+    subst (λ (s : List StructDef). Encodes s var.ty value (value_at here (further given.memory (member (variable_name a.unit.vars j) ∷ []))))
     (sym (structs_are structs units entry orderly hands machine activities i unit known depth given frames store here compiled there may begins))
     (begins.memory.variables i given.frame given.memory memories.here j var value at home is_value)))

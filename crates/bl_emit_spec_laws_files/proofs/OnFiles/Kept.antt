@@ -12,7 +12,7 @@ use Rattle.bl_emit_acts_laws_simulation.specs.Acts.{OutputsEncoded}
 use Rattle.bl_emit_acts_laws_simulation.specs.Encodes.{way_to}
 use Rattle.bl_emit_spec.specs.Names.{counter_name}
 use Rattle.bl_machine_pass_laws_execution.specs.Frames.{Frames}
-use Rattle.bl_emit_spec_laws.specs.Calls.Built.{Activities}
+use Rattle.bl_emit_spec_laws.specs.Calls.Built.{Activities, site_at}
 use Rattle.bl_emit_spec_laws.specs.Calls.Memories as memories
 use Rattle.bl_emit_spec_laws.specs.Calls.Memories.{MemoryEncodes, Nests}
 use Rattle.bl_emit_spec_laws_files.specs.States.States.{frame_place, memory_place, output_place}
@@ -44,7 +44,7 @@ module _ (w : Setting) (activities : Activities) where
     variables = λ k f' m' nests x var value is held is_value. record {
       each = λ ks n number.
           at_root here there m'.root same (nested_memory nests)
-          ((m'.parts ++ member (variable_name x) ∷ []) ++ way_to w.structs ks (Some var.ty))
+          ((m'.parts ++ member (variable_name (site_at w activities k).vars x) ∷ []) ++ way_to w.structs ks (Some var.ty))
           ∙ (holds.variables k f' m' nests x var value is held is_value).each ks n number;
     };
   }

@@ -32,7 +32,8 @@ use Rattle.bl_ctext_semantics.specs.Memory.{cleared as cleared_memory}
 use Rattle.bl_ctext_semantics.specs.Memory.{Location, Memory, input_object, member, output_object, scalar_number, state_object, value_at, without_frame}
 use Rattle.bl_ctext_semantics.specs.Parts.{Parts}
 use Rattle.bl_ctext_semantics.specs.Tables.{Table}
-use Rattle.bl_ctext_semantics.specs.Trace.{Reply, TickOfFile, c_trace_from, call_from_outside, cells_if, object, reply_of, start_c, started, tick_c, tick_of, trace_after, traced}
+use Rattle.bl_ctext_semantics.specs.Trace.{Reply, TickOfFile, c_trace_from, call_from_outside, cells_if, object, reply_of, start_c, started, tick_c}
+use Rattle.bl_ctext_semantics.specs.Trace.{tick_of, trace_after, traced}
 use Rattle.bl_ctree.specs.Instances.{Setting, setting_of, unit_at}
 use Rattle.bl_ctree.specs.Store as store
 use Rattle.bl_ctree.specs.Store.{Frame, Store, aged, first_frame, first_store, number_or_zero, outputs_of_frame, outputs_row, view_at, woken_store}
@@ -56,7 +57,7 @@ use Rattle.bl_machine_pass_laws_typing.specs.Starts.{AllStartsFit}
 use Rattle.bl_machine_pass_laws_execution.specs.Frames.{Frames}
 use Rattle.bl_machine_pass_laws_execution.specs.Runs as run
 use Rattle.bl_machine_pass_laws_execution.specs.Runs.{RuleRun, TickStarts}
-use Rattle.bl_emit_spec_laws.specs.Calls.Built.{Activities, activity_at, cleared, rank_by, slots_by, unit_number}
+use Rattle.bl_emit_spec_laws.specs.Calls.Built.{Activities, activity_at, cleared, rank_by, site_at, slots_by, unit_number}
 use Rattle.bl_emit_spec_laws.specs.Calls.Calls.{ActivitySimulates, CallBegins, FramesWithin, MayGive, PassStarts, input_values, output_values}
 use Rattle.bl_emit_spec_laws.specs.Calls.Laws.{CompilationContext}
 use Rattle.bl_emit_spec_laws.specs.Calls.Memories.{MemoryEncodes}
@@ -473,10 +474,10 @@ module _ (out : HomesLeadOut) (orderly : AcceptedIsOrderly) (keep : PassesKeepTy
       counters = λ k f' m' nests c less.
           first_zero f'.root ((f'.parts ++ member (counter_name c) ∷ []) ++ []) ∙ sym (ap pos (none k c));
       variables = λ k f' m' nests x var value is_var held seen.
-          subst (λ (v : Value). Encodes structs var.ty v (value_at first_memory (further m' (member (variable_name x) ∷ []))))
+          subst (λ (v : Value). Encodes structs var.ty v (value_at first_memory (further m' (member (variable_name (site_at W activities k).vars x) ∷ []))))
           (sym (first_held out orderly structs units entry machine activities compiled unit there k x var value is_var held seen))
-          (zero_holds structs var.ty (value_at first_memory (further m' (member (variable_name x) ∷ [])))
-          (λ way. first_zero m'.root ((m'.parts ++ member (variable_name x) ∷ []) ++ way)));
+          (zero_holds structs var.ty (value_at first_memory (further m' (member (variable_name (site_at W activities k).vars x) ∷ [])))
+          (λ way. first_zero m'.root ((m'.parts ++ member (variable_name (site_at W activities k).vars x) ∷ []) ++ way)));
     };
     outputs = subst (λ (values : List Value). OutputsEncoded structs first_memory (outputs_of unit) values (map output_place (outputs_of unit)))
         (sym first_outputs) (zeros_hold structs (outputs_of unit) first_memory first_zero);

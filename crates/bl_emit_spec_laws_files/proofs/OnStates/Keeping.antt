@@ -137,21 +137,23 @@ middle_all (suc n) m (var ∷ vars) all =
 
 held_within : (site : TypingContext) (k : ℕ) (vars : List Var) (x : ℕ) (var : Var) → slice_get vars x ≡ Some var →
     is_held (home_of site (Some var)) ≡ true →
-    Contains (members_from site k vars) (held_member site.structs (k + x) var)
+    Contains (members_from site k vars) (held_member site.structs site.vars (k + x) var)
 held_within site k [] x var there held = absurd (cc)
 held_within site k (first ∷ rest) zero var there held =
     let same = same_Some first var there in
     let from : k + 0 ≡ k = omega arith in
-    in_left (member_of (is_held (home_of site (Some first))) site.structs k first) (members_from site (k + 1) rest) (held_member site.structs (k + 0) var)
-    (subst (λ (v : Var). Contains (member_of (is_held (home_of site (Some v))) site.structs k v) (held_member site.structs (k + 0) var)) (sym same)
-    (subst (λ (b : Bool). Contains (member_of b site.structs k var) (held_member site.structs (k + 0) var)) (sym held)
-    (subst (λ (n : ℕ). Contains (held_member site.structs k var ∷ []) (held_member site.structs n var)) (sym from)
-    (here (held_member site.structs k var) []))))
+    in_left (member_of (is_held (home_of site (Some first))) site.structs site.vars k first) (members_from site (k + 1) rest)
+    (held_member site.structs site.vars (k + 0) var)
+    (subst (λ (v : Var). Contains (member_of (is_held (home_of site (Some v))) site.structs site.vars k v)
+    (held_member site.structs site.vars (k + 0) var)) (sym same)
+    (subst (λ (b : Bool). Contains (member_of b site.structs site.vars k var) (held_member site.structs site.vars (k + 0) var)) (sym held)
+    (subst (λ (n : ℕ). Contains (held_member site.structs site.vars k var ∷ []) (held_member site.structs site.vars n var)) (sym from)
+    (here (held_member site.structs site.vars k var) []))))
 held_within site k (first ∷ rest) (suc x) var there held =
     let sum : (k + 1) + x ≡ k + suc x = omega arith in
-    in_right (member_of (is_held (home_of site (Some first))) site.structs k first) (members_from site (k + 1) rest)
-    (held_member site.structs (k + suc x) var)
-    (subst (λ (n : ℕ). Contains (members_from site (k + 1) rest) (held_member site.structs n var)) sum
+    in_right (member_of (is_held (home_of site (Some first))) site.structs site.vars k first) (members_from site (k + 1) rest)
+    (held_member site.structs site.vars (k + suc x) var)
+    (subst (λ (n : ℕ). Contains (members_from site (k + 1) rest) (held_member site.structs site.vars n var)) sum
     (held_within site (k + 1) rest x var there held))
 
 -- ---- what is kept
@@ -243,23 +245,24 @@ module _ (orderly : AcceptedIsOrderly) (placed : StaysPlaced) (views : ViewsAreT
     var_there : slice_get stands.other.vars x ≡ Some var
     var_there = subst (λ (u : UnitDef). slice_get u.vars x ≡ Some var) same_unit is_var
 
-    is_member : Contains (remembered (A k)) (held_member (A k).structs x var)
+    is_member : Contains (remembered (A k)) (held_member (A k).structs (A k).unit.vars x var)
     is_member =
         let site = site_at W activities k in
         let from_zero : 0 + x ≡ x = omega arith in
         in_left (members_of (A k).structs (A k).earlier (A k).unit) (joined (map (memory_member (A k)) (runs_in_body (A k))))
-        (held_member (A k).structs x var)
-        (subst (λ (n : ℕ). Contains (members_from site 0 site.vars) (held_member (A k).structs n var)) from_zero
+        (held_member (A k).structs (A k).unit.vars x var)
+        (subst (λ (n : ℕ). Contains (members_from site 0 site.vars) (held_member (A k).structs (A k).unit.vars n var)) from_zero
         (held_within site 0 site.vars x var is_var (ap is_held (sym (ap (home_of site) is_var) ∙ held))))
 
     remembers : remembers_any (A k) ≡ true
-    remembers = some_long (remembered (A k)) (held_member (A k).structs x var) is_member
+    remembers = some_long (remembered (A k)) (held_member (A k).structs (A k).unit.vars x var) is_member
 
-    leading : Leads (m'.parts ++ member (variable_name x) ∷ []) (whole (c_type structs var.ty))
+    leading : Leads (m'.parts ++ member (variable_name (A k).unit.vars x) ∷ []) (whole (c_type structs var.ty))
     leading =
-        goes_along m'.parts (member (variable_name x) ∷ []) (whole (OfStruct (memory_of_activity (A k)).name)) (whole (c_type structs var.ty))
+        goes_along m'.parts (member (variable_name (A k).unit.vars x) ∷ []) (whole (OfStruct (memory_of_activity (A k)).name)) (whole (c_type structs var.ty))
         (stands.memory remembers)
-        (member_step file formed (memory_of_activity (A k)) (held_member (A k).structs x var) (declared.memories k stands.other is_there remembers)
+        (member_step file formed (memory_of_activity (A k)) (held_member (A k).structs (A k).unit.vars x var)
+        (declared.memories k stands.other is_there remembers)
         is_member
         ∙ ap (λ (s : List StructDef). Some (whole (c_type s var.ty))) same_structs)
 
@@ -275,13 +278,14 @@ module _ (orderly : AcceptedIsOrderly) (placed : StaysPlaced) (views : ViewsAreT
         declared.types stands.other var ks inner (contains_at units (unit_number W k) stands.other position)
         (contains_at stands.other.vars x var var_there) typed
 
-    pub variable_kept : Encodes structs var.ty value (value_at memory (further_place m' (member (variable_name x) ∷ []))) →
-        Encodes structs var.ty value (value_at (regained file memory) (further_place m' (member (variable_name x) ∷ [])))
+    pub variable_kept : Encodes structs var.ty value (value_at memory (further_place m' (member (variable_name (A k).unit.vars x) ∷ []))) →
+        Encodes structs var.ty value (value_at (regained file memory) (further_place m' (member (variable_name (A k).unit.vars x) ∷ [])))
     variable_kept holds = record {
       each = λ ks n number.
           (let scalar = leads structs compiled.well_typed.structs_stand file formed ks var.ty value n all_declared fitting number in
-          state_kept memory m'.root ((m'.parts ++ member (variable_name x) ∷ []) ++ way_to structs ks (Some var.ty)) scalar.kind stands.memory_root
-          (goes_along (m'.parts ++ member (variable_name x) ∷ []) (way_to structs ks (Some var.ty)) (whole (c_type structs var.ty))
+          state_kept memory m'.root
+          ((m'.parts ++ member (variable_name (A k).unit.vars x) ∷ []) ++ way_to structs ks (Some var.ty)) scalar.kind stands.memory_root
+          (goes_along (m'.parts ++ member (variable_name (A k).unit.vars x) ∷ []) (way_to structs ks (Some var.ty)) (whole (c_type structs var.ty))
           (whole (OfScalar scalar.kind)) leading scalar.walks))
           ∙ holds.each ks n number;
     }

@@ -400,11 +400,11 @@ module _ (frames_apart : FramesApart) (keep : RegistersKeepApart) (structs : Lis
             counter_same f' (nests_beyond w activities j x f q f' m' nests).0 (member (counter_name c) ∷ []) []
             ∙ (midway.stands.callees m at arguments j there called).counters x f' m' nests c below;
         variables = λ x f' m' nests v var value known held now.
-            holds_same w.structs var.ty value here o.memory (further m' (member (variable_name v) ∷ []))
+            holds_same w.structs var.ty value here o.memory (further m' (member (variable_name (site_at w activities x).vars v) ∷ []))
             (variable_same
             (remembering.each i x (frame_at scope) (remembered_at scope) f' m' v var
             (memories.inside midway.is_there there called nests) known held)
-            m' (nests_beyond w activities j x f q f' m' nests).1 (member (variable_name v) ∷ []))
+            m' (nests_beyond w activities j x f q f' m' nests).1 (member (variable_name (site_at w activities x).vars v) ∷ []))
             ((midway.stands.callees m at arguments j there called).variables x f' m' nests v var value known held
             (sym (seen.inner i unit l s store left values acted_so at j x f q f' m' v var called nests known held) ∙ now));
       }

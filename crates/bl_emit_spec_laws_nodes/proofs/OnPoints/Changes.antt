@@ -72,8 +72,8 @@ module _ (w : Setting) (activities : Activities) (i : ℕ) (unit : UnitDef) (sco
   copied : CopiesEncoded site copies (is_copied (copies_of unit)) scope after
   copied = record {
     each = λ k var value its there is.
-        holds_same site.structs var.ty value here after (copy_location scope k)
-        (kept_at (copy_location scope k) (λ x. beside.copies x k)) (stands.copied.each k var value its there is);
+        holds_same site.structs var.ty value here after (copy_location scope site.vars k)
+        (kept_at (copy_location scope site.vars k) (λ x. beside.copies x k)) (stands.copied.each k var value its there is);
   }
 
   -- ---- what is called
@@ -112,11 +112,11 @@ module _ (w : Setting) (activities : Activities) (i : ℕ) (unit : UnitDef) (sco
           inner_counter f' (nests_beyond w activities j k f m f' m' nests).0 (member (counter_name c) ∷ []) []
           ∙ (stands.callees l at arguments j there called).counters k f' m' nests c below;
       variables = λ k f' m' nests x var value known held is.
-          holds_same w.structs var.ty value here after (further m' (member (variable_name x) ∷ []))
+          holds_same w.structs var.ty value here after (further m' (member (variable_name (site_at w activities k).vars x) ∷ []))
           (inner_variable
           (remembering.each i k (frame_at scope) (remembered_at scope) f' m' x var
           (memories.inside is_there there called nests) known held)
-          m' (nests_beyond w activities j k f m f' m' nests).1 (member (variable_name x) ∷ []))
+          m' (nests_beyond w activities j k f m f' m' nests).1 (member (variable_name (site_at w activities k).vars x) ∷ []))
           ((stands.callees l at arguments j there called).variables k f' m' nests x var value known held is);
     }
 

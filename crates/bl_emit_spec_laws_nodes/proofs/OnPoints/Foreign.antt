@@ -43,13 +43,13 @@ module _ (site : TypingContext) (unit : UnitDef) (remembers : Bool) (scope : Sco
   -- ---- places
 
   abbrev place_of : Bool → Home → ℕ → Location
-  place_of activity home k = further (start_in scope activity home k) (lead_in home k ++ [])
+  place_of activity home k = further (start_in scope activity home site.vars k) (lead_in home site.vars k ++ [])
 
   -- no variable has anything in common with an older place that is apart from what the pointers lead to
   pub variable_apart : (place : Location) → is_older scope.depth place.root ≡ true →
-      ((k : ℕ) (var : Var) → var_at site k ≡ Some var → home_at site k ≡ Lent → are_apart place (lent_at scope k) ≡ true) →
+      ((k : ℕ) (var : Var) → var_at site k ≡ Some var → home_at site k ≡ Lent → are_apart place (lent_at scope site.vars k) ≡ true) →
       ((k : ℕ) (var : Var) → var_at site k ≡ Some var → home_at site k ≡ Held →
-      are_apart (further (remembered_at scope) (member (variable_name k) ∷ [])) place ≡ true) →
+      are_apart (further (remembered_at scope) (member (variable_name site.vars k) ∷ [])) place ≡ true) →
       (k : ℕ) (var : Var) → var_at site k ≡ Some var → are_apart (location_in scope site k []) place ≡ true
   variable_apart place older lent held k var there = by (is_activity site.kind) (home_at site k) refl refl
     where
@@ -59,27 +59,27 @@ module _ (site : TypingContext) (unit : UnitDef) (remembers : Bool) (scope : Sco
       by : (activity : Bool) (x : Home) → is_activity site.kind ≡ activity → home_at site k ≡ x → are_apart (place_of activity x k) place ≡ true
       by false Held kind is = absurd (no_such (sym kind ∙ active))
       by true Held kind is = held k var there is
-      by activity Given kind is = local_older (place_of activity Given k) place (variable_name k) refl older
-      by activity Lent kind is = first_further (lent_at scope k) place [] (apart_flip place (lent_at scope k) (lent k var there is))
+      by activity Given kind is = local_older (place_of activity Given k) place (variable_name site.vars k) refl older
+      by activity Lent kind is = first_further (lent_at scope site.vars k) place [] (apart_flip place (lent_at scope site.vars k) (lent k var there is))
 
   -- so it is foreign
   foreign_place : (place : Location) → is_live scope.depth place.root ≡ true →
       ((k : ℕ) (var : Var) → var_at site k ≡ Some var → are_apart (location_in scope site k []) place ≡ true) →
-      ((k : ℕ) → are_apart (copy_location scope k) place ≡ true) → (way : List Projection) → Foreign site copied scope place.root (place.parts ++ way)
+      ((k : ℕ) → are_apart (copy_location scope site.vars k) place ≡ true) → (way : List Projection) → Foreign site copied scope place.root (place.parts ++ way)
   foreign_place place live variables copies way = record {
     live = live;
     variables = λ k var there writable. lies_apart (location_in scope site k []) place way (variables k var there);
-    copies = λ k its. lies_apart (copy_location scope k) place way (copies k);
+    copies = λ k its. lies_apart (copy_location scope site.vars k) place way (copies k);
   }
 
   foreign_older : (place : Location) → is_older scope.depth place.root ≡ true →
-      ((k : ℕ) (var : Var) → var_at site k ≡ Some var → home_at site k ≡ Lent → are_apart place (lent_at scope k) ≡ true) →
+      ((k : ℕ) (var : Var) → var_at site k ≡ Some var → home_at site k ≡ Lent → are_apart place (lent_at scope site.vars k) ≡ true) →
       ((k : ℕ) (var : Var) → var_at site k ≡ Some var → home_at site k ≡ Held →
-      are_apart (further (remembered_at scope) (member (variable_name k) ∷ [])) place ≡ true) → (way : List Projection) →
+      are_apart (further (remembered_at scope) (member (variable_name site.vars k) ∷ [])) place ≡ true) → (way : List Projection) →
       Foreign site copied scope place.root (place.parts ++ way)
   foreign_older place older lent held =
       foreign_place place (older_live scope.depth place.root older) (variable_apart place older lent held)
-      (λ k. local_older (copy_location scope k) place (copy_name k) refl older)
+      (λ k. local_older (copy_location scope site.vars k) place (copy_name site.vars k) refl older)
 
   -- ---- registers, what is called, and the result
 
@@ -88,16 +88,16 @@ module _ (site : TypingContext) (unit : UnitDef) (remembers : Bool) (scope : Sco
   foreign_register has apart beside x =
       foreign_place (register_at scope x) (apart.live x)
       (λ k var there. apart_flip (register_at scope x) (location_in scope site k []) (beside.variables x k var there))
-      (λ k. apart_flip (register_at scope x) (copy_location scope k) (beside.copies x k))
+      (λ k. apart_flip (register_at scope x) (copy_location scope site.vars k) (beside.copies x k))
 
   pub foreign_counter : (more : List Projection) (way : List Projection) →
       Foreign site copied scope (further (frame_at scope) more).root ((further (frame_at scope) more).parts ++ way)
   foreign_counter more =
       let place = further (frame_at scope) more in
       foreign_older place places.frame.frame_older
-      (λ k var there is. first_further (frame_at scope) (lent_at scope k) more (places.frame_apart.lent k var there is))
+      (λ k var there is. first_further (frame_at scope) (lent_at scope site.vars k) more (places.frame_apart.lent k var there is))
       (λ k var there is.
-      first_further (remembered_at scope) place (member (variable_name k) ∷ [])
+      first_further (remembered_at scope) place (member (variable_name site.vars k) ∷ [])
       (last_further (remembered_at scope) (frame_at scope) more
       (apart_flip (frame_at scope) (remembered_at scope) (places.frame_apart.remembered k var there is active))))
 
@@ -107,18 +107,18 @@ module _ (site : TypingContext) (unit : UnitDef) (remembers : Bool) (scope : Sco
   foreign_memory its n more =
       let start = remembered_at scope in
       foreign_older (further start (member (callee_name n) ∷ more)) (places.memory its).older
-      (λ k var there is. first_further start (lent_at scope k) (member (callee_name n) ∷ more) ((places.memory its).lent k var there is))
+      (λ k var there is. first_further start (lent_at scope site.vars k) (member (callee_name n) ∷ more) ((places.memory its).lent k var there is))
       (λ k var there is.
       or_last (not (same_root start.root start.root))
-      (ways_part (start.parts ++ member (variable_name k) ∷ []) (start.parts ++ (member (callee_name n) ∷ more)))
-      (behind_front start.parts (member (variable_name k) ∷ []) (member (callee_name n) ∷ more)))
+      (ways_part (start.parts ++ member (variable_name site.vars k) ∷ []) (start.parts ++ (member (callee_name n) ∷ more)))
+      (behind_front start.parts (member (variable_name site.vars k) ∷ []) (member (callee_name n) ∷ more)))
 
   pub foreign_result : is_some unit.result ≡ true → (way : List Projection) →
       Foreign site copied scope (result_at_c scope).root ((result_at_c scope).parts ++ way)
   foreign_result one =
       foreign_older (result_at_c scope) (places.result one).older (places.result one).lent
       (λ k var there is.
-      first_further (remembered_at scope) (result_at_c scope) (member (variable_name k) ∷ [])
+      first_further (remembered_at scope) (result_at_c scope) (member (variable_name site.vars k) ∷ [])
       (apart_flip (result_at_c scope) (remembered_at scope) (places.result_apart one (held_here k var there is))))
 
   -- no variable has anything in common with the result
@@ -127,7 +127,7 @@ module _ (site : TypingContext) (unit : UnitDef) (remembers : Bool) (scope : Sco
   result_variable one =
       variable_apart (result_at_c scope) (places.result one).older (places.result one).lent
       (λ k var there is.
-      first_further (remembered_at scope) (result_at_c scope) (member (variable_name k) ∷ [])
+      first_further (remembered_at scope) (result_at_c scope) (member (variable_name site.vars k) ∷ [])
       (apart_flip (result_at_c scope) (remembered_at scope) (places.result_apart one (held_here k var there is))))
 
   -- ---- what was there before
@@ -137,7 +137,7 @@ module _ (site : TypingContext) (unit : UnitDef) (remembers : Bool) (scope : Sco
   foreign_outside root way older outside = record {
     live = older_live scope.depth root older;
     variables = λ k var there writable. by k var there writable (is_activity site.kind) (home_at site k) refl refl;
-    copies = λ k its. ap (λ same. same && is_some (left_after [] way)) (older_differs scope.depth (copy_name k) root older);
+    copies = λ k its. ap (λ same. same && is_some (left_after [] way)) (older_differs scope.depth (copy_name site.vars k) root older);
   }
     where
       no_such : false ≡ true → ⊥
@@ -148,7 +148,7 @@ module _ (site : TypingContext) (unit : UnitDef) (remembers : Bool) (scope : Sco
           home_at site k ≡ x → lies_in (place_of activity x k) root way ≡ false
       by k var there writable false Held kind is = absurd (no_such (sym kind ∙ active))
       by k var there writable true Held kind is =
-          lies_further (remembered_at scope) (member (variable_name k) ∷ []) root way (outside.memory (held_here k var there is))
+          lies_further (remembered_at scope) (member (variable_name site.vars k) ∷ []) root way (outside.memory (held_here k var there is))
       by k var there writable activity Given kind is =
-          ap (λ same. same && is_some (left_after [] way)) (older_differs scope.depth (variable_name k) root older)
-      by k var there writable activity Lent kind is = lies_further (lent_at scope k) [] root way (outside.outputs k var there is writable)
+          ap (λ same. same && is_some (left_after [] way)) (older_differs scope.depth (variable_name site.vars k) root older)
+      by k var there writable activity Lent kind is = lies_further (lent_at scope site.vars k) [] root way (outside.outputs k var there is writable)

@@ -84,10 +84,10 @@ module _ (w : Setting) (activities : Activities) (i : ℕ) (unit : UnitDef) (sco
   copied : CopiesEncoded site copies (is_copied (copies_of unit)) scope after
   copied = record {
     each = λ x var v its there is.
-        holds_same site.structs var.ty v here after (copy_location scope x)
-        (kept_at (copy_location scope x)
-        (apart_flip (copy_location scope x) (result_at_c scope)
-        (local_older site unit remembers scope places active held_here (is_copied (copies_of unit)) (copy_location scope x)
+        holds_same site.structs var.ty v here after (copy_location scope site.vars x)
+        (kept_at (copy_location scope site.vars x)
+        (apart_flip (copy_location scope site.vars x) (result_at_c scope)
+        (local_older site unit remembers scope places active held_here (is_copied (copies_of unit)) (copy_location scope site.vars x)
         (result_at_c scope) _ refl
         (places.result one).older)))
         (stands.copied.each x var v its there is);
@@ -118,11 +118,11 @@ module _ (w : Setting) (activities : Activities) (i : ℕ) (unit : UnitDef) (sco
           (member (counter_name c) ∷ []) []
           ∙ (stands.callees m at arguments j there called).counters x f' m' nests c below;
       variables = λ x f' m' nests v var u known held is.
-          holds_same w.structs var.ty u here after (further m' (member (variable_name v) ∷ []))
+          holds_same w.structs var.ty u here after (further m' (member (variable_name (site_at w activities x).vars v) ∷ []))
           (further_kept (remembered_at scope) m' (nests_beyond w activities j x f q f' m' nests).1
           (places.result_apart one
           (remembering.each i x (frame_at scope) (remembered_at scope) f' m' v var (memories.inside is_there there called nests) known held))
-          (member (variable_name v) ∷ []))
+          (member (variable_name (site_at w activities x).vars v) ∷ []))
           ((stands.callees m at arguments j there called).variables x f' m' nests v var u known held
           (ap (λ now. slice_get now v) (sym (view_same w i x value store)) ∙ is));
     }

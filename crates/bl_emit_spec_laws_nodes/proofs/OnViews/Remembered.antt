@@ -31,14 +31,14 @@ some_member : (site : TypingContext) (k x : ℕ) (vars : List Var) (var : Var) (
     home_of site (Some var) ≡ Held → Any (members_from site k vars ++ more)
 some_member site k x [] var more there held = absurd (cc)
 some_member site k zero (first ∷ vars) var more there held =
-    ap (λ b. nat_lt 0 (length ((member_of b site.structs k first ++ members_from site (k + 1) vars) ++ more)))
+    ap (λ b. nat_lt 0 (length ((member_of b site.structs site.vars k first ++ members_from site (k + 1) vars) ++ more)))
     (ap (λ (var : Var). is_held (home_of site (Some var))) (same_Some first var there) ∙ ap is_held held)
     ∙ has_some (length (members_from site (k + 1) vars ++ more))
 some_member site k (suc x) (first ∷ vars) var more there held =
     by (is_held (home_of site (Some first))) (some_member site (k + 1) x vars var more there held)
   where
     by : (b : Bool) → Any (members_from site (k + 1) vars ++ more) →
-        Any ((member_of b site.structs k first ++ members_from site (k + 1) vars) ++ more)
+        Any ((member_of b site.structs site.vars k first ++ members_from site (k + 1) vars) ++ more)
     by true again = has_some (length (members_from site (k + 1) vars ++ more))
     by false again = again
 

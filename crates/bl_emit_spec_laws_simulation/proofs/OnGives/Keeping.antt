@@ -137,13 +137,13 @@ module _ (site : TypingContext) (unit : UnitDef) (remembers : Bool) (scope : Sco
   over = named_location scope false (ended_name n)
 
   abbrev place_of : Bool → Home → ℕ → Location
-  place_of activity home k = further (start_in scope activity home k) (lead_in home k ++ [])
+  place_of activity home k = further (start_in scope activity home site.vars k) (lead_in home site.vars k ++ [])
 
   -- a place is apart from all variables where it is apart from what they may be
   apart_by : (place : Location) →
       ((k : ℕ) (var : Var) → var_at site k ≡ Some var → home_at site k ≡ Held → are_apart place (place_of true Held k) ≡ true) →
       ((k : ℕ) → are_apart place (place_of true ByValue k) ≡ true) →
-      ((k : ℕ) (var : Var) → var_at site k ≡ Some var → home_at site k ≡ Lent → are_apart place (lent_at scope k) ≡ true) →
+      ((k : ℕ) (var : Var) → var_at site k ≡ Some var → home_at site k ≡ Lent → are_apart place (lent_at scope site.vars k) ≡ true) →
       ApartFromVariables site scope place
   apart_by place held given lent k var there = by (is_activity site.kind) (home_at site k) refl refl
     where
@@ -154,7 +154,7 @@ module _ (site : TypingContext) (unit : UnitDef) (remembers : Bool) (scope : Sco
       by false Held kind is = absurd (no_such (sym kind ∙ active))
       by true Held kind is = held k var there is
       by activity ByValue kind is = given k
-      by activity Lent kind is = last_further place (lent_at scope k) [] (lent k var there is)
+      by activity Lent kind is = last_further place (lent_at scope site.vars k) [] (lent k var there is)
 
   frame_older : is_older scope.depth frame.root ≡ true
   frame_older = places.frame.frame_older
@@ -171,10 +171,10 @@ module _ (site : TypingContext) (unit : UnitDef) (remembers : Bool) (scope : Sco
       apart_by frame
       (λ k var there is.
       first_further (frame_at scope) (place_of true Held k) (member (callee_name n) ∷ [])
-      (last_further (frame_at scope) (remembered_at scope) (member (variable_name k) ∷ [])
+      (last_further (frame_at scope) (remembered_at scope) (member (variable_name site.vars k) ∷ [])
       (places.frame_apart.remembered k var there is active)))
-      (λ k. older_apart frame (variable_name k) [] frame_older)
-      (λ k var there is. first_further (frame_at scope) (lent_at scope k) (member (callee_name n) ∷ []) (places.frame_apart.lent k var there is))
+      (λ k. older_apart frame (variable_name site.vars k) [] frame_older)
+      (λ k var there is. first_further (frame_at scope) (lent_at scope site.vars k) (member (callee_name n) ∷ []) (places.frame_apart.lent k var there is))
 
   pub memory_variables : remembers ≡ true → ApartFromVariables site scope memory
   memory_variables its =
@@ -182,22 +182,22 @@ module _ (site : TypingContext) (unit : UnitDef) (remembers : Bool) (scope : Sco
       apart_by memory
       (λ k var there is.
       or_last (not (same_root start.root start.root))
-      (ways_part (start.parts ++ member (callee_name n) ∷ []) (start.parts ++ member (variable_name k) ∷ []))
-      (behind_front start.parts (member (callee_name n) ∷ []) (member (variable_name k) ∷ [])))
-      (λ k. older_apart memory (variable_name k) [] (places.memory its).older)
-      (λ k var there is. first_further start (lent_at scope k) (member (callee_name n) ∷ []) ((places.memory its).lent k var there is))
+      (ways_part (start.parts ++ member (callee_name n) ∷ []) (start.parts ++ member (variable_name site.vars k) ∷ []))
+      (behind_front start.parts (member (callee_name n) ∷ []) (member (variable_name site.vars k) ∷ [])))
+      (λ k. older_apart memory (variable_name site.vars k) [] (places.memory its).older)
+      (λ k var there is. first_further start (lent_at scope site.vars k) (member (callee_name n) ∷ []) ((places.memory its).lent k var there is))
 
   -- a local of another name is apart from all variables
-  local_variables : (name : List ℕ) → ((k : ℕ) → bytes_eq name (variable_name k) ≡ false) →
+  local_variables : (name : List ℕ) → ((k : ℕ) → bytes_eq name (variable_name site.vars k) ≡ false) →
       ApartFromVariables site scope (named_location scope false name)
   local_variables name differ =
       let place = named_location scope false name in
       apart_by place
       (λ k var there is.
-      last_further place (remembered_at scope) (member (variable_name k) ∷ [])
+      last_further place (remembered_at scope) (member (variable_name site.vars k) ∷ [])
       (local_older scope.depth place (remembered_at scope) name refl (places.pointers.held_older k var there is active)))
-      (λ k. locals_apart scope.depth place (place_of true ByValue k) name (variable_name k) refl refl (differ k))
-      (λ k var there is. local_older scope.depth place (lent_at scope k) name refl (places.pointers.lent_older k var there is))
+      (λ k. locals_apart scope.depth place (place_of true ByValue k) name (variable_name site.vars k) refl refl (differ k))
+      (λ k var there is. local_older scope.depth place (lent_at scope site.vars k) name refl (places.pointers.lent_older k var there is))
 
   pub result_variables : ApartFromVariables site scope result
   result_variables = local_variables (given_name n) (λ k. refl)

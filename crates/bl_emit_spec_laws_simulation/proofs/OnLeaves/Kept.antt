@@ -191,18 +191,18 @@ module _ (site : TypingContext) (unit : UnitDef) (remembers : Bool) (scope : Sco
   -- ---- copies
 
   pub copy_same : (k : ℕ) →
-      ((j : ℕ) (var : Var) → var_at site j ≡ Some var → are_apart (location_in scope site j []) (copy_location scope k) ≡ true) →
-      (way : List Projection) → value_at after (copy_location scope k) way ≡ value_at here (copy_location scope k) way
+      ((j : ℕ) (var : Var) → var_at site j ≡ Some var → are_apart (location_in scope site j []) (copy_location scope site.vars k) ≡ true) →
+      (way : List Projection) → value_at after (copy_location scope site.vars k) way ≡ value_at here (copy_location scope site.vars k) way
   copy_same k apart =
-      let p = copy_location scope k in
+      let p = copy_location scope site.vars k in
       place_same p
       (λ way. record {
         live = depth_itself scope.depth;
         variables = λ j var there writable. lies_apart (location_in scope site j []) p way (apart j var there);
         copies = λ j its. absurd cc;
       })
-      (older_local f (copy_name k) places.frame.frame_older) (λ it. older_local m (copy_name k) (memory_older it))
-      (local_local (given_name n) (copy_name k) refl) (local_local (ended_name n) (copy_name k) refl)
+      (older_local f (copy_name site.vars k) places.frame.frame_older) (λ it. older_local m (copy_name site.vars k) (memory_older it))
+      (local_local (given_name n) (copy_name site.vars k) refl) (local_local (ended_name n) (copy_name site.vars k) refl)
 
   -- ---- the result
 
@@ -278,10 +278,10 @@ module _ (site : TypingContext) (unit : UnitDef) (remembers : Bool) (scope : Sco
   -- ---- variables
 
   abbrev place_of : Bool → Home → ℕ → Location
-  place_of activity home k = further (start_in scope activity home k) (lead_in home k ++ [])
+  place_of activity home k = further (start_in scope activity home site.vars k) (lead_in home site.vars k ++ [])
 
   -- a local of a `run` keeps apart from variables
-  local_variable : (name : Text) → ((k : ℕ) → bytes_eq name (variable_name k) ≡ false) → (k : ℕ) (var : Var) → var_at site k ≡ Some var →
+  local_variable : (name : Text) → ((k : ℕ) → bytes_eq name (variable_name site.vars k) ≡ false) → (k : ℕ) (var : Var) → var_at site k ≡ Some var →
       are_apart (named_location scope false name) (location_in scope site k []) ≡ true
   local_variable name differ k var there = by (is_activity site.kind) (home_at site k) refl refl
     where
@@ -292,7 +292,7 @@ module _ (site : TypingContext) (unit : UnitDef) (remembers : Bool) (scope : Sco
           are_apart (named_location scope false name) (place_of activity x k) ≡ true
       by false Held kind is = absurd (no_such (sym kind ∙ active))
       by true Held kind is = local_older name (place_of true Held k) (places.memory (held_here k var there is)).older
-      by activity GivenHome kind is = local_local name (variable_name k) (differ k)
+      by activity GivenHome kind is = local_local name (variable_name site.vars k) (differ k)
       by activity Lent kind is = local_older name (place_of activity Lent k) (places.pointers.lent_older k var there is)
 
   -- a number of a variable in no output's place is as it was
@@ -308,20 +308,20 @@ module _ (site : TypingContext) (unit : UnitDef) (remembers : Bool) (scope : Sco
             (apart_flip p f
             (variable_apart site unit remembers scope places active held_here none f places.frame.frame_older
             (λ k var there is.
-            first_further (frame_at scope) (lent_at scope k) (member (callee_name n) ∷ []) (places.frame_apart.lent k var there is))
+            first_further (frame_at scope) (lent_at scope site.vars k) (member (callee_name n) ∷ []) (places.frame_apart.lent k var there is))
             (λ k var there is.
-            first_further (remembered_at scope) f (member (variable_name k) ∷ [])
+            first_further (remembered_at scope) f (member (variable_name site.vars k) ∷ [])
             (last_further (remembered_at scope) (frame_at scope) (member (callee_name n) ∷ [])
             (places.memory (held_here k var there is)).frame)) k var there));
         no_memory = λ it. lies_apart m p way
             (apart_flip p m
             (variable_apart site unit remembers scope places active held_here none m (memory_older it)
             (λ k var there is.
-            first_further (remembered_at scope) (lent_at scope k) (member (callee_name n) ∷ []) ((places.memory (so it)).lent k var there is))
+            first_further (remembered_at scope) (lent_at scope site.vars k) (member (callee_name n) ∷ []) ((places.memory (so it)).lent k var there is))
             (λ k var there is.
             or_last (not (same_root m.root m.root))
-            (ways_part ((remembered_at scope).parts ++ member (variable_name k) ∷ []) ((remembered_at scope).parts ++ member (callee_name n) ∷ []))
-            (behind_front (remembered_at scope).parts (member (variable_name k) ∷ []) (member (callee_name n) ∷ []))) k var there));
+            (ways_part ((remembered_at scope).parts ++ member (variable_name site.vars k) ∷ []) ((remembered_at scope).parts ++ member (callee_name n) ∷ []))
+            (behind_front (remembered_at scope).parts (member (variable_name site.vars k) ∷ []) (member (callee_name n) ∷ []))) k var there));
         no_output = clear;
         no_given = lies_apart given p way (local_variable (given_name n) (λ k. refl) k var there);
         no_ended = lies_apart ended p way (local_variable (ended_name n) (λ k. refl) k var there);

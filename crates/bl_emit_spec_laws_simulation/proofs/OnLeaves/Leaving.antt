@@ -83,7 +83,8 @@ use Rattle.bl_emit_spec_laws.proofs.OnRunPlaces.Sharing.{FirstNode, first_node}
 use Rattle.bl_emit_spec_laws_simulation.proofs.OnLeaves.Numbers.{callees_differ, one_number}
 use Rattle.bl_emit_spec_laws_simulation.proofs.OnLeaves.Outputs.{HoldAt, dropped_get, hold_by_place, hold_by_var, taken_get}
 use Rattle.bl_emit_spec_laws_simulation.proofs.OnLeaves.Seen.{home_further, number_of_home, path_at, seen_number}
-use Rattle.bl_emit_spec_laws_simulation.proofs.OnLeaves.Types.{OutputOf, begun as begun_with, one_place, output_of, output_there, path_there, stands as stands_there}
+use Rattle.bl_emit_spec_laws_simulation.proofs.OnLeaves.Types.{OutputOf, begun as begun_with, one_place, output_of, output_there, path_there}
+use Rattle.bl_emit_spec_laws_simulation.proofs.OnLeaves.Types.{stands as stands_there}
 use Rattle.bl_emit_spec_laws_simulation.proofs.OnLeaves.Variables.{OutputLeft, variable_holds}
 
 -- the laws of which this is made
@@ -302,7 +303,8 @@ module _ (laws : Laws) (structs : List StructDef) (units : List UnitDef) (entry 
 
     was : Encodes structs var.ty old_found.0 (value_at here (location_in scope site x []))
     was =
-        (subst (λ (site : TypingContext). VariablesEncoded site (view_at W store i).now scope here) site_same midway.stands.variables).each x var old_found.0 known
+        (subst (λ (site : TypingContext). VariablesEncoded site (view_at W store i).now scope here) site_same
+        midway.stands.variables).each x var old_found.0 known
         old_found.1
 
     agree : (o : ℕ) (path : Path) (left_value : Value) (rest : List ℕ) → slice_get arguments.outputs o ≡ Some path →
@@ -466,11 +468,11 @@ module _ (laws : Laws) (structs : List StructDef) (units : List UnitDef) (entry 
             ∙ ((midway.stands.callees l' at' arguments' c is calls).counters x f' m' nests y below
             ∙ ap pos (sym (frames_same x (inside x f' m' nests) y)));
         variables = λ x f' m' nests v var value known held now.
-            holds_same structs var.ty value here after (further m' (member (variable_name v) ∷ []))
+            holds_same structs var.ty value here after (further m' (member (variable_name (site_at W activities x).vars v) ∷ []))
             (memories_same site unit remembers scope places active held_here other takes so n gives.inputs gives.outputs within here after called.kept
             n' differ
             (remembering.each i x (frame_at scope) (remembered_at scope) f' m' v var (memories.inside midway.is_there is calls nests) known held)
-            m' (nests_beyond W activities c x f q f' m' nests).1 (member (variable_name v) ∷ []))
+            m' (nests_beyond W activities c x f q f' m' nests).1 (member (variable_name (site_at W activities x).vars v) ∷ []))
             ((midway.stands.callees l' at' arguments' c is calls).variables x f' m' nests v var value known held
             (view_same x v var (inside x f' m' nests) known held ∙ now));
       }
@@ -502,10 +504,11 @@ module _ (laws : Laws) (structs : List StructDef) (units : List UnitDef) (entry 
         subst (λ (site : TypingContext). CopiesEncoded site copies (is_copied (copies_of unit)) scope after) (sym site_same)
         (record {
           each = λ x var value its known now.
-              holds_same structs var.ty value here after (named_location scope false (copy_name x))
+              holds_same structs var.ty value here after (named_location scope false (copy_name site.vars x))
               (copy_same site unit remembers scope places active held_here other takes so n gives.inputs gives.outputs within here after called.kept x
               (λ y v there_v. apart_here.copies.variables y x v there_v its))
-              ((subst (λ (site : TypingContext). CopiesEncoded site copies (is_copied (copies_of unit)) scope here) site_same midway.stands.copied).each x var value
+              ((subst (λ (site : TypingContext). CopiesEncoded site copies (is_copied (copies_of unit)) scope here) site_same
+              midway.stands.copied).each x var value
               its known now);
         });
     callees = λ l' at' arguments' c is calls. callee_left l' at' arguments' c is calls;

@@ -123,12 +123,13 @@ module _ (orderly : AcceptedIsOrderly) (callers : InstancesHaveCallers) (clearin
             Nests W activities j f m k f' m' → (x : ℕ) (var : Var) (value : Value) → var_at (site_at W activities k) x ≡ Some var →
             home_at (site_at W activities k) x ≡ Held → slice_get (view_at W store k).now x ≡ Some value →
             Encodes W.structs var.ty value
-            (value_at (set_at here place held) (further m' (member (variable_name x) ∷ [])))
+            (value_at (set_at here place held) (further m' (member (variable_name (site_at W activities k).vars x) ∷ [])))
         variables_kept apart k f' m' nests x var value known is_held is =
             let its = remembering.each i k (frame_at scope) (remembered_at scope) f' m' x var
             (memories.inside midway.is_there there called nests) known is_held in
-            holds_same W.structs var.ty value here (set_at here place held) (further m' (member (variable_name x) ∷ []))
-            (beyond_kept (remembered_at scope) m' (nests_beyond W activities j k f m f' m' nests).1 (member (variable_name x) ∷ [])
+            holds_same W.structs var.ty value here (set_at here place held) (further m' (member (variable_name (site_at W activities k).vars x) ∷ []))
+            (beyond_kept (remembered_at scope) m' (nests_beyond W activities j k f m f' m' nests).1
+            (member (variable_name (site_at W activities k).vars x) ∷ [])
             (λ parts. last_further place (remembered_at scope) (member (callee_name n) ∷ parts) (apart its)))
             ((midway.stands.callees l at arguments j there called).variables k f' m' nests x var value known is_held is)
 

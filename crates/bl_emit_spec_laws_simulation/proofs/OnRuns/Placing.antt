@@ -35,7 +35,7 @@ use Rattle.bl_emit_spec_laws_nodes.proofs.OnPoints.Changes.{holds_same}
 pub record Beside (site : TypingContext) (unit : UnitDef) (scope : Scope) (place : Location) : Type 0 where
   pub registers : (x : Register) → are_apart place (register_at scope x) ≡ true
   pub variables : (k : ℕ) (var : Var) → var_at site k ≡ Some var → are_apart place (location_in scope site k []) ≡ true
-  pub copies : (k : ℕ) → are_apart place (copy_location scope k) ≡ true
+  pub copies : (k : ℕ) → are_apart place (copy_location scope site.vars k) ≡ true
   pub result : is_some unit.result ≡ true → are_apart place (result_at_c scope) ≡ true
 
 module _ (here : Memory) (place : Location) (held : CValue) where
@@ -66,8 +66,8 @@ stands_beside w activities i unit scope frames after_frames store copies r here 
       };
       copied = record {
         each = λ k var value its there is.
-            holds_same site.structs var.ty value here after (copy_location scope k)
-            (kept_at here place held (copy_location scope k) (beside.copies k)) (stands.copied.each k var value its there is);
+            holds_same site.structs var.ty value here after (copy_location scope site.vars k)
+            (kept_at here place held (copy_location scope site.vars k) (beside.copies k)) (stands.copied.each k var value its there is);
       };
       callees = callees;
       result = λ value over one is. kept_at here place held (result_at_c scope) (beside.result one) [] ∙ stands.result value over one is;
@@ -94,7 +94,7 @@ module _ (site : TypingContext) (unit : UnitDef) (remembers : Bool) (scope : Sco
     (active : is_activity site.kind ≡ true)
   where
     abbrev place_of : Bool → Home → ℕ → Location
-    place_of activity home k = further (start_in scope activity home k) (lead_in home k ++ [])
+    place_of activity home k = further (start_in scope activity home site.vars k) (lead_in home site.vars k ++ [])
 
     no_such : false ≡ true → ⊥
     no_such h = cc
@@ -106,8 +106,8 @@ module _ (site : TypingContext) (unit : UnitDef) (remembers : Bool) (scope : Sco
       pub rested : (k : ℕ) → bytes_eq name (rested_name k) ≡ false
       pub flag : (k : ℕ) → bytes_eq name (flag_name k) ≡ false
       pub mark : (k : ℕ) → bytes_eq name (mark_name k) ≡ false
-      pub variable : (k : ℕ) → bytes_eq name (variable_name k) ≡ false
-      pub copy : (k : ℕ) → bytes_eq name (copy_name k) ≡ false
+      pub variable : (k : ℕ) → bytes_eq name (variable_name site.vars k) ≡ false
+      pub copy : (k : ℕ) → bytes_eq name (copy_name site.vars k) ≡ false
 
     module _ (name : Text) (other : OtherName name) where
       local_register : (x : Register) → are_apart (named_location scope false name) (register_at scope x) ≡ true
@@ -125,15 +125,15 @@ module _ (site : TypingContext) (unit : UnitDef) (remembers : Bool) (scope : Sco
           by false Held kind is = absurd (no_such (sym kind ∙ active))
           by true Held kind is = local_older scope name (place_of true Held k) (places.pointers.held_older k var there is active)
           by activity Given kind is =
-              last_further (named_location scope false name) (named_location scope false (variable_name k)) (lead_in Given k ++ [])
-              (local_local scope name (variable_name k) (other.variable k))
+              last_further (named_location scope false name) (named_location scope false (variable_name site.vars k)) (lead_in Given site.vars k ++ [])
+              (local_local scope name (variable_name site.vars k) (other.variable k))
           by activity Lent kind is = local_older scope name (place_of activity Lent k) (places.pointers.lent_older k var there is)
 
       pub local_beside : Beside site unit scope (named_location scope false name)
       local_beside = record {
         registers = local_register;
         variables = local_variable;
-        copies = λ k. local_local scope name (copy_name k) (other.copy k);
+        copies = λ k. local_local scope name (copy_name site.vars k) (other.copy k);
         result = λ one. local_older scope name (result_at_c scope) (places.result one).older;
       }
 
@@ -157,18 +157,19 @@ module _ (site : TypingContext) (unit : UnitDef) (remembers : Bool) (scope : Sco
           by : (activity : Bool) (x : Home) → is_activity site.kind ≡ activity → home_at site k ≡ x → are_apart place (place_of activity x k) ≡ true
           by false Held kind is = absurd (no_such (sym kind ∙ active))
           by true Held kind is =
-              last_further place (remembered_at scope) (lead_in Held k ++ [])
+              last_further place (remembered_at scope) (lead_in Held site.vars k ++ [])
               (inside (remembered_at scope) (places.frame_apart.remembered k var there is active))
           by activity Given kind is =
-              last_further place (named_location scope false (variable_name k)) (lead_in Given k ++ []) (older_local (variable_name k))
+              last_further place (named_location scope false (variable_name site.vars k)) (lead_in Given site.vars k ++ [])
+              (older_local (variable_name site.vars k))
           by activity Lent kind is =
-              last_further place (named_location scope true (variable_name k)) (lead_in Lent k ++ [])
-              (inside (named_location scope true (variable_name k)) (places.frame_apart.lent k var there is))
+              last_further place (named_location scope true (variable_name site.vars k)) (lead_in Lent site.vars k ++ [])
+              (inside (named_location scope true (variable_name site.vars k)) (places.frame_apart.lent k var there is))
 
       pub frame_beside : Beside site unit scope place
       frame_beside = record {
         registers = λ x. apart_flip (register_at scope x) place (register_inner scope places.frame n [] x);
         variables = frame_variable;
-        copies = λ k. older_local (copy_name k);
+        copies = λ k. older_local (copy_name site.vars k);
         result = λ one. inside (result_at_c scope) (apart_flip (result_at_c scope) (frame_at scope) (places.result one).frame);
       }

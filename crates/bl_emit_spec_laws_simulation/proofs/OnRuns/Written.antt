@@ -45,10 +45,11 @@ use Rattle.bl_emit_spec_laws_nodes.proofs.OnPoints.Foreign.{foreign_counter, for
 use Rattle.bl_emit_spec_laws_simulation.proofs.OnRuns.Placing.{kept_at}
 
 -- a part of a variable lies further on than the variable
-pub location_more : (scope : Scope) (site : TypingContext) (k : ℕ) (way : List Projection) → location_in scope site k way ≡ further (location_in scope site k []) way
+pub location_more : (scope : Scope) (site : TypingContext) (k : ℕ) (way : List Projection) →
+    location_in scope site k way ≡ further (location_in scope site k []) way
 location_more scope site k way =
-    let start = start_in scope (is_activity site.kind) (home_at site k) k in
-    let lead = lead_in (home_at site k) k in
+    let start = start_in scope (is_activity site.kind) (home_at site k) site.vars k in
+    let lead = lead_in (home_at site k) site.vars k in
     ap (λ front. further start (front ++ way)) (sym (append-nil lead)) ∙ sym (further_twice start (lead ++ []) way)
 
 module _ (frames_apart : FramesApart) (keep : RegistersKeepApart) (structs : List StructDef) (units : List UnitDef) (entry : ℕ)
@@ -147,11 +148,11 @@ module _ (frames_apart : FramesApart) (keep : RegistersKeepApart) (structs : Lis
                   counter_same f' (nests_beyond w activities j x f q f' m' nests).0 (member (counter_name c) ∷ []) []
                   ∙ (midway.stands.callees l at arguments j there called).counters x f' m' nests c below;
               variables = λ x f' m' nests v var value known held now.
-                  holds_same w.structs var.ty value here after (further m' (member (variable_name v) ∷ []))
+                  holds_same w.structs var.ty value here after (further m' (member (variable_name (site_at w activities x).vars v) ∷ []))
                   (variable_same
                   (remembering.each i x (frame_at scope) (remembered_at scope) f' m' v var
                   (memories.inside midway.is_there there called nests) known held)
-                  m' (nests_beyond w activities j x f q f' m' nests).1 (member (variable_name v) ∷ []))
+                  m' (nests_beyond w activities j x f q f' m' nests).1 (member (variable_name (site_at w activities x).vars v) ∷ []))
                   ((midway.stands.callees l at arguments j there called).variables x f' m' nests v var value known held
                   (sym (inside at j x f q f' m' v var called nests known held) ∙ now));
             }
@@ -164,11 +165,11 @@ module _ (frames_apart : FramesApart) (keep : RegistersKeepApart) (structs : Lis
             let before = subst (λ (site : TypingContext). CopiesEncoded site copies copied scope here) site_same midway.stands.copied in
             record {
               each = λ x v value its there is.
-                  holds_same structs v.ty value here after (copy_location scope x)
-                  (kept_at here target held (copy_location scope x)
-                  (subst (λ (p : Location). are_apart p (copy_location scope x) ≡ true)
+                  holds_same structs v.ty value here after (copy_location scope site.vars x)
+                  (kept_at here target held (copy_location scope site.vars x)
+                  (subst (λ (p : Location). are_apart p (copy_location scope site.vars x) ≡ true)
                   (sym (location_more scope site root way))
-                  (first_further (location_in scope site root []) (copy_location scope x) way
+                  (first_further (location_in scope site root []) (copy_location scope site.vars x) way
                   (apart_here.copies.variables root x var known its))))
                   (before.each x v value its there is);
             }

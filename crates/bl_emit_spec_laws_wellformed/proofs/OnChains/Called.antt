@@ -115,7 +115,8 @@ use Rattle.bl_emit_functions_laws_wellformed.proofs.OnFiles.Shapes.{value-calls}
 use Rattle.bl_emit_functions_laws_wellformed.proofs.OnFiles.Statements.{Few, first_few, none_few, one_few, set_few, then_few}
 use Rattle.bl_emit_functions_laws_wellformed.proofs.OnFiles.Under.{Under, append-under, back-under, both-under, front-under, head-under, none-under, tail-under}
 use Rattle.bl_machine_pass.specs.Transitions.{Age, Change, Condition, Needed, Transition, rules}
-use Rattle.bl_machine_pass.specs.Transitions.{ClearsBoth, ClearsCounter, Ended, EndsWhen, Finishes, Flagged, IsAny, IsNew, IsOld, Rested, RestedIn, SetsCounter, SetsFlag, SetsMark}
+use Rattle.bl_machine_pass.specs.Transitions.{ClearsBoth, ClearsCounter, Ended, EndsWhen, Finishes, Flagged, IsAny, IsNew, IsOld, Rested, RestedIn}
+use Rattle.bl_machine_pass.specs.Transitions.{SetsCounter, SetsFlag, SetsMark}
 use Rattle.bl_machine_transitions.specs.Callees.{callees_in}
 use Rattle.bl_emit_spec.specs.Activities.{
   Activity,
@@ -459,7 +460,7 @@ module _ (weight : Text → ℕ) (prelude : (word : Text) (s : ScalarType) → w
 
     copied_few : (k : ℕ) → StmtFew (c_copied view.site k)
     copied_few k =
-        sets_few (c_place false (copy_name k) []) (c_read (place_in view.site k [])) (local_few (copy_name k))
+        sets_few (c_place false (copy_name view.site.vars k) []) (c_read (place_in view.site k [])) (local_few (copy_name view.site.vars k))
         (reads_few (place_in view.site k []) (own_few k))
 
     copy_few : (k : ℕ) (copied : Bool) → CodeFew (copy_code view.site copied k)

@@ -28,6 +28,7 @@ use Rattle.bl_machine_pass.specs.Transitions.{Change, Transition}
 use Rattle.bl_machine_pass.specs.Transitions.{ClearsBoth, ClearsCounter, EndsWhen, Finishes, SetsCounter, SetsFlag, SetsMark}
 use Rattle.bl_emit_acts.specs.Acts.{is_copied}
 use Rattle.bl_emit_acts.specs.Places.{home_of}
+use Rattle.bl_emit_acts.specs.Types.{numbered_name}
 use Rattle.bl_emit_functions.specs.Functions.{is_held, member_of, members_from, members_of, memory_name, params_from}
 use Rattle.bl_emit_spec.specs.Activities.{
   Activity,
@@ -66,7 +67,8 @@ use Rattle.bl_emit_spec.specs.Names.{callee_name, flag_name}
 use Rattle.bl_emit_spec_laws_wellformed.specs.Names.{FrameDiffers, LocalsDiffer, MemoryDiffers, NumbersDiffer}
 use Rattle.bl_emit_spec_laws_wellformed.specs.Names.{are_numbers, flag_number, mark_number, mark_numbers}
 use Rattle.bl_emit_spec_laws_wellformed.proofs.OnNames.Names.{among-both, and-left, and-right, begins-append}
-use Rattle.bl_emit_spec_laws_wellformed.proofs.OnNames.Names.{both, family, family-begins, family-distinct}
+use Rattle.bl_emit_spec_laws_wellformed.proofs.OnNames.Names.{both, family, family-begins, family-distinct, named_family, named_family-begins}
+use Rattle.bl_emit_spec_laws_wellformed.proofs.OnNames.Names.{named_family-distinct, named_letter-new}
 use Rattle.bl_emit_spec_laws_wellformed.proofs.OnNames.Names.{letter-new, neither, not-among, not-false, one-distinct, some_begins}
 use Rattle.bl_emit_spec_laws_wellformed.proofs.OnNames.Numbers.{chosen, chosen-numbers, filtered-numbers, first-numbers, position-numbers, positions}
 
@@ -88,15 +90,18 @@ members_append xs ys = map-append (λ (m : CMember). m.name) xs ys
 family_append : (b : ℕ) (xs ys : List ℕ) → family b (xs ++ ys) ≡ family b xs ++ family b ys
 family_append b xs ys = map-append (λ k. b ∷ decimal k) xs ys
 
+named_family_append : (vars : List Var) (b : ℕ) (xs ys : List ℕ) → named_family vars b (xs ++ ys) ≡ named_family vars b xs ++ named_family vars b ys
+named_family_append vars b xs ys = map-append (λ k. b ∷ numbered_name vars k) xs ys
+
 -- ---- which names there are
 
 rested_names : (sizes : Sizes) (ks : List ℕ) → local_names (map (rested_local sizes) ks) ≡ family 119 ks
 rested_names sizes [] = refl
 rested_names sizes (k ∷ ks) = ap (λ rest. (119 ∷ decimal k) ∷ rest) (rested_names sizes ks)
 
-copy_names : (a : Activity) (ks : List ℕ) → local_names (map (copy_local a) ks) ≡ family 112 ks
+copy_names : (a : Activity) (ks : List ℕ) → local_names (map (copy_local a) ks) ≡ named_family a.unit.vars 112 ks
 copy_names a [] = refl
-copy_names a (k ∷ ks) = ap (λ rest. (112 ∷ decimal k) ∷ rest) (copy_names a ks)
+copy_names a (k ∷ ks) = ap (λ rest. (112 ∷ numbered_name a.unit.vars k) ∷ rest) (copy_names a ks)
 
 flag_names : (number : Node → ℕ) (rules : List Transition) →
     local_names (joined (map (flag_local number) rules)) ≡ family 103 (joined (map (flag_number number) rules))
@@ -278,7 +283,7 @@ module _ (a : Activity) where
     runs = runs_in_body a
 
     abbrev from_copies : List Text
-    from_copies = family 112 (copied_in a) ++ names_of_runs runs
+    from_copies = named_family a.unit.vars 112 (copied_in a) ++ names_of_runs runs
 
     abbrev from_marks : List Text
     from_marks = family 117 marks ++ from_copies
@@ -315,7 +320,8 @@ module _ (a : Activity) where
         begins-append b (family 119 (counters_read a)) from_flags (family-begins b 119 (counters_read a) w)
         (begins-append b (family 103 flags) from_marks (family-begins b 103 flags g)
         (begins-append b (family 117 marks) from_copies (family-begins b 117 marks u)
-        (begins-append b (family 112 (copied_in a)) (names_of_runs runs) (family-begins b 112 (copied_in a) p) (runs_begin b runs e r))))
+        (begins-append b (named_family a.unit.vars 112 (copied_in a)) (names_of_runs runs) (named_family-begins a.unit.vars b 112 (copied_in a) p)
+        (runs_begin b runs e r))))
 
     -- a letter alone is no name of a local
     letter_none : (b : ℕ) → is_among (b ∷ []) all_locals ≡ false
@@ -323,7 +329,7 @@ module _ (a : Activity) where
         among-both (b ∷ []) (family 119 (counters_read a)) from_flags (letter-new b 119 (counters_read a) read_numbers)
         (among-both (b ∷ []) (family 103 flags) from_marks (letter-new b 103 flags differ.flags)
         (among-both (b ∷ []) (family 117 marks) from_copies (letter-new b 117 marks differ.marks)
-        (among-both (b ∷ []) (family 112 (copied_in a)) (names_of_runs runs) (letter-new b 112 (copied_in a) copies_numbers)
+        (among-both (b ∷ []) (named_family a.unit.vars 112 (copied_in a)) (names_of_runs runs) (named_letter-new a.unit.vars b 112 (copied_in a) copies_numbers)
         (runs_letter b runs differ.runs))))
 
     locals_distinct : are_distinct all_locals ≡ true
@@ -331,22 +337,24 @@ module _ (a : Activity) where
         family-distinct 119 (counters_read a) from_flags read_numbers
         (begins-append 119 (family 103 flags) from_marks (family-begins 119 103 flags refl)
         (begins-append 119 (family 117 marks) from_copies (family-begins 119 117 marks refl)
-        (begins-append 119 (family 112 (copied_in a)) (names_of_runs runs) (family-begins 119 112 (copied_in a) refl)
+        (begins-append 119 (named_family a.unit.vars 112 (copied_in a)) (names_of_runs runs) (named_family-begins a.unit.vars 119 112 (copied_in a) refl)
         (runs_begin 119 runs refl refl))))
         (family-distinct 103 flags from_marks differ.flags
         (begins-append 103 (family 117 marks) from_copies (family-begins 103 117 marks refl)
-        (begins-append 103 (family 112 (copied_in a)) (names_of_runs runs) (family-begins 103 112 (copied_in a) refl)
+        (begins-append 103 (named_family a.unit.vars 112 (copied_in a)) (names_of_runs runs) (named_family-begins a.unit.vars 103 112 (copied_in a) refl)
         (runs_begin 103 runs refl refl)))
         (family-distinct 117 marks from_copies differ.marks
-        (begins-append 117 (family 112 (copied_in a)) (names_of_runs runs) (family-begins 117 112 (copied_in a) refl) (runs_begin 117 runs refl refl))
-        (family-distinct 112 (copied_in a) (names_of_runs runs) copies_numbers (runs_begin 112 runs refl refl) (runs_distinct runs differ.runs))))
+        (begins-append 117 (named_family a.unit.vars 112 (copied_in a)) (names_of_runs runs) (named_family-begins a.unit.vars 117 112 (copied_in a) refl)
+        (runs_begin 117 runs refl refl))
+        (named_family-distinct a.unit.vars 112 (copied_in a) (names_of_runs runs) copies_numbers (runs_begin 112 runs refl refl)
+        (runs_distinct runs differ.runs))))
 
     -- ---- parameters
 
     params_names : (structs : List StructDef) (k : ℕ) (vars : List Var) →
-        param_names (params_from structs k vars) ≡ family 118 (positions (λ v. true) k vars)
+        param_names (params_from structs a.unit.vars k vars) ≡ named_family a.unit.vars 118 (positions (λ v. true) k vars)
     params_names structs k [] = refl
-    params_names structs k (v ∷ vars) = ap (λ rest. (118 ∷ decimal k) ∷ rest) (params_names structs (k + 1) vars)
+    params_names structs k (v ∷ vars) = ap (λ rest. (118 ∷ numbered_name a.unit.vars k) ∷ rest) (params_names structs (k + 1) vars)
 
     taken_few : {A : Type 0} (n : ℕ) (xs : List A) → length (take n xs) ≤ length xs
     taken_few zero xs = omega arith
@@ -389,16 +397,16 @@ module _ (a : Activity) where
         neither (nat_eq b 114) (nat_eq b 101 || some_begins b all_locals) r (neither (nat_eq b 101) (some_begins b all_locals) e none)
 
     abbrev from_variables : List Text
-    from_variables = family 118 params ++ after_variables
+    from_variables = named_family a.unit.vars 118 params ++ after_variables
 
     variables_distinct : are_distinct from_variables ≡ true
     variables_distinct =
-        family-distinct 118 params after_variables param_numbers
+        named_family-distinct a.unit.vars 118 params after_variables param_numbers
         (last_begins 118 a.unit.result refl refl (none_begins 118 refl refl refl refl refl refl)) (last_distinct a.unit.result)
 
     begin_none : (b : ℕ) → nat_eq b 118 ≡ false → nat_eq b 101 ≡ false → nat_eq b 114 ≡ false → some_begins b all_locals ≡ false →
         some_begins b from_variables ≡ false
-    begin_none b v e r none = begins-append b (family 118 params) after_variables (family-begins b 118 params v)
+    begin_none b v e r none = begins-append b (named_family a.unit.vars 118 params) after_variables (named_family-begins a.unit.vars b 118 params v)
         (last_begins b a.unit.result e r none)
 
     memory_distinct : (remembers : Bool) → are_distinct (first_names remembers from_variables) ≡ true
@@ -431,9 +439,9 @@ module _ (a : Activity) where
     first_append false xs ys = refl
 
     abbrev variable_params : List CParam
-    variable_params = params_from a.structs 0 (parameters_of a.unit)
+    variable_params = params_from a.structs a.unit.vars 0 (parameters_of a.unit)
 
-    params_are : param_names (activity_params a) ≡ codes "f" ∷ first_names (remembers_any a) (family 118 params ++ last_names a.unit.result)
+    params_are : param_names (activity_params a) ≡ codes "f" ∷ first_names (remembers_any a) (named_family a.unit.vars 118 params ++ last_names a.unit.result)
     params_are =
         ap (λ rest. codes "f" ∷ rest)
         (memory_are (remembers_any a) (variable_params ++ (result_params a.unit.result ++ over_param ∷ []))
@@ -446,8 +454,8 @@ module _ (a : Activity) where
         ap are_distinct
         ((λ i. params_are i ++ locals_are i)
         ∙ ap (λ rest. codes "f" ∷ rest)
-        (first_append (remembers_any a) (family 118 params ++ last_names a.unit.result) all_locals
-        ∙ ap (first_names (remembers_any a)) (append_assoc (family 118 params) (last_names a.unit.result) all_locals)))
+        (first_append (remembers_any a) (named_family a.unit.vars 118 params ++ last_names a.unit.result) all_locals
+        ∙ ap (first_names (remembers_any a)) (append_assoc (named_family a.unit.vars 118 params) (last_names a.unit.result) all_locals)))
         ∙ one-distinct (codes "f") (first_names (remembers_any a) from_variables) (frame_new (remembers_any a)) (memory_distinct (remembers_any a))
 
     -- ---- members
@@ -460,29 +468,27 @@ module _ (a : Activity) where
     frame_names [] = refl
     frame_names (run ∷ runs) = ap (λ rest. (120 ∷ decimal run.number) ∷ rest) (frame_names runs)
 
-    families_distinct : (b c : ℕ) (js ks : List ℕ) → nat_eq b c ≡ false → are_numbers js ≡ true → are_numbers ks ≡ true →
-        are_distinct (family b js ++ family c ks) ≡ true
-    families_distinct b c js ks other one two =
-        family-distinct b js (family c ks) one (family-begins b c ks other)
-        (ap are_distinct (sym (append-nil (family c ks))) ∙ family-distinct c ks [] two refl refl)
+    one_family : (c : ℕ) (ks : List ℕ) → are_numbers ks ≡ true → are_distinct (family c ks) ≡ true
+    one_family c ks all = ap are_distinct (sym (append-nil (family c ks))) ∙ family-distinct c ks [] all refl refl
 
     frame_distinct : are_distinct (member_names (frame_struct a).members) ≡ true
     frame_distinct =
         ap are_distinct
         (members_append (map (counter_member a.sizes) (up_to (length a.sizes))) (map (frame_member a) runs)
         ∙ (λ i. counter_names a.sizes (up_to (length a.sizes)) i ++ frame_names runs i))
-        ∙ families_distinct 99 120 (up_to (length a.sizes)) (run_numbers runs) refl (first-numbers (length a.sizes) differ.counters) differ.runs
+        ∙ family-distinct 99 (up_to (length a.sizes)) (family 120 (run_numbers runs)) (first-numbers (length a.sizes) differ.counters)
+        (family-begins 99 120 (run_numbers runs) refl) (one_family 120 (run_numbers runs) differ.runs)
 
     held_names : (site : TypingContext) (k : ℕ) (vars : List Var) →
-        member_names (members_from site k vars) ≡ family 118 (positions (λ (v : Var). is_held (home_of site (Some v))) k vars)
+        member_names (members_from site k vars) ≡ named_family site.vars 118 (positions (λ (v : Var). is_held (home_of site (Some v))) k vars)
     held_names site k [] = refl
     held_names site k (v ∷ vars) =
-        members_append (member_of (is_held (home_of site (Some v))) site.structs k v) (members_from site (k + 1) vars)
+        members_append (member_of (is_held (home_of site (Some v))) site.structs site.vars k v) (members_from site (k + 1) vars)
         ∙ (λ i. by (is_held (home_of site (Some v))) i ++ held_names site (k + 1) vars i)
-        ∙ sym (family_append 118 (if is_held (home_of site (Some v)) then k ∷ [] else [])
+        ∙ sym (named_family_append site.vars 118 (if is_held (home_of site (Some v)) then k ∷ [] else [])
         (positions (λ (v : Var). is_held (home_of site (Some v))) (k + 1) vars))
       where
-        by : (b : Bool) → member_names (member_of b site.structs k v) ≡ family 118 (if b then k ∷ [] else [])
+        by : (b : Bool) → member_names (member_of b site.structs site.vars k v) ≡ named_family site.vars 118 (if b then k ∷ [] else [])
         by true = refl
         by false = refl
 
@@ -504,15 +510,16 @@ module _ (a : Activity) where
     remembered_distinct : are_distinct (member_names (remembered a)) ≡ true
     remembered_distinct =
         let site : TypingContext = site_of a.structs a.earlier a.unit in
+        let remembering : List ℕ = chosen (λ (run : RunAt). (activity_view a).remembers run.unit) (λ (run : RunAt). run.number) runs in
         let few = differ.variables in
         let room : 0 + length a.unit.vars ≤ 2 ^ 64 = omega (arith, few) in
         ap are_distinct
         (members_append (members_of a.structs a.earlier a.unit) (joined (map (memory_member a) runs))
         ∙ (λ i. held_names (site_of a.structs a.earlier a.unit) 0 a.unit.vars i ++ memory_names runs i))
-        ∙ families_distinct 118 120 (positions (λ (v : Var). is_held (home_of (site_of a.structs a.earlier a.unit) (Some v))) 0 a.unit.vars)
-        (chosen (λ (run : RunAt). (activity_view a).remembers run.unit) (λ (run : RunAt). run.number) runs) refl
-        (position-numbers (λ (v : Var). is_held (home_of (site_of a.structs a.earlier a.unit) (Some v))) 0 a.unit.vars room)
-        (chosen-numbers (λ (run : RunAt). (activity_view a).remembers run.unit) (λ (run : RunAt). run.number) runs differ.runs)
+        ∙ named_family-distinct a.unit.vars 118 (positions (λ (v : Var). is_held (home_of site (Some v))) 0 a.unit.vars) (family 120 remembering)
+        (position-numbers (λ (v : Var). is_held (home_of site (Some v))) 0 a.unit.vars room) (family-begins 118 120 remembering refl)
+        (one_family 120 remembering
+        (chosen-numbers (λ (run : RunAt). (activity_view a).remembers run.unit) (λ (run : RunAt). run.number) runs differ.runs))
 
 pub locals : LocalsDiffer
 locals a differ = all_distinct a differ

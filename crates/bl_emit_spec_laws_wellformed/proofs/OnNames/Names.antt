@@ -1,4 +1,4 @@
--- Names that are a letter and a number differ where their numbers do, and from names with another letter.
+-- Names that are a letter and a number differ where their numbers do, and from names with another letter. So do those with the name of a variable behind.
 use Rattle.std.proofs.Common.{◌≡◌, ℕ, ◌<◌, ◌^◌, Bool, true, false, not}
 use Rattle.std.proofs.Common.{◌&&◌, ◌||◌, List, [], ◌∷◌, ◌++◌, map, drop, length}
 use Rattle.std.proofs.Common.{refl, sym, ap, ◌∙◌, arith}
@@ -8,9 +8,12 @@ use Rattle.std.proofs.lemmas.List.Folds.{list_any-append}
 use Rattle.std.proofs.lemmas.Slice.Eq.{bytes_eq-Decides}
 use Rattle.std.specs.Fmt.{decimal}
 use Rattle.std.specs.List.{list_any}
-use Rattle.std.specs.Prelude.{bytes_eq, nat_eq, nat_lt}
+use Rattle.std.specs.Prelude.{bytes_eq, nat_eq, nat_lt, slice_get}
 use Rattle.bl_tree.specs.declared.text.Text.{Text}
+use Rattle.bl_tree.specs.declared.tree.Var.{Var}
 use Rattle.bl_tree.specs.Words.{are_distinct, is_among}
+use Rattle.bl_emit_acts.specs.Types.{numbered_name, source_name}
+use Rattle.bl_emit_acts_laws_simulation.proofs.NumberedNames.{names_differ}
 use Rattle.bl_emit_spec_laws_wellformed.specs.Names.{are_numbers}
 
 pub and-left : (a b : Bool) → (a && b) ≡ true → a ≡ true
@@ -69,16 +72,77 @@ begins-append b xs ys one other = list_any-append (begins b) xs ys ∙ neither (
 
 -- ---- families
 
--- the names that are a letter and one of some numbers
-abbrev pub family : ℕ → List ℕ → List Text
-family b ks = map (λ k. b ∷ decimal k) ks
-
-pub family-begins : (b c : ℕ) (ks : List ℕ) → nat_eq b c ≡ false → some_begins b (family c ks) ≡ false
-family-begins b c [] other = refl
-family-begins b c (k ∷ ks) other = neither (nat_eq b c) (some_begins b (family c ks)) other (family-begins b c ks other)
-
 low : (k : ℕ) → nat_lt k (2 ^ 64) ≡ true → k < 2 ^ 64
 low k h = grind (arith, nat_tests)
+
+among-append : (x : Text) (xs ys : List Text) → is_among x xs ≡ false → is_among x ys ≡ false → is_among x (xs ++ ys) ≡ false
+among-append x xs ys one other = list_any-append (bytes_eq x) xs ys ∙ neither (is_among x xs) (is_among x ys) one other
+
+pub among-both : (x : Text) (xs ys : List Text) → is_among x xs ≡ false → is_among x ys ≡ false → is_among x (xs ++ ys) ≡ false
+among-both = among-append
+
+-- a letter alone is no longer name
+letter_other : (b c : ℕ) (ds : List ℕ) → 0 < length ds → bytes_eq (b ∷ []) (c ∷ ds) ≡ false
+letter_other b c [] some = absurd (omega arith)
+letter_other b c (d ∷ ds) some = by (nat_eq b c)
+  where
+    by : (t : Bool) → (t && false) ≡ false
+    by true = refl
+    by false = refl
+
+-- names that are a letter, and behind it a text for one of some numbers. The texts for different numbers differ, and none is empty
+module _ (text : ℕ → Text) (apart : (b j k : ℕ) → j < 2 ^ 64 → k < 2 ^ 64 → nat_eq j k ≡ false → bytes_eq (b ∷ text j) (b ∷ text k) ≡ false)
+    (some : (k : ℕ) → k < 2 ^ 64 → 0 < length (text k)) where
+  abbrev lettered : ℕ → List ℕ → List Text
+  lettered b ks = map (λ k. b ∷ text k) ks
+
+  lettered-begins : (b c : ℕ) (ks : List ℕ) → nat_eq b c ≡ false → some_begins b (lettered c ks) ≡ false
+  lettered-begins b c [] other = refl
+  lettered-begins b c (k ∷ ks) other = neither (nat_eq b c) (some_begins b (lettered c ks)) other (lettered-begins b c ks other)
+
+  lettered-new : (b j : ℕ) (ks : List ℕ) → j < 2 ^ 64 → are_numbers ks ≡ true → list_any (nat_eq j) ks ≡ false →
+      is_among (b ∷ text j) (lettered b ks) ≡ false
+  lettered-new b j [] less all new = refl
+  lettered-new b j (k ∷ ks) less all new =
+      let small : k < 2 ^ 64 = low k (and-left (nat_lt k (2 ^ 64)) _ all) in
+      let rest : are_numbers ks ≡ true = and-right (not (list_any (nat_eq k) ks)) (are_numbers ks) (and-right (nat_lt k (2 ^ 64)) _ all) in
+      neither (bytes_eq (b ∷ text j) (b ∷ text k)) (is_among (b ∷ text j) (lettered b ks))
+      (apart b j k less small (first (nat_eq j k) (list_any (nat_eq j) ks) new))
+      (lettered-new b j ks less rest (later (nat_eq j k) (list_any (nat_eq j) ks) new))
+    where
+      later : (p q : Bool) → (p || q) ≡ false → q ≡ false
+      later false q h = h
+      later true q h = absurd (cc)
+
+      first : (p q : Bool) → (p || q) ≡ false → p ≡ false
+      first false q h = refl
+      first true q h = absurd (cc)
+
+  lettered-distinct : (b : ℕ) (ks : List ℕ) (others : List Text) → are_numbers ks ≡ true → some_begins b others ≡ false →
+      are_distinct others ≡ true → are_distinct (lettered b ks ++ others) ≡ true
+  lettered-distinct b [] others all none differ = differ
+  lettered-distinct b (k ∷ ks) others all none differ =
+      let small : k < 2 ^ 64 = low k (and-left (nat_lt k (2 ^ 64)) _ all) in
+      let more = and-right (nat_lt k (2 ^ 64)) _ all in
+      let new : list_any (nat_eq k) ks ≡ false = not-false (list_any (nat_eq k) ks) (and-left (not (list_any (nat_eq k) ks)) (are_numbers ks) more) in
+      let rest : are_numbers ks ≡ true = and-right (not (list_any (nat_eq k) ks)) (are_numbers ks) more in
+      both (not (is_among (b ∷ text k) (lettered b ks ++ others))) (are_distinct (lettered b ks ++ others))
+      (ap not (among-append (b ∷ text k) (lettered b ks) others (lettered-new b k ks small rest new)
+      (not-among b (b ∷ text k) others (own b) none)))
+      (lettered-distinct b ks others rest none differ)
+    where
+      own : (b : ℕ) → nat_eq b b ≡ true
+      own b = grind (arith, nat_tests)
+
+  lettered-longer : (b c : ℕ) (ks : List ℕ) → are_numbers ks ≡ true → is_among (b ∷ []) (lettered c ks) ≡ false
+  lettered-longer b c [] all = refl
+  lettered-longer b c (k ∷ ks) all =
+      let small : k < 2 ^ 64 = low k (and-left (nat_lt k (2 ^ 64)) _ all) in
+      let rest : are_numbers ks ≡ true = and-right (not (list_any (nat_eq k) ks)) (are_numbers ks) (and-right (nat_lt k (2 ^ 64)) _ all) in
+      neither (bytes_eq (b ∷ []) (c ∷ text k)) (is_among (b ∷ []) (lettered c ks)) (letter_other b c (text k) (some k small))
+      (lettered-longer b c ks rest)
+
+-- ---- a letter and a number
 
 apart_by : (b j k : ℕ) → j < 2 ^ 64 → k < 2 ^ 64 → nat_eq j k ≡ false → bytes_eq (b ∷ decimal j) (b ∷ decimal k) ≡ false
 apart_by b j k less least other = by (bytes_eq (b ∷ decimal j) (b ∷ decimal k)) refl
@@ -90,68 +154,55 @@ apart_by b j k less least other = by (bytes_eq (b ∷ decimal j) (b ∷ decimal 
         let same : j ≡ k = decimal_injective j k less least (ap (drop 1) text) in
         absurd (let no : nat_eq j j ≡ false = ap (nat_eq j) same ∙ other in grind (arith, nat_tests, no))
 
-pub family-new : (b j : ℕ) (ks : List ℕ) → j < 2 ^ 64 → are_numbers ks ≡ true → list_any (nat_eq j) ks ≡ false →
-    is_among (b ∷ decimal j)
-    (family b ks) ≡ false
-family-new b j [] less all new = refl
-family-new b j (k ∷ ks) less all new =
-    let small : k < 2 ^ 64 = low k (and-left (nat_lt k (2 ^ 64)) _ all) in
-    let rest : are_numbers ks ≡ true = and-right (not (list_any (nat_eq k) ks)) (are_numbers ks) (and-right (nat_lt k (2 ^ 64)) _ all) in
-    neither (bytes_eq (b ∷ decimal j) (b ∷ decimal k)) (is_among (b ∷ decimal j) (family b ks))
-    (apart_by b j k less small (first (nat_eq j k) (list_any (nat_eq j) ks) new))
-    (family-new b j ks less rest (later (nat_eq j k) (list_any (nat_eq j) ks) new))
-  where
-    later : (p q : Bool) → (p || q) ≡ false → q ≡ false
-    later false q h = h
-    later true q h = absurd (cc)
+number_some : (k : ℕ) → k < 2 ^ 64 → 0 < length (decimal k)
+number_some k small = let numeral = decimal_is_IsNumeral k small in numeral.0.0
 
-    first : (p q : Bool) → (p || q) ≡ false → p ≡ false
-    first false q h = refl
-    first true q h = absurd (cc)
+-- the names that are a letter and one of some numbers
+abbrev pub family : ℕ → List ℕ → List Text
+family b ks = map (λ k. b ∷ decimal k) ks
 
-among-append : (x : Text) (xs ys : List Text) → is_among x xs ≡ false → is_among x ys ≡ false → is_among x (xs ++ ys) ≡ false
-among-append x xs ys one other = list_any-append (bytes_eq x) xs ys ∙ neither (is_among x xs) (is_among x ys) one other
+pub family-begins : (b c : ℕ) (ks : List ℕ) → nat_eq b c ≡ false → some_begins b (family c ks) ≡ false
+family-begins = lettered-begins decimal apart_by number_some
 
 -- a family before names none of which begins with its letter
 pub family-distinct : (b : ℕ) (ks : List ℕ) (others : List Text) → are_numbers ks ≡ true → some_begins b others ≡ false →
-    are_distinct others ≡ true →
-    are_distinct (family b ks ++ others) ≡ true
-family-distinct b [] others all none differ = differ
-family-distinct b (k ∷ ks) others all none differ =
-    let small : k < 2 ^ 64 = low k (and-left (nat_lt k (2 ^ 64)) _ all) in
-    let more = and-right (nat_lt k (2 ^ 64)) _ all in
-    let new : list_any (nat_eq k) ks ≡ false = not-false (list_any (nat_eq k) ks) (and-left (not (list_any (nat_eq k) ks)) (are_numbers ks) more) in
-    let rest : are_numbers ks ≡ true = and-right (not (list_any (nat_eq k) ks)) (are_numbers ks) more in
-    both (not (is_among (b ∷ decimal k) (family b ks ++ others))) (are_distinct (family b ks ++ others))
-    (ap not (among-append (b ∷ decimal k) (family b ks) others (family-new b k ks small rest new)
-    (not-among b (b ∷ decimal k) others (own b) none)))
-    (family-distinct b ks others rest none differ)
+    are_distinct others ≡ true → are_distinct (family b ks ++ others) ≡ true
+family-distinct = lettered-distinct decimal apart_by number_some
+
+-- a letter alone is in no family
+pub letter-new : (b c : ℕ) (ks : List ℕ) → are_numbers ks ≡ true → is_among (b ∷ []) (family c ks) ≡ false
+letter-new = lettered-longer decimal apart_by number_some
+
+-- ---- a letter, a number and the name of a variable
+
+variables_apart : (vars : List Var) (b j k : ℕ) → j < 2 ^ 64 → k < 2 ^ 64 → nat_eq j k ≡ false →
+    bytes_eq (b ∷ numbered_name vars j) (b ∷ numbered_name vars k) ≡ false
+variables_apart vars b j k less least other =
+    names_differ b vars j k less least
+    (λ same. absurd (let no : nat_eq j j ≡ false = ap (nat_eq j) same ∙ other in grind (arith, nat_tests, no)))
+
+variable_some : (vars : List Var) (k : ℕ) → k < 2 ^ 64 → 0 < length (numbered_name vars k)
+variable_some vars k small = longer (decimal k) (source_name (slice_get vars k)) (number_some k small)
   where
-    own : (b : ℕ) → nat_eq b b ≡ true
-    own b = grind (arith, nat_tests)
+    longer : (ds more : List ℕ) → 0 < length ds → 0 < length (ds ++ 95 ∷ more)
+    longer [] more some = absurd (omega arith)
+    longer (d ∷ ds) more some = omega arith
+
+-- the names that are a letter with the number and the name of one of some variables
+abbrev pub named_family : List Var → ℕ → List ℕ → List Text
+named_family vars b ks = map (λ k. b ∷ numbered_name vars k) ks
+
+pub named_family-begins : (vars : List Var) (b c : ℕ) (ks : List ℕ) → nat_eq b c ≡ false → some_begins b (named_family vars c ks) ≡ false
+named_family-begins vars = lettered-begins (numbered_name vars) (variables_apart vars) (variable_some vars)
+
+pub named_family-distinct : (vars : List Var) (b : ℕ) (ks : List ℕ) (others : List Text) → are_numbers ks ≡ true → some_begins b others ≡ false →
+    are_distinct others ≡ true → are_distinct (named_family vars b ks ++ others) ≡ true
+named_family-distinct vars = lettered-distinct (numbered_name vars) (variables_apart vars) (variable_some vars)
+
+pub named_letter-new : (vars : List Var) (b c : ℕ) (ks : List ℕ) → are_numbers ks ≡ true → is_among (b ∷ []) (named_family vars c ks) ≡ false
+named_letter-new vars = lettered-longer (numbered_name vars) (variables_apart vars) (variable_some vars)
 
 -- a name before others
 pub one-distinct : (x : Text) (others : List Text) → is_among x others ≡ false → are_distinct others ≡ true →
     are_distinct (x ∷ others) ≡ true
 one-distinct x others new differ = both (not (is_among x others)) (are_distinct others) (ap not new) differ
-
--- a letter alone is in no family
-letter_other : (b c : ℕ) (ds : List ℕ) → 0 < length ds → bytes_eq (b ∷ []) (c ∷ ds) ≡ false
-letter_other b c [] some = absurd (omega arith)
-letter_other b c (d ∷ ds) some = by (nat_eq b c)
-  where
-    by : (t : Bool) → (t && false) ≡ false
-    by true = refl
-    by false = refl
-
-pub letter-new : (b c : ℕ) (ks : List ℕ) → are_numbers ks ≡ true → is_among (b ∷ []) (family c ks) ≡ false
-letter-new b c [] all = refl
-letter-new b c (k ∷ ks) all =
-    let small : k < 2 ^ 64 = low k (and-left (nat_lt k (2 ^ 64)) _ all) in
-    let rest : are_numbers ks ≡ true = and-right (not (list_any (nat_eq k) ks)) (are_numbers ks) (and-right (nat_lt k (2 ^ 64)) _ all) in
-    let numeral = decimal_is_IsNumeral k small in
-    neither (bytes_eq (b ∷ []) (c ∷ decimal k)) (is_among (b ∷ []) (family c ks)) (letter_other b c (decimal k) numeral.0.0)
-    (letter-new b c ks rest)
-
-pub among-both : (x : Text) (xs ys : List Text) → is_among x xs ≡ false → is_among x ys ≡ false → is_among x (xs ++ ys) ≡ false
-among-both = among-append

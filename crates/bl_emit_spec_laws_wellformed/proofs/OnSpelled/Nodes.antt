@@ -28,6 +28,7 @@ use Rattle.bl_tree.specs.Types.{scalar, type_stands}
 use Rattle.bl_tree.specs.Typing.{TypingContext, are_same, arguments_fit, fits, is_activity, is_outlet, is_truth, run_fits, target_fits}
 use Rattle.bl_tree.specs.Typing.{arm_fits, branch_fits, kind_fits, return_fits, stmt_fits as stmt_fitted}
 use Rattle.bl_tree.specs.Typing.{type_of, type_of_path, var_at}
+use Rattle.bl_tree.specs.Program.{names_of}
 use Rattle.bl_tree.specs.Words as words
 use Rattle.bl_eval.proofs.PassLemmas.{and_left, and_right, both}
 use Rattle.bl_ctext.specs.Names.{is_callee, is_name}
@@ -160,6 +161,7 @@ module _ (view : ActivityView) (few : length view.site.vars ≤ 2 ^ 64)
     (numbers : (n : Node) → view.number n < 2 ^ 64) (places : (at : Place) → view.run at < 2 ^ 64)
     (names : list_all words.is_name (map (λ (def : StructDef). def.name) view.site.structs) ≡ true)
     (named : (f : ℕ) (callee : UnitDef) → slice_get view.site.earlier f ≡ Some callee → words.is_name callee.name ≡ true)
+    (vars_named : list_all words.is_name (names_of view.site.vars) ≡ true)
     (typed_vars : (k : ℕ) (var : Var) → var_at view.site k ≡ Some var → type_stands (length view.site.structs) var.ty ≡ true)
     (exprs : (e : Expr) (ty : Ty) → type_of view.site e ≡ Some ty → expr_fits (room (expr_depth e)) (code_made view.site e) ≡ true)
     (paths : (path : Path) (ty : Ty) → type_of_path view.site path ≡ Some ty →
@@ -242,7 +244,7 @@ module _ (view : ActivityView) (few : length view.site.vars ≤ 2 ^ 64)
     call-is k small =
         let parts = run_arguments arguments.target arguments.inputs arguments.outputs (slice_get view.site.earlier a) is_fitted in
         let within : room (arguments_depth arguments.inputs arguments.outputs) ≤ 402 = omega (arith, deep) in
-        let args = arguments-fit view.site few names named typed_vars exprs paths 402 arguments.inputs arguments.outputs parts.0 parts.1 within in
+        let args = arguments-fit view.site few names named vars_named typed_vars exprs paths 402 arguments.inputs arguments.outputs parts.0 parts.1 within in
         both (stmt_fits 403 (c_set (ended_place k) (c_truth false)))
         (stmts_fit 403 (c_calling (c_call (name_of_callee (slice_get view.site.earlier a)) (run_args view k a arguments)) ∷ []))
         (set-fits 403 nowhere (ended_place k) (c_truth false) (ended-fits 403 k (omega arith) small) (truth-fits 403 false (omega arith)))

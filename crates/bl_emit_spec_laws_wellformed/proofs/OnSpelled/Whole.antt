@@ -22,7 +22,7 @@ use Rattle.bl_tree.specs.declared.tree.Ty.{Ty}
 use Rattle.bl_tree.specs.declared.tree.Unit.{Unit as UnitDef}
 use Rattle.bl_tree.specs.declared.tree.Var.{Var}
 use Rattle.bl_tree.specs.Depths.{depth_of, expr_depth, path_depth}
-use Rattle.bl_tree.specs.Program.{IsWellTyped, parameters_of}
+use Rattle.bl_tree.specs.Program.{IsWellTyped, names_of, parameters_of}
 use Rattle.bl_tree.specs.Reduce.{joined}
 use Rattle.bl_tree.specs.Types.{type_stands}
 use Rattle.bl_tree.specs.Typing.{TypingContext, fits, site_of, type_of, type_of_path}
@@ -45,6 +45,7 @@ use Rattle.bl_emit_acts.specs.Places.{place_in}
 use Rattle.bl_emit_acts.specs.Trees.{c_place, c_read, c_two, nowhere}
 use Rattle.bl_emit_acts.specs.Types.{c_scalar, copy_name, unit_name}
 use Rattle.bl_emit_acts_laws_wellformed.specs.Spelled.{ExpressionsFit, PlacesFit}
+use Rattle.bl_emit_acts_laws_wellformed.proofs.OnFormed.Units.{vars_named}
 use Rattle.bl_emit_acts_laws_wellformed.proofs.OnSpelled.Names.{copy-name, memory-name, numbered-name}
 use Rattle.bl_emit_functions.specs.Functions.{members_of, memory_name, params_from, struct_of}
 use Rattle.bl_emit_functions_laws_wellformed.specs.Spelled.{ActsFit, MembersSpelled}
@@ -264,6 +265,9 @@ module _ (units : List UnitDef) (entry k : ℕ) (a : Activity) (keeps : IsWellTy
   runs_ok : list_all run_ok (runs_in_body a) ≡ true
   runs_ok = once_ok (runs_at number (callees_in (body_of a)) (rules_at a)) (runs_by (callees_in (body_of a)) (rules_at a) fitted)
 
+  own_vars : list_all words.is_name (names_of a.unit.vars) ≡ true
+  own_vars = vars_named a.structs units entry keeps k a.unit there
+
   -- the numbers of places are small, as those of nodes
   place_small : (rules : List Transition) (at : Place) → run_number_in number rules at < 2 ^ 64
   place_small [] at = omega arith
@@ -353,8 +357,8 @@ module _ (units : List UnitDef) (entry k : ℕ) (a : Activity) (keeps : IsWellTy
       both (spells_param (record { ty = OfStruct (frame_name a.unit.name); pointer = true; name = codes "f" })) _
       (param_is (codes "f") (frame_name a.unit.name) frame-letter (frame-named a.unit.name own_name))
       (all_append spells_param (memory_params a (remembers_any a))
-      (params_from a.structs 0 (parameters_of a.unit) ++ (result_params a.unit.result ++ over_param ∷ [])) (remembers (remembers_any a))
-      (all_append spells_param (params_from a.structs 0 (parameters_of a.unit)) (result_params a.unit.result ++ over_param ∷ [])
+      (params_from a.structs a.unit.vars 0 (parameters_of a.unit) ++ (result_params a.unit.result ++ over_param ∷ [])) (remembers (remembers_any a))
+      (all_append spells_param (params_from a.structs a.unit.vars 0 (parameters_of a.unit)) (result_params a.unit.result ++ over_param ∷ [])
       (params-spelled a.structs units entry k a.unit keeps there few)
       (all_append spells_param (result_params a.unit.result) (over_param ∷ []) (result a.unit.result)
       (both (spells_param over_param) true end-letter refl))))
@@ -432,8 +436,8 @@ module _ (units : List UnitDef) (entry k : ℕ) (a : Activity) (keeps : IsWellTy
       copy_is : (j : ℕ) → j < length a.unit.vars → spells_local (copy_local a j) ≡ true
       copy_is j less =
           let small : j < 2 ^ 64 = omega (arith, less, few) in
-          local_is (c_scalar (scalar_at (slice_get a.unit.vars j))) (copy_name j) (scalar_spelled (scalar_at (slice_get a.unit.vars j)))
-          (copy-name j small)
+          local_is (c_scalar (scalar_at (slice_get a.unit.vars j))) (copy_name a.unit.vars j) (scalar_spelled (scalar_at (slice_get a.unit.vars j)))
+          (copy-name a.unit.vars j own_vars small)
 
   -- ---- statements
 
@@ -456,9 +460,9 @@ module _ (units : List UnitDef) (entry k : ℕ) (a : Activity) (keeps : IsWellTy
     copied_is : (j : ℕ) → j < length a.unit.vars → stmt_fits 405 (c_copied site j) ≡ true
     copied_is j less =
         let small : j < 2 ^ 64 = omega (arith, less, few) in
-        set-fits 405 nowhere (c_place false (copy_name j) []) (c_read (place_in site j []))
-        (place-fits 405 false (copy_name j) [] (omega arith) (copy-name j small) refl)
-        (read-fits 405 nowhere (place_in site j []) (own-fits site few names named typed_here exprs paths 405 j (omega arith) small))
+        set-fits 405 nowhere (c_place false (copy_name a.unit.vars j) []) (c_read (place_in site j []))
+        (place-fits 405 false (copy_name a.unit.vars j) [] (omega arith) (copy-name a.unit.vars j own_vars small) refl)
+        (read-fits 405 nowhere (place_in site j []) (own-fits site few names named own_vars typed_here exprs paths 405 j (omega arith) small))
 
     entry_is : (body : Block) → stmts_fit 405 (entry_code (activity_view a) body) ≡ true
     entry_is Done = refl
@@ -484,7 +488,7 @@ module _ (units : List UnitDef) (entry k : ℕ) (a : Activity) (keeps : IsWellTy
         (all_filtered (λ j. stmt_fits 405 (c_copied site j)) _ (up_to (length a.unit.vars))
         (all_below (λ j. stmt_fits 405 (c_copied site j)) (length a.unit.vars) copied_is)))
         (blocks-fit (turns_in_source a) a.blocks
-        (turns-fit (activity_view a) few numbers (place_small (rules_at a)) names named typed_here exprs paths acts (callees_in (body_of a))
+        (turns-fit (activity_view a) few numbers (place_small (rules_at a)) names named own_vars typed_here exprs paths acts (callees_in (body_of a))
         (rules_at a) fitted))))
 
     pub activity-fits : func_fits 2000 (activity_function a) ≡ true

@@ -27,7 +27,8 @@ use Rattle.bl_tree.specs.Types.{scalar_in, type_stands}
 use Rattle.bl_tree.specs.Typing.{TypingContext, inputs_of, is_activity, is_fixed, is_variable, outputs_of, var_at}
 use Rattle.bl_tree.specs.Words.{are_distinct}
 use Rattle.bl_eval.proofs.PassLemmas.{all_at, and_left, and_right, get_take}
-use Rattle.bl_ctext_semantics.specs.Faults.{Context, Judged, Signature, bool_type, context_in, judge_root, local_variable, member_of, param_variable, parameters_and_locals}
+use Rattle.bl_ctext_semantics.specs.Faults.{Context, Judged, Signature, bool_type, context_in, judge_root, local_variable, member_of, param_variable}
+use Rattle.bl_ctext_semantics.specs.Faults.{parameters_and_locals}
 use Rattle.bl_ctext_semantics.specs.Tables.{Table, found}
 use Rattle.bl_machine.specs.Blocks.{up_to}
 use Rattle.bl_graph_nodes.specs.Nodes.{Node}
@@ -52,7 +53,8 @@ use Rattle.bl_emit_acts_laws_wellformed.proofs.OnFormed.SiteActs.{EarlierStand}
 use Rattle.bl_emit_acts_laws_wellformed.proofs.OnFormed.Typed.{pointer_place, variable_place}
 use Rattle.bl_emit_acts_laws_wellformed.proofs.OnFormed.Units.{roles_at, taken_there, vars_stand}
 use Rattle.bl_emit_spec.specs.Activities.{Activity, RunAt, activity_function, activity_locals, activity_params, copied_in, copies_of, copy_local}
-use Rattle.bl_emit_spec.specs.Activities.{counter_member, counters_read, first_rules, flag_local, frame_member, frame_struct, given_local, is_flagged, mark_local}
+use Rattle.bl_emit_spec.specs.Activities.{counter_member, counters_read, first_rules, flag_local, frame_member, frame_struct, given_local, is_flagged}
+use Rattle.bl_emit_spec.specs.Activities.{mark_local}
 use Rattle.bl_emit_spec.specs.Activities.{mark_locals, memory_member, memory_params, over_param, pointer_param, remembered, remembers_any}
 use Rattle.bl_emit_spec.specs.Activities.{activity_view, rested_local, result_params, rules_at, run_locals, runs_in_body, scalar_local, struct_member}
 use Rattle.bl_emit_spec.specs.Blocks.{counter_type, name_in}
@@ -115,42 +117,42 @@ parameter_at unit roles k var there parameter =
         let no : true ≡ false = sym own ∙ parameter in cc
 
 -- the parameters of variables
-param-has : (structs : List StructDef) (base : ℕ) (vars : List Var) (j : ℕ) (var : Var) → slice_get vars j ≡ Some var →
-    Contains (params_from structs base vars) (param_of structs (base + j) var)
-param-has structs base [] j var there = absurd (cc)
-param-has structs base (v ∷ vars) zero var there =
+param-has : (structs : List StructDef) (all : List Var) (base : ℕ) (vars : List Var) (j : ℕ) (var : Var) → slice_get vars j ≡ Some var →
+    Contains (params_from structs all base vars) (param_of structs all (base + j) var)
+param-has structs all base [] j var there = absurd (cc)
+param-has structs all base (v ∷ vars) zero var there =
     let none : base ≡ base + 0 = omega arith in
     let same : v ≡ var = same_Some v var there in
-    subst (λ n. Contains (param_of structs base v ∷ params_from structs (base + 1) vars) (param_of structs n var)) none
-    (subst (λ w. Contains (param_of structs base v ∷ params_from structs (base + 1) vars) (param_of structs base w)) same
-    (here (param_of structs base v) (params_from structs (base + 1) vars)))
-param-has structs base (v ∷ vars) (suc j) var there =
+    subst (λ n. Contains (param_of structs all base v ∷ params_from structs all (base + 1) vars) (param_of structs all n var)) none
+    (subst (λ w. Contains (param_of structs all base v ∷ params_from structs all (base + 1) vars) (param_of structs all base w)) same
+    (here (param_of structs all base v) (params_from structs all (base + 1) vars)))
+param-has structs all base (v ∷ vars) (suc j) var there =
     let next : (base + 1) + j ≡ base + suc j = omega arith in
-    subst (λ n. Contains (param_of structs base v ∷ params_from structs (base + 1) vars) (param_of structs n var)) next
-    (further (param_of structs base v) (params_from structs (base + 1) vars) (param_of structs ((base + 1) + j) var)
-    (param-has structs (base + 1) vars j var there))
+    subst (λ n. Contains (param_of structs all base v ∷ params_from structs all (base + 1) vars) (param_of structs all n var)) next
+    (further (param_of structs all base v) (params_from structs all (base + 1) vars) (param_of structs all ((base + 1) + j) var)
+    (param-has structs all (base + 1) vars j var there))
 
 -- the members of variables that a unit holds
 held-has : (site : TypingContext) (base : ℕ) (vars : List Var) (j : ℕ) (var : Var) → slice_get vars j ≡ Some var → is_held (home_of site (Some var))
     ≡ true →
-    Contains (members_from site base vars) (held_member site.structs (base + j) var)
+    Contains (members_from site base vars) (held_member site.structs site.vars (base + j) var)
 held-has site base [] j var there held = absurd (cc)
 held-has site base (v ∷ vars) zero var there held =
     let none : base ≡ base + 0 = omega arith in
     let same : v ≡ var = same_Some v var there in
-    subst (λ n. Contains (members_from site base (v ∷ vars)) (held_member site.structs n var)) none
-    (subst (λ w. Contains (members_from site base (v ∷ vars)) (held_member site.structs base w)) same
+    subst (λ n. Contains (members_from site base (v ∷ vars)) (held_member site.structs site.vars n var)) none
+    (subst (λ w. Contains (members_from site base (v ∷ vars)) (held_member site.structs site.vars base w)) same
     (by (is_held (home_of site (Some v))) (ap (λ w. is_held (home_of site (Some w))) same ∙ held)))
   where
-    by : (b : Bool) → b ≡ true → Contains (functions.member_of b site.structs base v ++ members_from site (base + 1) vars) (held_member
-        site.structs base v)
-    by true is = here (held_member site.structs base v) (members_from site (base + 1) vars)
+    by : (b : Bool) → b ≡ true → Contains (functions.member_of b site.structs site.vars base v ++ members_from site (base + 1) vars) (held_member
+        site.structs site.vars base v)
+    by true is = here (held_member site.structs site.vars base v) (members_from site (base + 1) vars)
     by false is = absurd (cc)
 held-has site base (v ∷ vars) (suc j) var there held =
     let next : (base + 1) + j ≡ base + suc j = omega arith in
-    Contains-append_right (functions.member_of (is_held (home_of site (Some v))) site.structs base v) (members_from site (base + 1) vars)
-    (held_member site.structs (base + suc j) var)
-    (subst (λ n. Contains (members_from site (base + 1) vars) (held_member site.structs n var)) next (held-has site (base + 1) vars j var there held))
+    Contains-append_right (functions.member_of (is_held (home_of site (Some v))) site.structs site.vars base v) (members_from site (base + 1) vars)
+    (held_member site.structs site.vars (base + suc j) var)
+    (subst (λ n. Contains (members_from site (base + 1) vars) (held_member site.structs site.vars n var)) next (held-has site (base + 1) vars j var there held))
 
 module _ (context : Context) where
   -- a member of what a pointer leads to
@@ -206,7 +208,7 @@ module _ (units : List UnitDef) (entry k : ℕ) (a : Activity) (table : Table (T
   local-place s name has = variable_place context name (OfScalar s) (local-there (scalar_local s name) has)
 
   abbrev params_behind : List CParam
-  params_behind = params_from a.structs 0 (parameters_of a.unit) ++ (result_params a.unit.result ++ over_param ∷ [])
+  params_behind = params_from a.structs a.unit.vars 0 (parameters_of a.unit) ++ (result_params a.unit.result ++ over_param ∷ [])
 
   behind_frame : (p : CParam) → Contains (memory_params a (remembers_any a) ++ params_behind) p → Contains (activity_params a) p
   behind_frame p has = further (pointer_param (codes "f") (frame_name a.unit.name)) (memory_params a (remembers_any a) ++ params_behind) p has
@@ -356,7 +358,7 @@ module _ (units : List UnitDef) (entry k : ℕ) (a : Activity) (table : Table (T
       pointer_place context (codes "e") bool_type
       (param-there over_param
       (behind_memory over_param
-      (Contains-append_right (params_from a.structs 0 (parameters_of a.unit)) (result_params a.unit.result ++ over_param ∷ []) over_param
+      (Contains-append_right (params_from a.structs a.unit.vars 0 (parameters_of a.unit)) (result_params a.unit.result ++ over_param ∷ []) over_param
       (Contains-append_right (result_params a.unit.result) (over_param ∷ []) over_param (here over_param [])))))
 
   pub result-is : (s : ScalarType) → a.unit.result ≡ Some s → PlaceIs context true (OfScalar (c_scalar s)) result_place
@@ -365,7 +367,7 @@ module _ (units : List UnitDef) (entry k : ℕ) (a : Activity) (table : Table (T
       pointer_place context (codes "r") (OfScalar (c_scalar s))
       (param-there p
       (behind_memory p
-      (Contains-append_right (params_from a.structs 0 (parameters_of a.unit)) (result_params a.unit.result ++ over_param ∷ []) p
+      (Contains-append_right (params_from a.structs a.unit.vars 0 (parameters_of a.unit)) (result_params a.unit.result ++ over_param ∷ []) p
       (Contains-append_left (result_params a.unit.result) (over_param ∷ []) p
       (subst (λ o. Contains (result_params o) p) (sym is) (here p []))))))
 
@@ -441,28 +443,30 @@ module _ (units : List UnitDef) (entry k : ℕ) (a : Activity) (table : Table (T
   lent_by Fixed s copies is = absurd (cc)
 
   param_of_kind : (j : ℕ) (var : Var) (pointer : Bool) → slice_get a.unit.vars j ≡ Some var → (is_variable var.role || is_fixed var.role) ≡ false →
-      pointer_of var ≡ pointer → context.variables (variable_name j) ≡ Some (variable_of pointer (c_type a.structs var.ty))
+      pointer_of var ≡ pointer → context.variables (variable_name site.vars j) ≡ Some (variable_of pointer (c_type a.structs var.ty))
   param_of_kind j var pointer in_vars parameter is =
       let none : 0 + j ≡ j = omega arith in
-      param-there (param_of a.structs j var)
-      (behind_memory (param_of a.structs j var)
-      (Contains-append_left (params_from a.structs 0 (parameters_of a.unit)) (result_params a.unit.result ++ over_param ∷ []) (param_of a.structs j var)
-      (subst (λ n. Contains (params_from a.structs 0 (parameters_of a.unit)) (param_of a.structs n var)) none
-      (param-has a.structs 0 (parameters_of a.unit) j var (parameter_at a.unit roles j var in_vars parameter)))))
+      param-there (param_of a.structs a.unit.vars j var)
+      (behind_memory (param_of a.structs a.unit.vars j var)
+      (Contains-append_left (params_from a.structs a.unit.vars 0 (parameters_of a.unit)) (result_params a.unit.result ++ over_param ∷ [])
+      (param_of a.structs a.unit.vars j var)
+      (subst (λ n. Contains (params_from a.structs a.unit.vars 0 (parameters_of a.unit)) (param_of a.structs a.unit.vars n var)) none
+      (param-has a.structs a.unit.vars 0 (parameters_of a.unit) j var (parameter_at a.unit roles j var in_vars parameter)))))
       ∙ ap (λ p. Some (variable_of p (c_type a.structs var.ty))) is
 
   held_there : (j : ℕ) (var : Var) → slice_get a.unit.vars j ≡ Some var → is_held (home_of site (Some var)) ≡ true →
-      HeldIn context true j (c_type a.structs var.ty)
+      HeldIn context true site.vars j (c_type a.structs var.ty)
   held_there j var in_vars held =
-      let m : CMember = held_member a.structs j var in
+      let m : CMember = held_member a.structs a.unit.vars j var in
       let none : 0 + j ≡ j = omega arith in
       let inside : Contains (remembered a) m =
       Contains-append_left (members_of a.structs a.earlier a.unit) (joined (map (memory_member a) (runs_in_body a))) m
-      (subst (λ n. Contains (members_from site 0 a.unit.vars) (held_member a.structs n var)) none (held-has site 0 a.unit.vars j var in_vars held)) in
+      (subst (λ n. Contains (members_from site 0 a.unit.vars) (held_member a.structs a.unit.vars n var)) none
+      (held-has site 0 a.unit.vars j var in_vars held)) in
       record { name = memory_name a.unit.name; memory = memory_variable m inside; member = memory_member_of m inside }
 
   stands_by : (j : ℕ) (var : Var) (home : Home) → slice_get a.unit.vars j ≡ Some var → home_of site (Some var) ≡ home →
-      IsDeclaredAt context true home j (c_type a.structs var.ty)
+      IsDeclaredAt context true home site.vars j (c_type a.structs var.ty)
   stands_by j var Held in_vars is = held_there j var in_vars (ap is_held is)
   stands_by j var Given in_vars is =
       let at = given_by var.role (scalar_in var.ty) (copies_inputs site) is in param_of_kind j var false in_vars at.0 at.1
@@ -470,9 +474,9 @@ module _ (units : List UnitDef) (entry k : ℕ) (a : Activity) (table : Table (T
       let at = lent_by var.role (scalar_in var.ty) (copies_inputs site) is in param_of_kind j var true in_vars at.0 at.1
 
   pub variable_there : (j : ℕ) (var : Var) → var_at site j ≡ Some var →
-      IsDeclaredAt context (is_activity a.unit.kind) (home_of site (Some var)) j (c_type a.structs var.ty)
+      IsDeclaredAt context (is_activity a.unit.kind) (home_of site (Some var)) site.vars j (c_type a.structs var.ty)
   variable_there j var in_vars =
-      subst (λ b. IsDeclaredAt context b (home_of site (Some var)) j (c_type a.structs var.ty)) (sym h.active)
+      subst (λ b. IsDeclaredAt context b (home_of site (Some var)) site.vars j (c_type a.structs var.ty)) (sym h.active)
       (stands_by j var (home_of site (Some var)) in_vars refl)
 
   -- ---- copies
@@ -482,7 +486,7 @@ module _ (units : List UnitDef) (entry k : ℕ) (a : Activity) (table : Table (T
   scalar_there (Some s) is = (s, refl)
 
   copy_there : (j : ℕ) (var : Var) → copied j ≡ true → var_at site j ≡ Some var →
-      context.variables (copy_name j) ≡ Some (variable_of false (c_type a.structs var.ty))
+      context.variables (copy_name site.vars j) ≡ Some (variable_of false (c_type a.structs var.ty))
   copy_there j var on in_vars =
       let s = scalar_there (scalar_in var.ty) (h.copies.scalars j var on in_vars) in
       let within : j < length a.unit.vars = slice_get_within a.unit.vars j var in_vars in

@@ -63,7 +63,8 @@ use Rattle.bl_emit_spec_laws_wellformed_bodies.proofs.OnBodies.Nodes.{asked-are,
 use Rattle.bl_emit_spec_laws_wellformed.proofs.OnNodes.Rules.{of_block}
 use Rattle.bl_emit_spec_laws_wellformed.proofs.OnNumbers.Whole.{many-rules}
 use Rattle.bl_emit_spec_laws_wellformed_bodies.proofs.OnBodies.Running.{Pairs, RuleRuns, body-runs}
-use Rattle.bl_emit_spec_laws_wellformed_bodies.proofs.OnBodies.Variables.{Here, context, copied, counter-is, declared_here, earlier_here, flag-is, plain_here, rested-is}
+use Rattle.bl_emit_spec_laws_wellformed_bodies.proofs.OnBodies.Variables.{Here, context, copied, counter-is, declared_here, earlier_here, flag-is}
+use Rattle.bl_emit_spec_laws_wellformed_bodies.proofs.OnBodies.Variables.{plain_here, rested-is}
 use Rattle.bl_emit_spec_laws_wellformed_bodies.proofs.OnBodies.Variables.{typed_here}
 
 -- what stands among the numbers below another is below it
@@ -119,8 +120,8 @@ module _ (units : List UnitDef) (entry k : ℕ) (a : Activity) (table : Table (T
       let found = value_there a.unit.vars j less in
       let var : Var = found.0 in
       let declared = declared_here units entry k a table known h in
-      put-is units entry k a table known h false (c_type a.structs var.ty) (c_place false (copy_name j) []) (c_read (place_in view.site j []))
-      (variable_place here (copy_name j) (c_type a.structs var.ty) (declared.copies j var on found.1))
+      put-is units entry k a table known h false (c_type a.structs var.ty) (c_place false (copy_name view.site.vars j) []) (c_read (place_in view.site j []))
+      (variable_place here (copy_name view.site.vars j) (c_type a.structs var.ty) (declared.copies j var on found.1))
       (read-is here (leads_through view.site j) (c_type a.structs var.ty) (place_in view.site j [])
       (own_place view.site mine here declared h.well_typed.structs_stand (earlier_here units entry k a table known h) (typed_here units entry k a table known h)
       (plain_here units entry k a table known h) j var found.1))

@@ -58,11 +58,12 @@ module _ (structs : List StructDef) (units : List UnitDef) (entry : ℕ) (keeps 
       let own = and_left (stands_so structs var) (list_all (stands_so structs) rest) stand in
       let one = by (holds var) own in
       let later = members-less (k + 1) rest (and_right (stands_so structs var) (list_all (stands_so structs) rest) stand) in
-      let split = ap total (map-append (size_of_member known) (member_of (holds var) structs k var) (members_from site (k + 1) rest))
-      ∙ total-append (map (size_of_member known) (member_of (holds var) structs k var)) (map (size_of_member known) (members_from site (k + 1) rest)) in
+      let split = ap total (map-append (size_of_member known) (member_of (holds var) structs unit.vars k var) (members_from site (k + 1) rest))
+      ∙ total-append (map (size_of_member known) (member_of (holds var) structs unit.vars k var))
+      (map (size_of_member known) (members_from site (k + 1) rest)) in
       omega (arith, one, later, split)
     where
-      by : (b : Bool) → stands_so structs var ≡ true → member_cells (member_of b structs k var) ≤ (if b then size structs var.ty else 0)
+      by : (b : Bool) → stands_so structs var ≡ true → member_cells (member_of b structs unit.vars k var) ≤ (if b then size structs var.ty else 0)
       by true own = let less = sizes.types var.ty own in omega (arith, less)
       by false own = omega arith
 
@@ -73,10 +74,10 @@ module _ (structs : List StructDef) (units : List UnitDef) (entry : ℕ) (keeps 
       let own = and_left (stands_so structs var) (list_all (stands_so structs) rest) stand in
       let one = by (holds var) own in
       let later = members-few (k + 1) rest (and_right (stands_so structs var) (list_all (stands_so structs) rest) stand) in
-      let split = length-append (member_of (holds var) structs k var) (members_from site (k + 1) rest) in
+      let split = length-append (member_of (holds var) structs unit.vars k var) (members_from site (k + 1) rest) in
       omega (arith, one, later, split)
     where
-      by : (b : Bool) → stands_so structs var ≡ true → length (member_of b structs k var) ≤ (if b then size structs var.ty else 0)
+      by : (b : Bool) → stands_so structs var ≡ true → length (member_of b structs unit.vars k var) ≤ (if b then size structs var.ty else 0)
       by true own = let some = scalars var.ty keeps own in omega (arith, some)
       by false own = omega arith
 
@@ -167,10 +168,10 @@ module _ (structs : List StructDef) (units : List UnitDef) (entry : ℕ) (keeps 
   param-by var (Some s) false stand is = sizes.types var.ty stand
 
   pub params-less : (k : ℕ) (vars : List Var) → list_all (stands_so structs) vars ≡ true →
-      total (map (size_of_param known) (params_from structs k vars)) ≤ total (map (size_so structs) vars)
+      total (map (size_of_param known) (params_from structs unit.vars k vars)) ≤ total (map (size_so structs) vars)
   params-less k [] stand = omega arith
   params-less k (var ∷ rest) stand =
-      let one : size_of_param known (param_of structs k var) ≤ size structs var.ty =
+      let one : size_of_param known (param_of structs unit.vars k var) ≤ size structs var.ty =
       param-by var (scalar_in var.ty) (is_output var.role) (and_left (stands_so structs var) (list_all (stands_so structs) rest) stand) refl in
       let later = params-less (k + 1) rest (and_right (stands_so structs var) (list_all (stands_so structs) rest) stand) in
       omega (arith, one, later)

@@ -170,10 +170,10 @@ module _ (known : Sizes) where
   result-one None = refl
 
   pub params-are : (a : Activity) → passed (activity_params a)
-      ≡ 2 + one_where (remembers_any a) + passed (params_from a.structs 0 (parameters_of a.unit)) + one_where (is_some a.unit.result)
+      ≡ 2 + one_where (remembers_any a) + passed (params_from a.structs a.unit.vars 0 (parameters_of a.unit)) + one_where (is_some a.unit.result)
   params-are a =
       let memory = memory_params a (remembers_any a) in
-      let ports = params_from a.structs 0 (parameters_of a.unit) in
+      let ports = params_from a.structs a.unit.vars 0 (parameters_of a.unit) in
       let result = result_params a.unit.result in
       let first = passed-append memory (ports ++ (result ++ over_param ∷ [])) in
       let second = passed-append ports (result ++ over_param ∷ []) in

@@ -212,7 +212,7 @@ module _ (units : List UnitDef) (entry : ℕ) (a : Activity) (keeps : IsWellType
       omega (arith, split, members, callees, as_many, less)
 
   owns_so : own_cells known (activity_function a)
-      ≤ (2 + one_where (remembers_any a) + passed known (params_from a.structs 0 (parameters_of a.unit)) + one_where (is_some a.unit.result))
+      ≤ (2 + one_where (remembers_any a) + passed known (params_from a.structs a.unit.vars 0 (parameters_of a.unit)) + one_where (is_some a.unit.result))
       + (length a.sizes + extras (rules_at a) + length a.unit.vars + 2 * length rs)
   owns_so =
       let params = params-are known a in
@@ -233,7 +233,7 @@ module _ (units : List UnitDef) (entry : ℕ) (a : Activity) (keeps : IsWellType
   counts : Counts (total (map (size_of_member known) (frame_struct a).members)) (total (map (size_of_member known) (remembered a)))
       (own_cells known (activity_function a)) (greatest (map reach (cs ++ every))) (length a.sizes) (width_in (plain_body a.unit.body)) (extras (rules_at a))
       (cell_statements_of a.unit) (length rs) (length a.unit.vars) held_cells (ports_of a.structs a.unit) (variables_of a.structs a.unit)
-      (passed known (params_from a.structs 0 (parameters_of a.unit))) (one_where (remembers_any a)) (one_where (is_some a.unit.result))
+      (passed known (params_from a.structs a.unit.vars 0 (parameters_of a.unit))) (one_where (remembers_any a)) (one_where (is_some a.unit.result))
       (total (map (frame_at known a) rs)) (total (map (memory_at known a) rs)) (total (map reach rs)) (total (map most rs)) (greatest (map most cs))
       (cells_at a.structs units k)
   counts = record {

@@ -90,9 +90,10 @@ use Rattle.bl_emit_spec_laws_wellformed_bodies.specs.Signed.{ActivitiesSigned, A
 abbrev as_variable : CParam → Variable
 as_variable p = record { pointer = p.pointer; ty = p.ty }
 
-params_are : (structs : List StructDef) (base : ℕ) (vars : List Var) → map as_variable (params_from structs base vars) ≡ map (parameter_for structs) vars
-params_are structs base [] = refl
-params_are structs base (var ∷ vars) = ap (λ rest. parameter_for structs var ∷ rest) (params_are structs (base + 1) vars)
+params_are : (structs : List StructDef) (all : List Var) (base : ℕ) (vars : List Var) →
+    map as_variable (params_from structs all base vars) ≡ map (parameter_for structs) vars
+params_are structs all base [] = refl
+params_are structs all base (var ∷ vars) = ap (λ rest. parameter_for structs var ∷ rest) (params_are structs all (base + 1) vars)
 
 memory_are : (a : Activity) (b : Bool) → map as_variable (memory_params a b) ≡ memory_given a.unit b
 memory_are a true = refl
@@ -105,13 +106,13 @@ result_are None = refl
 pub signed : ActivitiesSigned
 signed a =
     let behind : List CParam = result_params a.unit.result ++ over_param ∷ [] in
-    let params : List CParam = params_from a.structs 0 (parameters_of a.unit) in
+    let params : List CParam = params_from a.structs a.unit.vars 0 (parameters_of a.unit) in
     let whole : map as_variable (memory_params a (remembers_any a) ++ (params ++ behind))
     ≡ memory_given a.unit (remembers_any a) ++ (map (parameter_for a.structs) (parameters_of a.unit)
     ++ (result_given a.unit.result ++ as_variable over_param ∷ [])) =
     map-append as_variable (memory_params a (remembers_any a)) (params ++ behind)
     ∙ (λ i. memory_are a (remembers_any a) i ++ map-append as_variable params behind i)
-    ∙ (λ i. memory_given a.unit (remembers_any a) ++ (params_are a.structs 0 (parameters_of a.unit) i
+    ∙ (λ i. memory_given a.unit (remembers_any a) ++ (params_are a.structs a.unit.vars 0 (parameters_of a.unit) i
     ++ map-append as_variable (result_params a.unit.result) (over_param ∷ []) i))
     ∙ (λ i. memory_given a.unit (remembers_any a) ++ (map (parameter_for a.structs) (parameters_of a.unit)
     ++ (result_are a.unit.result i ++ as_variable over_param ∷ []))) in
@@ -135,13 +136,13 @@ all_joined : {A B : Type 0} (p : B → Bool) (f : A → List B) (xs : List A) �
 all_joined p f [] each = refl
 all_joined p f (x ∷ xs) each = all_append p (f x) (joined (map f xs)) (each x) (all_joined p f xs each)
 
-params_all : (structs : List StructDef) (test : CParam → Bool) (base : ℕ) (vars : List Var) →
-    ((k j : ℕ) (var : Var) → slice_get vars j ≡ Some var → test (param_of structs k var) ≡ true) → list_all test (params_from structs
+params_all : (structs : List StructDef) (all : List Var) (test : CParam → Bool) (base : ℕ) (vars : List Var) →
+    ((k j : ℕ) (var : Var) → slice_get vars j ≡ Some var → test (param_of structs all k var) ≡ true) → list_all test (params_from structs all
     base vars) ≡ true
-params_all structs test base [] each = refl
-params_all structs test base (v ∷ vars) each =
-    both (test (param_of structs base v)) (list_all test (params_from structs (base + 1) vars)) (each base 0 v refl)
-    (params_all structs test (base + 1) vars (λ k j var found. each k (suc j) var found))
+params_all structs all test base [] each = refl
+params_all structs all test base (v ∷ vars) each =
+    both (test (param_of structs all base v)) (list_all test (params_from structs all (base + 1) vars)) (each base 0 v refl)
+    (params_all structs all test (base + 1) vars (λ k j var found. each k (suc j) var found))
 
 scalar_or_pointer : (structs : List StructDef) (var : Var) (s : Option ScalarType) → scalar_in var.ty ≡ s →
     ((is_output var.role || is_none s) || is_scalar (c_type structs var.ty)) ≡ true
@@ -241,13 +242,13 @@ module _ (units : List UnitDef) (entry k : ℕ) (a : Activity) (keeps : IsWellTy
   params_declared : list_all (λ (p : CParam). is_declared table p.ty) (activity_params a) ≡ true
   params_declared =
       let test : CParam → Bool = λ (p : CParam). is_declared table p.ty in
-      let params : List CParam = params_from a.structs 0 (parameters_of a.unit) in
+      let params : List CParam = params_from a.structs a.unit.vars 0 (parameters_of a.unit) in
       let behind : List CParam = result_params a.unit.result ++ over_param ∷ [] in
       both (is_some (table (frame_name a.unit.name))) (list_all test (memory_params a (remembers_any a) ++ (params ++ behind)))
       (ap is_some stands.frame)
       (all_append test (memory_params a (remembers_any a)) (params ++ behind) (memory_declared (remembers_any a) refl)
       (all_append test params behind
-      (params_all a.structs test 0 (parameters_of a.unit)
+      (params_all a.structs a.unit.vars test 0 (parameters_of a.unit)
       (λ i j var found. var_declared j var (taken_there a.unit.vars (a.unit.inputs + a.unit.outputs) j var found)))
       (result_declared a.unit.result)))
 
@@ -262,11 +263,11 @@ module _ (units : List UnitDef) (entry k : ℕ) (a : Activity) (keeps : IsWellTy
   params_scalar : list_all (λ (p : CParam). p.pointer || is_scalar p.ty) (activity_params a) ≡ true
   params_scalar =
       let test : CParam → Bool = λ (p : CParam). p.pointer || is_scalar p.ty in
-      let params : List CParam = params_from a.structs 0 (parameters_of a.unit) in
+      let params : List CParam = params_from a.structs a.unit.vars 0 (parameters_of a.unit) in
       let behind : List CParam = result_params a.unit.result ++ over_param ∷ [] in
       all_append test (memory_params a (remembers_any a)) (params ++ behind) (memory_scalar (remembers_any a))
       (all_append test params behind
-      (params_all a.structs test 0 (parameters_of a.unit) (λ i j var found. scalar_or_pointer a.structs var (scalar_in var.ty) refl))
+      (params_all a.structs a.unit.vars test 0 (parameters_of a.unit) (λ i j var found. scalar_or_pointer a.structs var (scalar_in var.ty) refl))
       (result_scalar a.unit.result))
 
   at_most : (n : ℕ) → n ≤ 300 → nat_le n 300 ≡ true

@@ -23,7 +23,7 @@ module _ (structs : List StructDef) (earlier : List UnitDef) (unit : UnitDef) (s
     (params : List CParam) (locals : List CLocal) (name : Text) (result : Option Scalar) where
   made_is : site ≡ site_of structs earlier unit → coded ≡ body_coded site unit →
       body ≡ copies_from site 0 (inputs_of unit) ++ (coded.code ++ end_code unit.result (returns_last false unit.body)) →
-      whole ≡ read_code site (first_held site 0 unit.vars) (reads_in_block body) ++ body → params ≡ params_from structs 0 (parameters_of unit) →
+      whole ≡ read_code site (first_held site 0 unit.vars) (reads_in_block body) ++ body → params ≡ params_from structs unit.vars 0 (parameters_of unit) →
       locals ≡ memory_local unit.name (holds_any site unit.vars) ++ flag_locals coded.free.flags → name ≡ unit_name unit.name →
       result ≡ option_map c_scalar unit.result →
       ◌≡◌ {A = CFunc} (record { place = nowhere; fixed = true; result = result; name = name; params = params; locals = locals; body = whole })
