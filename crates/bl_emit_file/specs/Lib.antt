@@ -1,4 +1,3 @@
 pub mod Laws
 pub mod Merged
 pub mod Shows
-pub mod inner

@@ -5,20 +5,19 @@
 //! each block whose first node waits by one. Over all rows that fit, the file has the one trace that the
 //! semantics of the program allows (`specs/Shows.antt`, `ShowsProgram`). It is written of a machine of the program in
 //! which no two neighbouring blocks can be merged (`specs/Merged.antt`, `IsOfMerged`). The program must be made of a
-//! source text (`FromText` of `bl_machine_prevs`). One lemma combines those of the parts (`specs/Laws.antt`,
-//! `ProgramsShow`).
+//! source text (`FromText` of `bl_machine_prevs`), so that 64 bits count what stands in its units (`AreSmall` of
+//! `bl_rules_laws_sizes`). One lemma combines those of the parts (`specs/Laws.antt`, `ProgramsShow`).
 #![tactic(auto)]
 
-mod counts;
 mod laws;
 
 ghost use Rattle.std.specs.Prelude.{IfOk};
 ghost use Rattle.bl_ctext_semantics.specs.Parts.{parts_of};
 ghost use Rattle.bl_machine_prevs.specs.Declared.{FromText};
+ghost use Rattle.bl_rules_laws_sizes.specs.Small.{AreSmall};
 ghost use Rattle.bl_emit_file.specs.Merged.{IsOfMerged};
 ghost use Rattle.bl_emit_file.specs.Shows.{ShowsProgram};
 
-use crate::counts::counted;
 use crate::laws::programs_show;
 use bl_block::merge;
 use bl_cause::Accepted;
@@ -32,7 +31,8 @@ use std::alloc::Global;
 
 /// The C file of an accepted program. Fails only for want of memory.
 pub fn c_file(alloc: Global, accepted: &Accepted) -> Result<CFile, NoMemory>
-    requires { FromText accepted.now.tree.units }
+    requires text { FromText accepted.now.tree.units }
+    requires small { AreSmall accepted.now.tree.units }
     ensures shows { IfOk result (λ file. ShowsProgram accepted.now.tree.structs accepted.now.tree.units accepted.now.tree.entry (parts_of file)) }
     ensures merged { IfOk result (λ file. IsOfMerged accepted.now.tree (parts_of file)) }
 {
@@ -41,7 +41,6 @@ pub fn c_file(alloc: Global, accepted: &Accepted) -> Result<CFile, NoMemory>
     programs_show(program);
     programs_spelled(program);
     written_is_told();
-    counted(alloc, program)?;
     let machine = Machine::of(alloc, accepted)?;
     let merged = merge(alloc, &machine, accepted)?;
     merged.is_machine();

@@ -1,10 +1,9 @@
 -- What is known of the machine, and what the file shows then.
 use Rattle.std.proofs.Common.{subst}
-use Rattle.bl_tree.specs.declared.program.Program.{Program}
 use Rattle.bl_emit.specs.Kept.{written_in}
 use Rattle.bl_emit_laws.specs.Spelled.{ProgramsSpelled}
-use Rattle.bl_emit_spec_laws_simulation.specs.Compiled.{AreCountable}
 use Rattle.bl_emit_file.specs.Laws.{ProgramsShow}
+use Rattle.bl_emit_file.proofs.Counted.{all_countable}
 use Rattle.bl_emit_file.proofs.Merged.{made_known, made_of_merged, made_spelled}
 use Rattle.bl_emit_file.proofs.Whole.{file_shows}
 use Rattle.bl_emit_file.proofs.c_file.Goals as goal
@@ -17,8 +16,8 @@ invariant_of-result c =
     let tree = c.args.accepted.now.tree in
     let machine = c.in_ok-merged.merged in
     let made = written_in c.in_ok-made.made in
-    let it = made_known c.args.accepted.now c.in_ok-machine.machine machine made c.is_accepted.ensures c.requires
-    (subst (λ (of : Program). AreCountable of.units) c.tree-program.ensures c.in_ok-counted.ensures) c.in_ok-machine.ensures.program
+    let it = made_known c.args.accepted.now c.in_ok-machine.machine machine made c.is_accepted.ensures
+    c.requires.text (all_countable c.args.accepted.now.tree.units c.requires.small) c.in_ok-machine.ensures.program
     c.in_ok-merged.ensures.program c.in_ok-merged.ensures.merged c.is_machine.ensures c.written_is_told.ensures
     c.in_ok-made.ensures in
     record { spellable = made_spelled tree machine.activities made (subst ProgramsSpelled c.tree-program.ensures c.programs_spelled.ensures) it }
@@ -28,8 +27,8 @@ returns-clause-shows c =
     let tree = c.args.accepted.now.tree in
     let machine = c.in_ok-merged.merged in
     let made = written_in c.in_ok-made.made in
-    let it = made_known c.args.accepted.now c.in_ok-machine.machine machine made c.is_accepted.ensures c.requires
-    (subst (λ (of : Program). AreCountable of.units) c.tree-program.ensures c.in_ok-counted.ensures) c.in_ok-machine.ensures.program
+    let it = made_known c.args.accepted.now c.in_ok-machine.machine machine made c.is_accepted.ensures
+    c.requires.text (all_countable c.args.accepted.now.tree.units c.requires.small) c.in_ok-machine.ensures.program
     c.in_ok-merged.ensures.program c.in_ok-merged.ensures.merged c.is_machine.ensures c.written_is_told.ensures
     c.in_ok-made.ensures in
     file_shows tree machine.activities made (subst ProgramsShow c.tree-program.ensures c.programs_show.ensures) it.known it.is
@@ -38,8 +37,8 @@ pub returns-clause-merged : goal.returns-clause-merged
 returns-clause-merged c =
     let machine = c.in_ok-merged.merged in
     let made = written_in c.in_ok-made.made in
-    let it = made_known c.args.accepted.now c.in_ok-machine.machine machine made c.is_accepted.ensures c.requires
-    (subst (λ (of : Program). AreCountable of.units) c.tree-program.ensures c.in_ok-counted.ensures) c.in_ok-machine.ensures.program
+    let it = made_known c.args.accepted.now c.in_ok-machine.machine machine made c.is_accepted.ensures
+    c.requires.text (all_countable c.args.accepted.now.tree.units c.requires.small) c.in_ok-machine.ensures.program
     c.in_ok-merged.ensures.program c.in_ok-merged.ensures.merged c.is_machine.ensures c.written_is_told.ensures
     c.in_ok-made.ensures in
     made_of_merged c.args.accepted.now.tree machine.activities made it

@@ -1,0 +1,6 @@
+mod NamedParts
+mod Naming
+mod Narrow
+mod Small
+mod Spelled
+mod Typing
