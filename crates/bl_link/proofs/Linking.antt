@@ -1,0 +1,55 @@
+-- The program of joined parts.
+use Rattle.std.proofs.Common.{◌≡◌, ℕ, ◌<◌, ◌≤◌, ◌^◌, List, length, sym, subst, arith}
+use Rattle.std.proofs.lemmas.List.{length-map}
+use Rattle.bl_joined.specs.declared.joined.Joined.{Joined}
+use Rattle.bl_joined.specs.Joined.{IsJoinedOf}
+use Rattle.bl_lex.specs.Tokens.{Lexes}
+use Rattle.bl_link.proofs.Trees.{JoinedLex, JoinedPass, joined_lexes, tokens_pass}
+use Rattle.bl_link.specs.Fits.{PartsFit, part_texts}
+use Rattle.bl_link.specs.inner.Whole.{ArePartsOf, IsOfFew, IsReadable}
+use Rattle.bl_link.specs.Linked.{AreLinked, HaveTree}
+use Rattle.bl_module.specs.Parts.{SeenPart}
+use Rattle.bl_parse_tree.specs.declared.raw.Raw.{Raw}
+use Rattle.bl_rules.proofs.Layers.{TokensAreOne}
+use Rattle.bl_rules.specs.Rules.{Parses, TreePasses}
+use Rattle.bl_rules_laws_sizes.specs.Small.{IsOfSmallTree, SpelledAreSmall}
+use Rattle.bl_tree.specs.declared.program.Program.{Program}
+use Rattle.bl_types_program.specs.Programs.{IsProgramOf}
+
+pub readable : JoinedLex → JoinedPass → TokensAreOne → (parts : List SeenPart) (joined : Joined) → IsJoinedOf (part_texts parts) joined →
+    ArePartsOf parts → length joined.text.items < 2 ^ 32 → IsReadable joined
+readable lex pass one parts joined is are short =
+    let lexes = joined_lexes lex (part_texts parts) joined is in record {
+      short = short;
+      lexes = lexes;
+      passes = tokens_pass lex pass parts are one joined.tokens.items
+          (subst (λ (text : List ℕ). Lexes text joined.tokens.items) is.text lexes);
+    }
+
+pub texts_count : (parts : List SeenPart) → length (part_texts parts) ≡ length parts
+texts_count parts = length-map parts (λ (it : SeenPart). it.text)
+
+pub of_few : (parts : List SeenPart) (joined : Joined) → IsJoinedOf (part_texts parts) joined → 1 ≤ length parts → length parts ≤ 64 → IsOfFew joined
+of_few parts joined is some few = record {
+  texts = part_texts parts;
+  is = is;
+  some = subst (λ n. 1 ≤ n) (sym (texts_count parts)) some;
+  few = subst (λ n. n ≤ 64) (sym (texts_count parts)) few;
+}
+
+pub tree_in : (texts : List (List ℕ)) (joined : Joined) (raw : Raw) → IsJoinedOf texts joined → Parses joined.text.items raw → HaveTree texts raw
+tree_in texts joined raw is parses = subst (λ (text : List ℕ). Parses text raw) is.text parses
+
+pub are_linked : (parts : List SeenPart) (joined : Joined) (raw : Raw) (program : Program) → PartsFit parts → IsJoinedOf (part_texts parts) joined →
+    Parses joined.text.items raw → TreePasses raw → IsProgramOf raw program → AreLinked parts program
+are_linked parts joined raw program fit is parses passes of = record {
+  fit = fit;
+  have = record { raw = raw; tree = tree_in (part_texts parts) joined raw is parses; passes = passes; is = of };
+}
+
+-- the joined texts of parts are short enough for a small tree
+pub of_small : SpelledAreSmall → (joined : Joined) (raw : Raw) (program : Program) → length joined.text.items < 2 ^ 32 →
+    Parses joined.text.items raw → TreePasses raw → IsProgramOf raw program → IsOfSmallTree program
+of_small law joined raw program short parses passes of =
+    let few : length joined.text.items ≤ 2 ^ 40 = omega (arith, short) in
+    law joined.text.items raw program few parses passes of

@@ -1,0 +1,4 @@
+pub mod Files
+pub mod Fits
+pub mod Linked
+pub mod inner
