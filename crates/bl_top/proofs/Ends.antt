@@ -6,6 +6,7 @@ use Rattle.bl_top_commands.specs.Calls.{Call, Count, Output}
 use Rattle.bl_top_commands.specs.Check.{CheckEnds}
 use Rattle.bl_top_commands.specs.Count.{CountEnds}
 use Rattle.bl_top_commands.specs.Exec.{ExecEnds}
+use Rattle.bl_top_commands.specs.Face.{FaceEnds}
 use Rattle.bl_top_commands.specs.Gen.{GenEnds}
 use Rattle.bl_top_commands.specs.inner.Outcomes.{chosen_line, line_in, lines_in}
 use Rattle.bl_top_commands.specs.Laws.{FaultsCountFromBefore, ProgramsRunAsTheirSource}
@@ -24,12 +25,12 @@ use Rattle.bl_top_commands.specs.declared.status.Status.{Status}
 use Rattle.bl_top_commands.specs.declared.status.Status.TheVariants as status
 use Rattle.bl_io.specs.Left.{IsKept}
 use Rattle.bl_rows_stream.specs.Streams.{Course}
-use Rattle.bl_top.specs.Answers.{Answers, bounds, builds, checks, counts, execs, gens, no_job, resumes, runs, saves, saves_from, short, walks}
+use Rattle.bl_top.specs.Answers.{Answers, bounds, builds, checks, counts, execs, faces, gens, no_job, resumes, runs, saves, saves_from, short, walks}
 use Rattle.bl_top.specs.Build.{BuildEnds, IsBuiltOf, IsBuiltOfProgram, stopped, written}
 use Rattle.bl_top.specs.Drive.{Plants}
 use Rattle.bl_top.specs.Run.{RunEnds, ran, stopped as run_stopped}
 use Rattle.bl_tree.specs.declared.program.Program.{Program}
-use Rattle.bl_top_args.specs.Jobs.{HasStages, JobSpec, Word, bound, build, check, count, exec, gen, resume, run, save, save_from, walk}
+use Rattle.bl_top_args.specs.Jobs.{HasStages, JobSpec, Word, bound, build, check, count, exec, face, gen, resume, run, save, save_from, walk}
 use Rattle.bl_top.proofs.Programs.{built_of_source}
 
 -- ---- `build`
@@ -120,6 +121,10 @@ answers_save_from c plants job text state rows ended line asked ends = rw asked 
 pub answers_resume : (c : Call) (plants : Plants) (job : Option JobSpec) (text state rows : Word) (ended : Status) (line : List ℕ) →
     job ≡ Some (resume text state rows) → ResumeEnds c text state rows ended line → Answers c plants job ended line
 answers_resume c plants job text state rows ended line asked ends = rw asked (resumes ends)
+
+pub answers_face : (c : Call) (plants : Plants) (job : Option JobSpec) (source : Word) (uses : List Word) (ended : Status) (line : List ℕ) →
+    job ≡ Some (face source uses) → FaceEnds c source uses ended line → Answers c plants job ended line
+answers_face c plants job source uses ended line asked ends = rw asked (faces ends)
 
 pub answers_walk : (c : Call) (plants : Plants) (job : Option JobSpec) (source rows : Word) (seed : ℕ) (ended : Status) (lines : List ℕ) →
     job ≡ Some (walk source rows seed) → WalkEnds c source rows seed ended lines → Answers c plants job ended lines

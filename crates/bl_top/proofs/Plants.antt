@@ -56,6 +56,7 @@ use Rattle.bl_top.specs.Answers.{
   no_job,
   no_plant,
   resumes,
+  faces,
   runs,
   saves,
   saves_from,
@@ -219,5 +220,6 @@ answers_keep c plants _ ended lines (counts {text} {rows} ends) same = keeps-sam
 answers_keep c plants _ ended lines (saves {text} {rows} ends) same = keeps-same plants.before plants.after same
 answers_keep c plants _ ended lines (saves_from {text} {state} {rows} ends) same = keeps-same plants.before plants.after same
 answers_keep c plants _ ended lines (resumes {text} {state} {rows} ends) same = keeps-same plants.before plants.after same
+answers_keep c plants _ ended lines (faces {source} {uses} ends) same = keeps-same plants.before plants.after same
 answers_keep c plants _ _ _ (no_job kept_out) same = keeps-same plants.before plants.after same
 answers_keep c plants job _ _ (answers_short kept_out same) keeps = keeps-same plants.before plants.after same

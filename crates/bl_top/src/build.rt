@@ -7,14 +7,14 @@ ghost use Rattle.bl_top_commands.specs.Notes.{line_of};
 ghost use Rattle.bl_top_commands.specs.Reads.{Reads, files_read};
 ghost use Rattle.bl_top_commands.specs.Results.{WritesResult};
 ghost use Rattle.bl_io.specs.Count.{NeverFell};
-ghost use Rattle.bl_rules.specs.Accepted.{IsOfTree};
+ghost use Rattle.bl_rules_laws_sizes.specs.Small.{IsOfSmallTree};
 ghost use Rattle.bl_top.specs.Build.{BuildEnds, IsBuiltOfProgram};
 ghost use Rattle.bl_top_args.specs.Jobs.{build};
 
 use crate::emitted::c_file;
 use bl_io::{Files, Sink};
 use bl_rules::AcceptedSource;
-use bl_rules::laws::programs_of_texts_are_of_trees;
+use bl_rules_laws_sizes::programs_of_texts_are_small;
 use bl_top_commands::outcome::Outcome;
 use bl_top_commands::source::accepted_of;
 use bl_top_commands::status::Status;
@@ -32,16 +32,16 @@ pub fn build<F: Files, O: Sink>(alloc: Global, source: &str, files: &mut F, out:
     ensures file_counts { NeverFell (F.faults files.old) (F.faults files.new) }
     ensures out_count { O.faults out.old ≤ O.faults out.new }
 {
-    programs_of_texts_are_of_trees();
+    programs_of_texts_are_small();
     match accepted_of(alloc, source, files) {
         Ok(accepted) => write_c(alloc, &accepted, out),
         Err(outcome) => outcome,
     }
 }
 
-/// Writes the C text of the accepted program of a tree.
+/// Writes the C text of the accepted program of a small tree.
 fn write_c<O: Sink>(alloc: Global, accepted: &AcceptedSource, out: &mut O) -> Outcome
-    requires { IsOfTree accepted.now.program }
+    requires { IsOfSmallTree accepted.now.program }
     ensures writes { WritesResult (IsBuiltOfProgram accepted.now.program.structs accepted.now.program.units accepted.now.program.entry)
         (output_of (O.faults out.old) (O.faults out.new) (O.held out.old) (O.held out.new)) result.status }
     ensures line { line_in result ≡ line_of result.status }
@@ -56,7 +56,7 @@ fn write_c<O: Sink>(alloc: Global, accepted: &AcceptedSource, out: &mut O) -> Ou
 
 /// The C text of it.
 fn c_text(alloc: Global, accepted: &AcceptedSource) -> Result<Vec<u8>, NoMemory>
-    requires { IsOfTree accepted.now.program }
+    requires { IsOfSmallTree accepted.now.program }
     ensures { IfOk result (λ text. IsBuiltOfProgram accepted.now.program.structs accepted.now.program.units accepted.now.program.entry text.items) }
 {
     let file = c_file(alloc, accepted)?;

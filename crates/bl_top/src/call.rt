@@ -19,6 +19,7 @@ use bl_top_commands::bound::bound;
 use bl_top_commands::check::check;
 use bl_top_commands::count::count;
 use bl_top_commands::exec::exec;
+use bl_top_commands::face::face;
 use bl_top_commands::generate::generate;
 use bl_top_commands::laws::kept_files_are_within_limits;
 use bl_top_commands::notes::with_notes;
@@ -116,6 +117,10 @@ fn answer<F: Files, O: Sink>(
         Ok(Some(Job::Resume { text, state, rows })) => Answer::alone(
             alloc,
             resume(alloc, text, state, rows, files, out),
+        ),
+        Ok(Some(Job::Face { source, faces })) => Answer::alone(
+            alloc,
+            face(alloc, source, faces, files, out),
         ),
         Ok(None) => Answer::alone(alloc, Outcome::plain(alloc, Status::Usage)),
         Err(_) => Answer::alone(alloc, Outcome::plain(alloc, Status::NoMemory)),

@@ -5,7 +5,7 @@ ghost use Rattle.bl_top_commands.specs.Calls.{Output, call_of, output_of};
 ghost use Rattle.bl_top_commands.specs.inner.Outcomes.{lines_in};
 ghost use Rattle.bl_top_commands.specs.Reads.{Reads, files_read};
 ghost use Rattle.bl_io.specs.Count.{NeverFell};
-ghost use Rattle.bl_rules.specs.Accepted.{IsOfTree};
+ghost use Rattle.bl_rules_laws_sizes.specs.Small.{IsOfSmallTree};
 ghost use Rattle.bl_top.specs.Drive.{DriveEnds, drive_status};
 ghost use Rattle.bl_top.specs.inner.Driven.{MayHaveDriven, TellsReport, WritesReport};
 ghost use Rattle.bl_top_args.specs.Jobs.{drive};
@@ -15,7 +15,7 @@ use bl_io::{Files, IoFault, Sink, write_all};
 use bl_plant::Plant;
 use bl_plant_drive_report::{End, Report, run};
 use bl_rules::AcceptedSource;
-use bl_rules::laws::programs_of_texts_are_of_trees;
+use bl_rules_laws_sizes::programs_of_texts_are_small;
 use bl_top_commands::answer::Answer;
 use bl_top_commands::outcome::Outcome;
 use bl_top_commands::source::accepted_of;
@@ -43,7 +43,7 @@ pub fn drive<F: Files, O: Sink>(
     ensures file_counts { NeverFell (F.faults files.old) (F.faults files.new) }
     ensures out_count { O.faults out.old ≤ O.faults out.new }
 {
-    programs_of_texts_are_of_trees();
+    programs_of_texts_are_small();
     let accepted = match accepted_of(alloc, source, files) {
         Ok(accepted) => accepted,
         Err(outcome) => return Answer::alone(alloc, outcome),
@@ -54,7 +54,7 @@ pub fn drive<F: Files, O: Sink>(
     }
 }
 
-/// Drives the C file of the accepted program of a tree, and tells what came of it.
+/// Drives the C file of the accepted program of a small tree, and tells what came of it.
 fn report_of(
     alloc: Global,
     accepted: &AcceptedSource,
@@ -62,7 +62,7 @@ fn report_of(
     names: &[u32],
     plants: &mut Vec<Box<dyn Plant>>,
 ) -> Result<Report, NoMemory>
-    requires { IsOfTree accepted.now.program }
+    requires { IsOfSmallTree accepted.now.program }
     ensures report { IfOk result (TellsReport accepted.now.program.structs accepted.now.program.units accepted.now.program.entry
         (record { before = map (λ b. shown b) plants.old.items; after = map (λ b. shown b) plants.new.items }) ticks names.now) }
     ensures left { IfErr result (λ e. MayHaveDriven accepted.now.program.structs accepted.now.program.units accepted.now.program.entry

@@ -4,7 +4,7 @@ ghost use Rattle.std.specs.Prelude.{IfOk};
 ghost use Rattle.bl_ctext_semantics.specs.Parts.{parts_of};
 ghost use Rattle.bl_emit_file.specs.Shows.{ShowsProgram};
 ghost use Rattle.bl_machine_prevs.specs.Declared.{FromText};
-ghost use Rattle.bl_rules.specs.Accepted.{IsOfTree};
+ghost use Rattle.bl_rules_laws_sizes.specs.Small.{AreSmall, IsOfSmallTree};
 ghost use Rattle.bl_top.specs.inner.Programs.{IsFileOfProgram};
 
 use bl_cause::Accepted;
@@ -12,24 +12,27 @@ use bl_ctext::CFile;
 use bl_rules::AcceptedSource;
 use bl_rules_laws::declared::accepted_trees_declare;
 use bl_rules_laws::traces::{accepted_trees_have_one_trace, accepted_trees_mean_the_same};
+use bl_rules_laws_sizes::trees_of_units_stay_small;
 use bl_tree::NoMemory;
 use std::alloc::Global;
 
-/// The C file of the accepted program of a tree. It is made of the trees of the program's units, which mean the same.
+/// The C file of the accepted program of a small tree. It is made of the trees of the program's units, which mean the same.
 pub fn c_file(alloc: Global, accepted: &AcceptedSource) -> Result<CFile, NoMemory>
-    requires { IsOfTree accepted.now.program }
+    requires { IsOfSmallTree accepted.now.program }
     ensures { IfOk result (IsFileOfProgram accepted.now.program.structs accepted.now.program.units accepted.now.program.entry) }
 {
     accepted_trees_have_one_trace();
     accepted_trees_mean_the_same();
     accepted_trees_declare();
+    trees_of_units_stay_small();
     accepted.is_accepted();
     file_of(alloc, accepted.tree())
 }
 
 /// The C file of a program that is accepted by itself.
 fn file_of(alloc: Global, accepted: &Accepted) -> Result<CFile, NoMemory>
-    requires { FromText accepted.now.program.units }
+    requires text { FromText accepted.now.program.units }
+    requires small { AreSmall accepted.now.program.units }
     ensures { IfOk result (λ file. ShowsProgram accepted.now.program.structs accepted.now.program.units accepted.now.program.entry (parts_of file)) }
 {
     accepted.is_accepted();

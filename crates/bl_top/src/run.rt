@@ -9,7 +9,7 @@ ghost use Rattle.bl_top_commands.specs.Traces.{HasCourse, OneTrace};
 ghost use Rattle.bl_crun.specs.Running.{loaded};
 ghost use Rattle.bl_io.specs.Count.{NeverFell};
 ghost use Rattle.bl_rows_stream.specs.Streams.{course_of};
-ghost use Rattle.bl_rules.specs.Accepted.{IsOfTree};
+ghost use Rattle.bl_rules_laws_sizes.specs.Small.{IsOfSmallTree};
 ghost use Rattle.bl_top.specs.Run.{RunEnds};
 ghost use Rattle.bl_top_args.specs.Jobs.{run};
 
@@ -18,7 +18,7 @@ use bl_crun::{LoadFault, Runner};
 use bl_io::{Files, Sink};
 use bl_rows_stream::laws::{rows_of_bytes_fit, rows_of_lines_fit};
 use bl_rules::AcceptedSource;
-use bl_rules::laws::programs_of_texts_are_of_trees;
+use bl_rules_laws_sizes::programs_of_texts_are_small;
 use bl_top_commands::laws::{
     faults_count_from_before, kept_files_are_within_limits, programs_run_as_their_source,
 };
@@ -48,7 +48,7 @@ pub fn run<F: Files, O: Sink>(
     faults_count_from_before();
     kept_files_are_within_limits();
     programs_run_as_their_source();
-    programs_of_texts_are_of_trees();
+    programs_of_texts_are_small();
     let accepted = match accepted_of(alloc, source, files) {
         Ok(accepted) => accepted,
         Err(outcome) => return outcome,
@@ -59,9 +59,9 @@ pub fn run<F: Files, O: Sink>(
     }
 }
 
-/// The C file of the accepted program of a tree, loaded.
+/// The C file of the accepted program of a small tree, loaded.
 pub fn runner_of(alloc: Global, accepted: &AcceptedSource) -> Result<Runner, NoMemory>
-    requires { IsOfTree accepted.now.program }
+    requires { IsOfSmallTree accepted.now.program }
     ensures one_trace { IfOk result (λ runner. OneTrace accepted.now.program.structs accepted.now.program.units accepted.now.program.entry
         (behaviour_of runner.parts)) }
     ensures course { IfOk result (λ runner. HasCourse accepted.now.program.structs accepted.now.program.units accepted.now.program.entry

@@ -1,4 +1,4 @@
-pub mod DriveWords
+pub mod FewWords
 pub mod Matches
 pub mod Program
 pub mod Reading

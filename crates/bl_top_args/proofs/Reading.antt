@@ -31,9 +31,9 @@ use Rattle.clap.specs.Walk.{Text, answers_to}
 use Rattle.clap.specs.declared.error.Error.{Error}
 use Rattle.clap.specs.declared.error.kind.ErrorKind.TheVariants.{OutOfMemory}
 use Rattle.clap.proofs.OnLiterals.{clap_on_literals}
-use Rattle.bl_top_args.specs.inner.DriveWords.{behind_first, name_drive}
+use Rattle.bl_top_args.specs.inner.FirstWords.{behind_first, first_is}
 use Rattle.bl_top_args.specs.inner.CommandLine.{command_line, job_read, named_read, one_if_read, one_read, three_read, two_or_three_read, two_read}
-use Rattle.bl_top_args.specs.Jobs.{JobSpec, Word, bound, build, check, count, driven, exec, is_plain_word, job_of, of_one, of_one_if, of_three, of_two, other_job}
+use Rattle.bl_top_args.specs.Jobs.{JobSpec, Word, bound, build, check, count, driven, exec, faced, is_plain_word, job_of, of_one, of_one_if, of_three, of_two, other_job}
 use Rattle.bl_top_args.specs.Jobs.{of_two_or_three, resumed, run, save, save_from, seeded, staged}
 use Rattle.bl_top_args.proofs.Program.{ReadsAs, commands, name_refused, others_plain, program, takes_reads}
 use Rattle.bl_top_args.proofs.Values.{one, one_if_taken, one_taken, three, three_taken, two, two_or_three, two_or_three_taken, two_taken}
@@ -112,24 +112,25 @@ command_reads name values plain =
       refl,
     )))))))))))
 
-reads : (words : List Text) → list_all is_plain_word words ≡ true → name_drive words ≡ false → ReadsAs (job_of words) words
+reads : (words : List Text) → list_all is_plain_word words ≡ true → first_is (codes "drive") words ≡ false → first_is (codes "face") words ≡ false →
+    ReadsAs (job_of words) words
 unfolding clap_on_literals
-reads [] plain other = inr (λ none. cc, refl)
-reads (name ∷ values) plain other = rw (plain, other) (command_reads name values plain)
+reads [] plain no_drive no_face = inr (λ none. cc, refl)
+reads (name ∷ values) plain no_drive no_face = rw (plain, no_drive, no_face) (command_reads name values plain)
 
 -- where the parse has a result, it is the job
-pub result_is : (words : List Text) → list_all is_plain_word words ≡ true → name_drive words ≡ false → fault_of command_line words ≡ [] →
-    job_read (subcommand_of command_line words) ≡ job_of words
-result_is words plain other taken = go (reads words plain other)
+pub result_is : (words : List Text) → list_all is_plain_word words ≡ true → first_is (codes "drive") words ≡ false →
+    first_is (codes "face") words ≡ false → fault_of command_line words ≡ [] → job_read (subcommand_of command_line words) ≡ job_of words
+result_is words plain no_drive no_face taken = go (reads words plain no_drive no_face)
   where
     go : ReadsAs (job_of words) words → job_read (subcommand_of command_line words) ≡ job_of words
     go (inl h) = h.1
     go (inr h) = absurd (h.0 taken)
 
 -- where it refuses the words, there is no job
-pub refusal_is : (words : List Text) (error : Error) → list_all is_plain_word words ≡ true → name_drive words ≡ false →
-    HasKind (fault_of command_line words) error → (kind_of error ≡ OutOfMemory → ⊥) → None ≡ job_of words
-refusal_is words error plain other kinds memory = go (reads words plain other) kinds
+pub refusal_is : (words : List Text) (error : Error) → list_all is_plain_word words ≡ true → first_is (codes "drive") words ≡ false →
+    first_is (codes "face") words ≡ false → HasKind (fault_of command_line words) error → (kind_of error ≡ OutOfMemory → ⊥) → None ≡ job_of words
+refusal_is words error plain no_drive no_face kinds memory = go (reads words plain no_drive no_face) kinds
   where
     go : ReadsAs (job_of words) words → HasKind (fault_of command_line words) error → None ≡ job_of words
     go (inr h) k = sym h.1
@@ -141,6 +142,13 @@ none_plain [] e = refl
 none_plain (name ∷ values) e = rw e refl
 
 -- words whose first is `drive` ask for what the others do
-pub drive_is : (words : List Text) → list_all is_plain_word words ≡ true → name_drive words ≡ true → driven (behind_first words) ≡ job_of words
+pub drive_is : (words : List Text) → list_all is_plain_word words ≡ true → first_is (codes "drive") words ≡ true →
+    driven (behind_first words) ≡ job_of words
 drive_is [] plain e = absurd (true≢false (sym e))
 drive_is (name ∷ values) plain e = rw (plain, e) refl
+
+-- words whose first is `face` ask for what the others do
+pub face_is : (words : List Text) → list_all is_plain_word words ≡ true → first_is (codes "drive") words ≡ false → first_is (codes "face") words ≡ true →
+    faced (behind_first words) ≡ job_of words
+face_is [] plain no_drive e = absurd (true≢false (sym e))
+face_is (name ∷ values) plain no_drive e = rw (plain, no_drive, e) refl

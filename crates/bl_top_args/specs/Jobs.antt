@@ -1,7 +1,7 @@
 -- The job that the words of a command line ask for.
 use Rattle.std.specs.Prelude.{◌==◌, ◌≤◌, ℕ, ◌^◌, nat_lt, Bool, false, not, ◌&&◌, List, [], ◌∷◌}
 use Rattle.std.specs.Prelude.{length, Option, Some, None, option_map, option_and_then}
-use Rattle.std.specs.Prelude.{if◌then◌else◌, codes}
+use Rattle.std.specs.Prelude.{if◌then◌else◌, codes, map, string_bytes}
 use Rattle.std.specs.List.{list_all}
 use Rattle.std.specs.Str.{all_ascii_digits, bytes_eq}
 use Rattle.std.specs.Str.Parse.{digits_value}
@@ -38,6 +38,8 @@ pub data JobSpec : Type 0 where
   save_from : Word → Word → Word → JobSpec
   -- run a C text from a saved state over a file of rows: names of text, state, rows
   resume : Word → Word → Word → JobSpec
+  -- write the interface of the source file of the first name, judged behind the interface files of the other names
+  face : Word → List Word → JobSpec
 
 -- the files that the job reads, in the order of its words
 abbrev pub files_of : JobSpec → List Word
@@ -53,6 +55,7 @@ files_of (count text rows) = text ∷ rows ∷ []
 files_of (save text rows) = text ∷ rows ∷ []
 files_of (save_from text state rows) = text ∷ state ∷ rows ∷ []
 files_of (resume text state rows) = text ∷ state ∷ rows ∷ []
+files_of (face source faces) = source ∷ faces
 
 -- the word is not empty and does not begin with a hyphen (45)
 abbrev pub is_plain_word : Word → Bool
@@ -137,7 +140,12 @@ abbrev pub driven : List Word → Option JobSpec
 driven (source ∷ ticks ∷ first ∷ more) = option_and_then (λ count. option_map (drive source count) (plants_of (first ∷ more))) (ticks_of ticks)
 driven _ = None
 
--- the job of the command with this name, on the words after the name, where it is another command than `drive`
+-- the job of `face`: a source, and any number of interface files
+abbrev pub faced : List Word → Option JobSpec
+faced (source ∷ faces) = Some (face source faces)
+faced [] = None
+
+-- the job of the command with this name, on the words after the name, where it is a command whose number of words is limited
 abbrev pub other_job : Word → List Word → Option JobSpec
 other_job name values = if bytes_eq (codes "check") name then of_one check values
     else (if bytes_eq (codes "build") name then of_one build values
@@ -152,7 +160,8 @@ other_job name values = if bytes_eq (codes "check") name then of_one check value
 
 -- the job of the command with this name, on the words after the name
 abbrev pub command_job : Word → List Word → Option JobSpec
-command_job name values = if bytes_eq (codes "drive") name then driven values else other_job name values
+command_job name values = if bytes_eq (codes "drive") name then driven values
+    else (if bytes_eq (codes "face") name then faced values else other_job name values)
 
 -- the job of a list of words: the first names the command, and no word is empty or begins with a hyphen
 abbrev pub job_of : List Word → Option JobSpec
@@ -179,3 +188,4 @@ spec_of (job.Count text rows) = count text.now rows.now
 spec_of (job.Save text rows) = save text.now rows.now
 spec_of (job.SaveFrom text state rows) = save_from text.now state.now rows.now
 spec_of (job.Resume text state rows) = resume text.now state.now rows.now
+spec_of (job.Face source faces) = face source.now (map string_bytes faces.now)

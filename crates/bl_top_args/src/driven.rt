@@ -2,21 +2,11 @@
 
 ghost use Rattle.std.specs.Prelude.{◌≡◌, IfOk, map, option_map, string_bytes};
 ghost use Rattle.bl_top_args.specs.Jobs.{driven, plant_in, plant_of, plants_of, spec_of, ticks_in, ticks_of};
-ghost use Rattle.bl_top_args.specs.inner.DriveWords.{behind_first, name_drive};
+ghost use Rattle.bl_top_args.specs.inner.FirstWords.{behind_first};
 
 use crate::job::{Job, NoMemory};
 use crate::seed::seed_of;
 use std::alloc::Global;
-
-/// Whether the first word is `drive`.
-pub(crate) fn name_drive(words: &[String]) -> bool
-    ensures { result ≡ name_drive (map string_bytes words.now) }
-{
-    match words {
-        [] => false,
-        [name, ..] => name.as_str() == "drive",
-    }
-}
 
 /// The job that the words behind the first ask for, where that is `drive`.
 pub(crate) fn driven_by<'a>(alloc: Global, words: &'a [String]) -> Result<Option<Job<'a>>, NoMemory>

@@ -1,11 +1,13 @@
 //! The jobs, and how words ask for them.
-ghost use Rattle.std.specs.Prelude.{◌≡◌, false, IfOk, IfSome, map, option_map, string_bytes, true};
+ghost use Rattle.std.specs.Prelude.{◌≡◌, codes, false, IfOk, IfSome, map, option_map, string_bytes, true};
 ghost use Rattle.std.specs.List.{list_all};
-ghost use Rattle.bl_top_args.specs.inner.DriveWords.{name_drive};
+ghost use Rattle.bl_top_args.specs.inner.FirstWords.{first_is};
 ghost use Rattle.bl_top_args.specs.Jobs.{HasStages, files_of, is_plain_word, job_of, spec_of};
 
 use crate::command_line::{command_line, job_read};
-use crate::driven::{driven_by, name_drive};
+use crate::driven::driven_by;
+use crate::faced::faced_by;
+use crate::first::first_is;
 use clap::error::ErrorKind;
 use std::alloc::{AllocError, Global};
 use thiserror::Error;
@@ -97,6 +99,13 @@ pub enum Job<'a> {
         /// The name of the file of rows.
         rows: &'a str,
     },
+    /// Write the interface of a source file, judged behind the interfaces of others.
+    Face {
+        /// The name of the source file.
+        source: &'a str,
+        /// The names of the interface files, in order.
+        faces: &'a [String],
+    },
 }
 
 /// Memory ran out before the words were read.
@@ -112,8 +121,8 @@ impl From<AllocError> for NoMemory {
 
 /// The job that `words` ask for, those after the program's name; `None` where they ask for none. The first word is
 /// a command's name, exactly as it is written, and the command says how many words follow it; after `save` a word
-/// between the C text and the rows names a saved state and may be left out, and after `drive` one or more words name
-/// plants. A seed is one or more decimal digits that write a number below 2 to the 64; a number of stages is one from 1
+/// between the C text and the rows names a saved state and may be left out, after `drive` one or more words name
+/// plants, and after `face` any number of words behind the source name interface files. A seed is one or more decimal digits that write a number below 2 to the 64; a number of stages is one from 1
 /// to 2 to the 32 less 1, and a number of ticks one up to 1,000,000. A plant is `tank` (1), `ramp` (2) or a number below
 /// 2 to the 32. No word may be empty or begin with `-`. There is no command `help`; a file may have that name or a
 /// command's.
@@ -124,16 +133,20 @@ pub fn job_of<'a>(alloc: Global, words: &'a [String]) -> Result<Option<Job<'a>>,
     if !are_plain(words) {
         return Ok(None);
     }
-    if name_drive(words) {
+    if first_is("drive", words) {
         return driven_by(alloc, words);
+    }
+    if first_is("face", words) {
+        return Ok(faced_by(words));
     }
     other_job(alloc, words)
 }
 
-/// The job that plain words ask for whose first isn't `drive`.
+/// The job that plain words ask for whose first is neither `drive` nor `face`.
 fn other_job<'a>(alloc: Global, words: &'a [String]) -> Result<Option<Job<'a>>, NoMemory>
     requires plain { list_all is_plain_word (map string_bytes words.now) ≡ true }
-    requires other { name_drive (map string_bytes words.now) ≡ false }
+    requires no_drive { first_is (codes "drive") (map string_bytes words.now) ≡ false }
+    requires no_face { first_is (codes "face") (map string_bytes words.now) ≡ false }
     ensures { IfOk result (λ job. option_map spec_of job
         ≡ job_of (map string_bytes words.entry.now)) }
 {

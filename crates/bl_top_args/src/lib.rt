@@ -1,6 +1,6 @@
 //! What the words of the command line ask for. `job_of` gives, for all words, exactly the job of the definition
 //! `job_of` (`specs/Jobs.antt`), and `usage` gives its line (`specs/Usage.antt`); want of memory aside. The words are
-//! read with clap, by the rules of `specs/inner/CommandLine.antt`; those of `drive`, of which there may be many, are read here.
+//! read with clap, by the rules of `specs/inner/CommandLine.antt`; those of `drive` and `face`, of which there may be many, are read here.
 #![tactic(auto)]
 
 ghost use Rattle.std.specs.Prelude.{◌≡◌};
@@ -8,6 +8,8 @@ ghost use Rattle.bl_top_args.specs.Usage.{usage_line};
 
 mod command_line;
 mod driven;
+mod faced;
+mod first;
 mod job;
 mod seed;
 mod stages;
@@ -20,5 +22,5 @@ pub fn usage() -> &'static str
     ensures { result.now ≡ usage_line }
 {
     "usage: blechc check P | build P | run P ROWS | walk P ROWS SEED | exec C ROWS | drive P TICKS PLANT.. | gen N \
-     | bound C | count C ROWS | save C ROWS | save C STATE ROWS | resume C STATE ROWS\n"
+     | bound C | count C ROWS | face P FACE.. | save C ROWS | save C STATE ROWS | resume C STATE ROWS\n"
 }

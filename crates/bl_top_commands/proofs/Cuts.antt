@@ -1,9 +1,10 @@
 -- What is left of files, and fronts that were read of them.
-use Rattle.std.proofs.Common.{◌≡◌, ◌∙◌, ℕ, ◌<◌, ◌≤◌, List, [], ◌∷◌, take, drop, length, min, refl, sym, ap, inl, inr, arith}
+use Rattle.std.proofs.Common.{◌≡◌, ◌∙◌, ℕ, ◌<◌, ◌≤◌, List, [], ◌∷◌, map, take, drop, length, min, refl, sym, ap, inl, inr, arith}
 use Rattle.std.proofs.lemmas.Bool.{cases_lt}
 use Rattle.std.proofs.lemmas.List.{length-take, take_all}
 use Rattle.std.specs.Prelude.{◌⊎◌, Option, Some, None, IfSome}
-use Rattle.bl_top_commands.specs.Reads.{FileRead, LeftBehind, Limit, Reads, StandsWithin, in_bytes, in_lines}
+use Rattle.bl_module_files.specs.Turns.{StandFurther}
+use Rattle.bl_top_commands.specs.Reads.{FileRead, LeftBehind, Limit, Reads, StandsWithin, in_bytes, in_lines, source_file}
 use Rattle.bl_top_commands.specs.Sources.{IsSource}
 use Rattle.bl_io.specs.Left.{GivesUpTo, IsKept, KeepsOthers, StandsFurther}
 use Rattle.bl_rows_stream.specs.Streams.{ReadsLines}
@@ -97,6 +98,12 @@ pub reads_three : (file second third : FileRead) (before between behind after : 
     Reads (file ∷ second ∷ third ∷ []) before after
 reads_three file second third before between behind after within others more kept last rest =
     (between, within, others, reads_two second third [] between behind after more kept last rest)
+
+-- sources or interfaces, one after another
+pub reads_sources : (names : List Word) (before after : Word → Option (List ℕ)) → StandFurther names before after →
+    Reads (map source_file names) before after
+reads_sources [] before after further = further
+reads_sources (name ∷ names) before after further = (further.0, further.1, further.2, reads_sources names further.0 after further.3)
 
 -- one file, and then another
 pub reads_both : (file second : FileRead) (before between after : Word → Option (List ℕ)) →

@@ -2,6 +2,7 @@ pub mod Courses
 pub mod Cuts
 pub mod Ends
 pub mod Execs
+pub mod Faces
 pub mod Fronts
 pub mod Generated
 pub mod GoesOn

@@ -3,6 +3,7 @@ pub mod Calls
 pub mod Check
 pub mod Count
 pub mod Exec
+pub mod Face
 pub mod Gen
 pub mod inner
 pub mod Laws

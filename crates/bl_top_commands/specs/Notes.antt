@@ -22,6 +22,7 @@ exit_code_of status.PlantShape = 10
 exit_code_of status.TooLarge = 11
 exit_code_of status.SaveEnded = 14
 exit_code_of status.BadState = 15
+exit_code_of status.NotFace = 13
 
 -- ---- lines, each with its line feed
 
@@ -41,6 +42,7 @@ line_of status.PlantShape = []
 line_of status.TooLarge = []
 line_of status.SaveEnded = codes "ended" ++ 10 ∷ []
 line_of status.BadState = []
+line_of status.NotFace = []
 
 -- words and a number
 abbrev pub numbered_line : List ℕ → ℕ → List ℕ
@@ -61,6 +63,14 @@ too_large_line size = numbered_line (codes "too large: ") size
 -- the line with the offset at which bytes are no saved state
 abbrev pub bad_state_line : ℕ → List ℕ
 bad_state_line at = numbered_line (codes "bad state: at ") at
+
+-- the line with the number of an interface file that is no face, counted from 1, and the offset at which it stops being one
+abbrev pub no_face_line : ℕ → ℕ → List ℕ
+no_face_line file at = codes "not face: file " ++ (decimal file ++ (codes " at " ++ (decimal at ++ (10 ∷ []))))
+
+-- the line with the number of an interface file that can't stand behind those before it, counted from 1
+abbrev pub bad_face_line : ℕ → List ℕ
+bad_face_line file = numbered_line (codes "not face: file ") file
 
 -- ---- on `notes`
 

@@ -1,10 +1,10 @@
 -- Which files a job reads, and how far.
-use Rattle.std.specs.Prelude.{◌≡◌, ℕ, List, [], ◌∷◌, drop, Option, Some, None, IfSome}
+use Rattle.std.specs.Prelude.{◌≡◌, ℕ, List, [], ◌∷◌, drop, map, Option, Some, None, IfSome}
 use Rattle.bl_io.specs.Left.{IsKept, KeepsOthers, StandsFurther}
 use Rattle.bl_rows_stream.specs.Streams.{ReadsLines}
-use Rattle.bl_top_args.specs.Jobs.{JobSpec, Word, bound, build, check, count, drive, exec, gen, resume, run, save, save_from, walk}
+use Rattle.bl_top_args.specs.Jobs.{JobSpec, Word, bound, build, check, count, drive, exec, face, gen, resume, run, save, save_from, walk}
 
--- how far a source is read: one byte past the 1,048,576 bytes that it may have
+-- how far a source or an interface is read: one byte past the 1,048,576 bytes that it may have
 abbrev pub source_limit : ℕ
 source_limit = 1048577
 
@@ -41,7 +41,7 @@ pub record FileRead : Type 0 where
   pub name : Word
   pub limit : Limit
 
--- the file of a source, with its limit
+-- the file of a source or of an interface, with its limit
 abbrev pub source_file : Word → FileRead
 source_file name = record { name = name; limit = in_bytes source_limit }
 
@@ -72,6 +72,7 @@ files_read (Some (count text rows)) = text_file text ∷ rows_file rows ∷ []
 files_read (Some (save text rows)) = text_file text ∷ rows_file rows ∷ []
 files_read (Some (save_from text state rows)) = text_file text ∷ state_file state ∷ rows_file rows ∷ []
 files_read (Some (resume text state rows)) = text_file text ∷ state_file state ∷ rows_file rows ∷ []
+files_read (Some (face source faces)) = source_file source ∷ map source_file faces
 
 -- the files are read one after the other, each within its limit, and no other file is
 abbrev pub Reads : List FileRead → (Word → Option (List ℕ)) → (Word → Option (List ℕ)) → Type 0

@@ -1,7 +1,7 @@
 //! The commands that make no C file of a source, and what all commands have in common. Each way in which one of them
 //! ends comes with its whole cause and with what grew on `out`: `specs/Check.antt`, `specs/Walk.antt`,
-//! `specs/Exec.antt`, `specs/Gen.antt`, `specs/Bound.antt`, `specs/Count.antt` and `specs/Save.antt` (`save` and
-//! `resume`). Where a source isn't accepted, nothing grew on `out`, and a refusal names the first rule that fails for
+//! `specs/Exec.antt`, `specs/Gen.antt`, `specs/Bound.antt`, `specs/Count.antt`, `specs/Save.antt` (`save` and
+//! `resume`) and `specs/Face.antt`. Where a source isn't accepted, nothing grew on `out`, and a refusal names the first rule that fails for
 //! its bytes (`specs/Refusals.antt`, `IsNotAccepted`). Only the files that the words name are read, each within its
 //! limit (`specs/Reads.antt`, `Reads`). Either a result grew on `out` whole, or a prefix did and the status says why
 //! (`specs/Results.antt`, `WritesResult`). The same holds for the lines of a job on `notes` (`specs/Notes.antt`,
@@ -20,6 +20,7 @@ pub mod bound;
 pub mod check;
 pub mod count;
 pub mod exec;
+pub mod face;
 pub mod generate;
 pub mod laws;
 pub mod notes;

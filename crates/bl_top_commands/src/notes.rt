@@ -54,7 +54,8 @@ fn line_of(outcome: &Outcome) -> &[u8]
         | Status::PlantFault
         | Status::PlantShape
         | Status::TooLarge
-        | Status::BadState => &outcome.line,
+        | Status::BadState
+        | Status::NotFace => &outcome.line,
         status => fixed_line(status).as_bytes(),
     }
 }

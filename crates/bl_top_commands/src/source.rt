@@ -1,9 +1,9 @@
 //! Sources read and judged, as each command does that names one.
 
 ghost use Rattle.std.specs.Prelude.{IfErr, IfOk, OnOk};
-ghost use Rattle.bl_top_commands.specs.inner.Outcomes.{IsRefusedBy, line_in};
+ghost use Rattle.bl_top_commands.specs.inner.Outcomes.{IsRefusedBy, IsTold, line_in};
 ghost use Rattle.bl_top_commands.specs.Reads.{LeftBehind, source_limit};
-ghost use Rattle.bl_top_commands.specs.Refusals.{IsNotAccepted};
+ghost use Rattle.bl_top_commands.specs.Refusals.{IsNotAccepted, refusal_line};
 ghost use Rattle.bl_top_commands.specs.Sources.{IsProgramOfSource};
 ghost use Rattle.bl_io.specs.Count.{NeverFell};
 ghost use Rattle.bl_io.specs.Left.{KeepsOthers, StandsFurther};
@@ -13,7 +13,7 @@ use crate::refusal::line;
 use crate::status::Status;
 use bl_io::{Files, IoFault, read_up_to};
 use bl_rules::{AcceptedSource, accept};
-use bl_tree::Refusal;
+use bl_tree::{Place, Refusal, Rule};
 use std::alloc::Global;
 
 /// How far a source is read: one byte past the longest that is accepted.
@@ -49,13 +49,20 @@ pub fn refused(alloc: Global, refusal: &Refusal) -> Outcome
     ensures { IsRefusedBy refusal.now result }
 {
     match refusal {
-        Refusal::Rule { rule, place, also } => match line(alloc, *rule, *place, also) {
-            Ok(line) => Outcome {
-                status: Status::Refused,
-                line,
-            },
-            Err(_) => Outcome::plain(alloc, Status::NoMemory),
-        },
+        Refusal::Rule { rule, place, also } => refused_by(alloc, *rule, *place, also),
         Refusal::NoMemory => Outcome::plain(alloc, Status::NoMemory),
+    }
+}
+
+/// How a job ends whose source fails the rule at the place, with its further places.
+pub fn refused_by(alloc: Global, rule: Rule, place: Place, also: &[Place]) -> Outcome
+    ensures { IsTold Status.Refused (refusal_line rule place also.now) result }
+{
+    match line(alloc, rule, place, also) {
+        Ok(line) => Outcome {
+            status: Status::Refused,
+            line,
+        },
+        Err(_) => Outcome::plain(alloc, Status::NoMemory),
     }
 }

@@ -33,6 +33,8 @@ pub enum Status {
     SaveEnded,
     /// A file holds no saved state of the C text (docs/FORMATS.md, "Saved states").
     BadState,
+    /// A file is no interface, or one that can't stand behind those before it (docs/FORMATS.md, "Interfaces").
+    NotFace,
 }
 
 impl Status {
@@ -55,6 +57,7 @@ impl Status {
             Status::TooLarge => 11,
             Status::SaveEnded => 14,
             Status::BadState => 15,
+            Status::NotFace => 13,
         }
     }
 }

@@ -16,7 +16,7 @@ use Rattle.bl_save.specs.States.{OneMemory}
 use Rattle.bl_top.specs.Build.{BuildEnds, IsBuiltOf, stopped as build_stopped, written}
 use Rattle.bl_top.specs.Drive.{DriveEnds, Plants, drove, short as drive_short, stopped as drive_stopped}
 use Rattle.bl_top.specs.Run.{RunEnds, ran as run_ran, stopped as run_stopped}
-use Rattle.bl_top_args.specs.Jobs.{JobSpec, Word, bound, build, check, count, drive, exec, gen, resume, run, save, save_from, walk}
+use Rattle.bl_top_args.specs.Jobs.{JobSpec, Word, bound, build, check, count, drive, exec, face, gen, resume, run, save, save_from, walk}
 use Rattle.bl_top_commands.proofs.SameFiles.{EachBehaves}
 use Rattle.bl_top_commands.specs.Bound.{BoundEnds, TellsBounds, costs_told, stopped as bound_stopped}
 use Rattle.bl_top_commands.specs.Calls.{Call, HasRisen}
@@ -31,6 +31,7 @@ use Rattle.bl_top_commands.specs.Traces.{course_by}
 use Rattle.bl_top_commands.specs.Walk.{WalkEnds, ran as walk_ran, stopped as walk_stopped}
 use Rattle.bl_top_commands.specs.declared.status.Status.{Status}
 use Rattle.bl_top_commands.specs.declared.status.Status.TheVariants as status
+use Rattle.bl_top_laws.proofs.Faces.{FilesDecide, face_due, face_fails, face_stops}
 use Rattle.bl_top_laws.proofs.Jobs.{JobEnds, job_ended, lines_written}
 use Rattle.bl_top_laws.proofs.Loading.{FollowsBehaviour, never_loaded, text_due, text_stops, text_stops_due}
 use Rattle.bl_top_laws.proofs.Runs.{IsDone, OneTree, course_due, refused_fails, result_done, source_accepted, source_to}
@@ -50,6 +51,9 @@ use Rattle.bl_top_laws.specs.Complete.{
   check_done,
   count_done,
   exec_done,
+  face_done,
+  face_refused,
+  face_stopped,
   gen_done,
   gen_refused,
   gen_too_large,
@@ -172,6 +176,7 @@ source_fails c plants (count text rows) name source ended lines none same holds 
 source_fails c plants (save text rows) name source ended lines none same holds fails ends = absurd (cc)
 source_fails c plants (save_from text state rows) name source ended lines none same holds fails ends = absurd (cc)
 source_fails c plants (resume text state rows) name source ended lines none same holds fails ends = absurd (cc)
+source_fails c plants (face first names) name source ended lines none same holds fails ends = absurd (cc)
 
 -- ---- C texts
 
@@ -232,6 +237,7 @@ text_rejects_due each c plants (save_from first state rows) name text due ended 
     from_rejected each c first state text due is (refused_as c plants name first text same holds) none.files.0 _ ended lines ends
 text_rejects_due each c plants (resume first state rows) name text due ended lines none same holds is ends =
     from_rejected each c first state text due is (refused_as c plants name first text same holds) none.files.0 _ ended lines ends
+text_rejects_due each c plants (face first names) name text due ended lines none same holds is ends = absurd (cc)
 
 -- ---- `gen`
 
@@ -293,7 +299,7 @@ gen_large c stages ended line many (gen_stopped why kept) = unrun_large stages e
 
 -- ---- the call
 
-module _ (one : OneTree) (each : EachBehaves) (memory : (file : Parts) → OneMemory file) (c : Call) (plants : Plants) where
+module _ (one : OneTree) (each : EachBehaves) (memory : (file : Parts) → OneMemory file) (files : FilesDecide) (c : Call) (plants : Plants) where
   job_due : (job : JobSpec) (due ended : Status) (lines : List ℕ) → NothingRose c job → IsDue c job due → JobEnds c plants job ended lines →
       IsDone ended due
   job_due _ _ ended lines none (source_refused {job} {name} source named holds fails) ends =
@@ -331,6 +337,12 @@ module _ (one : OneTree) (each : EachBehaves) (memory : (file : Parts) → OneMe
   job_due _ _ ended lines none (gen_done {stages} trace to) ends = gen_due one c stages trace ended lines to none.out ends
   job_due _ _ ended lines none (gen_refused {stages} few fails) ends = gen_fails c stages ended lines few fails ends
   job_due _ _ ended lines none (gen_too_large {stages} many) ends = gen_large c stages ended lines many ends
+  job_due _ _ ended lines none (face_done {name} {names} text texts faces told spelled stand passes) ends =
+      face_due files c name names text texts told none.files faces spelled stand passes none.out ended lines ends
+  job_due _ _ ended lines none (face_refused {name} {names} text texts faces told spelled stand fails) ends =
+      face_fails files c name names text texts told none.files faces spelled stand fails ended lines ends
+  job_due _ _ ended lines none (face_stopped {name} {names} text texts told no_faces) ends =
+      face_stops files c name names text texts told none.files no_faces ended lines ends
 
 written_due : (meant ended due : Status) → IsDone meant due → IsDone ended meant → IsDone ended due
 written_due meant ended due is wrote = elim wrote [
@@ -341,10 +353,10 @@ written_due meant ended due is wrote = elim wrote [
 asked_due : (meant due : Status) (Ends : Type 0) → (Ends → IsDone meant due) → (meant ≡ status.NoMemory) ⊎ Ends → IsDone meant due
 asked_due meant due Ends by how = elim how [ inl short_of ↦ inl short_of | inr ends ↦ by ends ]
 
-pub calls_end_as_due : OneTree → EachBehaves → ((file : Parts) → OneMemory file) → CallsEndAsDue
-calls_end_as_due one each memory words c plants job due ended asks none is answered =
+pub calls_end_as_due : OneTree → EachBehaves → ((file : Parts) → OneMemory file) → FilesDecide → CallsEndAsDue
+calls_end_as_due one each memory files words c plants job due ended asks none is answered =
     let meant : Status = answered.meant in
     written_due meant ended due
-    (asked_due meant due (JobEnds c plants job meant answered.lines) (job_due one each memory c plants job due meant answered.lines none is)
+    (asked_due meant due (JobEnds c plants job meant answered.lines) (job_due one each memory files c plants job due meant answered.lines none is)
     (job_ended c plants job _ meant answered.lines asks answered.answers))
     (lines_written c.notes answered.lines meant ended none.notes answered.written)

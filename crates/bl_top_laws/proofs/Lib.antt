@@ -2,6 +2,7 @@ pub mod Builds
 pub mod Calls
 pub mod Casts
 pub mod Drives
+pub mod Faces
 pub mod Jobs
 pub mod Loading
 pub mod Runs

@@ -8,8 +8,14 @@ use Rattle.bl_ctext_semantics.specs.Parts.{parts_of}
 use Rattle.bl_ctext_semantics.specs.Sizes.{cells_needed}
 use Rattle.bl_ctext_semantics.specs.Trace.{c_trace, c_trace_from, start_succeeds}
 use Rattle.bl_ctree.specs.Means.{Means, shown_trace}
+use Rattle.bl_face.specs.declared.face.Face.{Face}
 use Rattle.bl_gen.specs.Outputs.{input_rows}
 use Rattle.bl_gen.specs.Text.{most_stages, program_text}
+use Rattle.bl_module.specs.declared.taken.Taken.TheVariants.{AsMarked}
+use Rattle.bl_module.specs.Faces.{FacesStand, behind_faces}
+use Rattle.bl_module.specs.Rules.{PassesIn}
+use Rattle.bl_module_files.specs.Faces.{AreSpelled}
+use Rattle.bl_module_files.specs.Told.{AreTold}
 use Rattle.bl_parse_tree.specs.declared.raw.Raw.{Raw}
 use Rattle.bl_rows.specs.Reading.{rows_of}
 use Rattle.bl_rows.specs.declared.fault.RowFault.{RowFault}
@@ -21,7 +27,7 @@ use Rattle.bl_rules.specs.Rules.{Passes}
 use Rattle.bl_save.specs.States.{SavedState}
 use Rattle.bl_top.specs.Answers.{Answered}
 use Rattle.bl_top.specs.Drive.{Plants}
-use Rattle.bl_top_args.specs.Jobs.{JobSpec, Word, bound, build, check, count, drive, exec, files_of, gen, job_of, resume, run, save, save_from, walk}
+use Rattle.bl_top_args.specs.Jobs.{JobSpec, Word, bound, build, check, count, drive, exec, face, files_of, gen, job_of, resume, run, save, save_from, walk}
 use Rattle.bl_top_commands.specs.Calls.{Call, HasRisen}
 use Rattle.bl_top_commands.specs.Gen.{last_status}
 use Rattle.bl_top_commands.specs.Reads.{LeftBehind, longest_text, source_limit, state_limit, text_limit}
@@ -138,6 +144,7 @@ source_named (count text rows) = None
 source_named (save text rows) = None
 source_named (save_from text state rows) = None
 source_named (resume text state rows) = None
+source_named (face source faces) = None
 
 -- the file of the C text that a job reads, if it reads one
 abbrev pub text_named : JobSpec → Option Word
@@ -153,6 +160,7 @@ text_named (count text rows) = Some text
 text_named (save text rows) = Some text
 text_named (save_from text state rows) = Some text
 text_named (resume text state rows) = Some text
+text_named (face source faces) = None
 
 -- a C text is rejected with this status
 pub data IsRejected (text : List ℕ) : Status → Type 0 where
@@ -203,6 +211,16 @@ pub data IsDue (c : Call) : JobSpec → Status → Type 0 where
   gen_done : {stages : ℕ} (trace : Trace) → GeneratesTo stages trace → IsDue c (gen stages) (last_status trace.last)
   gen_refused : {stages : ℕ} → stages ≤ most_stages → ¬ Passes (program_text stages) → IsDue c (gen stages) status.Refused
   gen_too_large : {stages : ℕ} → most_stages < stages → IsDue c (gen stages) status.TooLarge
+  -- the interface files are faces that stand, and no rule fails for the source behind them
+  face_done : {name : Word} {names : List Word} (text : List ℕ) (texts : List (List ℕ)) (faces : List Face) →
+      AreTold c.left (name ∷ names) (text ∷ texts) → AreSpelled texts faces → FacesStand faces → PassesIn (behind_faces faces) AsMarked text →
+      IsDue c (face name names) status.Ok
+  face_refused : {name : Word} {names : List Word} (text : List ℕ) (texts : List (List ℕ)) (faces : List Face) →
+      AreTold c.left (name ∷ names) (text ∷ texts) → AreSpelled texts faces → FacesStand faces → ¬ PassesIn (behind_faces faces) AsMarked text →
+      IsDue c (face name names) status.Refused
+  -- the interface files are no faces, or faces that don't stand
+  face_stopped : {name : Word} {names : List Word} (text : List ℕ) (texts : List (List ℕ)) → AreTold c.left (name ∷ names) (text ∷ texts) →
+      ((faces : List Face) → AreSpelled texts faces → ¬ FacesStand faces) → IsDue c (face name names) status.NotFace
 
 -- a call in which no count of faults rises ends with the status that is due for its job, want of memory aside
 abbrev pub CallsEndAsDue : Type 0

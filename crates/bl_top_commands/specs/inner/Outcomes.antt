@@ -1,11 +1,15 @@
 -- Ends of jobs as values of the program, before their line is written.
 use Rattle.std.specs.Prelude.{◌≡◌, ℕ, ◌⊎◌, List, ◌++◌}
-use Rattle.bl_top_commands.specs.Notes.{bad_rows_line, bad_state_line, line_of, not_subset_line, too_large_line}
+use Rattle.bl_top_commands.specs.Notes.{bad_face_line, bad_rows_line, bad_state_line, line_of, no_face_line, not_subset_line, too_large_line}
 use Rattle.bl_top_commands.specs.Refusals.{refusal_line}
 use Rattle.bl_top_commands.specs.declared.answer.Answer.{Answer}
 use Rattle.bl_top_commands.specs.declared.outcome.Outcome.{Outcome}
 use Rattle.bl_top_commands.specs.declared.status.Status.{Status}
 use Rattle.bl_top_commands.specs.declared.status.Status.TheVariants as status
+use Rattle.bl_module.specs.declared.fault.PartFault.{PartFault}
+use Rattle.bl_module.specs.declared.fault.PartFault.TheVariants as part
+use Rattle.bl_module_files.specs.declared.fault.FilesFault.{FilesFault}
+use Rattle.bl_module_files.specs.declared.fault.FilesFault.TheVariants as files
 use Rattle.bl_cparse.specs.declared.refusal.CRefusal.{CRefusal}
 use Rattle.bl_cparse.specs.declared.refusal.CRefusal.TheVariants as text
 use Rattle.bl_crun.specs.declared.fault.LoadFault.{LoadFault}
@@ -26,6 +30,7 @@ chosen_line status.PlantFault own = own
 chosen_line status.PlantShape own = own
 chosen_line status.TooLarge own = own
 chosen_line status.BadState own = own
+chosen_line status.NotFace own = own
 chosen_line ended own = line_of ended
 
 -- the line of an outcome
@@ -44,6 +49,19 @@ IsTold ended line outcome = ((outcome.status ≡ ended) × (outcome.line.items �
 abbrev pub IsRefusedBy : Refusal → Outcome → Type 0
 IsRefusedBy (refusal.Rule rule place also) outcome = IsTold status.Refused (refusal_line rule place also) outcome
 IsRefusedBy refusal.NoMemory outcome = outcome.status ≡ status.NoMemory
+
+-- the outcome is that of a source that has no part behind faces for this fault
+abbrev pub IsEndAtPart : PartFault → Outcome → Type 0
+IsEndAtPart (part.BadFace file) outcome = IsTold status.NotFace (bad_face_line file) outcome
+IsEndAtPart (part.Rule rule place also) outcome = IsTold status.Refused (refusal_line rule place also) outcome
+IsEndAtPart part.NoMemory outcome = outcome.status ≡ status.NoMemory
+
+-- the outcome is that of a source that has no face behind interface files for this fault
+abbrev pub IsEndAtFiles : FilesFault → Outcome → Type 0
+IsEndAtFiles files.Unread outcome = outcome.status ≡ status.ReadFault
+IsEndAtFiles (files.NotFace file at) outcome = IsTold status.NotFace (no_face_line file at) outcome
+IsEndAtFiles (files.NoPart fault) outcome = IsEndAtPart fault outcome
+IsEndAtFiles files.NoMemory outcome = outcome.status ≡ status.NoMemory
 
 -- the outcome is that of a C text that is refused so
 abbrev pub IsEndAtText : CRefusal → Outcome → Type 0

@@ -2,11 +2,11 @@
 use Rattle.bl_top_commands.specs.Reads.{source_file}
 use Rattle.bl_top.proofs.Cuts.{kept_same, reads_one}
 use Rattle.bl_top.proofs.Ends.{build_stopped, build_written}
-use Rattle.bl_top.proofs.Programs.{is_of_tree}
+use Rattle.bl_top.proofs.Programs.{is_of_small_tree}
 use Rattle.bl_top.proofs.build.build.Goals as goal
 
 pub write_c-requires : goal.write_c-requires
-write_c-requires g c = is_of_tree c.programs_of_texts_are_of_trees.ensures.accepted _ c.in-Ok.accepted.program c.in-Ok.ensures.program
+write_c-requires g c = is_of_small_tree c.programs_of_texts_are_small.ensures.accepted _ c.in-Ok.accepted.program c.in-Ok.ensures.program
 
 pub returns-in-Ok-clause-ends : goal.returns-in-Ok-clause-ends
 returns-in-Ok-clause-ends g c = λ notes.

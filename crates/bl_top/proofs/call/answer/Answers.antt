@@ -2,7 +2,7 @@
 use Rattle.std.proofs.Common.{◌≡◌, Some, map, refl, rules, string_bytes}
 use Rattle.bl_top_args.specs.Jobs.{gen, job_of}
 use Rattle.bl_top.proofs.Cuts.{kept_same}
-use Rattle.bl_top.proofs.Ends.{answers_alone, answers_bound, answers_build, answers_check, answers_count, answers_exec, answers_gen, answers_none}
+use Rattle.bl_top.proofs.Ends.{answers_alone, answers_bound, answers_build, answers_check, answers_count, answers_exec, answers_face, answers_gen, answers_none}
 use Rattle.bl_top.proofs.Ends.{answers_resume}
 use Rattle.bl_top.proofs.Ends.{answers_run, answers_save, answers_save_from, answers_short, answers_walk}
 use Rattle.bl_top.proofs.Driven.{answers_drive}
@@ -73,6 +73,11 @@ pub returns-in-Ok-Some-Resume-clause-answers : goal.returns-in-Ok-Some-Resume-cl
 returns-in-Ok-Some-Resume-clause-answers g c = λ notes.
     answers_alone _ _ _ c.alone-in-Ok-Some-Resume.result c.resume.result c.alone-in-Ok-Some-Resume.ensures.outcome c.alone-in-Ok-Some-Resume.ensures.lines
     (answers_resume _ _ _ _ _ _ _ _ (search rules) (c.resume.ensures.ends notes))
+
+pub returns-in-Ok-Some-Face-clause-answers : goal.returns-in-Ok-Some-Face-clause-answers
+returns-in-Ok-Some-Face-clause-answers g c = λ notes.
+    answers_alone _ _ _ c.alone-in-Ok-Some-Face.result c.face.result c.alone-in-Ok-Some-Face.ensures.outcome c.alone-in-Ok-Some-Face.ensures.lines
+    (answers_face _ _ _ _ _ _ _ (search rules) (c.face.ensures.ends notes))
 
 pub returns-in-Ok-None-clause-answers : goal.returns-in-Ok-None-clause-answers
 returns-in-Ok-None-clause-answers g c = λ notes.

@@ -4,11 +4,11 @@ use Rattle.bl_top_commands.specs.declared.outcome.Outcome.{Outcome}
 use Rattle.bl_top_commands.specs.Reads.{source_file}
 use Rattle.bl_top.proofs.Cuts.{kept_same, reads_one}
 use Rattle.bl_top.proofs.Driven.{drive_drove, drive_short, drive_stopped}
-use Rattle.bl_top.proofs.Programs.{is_of_tree}
+use Rattle.bl_top.proofs.Programs.{is_of_small_tree}
 use Rattle.bl_top.proofs.drive.drive.Goals as goal
 
 pub report_of-requires : goal.report_of-requires
-report_of-requires g c = is_of_tree c.programs_of_texts_are_of_trees.ensures.accepted _ c.in-Ok.accepted.program c.in-Ok.ensures.program
+report_of-requires g c = is_of_small_tree c.programs_of_texts_are_small.ensures.accepted _ c.in-Ok.accepted.program c.in-Ok.ensures.program
 
 pub returns-in-Err-clause-ends : goal.returns-in-Err-clause-ends
 returns-in-Err-clause-ends g c = λ notes.

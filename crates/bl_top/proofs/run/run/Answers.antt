@@ -4,11 +4,11 @@ use Rattle.bl_top_commands.specs.Reads.{rows_file, source_file}
 use Rattle.bl_rows_stream.specs.Streams.{course_of}
 use Rattle.bl_top.proofs.Cuts.{kept_same, reads_both, reads_first}
 use Rattle.bl_top.proofs.Ends.{run_ran, run_stops, stops_short}
-use Rattle.bl_top.proofs.Programs.{is_of_tree}
+use Rattle.bl_top.proofs.Programs.{is_of_small_tree}
 use Rattle.bl_top.proofs.run.run.Goals as goal
 
 pub runner_of-requires : goal.runner_of-requires
-runner_of-requires g c = is_of_tree c.programs_of_texts_are_of_trees.ensures.accepted _ c.in-Ok.accepted.program c.in-Ok.ensures.program
+runner_of-requires g c = is_of_small_tree c.programs_of_texts_are_small.ensures.accepted _ c.in-Ok.accepted.program c.in-Ok.ensures.program
 
 pub returns-in-Err-clause-ends : goal.returns-in-Err-clause-ends
 returns-in-Err-clause-ends g c = λ notes. run_stops _ _ _ _ _ c.in-Err.ensures.stopped (kept_same _)

@@ -1,5 +1,5 @@
 use Rattle.std.proofs.Common.{string_bytes}
-use Rattle.bl_top_args.proofs.DriveWords.{too_few}
+use Rattle.bl_top_args.proofs.FewWords.{too_few}
 use Rattle.bl_top_args.proofs.driven.driven_by.Goals as goal
 
 pub returns-in_default : goal.returns-in_default

@@ -21,7 +21,7 @@ use Rattle.std.proofs.Common.{
 use Rattle.std.specs.List.{list_all}
 use Rattle.std.specs.Str.{bytes_eq}
 use Rattle.bl_top_args.specs.Jobs.{JobSpec, Word, bound, build, check, command_job, count}
-use Rattle.bl_top_args.specs.Jobs.{driven, exec, files_of, is_plain_word, job_of, of_one, of_one_if, of_three, of_two, of_two_or_three}
+use Rattle.bl_top_args.specs.Jobs.{driven, exec, faced, files_of, is_plain_word, job_of, of_one, of_one_if, of_three, of_two, of_two_or_three}
 use Rattle.bl_top_args.specs.Jobs.{other_job, plants_of, resumed, run, save, save_from, seed_of, seeded, staged, stages_of, ticks_of}
 use Rattle.bl_top_args.proofs.Program.{others_plain}
 use Rattle.bl_top_args.proofs.job.files_have_plain_names.Goals as goal
@@ -113,6 +113,11 @@ driven_plain (source ∷ ticks ∷ first ∷ more) plain = go (ticks_of ticks) (
     go (Some n) None e f = rw (e, f) tt
     go None plants e f = rw e tt
 
+-- a job of `face` is of all its words
+faced_plain : (values : List Word) → list_all is_plain_word values ≡ true → IfSome (faced values) HasPlainFiles
+faced_plain [] plain = tt
+faced_plain (source ∷ faces) plain = plain
+
 other_plain : (name : Word) (values : List Word) → list_all is_plain_word values ≡ true → IfSome (other_job name values) HasPlainFiles
 other_plain name values plain =
     trying (bytes_eq (codes "check") name) _ _ (one_plain check (λ first. refl) values plain) (
@@ -127,7 +132,9 @@ other_plain name values plain =
     trying (bytes_eq (codes "resume") name) _ _ (resume_plain values plain) tt)))))))))
 
 command_plain : (name : Word) (values : List Word) → list_all is_plain_word values ≡ true → IfSome (command_job name values) HasPlainFiles
-command_plain name values plain = trying (bytes_eq (codes "drive") name) _ _ (driven_plain values plain) (other_plain name values plain)
+command_plain name values plain =
+    trying (bytes_eq (codes "drive") name) _ _ (driven_plain values plain)
+    (trying (bytes_eq (codes "face") name) _ _ (faced_plain values plain) (other_plain name values plain))
 
 job_plain : (words : List Word) → IfSome (job_of words) HasPlainFiles
 job_plain [] = tt

@@ -6,7 +6,7 @@ use Rattle.std.proofs.lemmas.Bool.Decides.{nat_tests}
 use Rattle.std.specs.List.{list_all}
 use Rattle.std.specs.Prelude.{◌&&◌, nat_lt}
 use Rattle.std.specs.Str.{bytes_eq}
-use Rattle.bl_top_args.specs.Jobs.{HasStages, JobSpec, Word, bound, build, check, command_job, count, driven, exec, is_plain_word, job_of, of_one}
+use Rattle.bl_top_args.specs.Jobs.{HasStages, JobSpec, Word, bound, build, check, command_job, count, driven, exec, faced, is_plain_word, job_of, of_one}
 use Rattle.bl_top_args.specs.Jobs.{
   of_one_if,
   of_three,
@@ -102,6 +102,10 @@ driven_has (source ∷ ticks ∷ first ∷ more) = go (ticks_of ticks) (plants_o
     go (Some n) None e f = rw (e, f) tt
     go None plants e f = rw e tt
 
+faced_has : (values : List Word) → IfSome (faced values) HasStages
+faced_has [] = tt
+faced_has (source ∷ faces) = tt
+
 other_has : (name : Word) (values : List Word) → IfSome (other_job name values) HasStages
 other_has name values =
     trying (bytes_eq (codes "check") name) _ _ (of_one_has check (λ first. tt) values) (
@@ -116,7 +120,9 @@ other_has name values =
     trying (bytes_eq (codes "resume") name) _ _ (of_three_has resumed (λ first second third. tt) values) tt)))))))))
 
 command_has : (name : Word) (values : List Word) → IfSome (command_job name values) HasStages
-command_has name values = trying (bytes_eq (codes "drive") name) _ _ (driven_has values) (other_has name values)
+command_has name values =
+    trying (bytes_eq (codes "drive") name) _ _ (driven_has values)
+    (trying (bytes_eq (codes "face") name) _ _ (faced_has values) (other_has name values))
 
 job_has : (words : List Word) → IfSome (job_of words) HasStages
 job_has [] = tt
