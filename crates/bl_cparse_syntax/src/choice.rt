@@ -1,6 +1,6 @@
 //! Which production the next piece decides on.
 
-ghost use Rattle.std.specs.Prelude.{◌≡◌, ℕ, List, Bool, true, false, None, Some, map, option_map};
+ghost use Rattle.std.specs.Prelude.{◌≡◌, ℕ, List, Bool, None, Some, map, option_map};
 ghost use Rattle.bl_cparse_syntax.specs.Classes.{matches};
 ghost use Rattle.bl_cparse_syntax.specs.Tables.{choices, decided_production, has, absent, decided, pick};
 ghost use Rattle.bl_cparse_syntax.specs.inner.Stacks.{class_shown};
@@ -10,7 +10,7 @@ use crate::classes::is_of;
 use crate::grammar::{Class, Part, Roomed, Within};
 use crate::seen::Seen;
 use crate::{expressions, items, statements};
-use bl_grammar::Symbol;
+use bl_grammar::{Productions, Symbol, needed, optional};
 
 /// A class or part of a production.
 pub type Shape = Symbol<Class<'static>, Within>;
@@ -83,37 +83,9 @@ fn has(classes: &[Class<'_>], piece: &Seen<'_>) -> bool
     false
 }
 
-/// What a part may stand for.
-#[derive(Clone, Copy)]
-struct Productions {
-    choices: &'static [Choice],
-    /// It may also stand for nothing.
-    may_be_absent: bool,
-}
-
-fn needed(choices: &'static [Choice]) -> Productions
-    ensures choices { result.choices.now ≡ choices.now }
-    ensures needed { result.may_be_absent ≡ false }
-{
-    Productions {
-        choices,
-        may_be_absent: false,
-    }
-}
-
-fn optional(choices: &'static [Choice]) -> Productions
-    ensures choices { result.choices.now ≡ choices.now }
-    ensures optional { result.may_be_absent ≡ true }
-{
-    Productions {
-        choices,
-        may_be_absent: true,
-    }
-}
-
 /// The productions of each part.
 #[tactic(auto, unfolding(crate::specs::Tables::choices, crate::specs::Tables::starts, crate::specs::Tables::absent))]
-fn productions_of(part: Part) -> Productions
+fn productions_of(part: Part) -> Productions<Choice>
     ensures choices { map choice_shown result.choices.now ≡ choices part }
     ensures absent { result.may_be_absent ≡ absent part }
 {

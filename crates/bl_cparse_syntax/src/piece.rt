@@ -4,6 +4,8 @@ ghost use Rattle.std.specs.Prelude.{◌≡◌, ◌+◌, ◌<◌, ◌≤◌, ◌�
 ghost use Rattle.bl_ctext.specs.Token.{is_blank as blank, is_word_byte as word_byte, is_double_sign as double_sign};
 ghost use Rattle.bl_cparse_syntax.specs.Pieces.{pieces, left_of};
 
+use bl_ctext::token_bytes::{is_double_sign, is_word_byte};
+
 /// Where a piece stands: both numbers are the text's length where none is left.
 #[derive(Clone, Copy, PartialEq, Eq, Debug)]
 pub struct Piece {
@@ -88,20 +90,4 @@ fn is_blank(byte: u8) -> bool
     ensures { result ≡ blank byte }
 {
     byte == b' ' || byte == b'\n'
-}
-
-fn is_word_byte(byte: u8) -> bool
-    ensures { result ≡ word_byte byte }
-{
-    byte.is_ascii_alphanumeric() || byte == b'_'
-}
-
-fn is_double_sign(a: u8, b: u8) -> bool
-    ensures { result ≡ double_sign a b }
-{
-    match b {
-        b'=' => a == b'=' || a == b'!' || a == b'<' || a == b'>',
-        b'&' | b'|' => a == b,
-        _ => false,
-    }
 }

@@ -8,6 +8,8 @@ ghost use Rattle.bl_ctext.specs.Names.{is_among as among, is_name as name, is_st
 ghost use Rattle.bl_ctext.specs.Names.{is_callee as callee, is_turn_name as turn_name, begins_with_digit};
 ghost use Rattle.bl_cparse_syntax.specs.inner.Words.{is_numbered, is_unreserved};
 
+use bl_ctext::token_bytes::is_word_byte;
+
 /// The words of the grammar that don't begin with `bl_`.
 static GRAMMAR_WORDS: [&str; 31] = [
     "bool",
@@ -246,12 +248,6 @@ pub fn is_among(word: &[u8], words: &[&str]) -> bool
         }
     }
     false
-}
-
-fn is_word_byte(byte: u8) -> bool
-    ensures { result ≡ word_byte byte }
-{
-    byte.is_ascii_alphanumeric() || byte == b'_'
 }
 
 /// Whether all of the bytes may stand in words.

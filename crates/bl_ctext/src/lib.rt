@@ -8,6 +8,7 @@ pub mod builtin;
 pub mod file;
 mod prelude;
 mod printer;
+pub mod token_bytes;
 mod writer;
 
 pub use builtin::{BUILTINS, Builtin};

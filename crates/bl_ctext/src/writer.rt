@@ -2,10 +2,11 @@
 
 ghost use Rattle.std.specs.Prelude.{◌≡◌, ℕ, List, [], ◌∷◌, ◌++◌, IsTrue, IfOk, OnOk, OnErr};
 ghost use Rattle.bl_ctext.specs.Prelude.{prelude};
-ghost use Rattle.bl_ctext.specs.Token.{is_token, is_word_byte as word_byte, is_double_sign as double_sign, SpacedC};
+ghost use Rattle.bl_ctext.specs.Token.{is_token, SpacedC};
 ghost use Rattle.bl_ctext.specs.inner.Cut.{joins, may_merge, tokens_in, are_tokens, parted};
 
 use crate::prelude::PRELUDE;
+use crate::token_bytes::{is_double_sign, is_word_byte};
 use bl_tree::NoMemory;
 use std::alloc::{AllocError, Global};
 use std::marker::Model;
@@ -126,20 +127,4 @@ fn is_joined(a: u8, b: u8) -> bool
     ensures { result ≡ joins a b }
 {
     is_word_byte(a) && is_word_byte(b) || is_double_sign(a, b)
-}
-
-fn is_word_byte(byte: u8) -> bool
-    ensures { result ≡ word_byte byte }
-{
-    byte.is_ascii_alphanumeric() || byte == b'_'
-}
-
-fn is_double_sign(a: u8, b: u8) -> bool
-    ensures { result ≡ double_sign a b }
-{
-    match b {
-        b'=' => a == b'=' || a == b'!' || a == b'<' || a == b'>',
-        b'&' | b'|' => a == b,
-        _ => false,
-    }
 }

@@ -8,24 +8,16 @@ ghost use Rattle.bl_emit.specs.Programs.{next_told, parts_told, told_of, unit_to
 
 use crate::activity::{ActivityInput, Parts, activity_parts};
 use bl_block::nodes_of;
+use bl_emit_acts::is_activity;
 use bl_emit_acts::parts::joined;
 use bl_emit_functions::{function, memory};
 use bl_emit_tables::sizes_of;
 use bl_machine::Activity;
 use bl_machine_transitions::rules;
 use bl_tree::slices::element;
-use bl_tree::tree::{StructDef, Unit, UnitKind};
+use bl_tree::tree::{StructDef, Unit};
 use bl_tree::{List, NoMemory};
 use std::alloc::Global;
-
-fn is_activity(kind: UnitKind) -> bool
-    ensures { result ≡ typing.is_activity kind }
-{
-    match kind {
-        UnitKind::Function => false,
-        UnitKind::Activity => true,
-    }
-}
 
 /// The parts of an activity of a machine.
 fn machine_parts(

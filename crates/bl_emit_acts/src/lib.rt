@@ -22,7 +22,7 @@ pub use expressions::{expression, place};
 pub use home::Home;
 pub use made::Made;
 pub use operators::{argument, code};
-pub use places::variable;
+pub use places::{home_of_var, is_activity, variable};
 pub use site::UnitSite;
 pub use structs::{array, definition};
 pub use types::{c_type, scalar_in, scalar_in_c};

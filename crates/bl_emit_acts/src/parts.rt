@@ -22,7 +22,8 @@ pub const NOWHERE: Place = Place { start: 0, end: 0 };
 pub fn prefixed(alloc: Global, prefix: &str, name: &str) -> Result<Text, NoMemory>
     ensures { IfOk result (λ text. text ≡ prefix.now ++ name.now) }
 {
-    let mut text = String::from_str(alloc, prefix)?;
+    let mut text = String::with_capacity(alloc, prefix.len().saturating_add(name.len()))?;
+    text.push_str(prefix)?;
     text.push_str(name)?;
     Ok(Text::from_string(text))
 }
@@ -49,10 +50,14 @@ pub fn named(alloc: Global, letter: &str, vars: &[Var], k: usize) -> Result<Text
     ensures { IfOk result (λ text. text ≡ letter.now ++ numbered_name vars.now k) }
 {
     let mut buffer = Buffer::new();
-    let mut text = String::from_str(alloc, letter)?;
-    text.push_str(buffer.format(k))?;
+    let number = buffer.format(k);
+    let name = source_name(vars, k);
+    let length = (letter.len().saturating_add(number.len())).saturating_add(name.len());
+    let mut text = String::with_capacity(alloc, length.saturating_add(1))?;
+    text.push_str(letter)?;
+    text.push_str(number)?;
     text.push_str("_")?;
-    text.push_str(source_name(vars, k))?;
+    text.push_str(name)?;
     Ok(Text::from_string(text))
 }
 

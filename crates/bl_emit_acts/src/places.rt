@@ -1,6 +1,6 @@
 //! Where the variables of a unit stand.
 
-ghost use Rattle.std.specs.Prelude.{◌≡◌, ◌∷◌, codes, IfOk, option_map};
+ghost use Rattle.std.specs.Prelude.{◌≡◌, ◌∷◌, codes, IfOk, Some, option_map};
 ghost use Rattle.bl_tree.specs.declared.tree.Ty.{out-Ty};
 ghost use Rattle.bl_tree.specs.Typing as typing;
 ghost use Rattle.bl_emit_acts.specs.Expressions.{array_element_type, field_at, field_of_struct, length_at, scalar_at, type_at};
@@ -14,11 +14,12 @@ use crate::site::UnitSite;
 use crate::types::scalar_in;
 use bl_tree::c::{CPlace, CStep};
 use bl_tree::slices::element;
-use bl_tree::tree::{Field, Role, StructDef, Ty, UnitKind};
+use bl_tree::tree::{Field, Role, StructDef, Ty, UnitKind, Var};
 use bl_tree::{List, NoMemory, Scalar, Text};
 use std::alloc::Global;
 
-fn is_activity(kind: UnitKind) -> bool
+/// Whether units of the kind are activities.
+pub fn is_activity(kind: UnitKind) -> bool
     ensures { result ≡ typing.is_activity kind }
 {
     match kind {
@@ -27,7 +28,6 @@ fn is_activity(kind: UnitKind) -> bool
     }
 }
 
-/// Where an input stands.
 fn home_of_input(scalar: bool, copies: bool) -> Home
     ensures { result ≡ homes.home_of_input scalar copies }
 {
@@ -57,15 +57,20 @@ fn copies_inputs(site: &UnitSite) -> bool
     !is_activity(site.kind) && site.result.is_some()
 }
 
+/// Where a variable of the unit stands.
+pub fn home_of_var(site: &UnitSite, var: &Var) -> Home
+    ensures { result ≡ homes.home_of (site_in site.entry.now) (Some var.now) }
+{
+    let scalar = scalar_in(&var.ty).is_some();
+    home_of_role(var.role, scalar, copies_inputs(site))
+}
+
 /// Where the variable at a position stands.
 fn home(site: &UnitSite, k: u32) -> Home
     ensures { result ≡ homes.home_of (site_in site.entry.now) (typing.var_at (site_in site.entry.now) k) }
 {
     match element(site.vars, k as usize) {
-        Some(var) => {
-            let scalar = scalar_in(&var.ty).is_some();
-            home_of_role(var.role, scalar, copies_inputs(site))
-        }
+        Some(var) => home_of_var(site, var),
         None => Home::Held,
     }
 }

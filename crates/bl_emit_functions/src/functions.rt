@@ -12,14 +12,13 @@ ghost use Rattle.bl_emit_functions.specs.Reads.{reads_in_block};
 ghost use Rattle.bl_emit_functions.specs.Trees.{c_return_zero};
 
 use crate::coded::{Coded, Free};
-use crate::homes::home_of_var;
 use crate::parts::returning;
 use crate::reads::in_block;
 use crate::statements::block;
 use bl_emit_acts::parts::{
     NOWHERE, joined, literal, named, numbered, prefixed, read, set, single, whole,
 };
-use bl_emit_acts::{Home, UnitSite, c_type, scalar_in, scalar_in_c, variable};
+use bl_emit_acts::{Home, UnitSite, c_type, home_of_var, scalar_in, scalar_in_c, variable};
 use bl_tree::c::{CFunc, CLocal, CMember, CParam, CStmt, CStruct, CType};
 use bl_tree::tree::{Role, Stmt, StmtKind, StructDef, Unit, Var};
 use bl_tree::{List, NoMemory, Scalar, Text};

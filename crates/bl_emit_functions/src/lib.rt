@@ -8,7 +8,6 @@
 
 mod coded;
 mod functions;
-mod homes;
 pub mod parts;
 mod reads;
 mod statements;

@@ -1,12 +1,12 @@
 //! Which production the next token decides on.
 
-ghost use Rattle.std.specs.Prelude.{◌≡◌, true, false, None, map, option_map};
+ghost use Rattle.std.specs.Prelude.{◌≡◌, None, map, option_map};
 ghost use Rattle.bl_parse_syntax.specs.Grammar.{same_class};
 ghost use Rattle.bl_parse_syntax.specs.Tables.{has, shown, choices, chosen, absent, or_absent, permits, pick};
 
 use crate::grammar::{Class, Part, TokenView};
 use crate::{expressions, items, statements};
-use bl_grammar::Symbol;
+use bl_grammar::{Productions, Symbol, needed, optional};
 
 /// A symbol of the grammar.
 pub type Piece = Symbol<Class, Part>;
@@ -88,37 +88,9 @@ pub fn is_same(one: Class, other: Class) -> bool
     }
 }
 
-/// What a part may stand for.
-#[derive(Clone, Copy)]
-struct Productions {
-    choices: &'static [Choice],
-    /// It may also stand for nothing.
-    may_be_absent: bool,
-}
-
-fn needed(choices: &'static [Choice]) -> Productions
-    ensures choices { result.choices.now ≡ choices.now }
-    ensures needed { result.may_be_absent ≡ false }
-{
-    Productions {
-        choices,
-        may_be_absent: false,
-    }
-}
-
-fn optional(choices: &'static [Choice]) -> Productions
-    ensures choices { result.choices.now ≡ choices.now }
-    ensures optional { result.may_be_absent ≡ true }
-{
-    Productions {
-        choices,
-        may_be_absent: true,
-    }
-}
-
 /// The productions of each part.
 #[tactic(auto, unfolding(crate::specs::Tables::choices, crate::specs::Tables::starts, crate::specs::Tables::absent))]
-fn productions_of(part: Part) -> Productions
+fn productions_of(part: Part) -> Productions<Choice>
     ensures choices { map shown result.choices.now ≡ choices part }
     ensures absent { result.may_be_absent ≡ absent part }
 {
