@@ -1,9 +1,7 @@
 //! The generated program judged, and walked.
 
-ghost use Rattle.std.specs.Prelude.{◌≡◌, ◌<◌, ◌≤◌, ◌^◌, ℕ, length, IfErr, IfOk, OnOk};
-ghost use Rattle.bl_ctree.specs.Instances.{instances_of};
+ghost use Rattle.std.specs.Prelude.{◌≤◌, IfErr, IfOk, OnOk};
 ghost use Rattle.bl_ctree.specs.Means.{Means, shown_trace};
-ghost use Rattle.bl_ctree.specs.Reaches.{Bounded, NeverStuck};
 ghost use Rattle.bl_gen.specs.Outputs.{input_rows};
 ghost use Rattle.bl_gen.specs.Text.{most_stages, program_text};
 ghost use Rattle.bl_gen_run.specs.Runs.{IsGeneratedRun, IsUnrun};
@@ -12,9 +10,8 @@ ghost use Rattle.bl_rules.specs.Accepted.{HasProgram};
 use crate::text::{Run, text_of};
 use crate::unrun::Unrun;
 use bl_gen::{GenFault, input_rows, program};
-use bl_rules::laws::programs_of_texts_are_of_trees;
 use bl_rules::{AcceptedSource, accept};
-use bl_rules_laws::traces::{accepted_trees_have_few_instances, accepted_trees_have_one_trace};
+use bl_rules_laws::traces::accepted_trees_have_one_trace;
 use bl_tree::{List, NoMemory, Refusal, Trace};
 use std::alloc::Global;
 
@@ -58,9 +55,7 @@ fn run_of(alloc: Global, stages: u32, accepted: &AcceptedSource) -> Result<Run, 
     requires program { HasProgram (program_text stages) accepted.now.program }
     ensures { IfOk result (λ run. IsGeneratedRun stages run.text.items run.last) }
 {
-    programs_of_texts_are_of_trees();
     accepted_trees_have_one_trace();
-    accepted_trees_have_few_instances();
     accepted.is_accepted();
     let trace = trace_of(alloc, accepted)?;
     let text = text_of(alloc, stages, &trace)?;
@@ -72,14 +67,10 @@ fn run_of(alloc: Global, stages: u32, accepted: &AcceptedSource) -> Result<Run, 
 
 /// A trace of the program over the rows.
 fn trace_of(alloc: Global, accepted: &AcceptedSource) -> Result<Trace, NoMemory>
-    ghost most: { ℕ }
-    requires few { length (instances_of accepted.now.program.units accepted.now.program.entry) < 2 ^ 32 }
-    requires bounded { Bounded most accepted.now.program.structs accepted.now.program.units accepted.now.program.entry }
-    requires never_stuck { NeverStuck accepted.now.program.structs accepted.now.program.units accepted.now.program.entry }
     ensures { IfOk result (λ trace. Means accepted.now.program.structs accepted.now.program.units accepted.now.program.entry
         input_rows (shown_trace trace)) }
 {
     let rows = input_rows(alloc)?;
     let mut places = List::new(alloc);
-    bl_walk::walk(alloc, accepted.program(), rows.as_slice(), 0, &mut places)
+    bl_rules_walk::walk(alloc, accepted, rows.as_slice(), 0, &mut places)
 }

@@ -33,7 +33,8 @@ pub record SeenSource : Type 0 where
   -- the program of the trees of its units, accepted by itself: C is made of it
   pub tree : AcceptedProgram
 
--- no rule fails for the program of a source, and the other program is that of the trees of its units
+-- the program of a source is that of a well-formed tree for which no rule fails, and the other program is that of the trees of its units
 pub record IsAcceptedSource (source : SeenSource) : Type 0 where
+  pub of_tree : IsOfTree source.program
   pub passes : ProgramPasses source.program.structs source.program.units source.program.entry
   pub is_tree : IsTreeOf source.program source.tree.program

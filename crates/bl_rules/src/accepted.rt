@@ -37,11 +37,13 @@ impl AcceptedSource {
     ghost use Rattle.bl_cause_trees.specs.Trees.{IsTreeOf};
     ghost use Rattle.bl_effects.specs.Rules.{Passes as UnitsPass};
     ghost use Rattle.bl_limits.specs.Rules.{Passes as KeepsLimits};
-    ghost use Rattle.bl_rules.specs.Accepted.{IsAcceptedSource};
+    ghost use Rattle.bl_rules.specs.Accepted.{IsAcceptedSource, IsOfTree};
     ghost use Rattle.bl_rules.specs.Rules.{ProgramPasses};
 
-    /// A source for which no rule fails, with the program of the trees of its units, unless it is that itself, and the schedule of that.
-    pub fn new(program: Program, tree: Option<Program>, schedule: Schedule) -> AcceptedSource
+    /// The program of a tree for which no rule fails, with the program of the trees of its units, unless it is that itself, and the
+    /// schedule of that.
+    pub(crate) fn new(program: Program, tree: Option<Program>, schedule: Schedule) -> AcceptedSource
+        requires of_tree { IsOfTree program }
         requires passes { ProgramPasses program.structs program.units program.entry }
         requires is_tree { IsTreeOf program (unwrap_or tree program) }
         requires units { UnitsPass (unwrap_or tree program).units }
@@ -79,7 +81,7 @@ impl AcceptedSource {
         &self.tree
     }
 
-    /// No rule fails for the source.
+    /// No rule fails for the source, and its program is that of a tree.
     pub fn is_accepted(&self)
         ensures { IsAcceptedSource self.now }
     {

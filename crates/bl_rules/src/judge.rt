@@ -4,8 +4,7 @@ ghost use Rattle.std.specs.Prelude.{◌≡◌, IfErr, IfOk, OnOk, unwrap_or};
 ghost use Rattle.bl_cause_trees.specs.Trees.{TreesAreTyped};
 ghost use Rattle.bl_limits.specs.Rules.{Fails as LimitsFail, Passes as LimitsPass};
 ghost use Rattle.bl_types_program.specs.Programs.{IsProgramOf};
-ghost use Rattle.bl_parse_tree.specs.WellFormed.{RawIsWellFormed};
-ghost use Rattle.bl_rules.specs.Accepted.{HasProgram};
+ghost use Rattle.bl_rules.specs.Accepted.{HasProgram, IsOfTree};
 ghost use Rattle.bl_rules.specs.Rules.{Fails, Passes, ProgramFails, ProgramPasses, TreeFails, TreePasses};
 ghost use Rattle.bl_tree.specs.Rules.{IsCause};
 
@@ -14,10 +13,9 @@ use crate::laws::{trees_keep_the_rules, trees_stay_typed};
 use bl_cause_trees::Scheduled;
 use bl_cause_trees::laws::units_have_one_list_of_trees;
 use bl_lex::laws::tokens_are_one;
-use bl_parse_laws::kept::what_is_spelled_keeps;
 use bl_parse_laws::spelled::a_text_has_one_tree;
 use bl_parse_syntax::laws::first_failure_is_one;
-use bl_parse_tree::Raw;
+use bl_parse_wellformed::WellFormedTree;
 use bl_tree::{Program, Refusal};
 use std::alloc::Global;
 
@@ -27,7 +25,6 @@ pub fn accept(alloc: Global, text: &[u8]) -> Result<AcceptedSource, Refusal>
     ensures program { IfOk result (λ accepted. HasProgram text.now accepted.program) }
     ensures cause { IfErr result (IsCause (Fails text.now)) }
 {
-    what_is_spelled_keeps();
     tokens_are_one();
     a_text_has_one_tree();
     first_failure_is_one();
@@ -35,26 +32,24 @@ pub fn accept(alloc: Global, text: &[u8]) -> Result<AcceptedSource, Refusal>
         Ok(tokens) => tokens,
         Err(refusal) => return Err(refusal),
     };
-    let raw = match bl_parse::parse(alloc, text, &tokens) {
-        Ok(raw) => raw,
+    let tree = match bl_parse_wellformed::parse(alloc, text, &tokens) {
+        Ok(tree) => tree,
         Err(refusal) => return Err(refusal),
     };
-    match accept_raw(alloc, &raw) {
+    match accept_raw(alloc, &tree) {
         Ok(accepted) => Ok(accepted),
         Err(refusal) => Err(refusal),
     }
 }
 
-/// Judges those of a tree, from Duplicate on, and makes its program. The tree is one that a text spells: it keeps what
-/// such trees keep.
-pub fn accept_raw(alloc: Global, raw: &Raw) -> Result<AcceptedSource, Refusal>
-    requires keeps { RawIsWellFormed raw.now.items }
-    ensures passes { OnOk result (TreePasses raw.now) }
-    ensures program { IfOk result (λ accepted. IsProgramOf raw.now accepted.program) }
-    ensures cause { IfErr result (IsCause (TreeFails raw.now)) }
+/// Judges those of a well-formed tree, from Duplicate on, and makes its program.
+pub fn accept_raw(alloc: Global, tree: &WellFormedTree) -> Result<AcceptedSource, Refusal>
+    ensures passes { OnOk result (TreePasses tree.now.raw) }
+    ensures program { IfOk result (λ accepted. IsProgramOf tree.now.raw accepted.program) }
+    ensures cause { IfErr result (IsCause (TreeFails tree.now.raw)) }
 {
     trees_stay_typed();
-    let program = match bl_types_program::check(alloc, raw) {
+    let program = match bl_types_program::check(alloc, &tree.raw) {
         Ok(program) => program,
         Err(refusal) => return Err(refusal),
     };
@@ -64,11 +59,11 @@ pub fn accept_raw(alloc: Global, raw: &Raw) -> Result<AcceptedSource, Refusal>
     }
 }
 
-/// Judges those of a typed program, from Pause on, and gives the program of the trees of its units with its schedule. Who calls this knows
-/// that the program of the trees is typed too: bodies with first turns of loops nest deeper than their sources, and keep the places of
-/// these.
-pub fn accept_program(alloc: Global, program: Program) -> Result<AcceptedSource, Refusal>
+/// Judges those of a typed program of a tree, from Pause on, and gives the program of the trees of its units with its schedule. That program
+/// is typed too: bodies with first turns of loops nest deeper than their sources, and keep the places of these.
+fn accept_program(alloc: Global, program: Program) -> Result<AcceptedSource, Refusal>
     requires typed { TreesAreTyped program.structs program.units program.entry }
+    requires of_tree { ProgramPasses program.structs program.units program.entry → IsOfTree program }
     ensures passes { OnOk result (ProgramPasses program.structs program.units program.entry) }
     ensures program { IfOk result (λ accepted. accepted.program ≡ program) }
     ensures cause { IfErr result (IsCause (ProgramFails program.structs program.units program.entry)) }

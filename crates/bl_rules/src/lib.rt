@@ -1,8 +1,7 @@
 //! All rules together. `accept` answers Ok exactly where no rule fails for a text, with its program, and else names the
 //! first that fails, at its first place (`specs/Rules.antt`, `FirstFailing`); want of memory aside. How a text fails a rule
 //! is one relation, `Fails`, over the judges of the layers: each judges what the layers before it make where none of their
-//! rules fails. `accept_raw` does the same of a tree, with the rules from Duplicate on, and `accept_program` of a typed
-//! program, with those from Pause on.
+//! rules fails. `accept_raw` does the same of a well-formed tree, with the rules from Duplicate on.
 //!
 //! Twice, Cycle, Frames and Cells are judged on the trees of units: bodies in which loops that begin branches have first turns, where
 //! the source's own tick graph has a closed walk (`bl_cause_trees`). What is accepted has the program of the source and that of the
@@ -20,4 +19,4 @@ mod judge;
 pub mod laws;
 
 pub use accepted::AcceptedSource;
-pub use judge::{accept, accept_program, accept_raw};
+pub use judge::{accept, accept_raw};

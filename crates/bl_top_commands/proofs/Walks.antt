@@ -49,8 +49,6 @@ use Rattle.bl_cause_trees.specs.Trees.{AreTrees}
 use Rattle.bl_ctree.specs.Control.{Idle}
 use Rattle.bl_ctree.specs.Instances.{setting_of}
 use Rattle.bl_ctree.specs.Means.{Means, ShownTrace, entry_items, shown_trace}
-use Rattle.bl_ctree.specs.Measure.{steps as steps_within}
-use Rattle.bl_ctree.specs.Reaches.{Bounded}
 use Rattle.bl_ctree.specs.Store.{first_store}
 use Rattle.bl_io.specs.Count.{Rose}
 use Rattle.bl_io.specs.Held.{Appends, AppendsPart}
@@ -58,7 +56,6 @@ use Rattle.bl_io.specs.Left.{IsKept}
 use Rattle.bl_rows.specs.Reading.{empty_reading, fault_in, rows_in, rows_of}
 use Rattle.bl_rows.specs.Text.{header_text, last_text, line_text, lines_from, text_of}
 use Rattle.bl_rows.specs.declared.fault.RowFault.{RowFault}
-use Rattle.bl_rules.specs.Accepted.{IsAcceptedSource, SeenSource}
 use Rattle.bl_rules_laws.specs.Traces.OneTrace.{SourceHasOneTrace}
 use Rattle.bl_rows_stream.specs.Gathered.{Gathers, LeadsTo, broken, finish_over, whole}
 use Rattle.bl_rows_stream.specs.Streams.{AppendsFront, AreLeft, Course, HasRead, Streamed, all, finish_of, text_over, unread}
@@ -415,18 +412,6 @@ walk_stopped c source rows seed answer outcome same lines why kept =
 
 -- ---- the parts of a walk
 
--- the bound on ticks is asked of the program of the trees
-pub bounded_by : (accepted : SeenSource) → IsAcceptedSource accepted →
-    SourceHasOneTrace accepted.program.structs accepted.program.units accepted.program.entry accepted.tree.program.units →
-    Bounded (steps_within accepted.tree.program.structs accepted.tree.program.units accepted.tree.program.entry) accepted.program.structs
-    accepted.program.units accepted.program.entry
-bounded_by accepted is one =
-    let program = accepted.program in
-    let tree = accepted.tree.program in
-    subst (λ structs. Bounded (steps_within structs tree.units tree.entry) program.structs program.units program.entry) (sym is.is_tree.structs)
-    (subst (λ entry. Bounded (steps_within program.structs tree.units entry) program.structs program.units program.entry) (sym is.is_tree.entry)
-    one.bounded)
-
 -- rows that were gathered for the columns of the program's inputs, and walked
 pub is_walk : (structs : List StructDef) (units : List UnitDef) (entry : ℕ) (left rest : Option (List ℕ)) (seed : ℕ) (ins out_columns : List Column)
     (rows : List (List ℤ)) (end : RowsEnd) (text told : List ℕ) (how : Finish) → ArePorts units entry ins out_columns →
@@ -476,13 +461,6 @@ few_begun bound structs units entry seed rows gathered trace before after none s
     let every : length after ≡ length walked.lists = ap length grew in
     let long : length rows ≡ length gathered = ap length same in
     omega (arith, most, every, long, few)
-
--- lists that were appended for a program were appended for the same program
-pub walked_by : (program same : Program) → program ≡ same → (seed : ℕ) (rows : List (List ℤ)) (trace : Trace) (before after : List (List Place)) →
-    Appended program.structs program.units program.entry seed rows trace before after →
-    Appended same.structs same.units same.entry seed rows trace before after
-walked_by program same is seed rows trace before after walked =
-    subst (λ (p : Program). Appended p.structs p.units p.entry seed rows trace before after) is walked
 
 -- the text and the lines of a walk
 pub walks_rows : (structs : List StructDef) (units : List UnitDef) (entry seed : ℕ) (rows gathered : List (List ℤ)) (end : RowsEnd)

@@ -1,14 +1,11 @@
 //! The command `walk P ROWS SEED`.
 
-ghost use Rattle.std.specs.Prelude.{◌≡◌, ◌<◌, ◌≤◌, ◌^◌, ℕ, length, IfOk, Some};
+ghost use Rattle.std.specs.Prelude.{◌≡◌, ◌≤◌, length, IfOk, Some};
 ghost use Rattle.bl_top_commands.specs.Calls.{Output, call_of, output_of};
 ghost use Rattle.bl_top_commands.specs.inner.Outcomes.{lines_in};
 ghost use Rattle.bl_top_commands.specs.inner.Walked.{ArePorts, IsWalk, WalksRows, WritesWalk};
 ghost use Rattle.bl_top_commands.specs.Reads.{Reads, files_read, most_rows};
 ghost use Rattle.bl_top_commands.specs.Walk.{WalkEnds};
-ghost use Rattle.bl_ctree.specs.Instances.{instances_of};
-ghost use Rattle.bl_ctree.specs.Measure.{steps};
-ghost use Rattle.bl_ctree.specs.Reaches.{Bounded, NeverStuck};
 ghost use Rattle.bl_io.specs.Count.{NeverFell, Rose};
 ghost use Rattle.bl_io.specs.Left.{KeepsOthers};
 ghost use Rattle.bl_rows_stream.specs.Streams.{ReadsLines};
@@ -24,8 +21,7 @@ use bl_rows::{input_columns, output_columns, text};
 use bl_rows_stream::laws::{rows_of_bytes_fit, rows_of_lines_fit};
 use bl_rows_stream::{Finish, Gathering, finish_over, gather};
 use bl_rules::AcceptedSource;
-use bl_rules::laws::programs_of_texts_are_of_trees;
-use bl_rules_laws::traces::{accepted_trees_have_few_instances, accepted_trees_have_one_trace};
+use bl_rules_laws::traces::accepted_trees_have_one_trace;
 use bl_tree::{Column, List, NoMemory, Program};
 use bl_walk::laws::{
     closed_runs_stay_closed, fronts_show_fronts, rows_bound_runs, walks_are_allowed,
@@ -67,9 +63,7 @@ pub fn walk<F: Files, O: Sink>(
     ensures file_counts { NeverFell (F.faults files.old) (F.faults files.new) }
     ensures out_count { O.faults out.old ≤ O.faults out.new }
 {
-    programs_of_texts_are_of_trees();
     accepted_trees_have_one_trace();
-    accepted_trees_have_few_instances();
     walks_are_allowed();
     closed_runs_stay_closed();
     fronts_show_fronts();
@@ -94,10 +88,6 @@ fn walk_file<F: Files>(
     seed: u64,
     files: &mut F,
 ) -> Result<Walked, NoMemory>
-    requires few { length (instances_of accepted.now.program.units accepted.now.program.entry) < 2 ^ 32 }
-    requires bounded { Bounded (steps accepted.now.tree.program.structs accepted.now.tree.program.units accepted.now.tree.program.entry)
-        accepted.now.program.structs accepted.now.program.units accepted.now.program.entry }
-    requires never_stuck { NeverStuck accepted.now.program.structs accepted.now.program.units accepted.now.program.entry }
     ensures walk { IfOk result (λ w. IsWalk accepted.now.program.structs accepted.now.program.units accepted.now.program.entry
         (F.left files.old rows.now) (F.left files.new rows.now) seed w.text.items w.told.items w.finish) }
     ensures reads { ReadsLines most_rows (F.left files.old rows.now) (F.left files.new rows.now) }
@@ -130,19 +120,15 @@ fn walk_rows(
     gathering: &Gathering,
     seed: u64,
 ) -> Result<Walked, NoMemory>
-    ghost most: { ℕ }
-    requires few { length (instances_of accepted.now.program.units accepted.now.program.entry) < 2 ^ 32 }
-    requires bounded { Bounded most accepted.now.program.structs accepted.now.program.units accepted.now.program.entry }
-    requires never_stuck { NeverStuck accepted.now.program.structs accepted.now.program.units accepted.now.program.entry }
     requires few_rows { length gathering.now.rows.items ≤ 1000000 }
     ensures { IfOk result (λ w. WalksRows accepted.now.program.structs accepted.now.program.units accepted.now.program.entry seed
         gathering.now.rows.items gathering.now.end outs.now w.text.items w.told.items w.finish) }
 {
     rows_bound_runs();
     let mut places = List::new(alloc);
-    let trace = bl_walk::walk(
+    let trace = bl_rules_walk::walk(
         alloc,
-        accepted.program(),
+        accepted,
         gathering.rows.as_slice(),
         seed,
         &mut places,

@@ -21,27 +21,27 @@ returns-in-Err-parse-clause-cause c =
 
 pub returns-in-Ok-accept_raw-clause-passes : goal.returns-in-Ok-accept_raw-clause-passes
 returns-in-Ok-accept_raw-clause-passes c =
-    text_passes c.tokens_are_one.ensures c.a_text_has_one_tree.ensures c.first_failure_is_one.ensures.none c.args.text.now c.in-Ok-parse.raw
+    text_passes c.tokens_are_one.ensures c.a_text_has_one_tree.ensures c.first_failure_is_one.ensures.none c.args.text.now c.in-Ok-parse.tree.raw
     c.in-Ok.ensures.passes
-    (parsed c.args.text.now c.in-Ok.tokens.items c.in-Ok-parse.raw c.in-Ok.ensures.tokens
+    (parsed c.args.text.now c.in-Ok.tokens.items c.in-Ok-parse.tree.raw c.in-Ok.ensures.tokens
     (subst TokensPass c.deref.ensures.value c.in-Ok-parse.ensures.passes)
-    (subst (λ tokens. Spells c.args.text.now tokens c.in-Ok-parse.raw) c.deref.ensures.value c.in-Ok-parse.ensures.spells))
+    (subst (λ tokens. Spells c.args.text.now tokens c.in-Ok-parse.tree.raw) c.deref.ensures.value c.in-Ok-parse.ensures.spells))
     c.in-Ok-accept_raw.ensures.passes
 
 pub returns-in-Ok-accept_raw-clause-program : goal.returns-in-Ok-accept_raw-clause-program
 returns-in-Ok-accept_raw-clause-program c =
-    program_of_text c.tokens_are_one.ensures c.a_text_has_one_tree.ensures c.first_failure_is_one.ensures.none c.args.text.now c.in-Ok-parse.raw
+    program_of_text c.tokens_are_one.ensures c.a_text_has_one_tree.ensures c.first_failure_is_one.ensures.none c.args.text.now c.in-Ok-parse.tree.raw
     c.in-Ok-accept_raw.accepted.program c.in-Ok.ensures.passes
-    (parsed c.args.text.now c.in-Ok.tokens.items c.in-Ok-parse.raw c.in-Ok.ensures.tokens
+    (parsed c.args.text.now c.in-Ok.tokens.items c.in-Ok-parse.tree.raw c.in-Ok.ensures.tokens
     (subst TokensPass c.deref.ensures.value c.in-Ok-parse.ensures.passes)
-    (subst (λ tokens. Spells c.args.text.now tokens c.in-Ok-parse.raw) c.deref.ensures.value c.in-Ok-parse.ensures.spells))
+    (subst (λ tokens. Spells c.args.text.now tokens c.in-Ok-parse.tree.raw) c.deref.ensures.value c.in-Ok-parse.ensures.spells))
     c.in-Ok-accept_raw.ensures.passes c.in-Ok-accept_raw.ensures.program
 
 pub returns-clause-cause : goal.returns-clause-cause
 returns-clause-cause c =
-    tree_cause c.tokens_are_one.ensures c.a_text_has_one_tree.ensures c.first_failure_is_one.ensures.none c.args.text.now c.in-Ok-parse.raw
+    tree_cause c.tokens_are_one.ensures c.a_text_has_one_tree.ensures c.first_failure_is_one.ensures.none c.args.text.now c.in-Ok-parse.tree.raw
     c.in-Err-accept_raw.refusal c.in-Ok.ensures.passes
-    (parsed c.args.text.now c.in-Ok.tokens.items c.in-Ok-parse.raw c.in-Ok.ensures.tokens
+    (parsed c.args.text.now c.in-Ok.tokens.items c.in-Ok-parse.tree.raw c.in-Ok.ensures.tokens
     (subst TokensPass c.deref.ensures.value c.in-Ok-parse.ensures.passes)
-    (subst (λ tokens. Spells c.args.text.now tokens c.in-Ok-parse.raw) c.deref.ensures.value c.in-Ok-parse.ensures.spells))
+    (subst (λ tokens. Spells c.args.text.now tokens c.in-Ok-parse.tree.raw) c.deref.ensures.value c.in-Ok-parse.ensures.spells))
     c.in-Err-accept_raw.ensures.cause

@@ -1,9 +1,9 @@
 -- How the command ends, and what is left of its files.
-use Rattle.std.proofs.Common.{[], ◌∷◌, refl, arith, ap, ◌∙◌}
+use Rattle.std.proofs.Common.{[], ◌∷◌, refl, ap, ◌∙◌}
 use Rattle.bl_top_commands.specs.declared.outcome.Outcome.{Outcome}
 use Rattle.bl_top_commands.specs.Reads.{rows_file, source_file}
 use Rattle.bl_top_commands.proofs.Cuts.{kept_same, reads_both, reads_first}
-use Rattle.bl_top_commands.proofs.Walks.{bounded_by, walk_ran, walk_refused, walk_stopped}
+use Rattle.bl_top_commands.proofs.Walks.{walk_ran, walk_refused, walk_stopped}
 use Rattle.bl_top_commands.proofs.walk.walk.Goals as goal
 
 pub returns-in-Err-clause-ends : goal.returns-in-Err-clause-ends
@@ -15,34 +15,12 @@ returns-in-Err-clause-reads g c =
     reads_first (source_file c.args.source.now) (rows_file c.args.rows.now ∷ []) (g.F.Files.left c.args.files.now) (g.F.Files.left c.accepted_of.new.files)
     c.accepted_of.ensures.further c.accepted_of.ensures.others
 
-pub walk_file-requires-clause-few : goal.walk_file-requires-clause-few
-walk_file-requires-clause-few g c =
-    let is = c.in-Ok.ensures.program in
-    let few = c.accepted_trees_have_few_instances.ensures c.in-Ok.accepted.program
-    (c.programs_of_texts_are_of_trees.ensures.accepted is.source c.in-Ok.accepted.program is.has) in
-    omega (arith, few)
-
-pub walk_file-requires-clause-bounded : goal.walk_file-requires-clause-bounded
-walk_file-requires-clause-bounded g c =
-    let accepted = c.in-Ok.accepted in
-    let is = c.in-Ok.ensures.program in
-    bounded_by accepted c.is_accepted.ensures
-    (c.accepted_trees_have_one_trace.ensures accepted.program accepted.tree.program.units
-    (c.programs_of_texts_are_of_trees.ensures.accepted is.source accepted.program is.has) c.is_accepted.ensures.is_tree.units)
-
-pub walk_file-requires-clause-never_stuck : goal.walk_file-requires-clause-never_stuck
-walk_file-requires-clause-never_stuck g c =
-    let accepted = c.in-Ok.accepted in
-    let is = c.in-Ok.ensures.program in
-    (c.accepted_trees_have_one_trace.ensures accepted.program accepted.tree.program.units
-    (c.programs_of_texts_are_of_trees.ensures.accepted is.source accepted.program is.has) c.is_accepted.ensures.is_tree.units).never_stuck
-
 pub returns-in-Ok-walk_file-clause-ends : goal.returns-in-Ok-walk_file-clause-ends
 returns-in-Ok-walk_file-clause-ends g c = λ notes.
     let is = c.in-Ok.ensures.program in
     walk_ran _ _ _ _ c.in-Ok.accepted.program c.in-Ok.accepted.tree.program.units c.is_accepted.ensures.is_tree.units is
     (c.accepted_trees_have_one_trace.ensures c.in-Ok.accepted.program c.in-Ok.accepted.tree.program.units
-    (c.programs_of_texts_are_of_trees.ensures.accepted is.source c.in-Ok.accepted.program is.has) c.is_accepted.ensures.is_tree.units)
+    c.is_accepted.ensures.of_tree c.is_accepted.ensures.is_tree.units)
     c.rows_of_bytes_fit.ensures c.rows_of_lines_fit.ensures (g.F.Files.left c.accepted_of.new.files) c.in-Ok.ensures.behind
     c.closed_runs_stay_closed.ensures c.fronts_show_fronts.ensures c.walks_are_allowed.ensures.means _ (c.accepted_of.ensures.file_counts _)
     _ _ _ c.in-Ok-walk_file.ensures.walk c.in-Ok-walk_file.ensures.read_fault c.write_walk.result c.write_walk.ensures.writes
@@ -58,7 +36,7 @@ returns-clause-ends g c = λ notes.
     let is = c.in-Ok.ensures.program in
     walk_refused _ _ _ _ c.in-Ok.accepted.program c.in-Ok.accepted.tree.program.units c.is_accepted.ensures.is_tree.units is
     (c.accepted_trees_have_one_trace.ensures c.in-Ok.accepted.program c.in-Ok.accepted.tree.program.units
-    (c.programs_of_texts_are_of_trees.ensures.accepted is.source c.in-Ok.accepted.program is.has) c.is_accepted.ensures.is_tree.units)
+    c.is_accepted.ensures.of_tree c.is_accepted.ensures.is_tree.units)
     c.rows_of_bytes_fit.ensures c.rows_of_lines_fit.ensures (g.F.Files.left c.accepted_of.new.files) c.in-Ok.ensures.behind c.alone-in-Err-walk_file.result
     c.in-Ok.accepted.program.well_typed.entry_stands refl
     (ap (λ (o : Outcome). o.status) c.alone-in-Err-walk_file.ensures.outcome ∙ c.plain.ensures) c.alone-in-Err-walk_file.ensures.told

@@ -1,5 +1,5 @@
 -- What was gathered for the columns of the program is walked.
-use Rattle.std.proofs.Common.{rules, subst}
+use Rattle.std.proofs.Common.{subst}
 use Rattle.std.proofs.lemmas.Result.{IfOk-weaker}
 use Rattle.bl_top_commands.specs.inner.Walked.{ArePorts}
 use Rattle.bl_top_commands.specs.Reads.{most_rows}
@@ -7,9 +7,6 @@ use Rattle.bl_tree.specs.declared.program.Program.{Program}
 use Rattle.bl_top_commands.proofs.Cuts.{lines_same}
 use Rattle.bl_top_commands.proofs.Walks.{is_walk, walk_read_failed}
 use Rattle.bl_top_commands.proofs.walk.walk_file.Goals as goal
-
-pub walk_rows-requires : goal.walk_rows-requires
-walk_rows-requires g c = (c.requires.few, (c.requires.bounded, (c.requires.never_stuck, search rules)))
 
 pub returns-in_err-ports-clause-reads : goal.returns-in_err-ports-clause-reads
 returns-in_err-ports-clause-reads g c = lines_same most_rows (g.F.Files.left c.args.files.now c.args.rows.now)

@@ -1,7 +1,7 @@
 use Rattle.bl_ctree.specs.Measure.{steps}
-use Rattle.bl_gen_run.proofs.walked.run_of.Given as goal
+use Rattle.bl_rules_walk.proofs.run.walk.Given as goal
 
-abbrev pub ghost-trace_of : goal.ghost-trace_of
-ghost-trace_of a =
+abbrev pub ghost-walk_bounded : goal.ghost-walk_bounded
+ghost-walk_bounded a =
     let tree = a.accepted.now.tree.program in
     steps tree.structs tree.units tree.entry
