@@ -1,0 +1,13 @@
+pub mod Trees
+pub mod Settling
+pub mod Forms
+pub mod Environments
+pub mod Steps
+pub mod Calls
+pub mod Renames
+pub mod Exprs
+pub mod Writing
+pub mod Folding
+pub mod Arguments
+pub mod Declared
+pub mod Together

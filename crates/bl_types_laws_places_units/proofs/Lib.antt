@@ -1,0 +1,12 @@
+pub mod Alike
+pub mod Bodies
+pub mod Grows
+pub mod Heads
+pub mod ItemTurns
+pub mod Known
+pub mod Layers
+pub mod Lists
+pub mod Made
+pub mod Renamed
+pub mod Returning
+pub mod Units
