@@ -1,0 +1,6 @@
+mod Among
+mod Counting
+mod InTurn
+mod Opening
+mod Placed
+mod Positions
