@@ -35,7 +35,7 @@ use Rattle.bl_link.proofs.Lists.{get-before, get-end, take-before}
 use Rattle.bl_link.proofs.Turns.{good_parts}
 use Rattle.bl_link.specs.declared.fault.LinkFault.{LinkFault}
 use Rattle.bl_link.specs.declared.fault.LinkFault.TheVariants as fault
-use Rattle.bl_link.specs.Files.{AreFilesOf, AreGoodFiles, NextStops, JoinedStops, taken_at}
+use Rattle.bl_link.specs.Files.{AreFilesOf, NextStops, JoinedStops}
 use Rattle.bl_link.specs.Fits.{FacesFit, PartsFit, faces_of, part_texts}
 use Rattle.bl_link.specs.inner.Whole.{AreFirst, ArePartsOf, LastsOf}
 use Rattle.bl_link.specs.Linked.{AreLinked, LinkStops}
@@ -43,8 +43,11 @@ use Rattle.bl_module.proofs.FaceLemmas.{items-append, stand-append}
 use Rattle.bl_module.specs.Behind.{after_items, before_items, items_stand}
 use Rattle.bl_module.specs.declared.fault.PartFault.{PartFault}
 use Rattle.bl_module.specs.declared.fault.PartFault.TheVariants as part_fault
+use Rattle.bl_module.specs.declared.taken.Taken.TheVariants.{AsLast}
 use Rattle.bl_module.specs.Faces.{FacesStand, IsBadFace, all_items, items_of}
 use Rattle.bl_module.specs.Parts.{IsPart, PartStops, SeenPart}
+use Rattle.bl_module_laws.specs.Files.{AreGoodFiles, taken_at}
+use Rattle.bl_module_laws_faces.specs.Laws.{FaceDeclares}
 use Rattle.bl_tree.proofs.ReduceLemmas.{joined-append}
 use Rattle.bl_tree.specs.Reduce.{joined}
 use Rattle.bl_tree.specs.declared.program.Program.{Program}
@@ -63,6 +66,14 @@ no_files count parts faces some few none no_faces = record {
   same = ap items_of no_faces ∙ ap (λ them. items_of (faces_of them)) (sym none);
   stand = subst FacesStand (sym no_faces) refl;
 }
+
+-- the face of a part stands behind those before it
+pub next_stands : FaceDeclares → (part : SeenPart) (faces : List Face) (face : Face) → IsPart part → items_of part.uses ≡ items_of faces →
+    face.items ≡ part.face.items → FacesStand (faces ++ face ∷ [])
+next_stands declare part faces face is uses alike =
+    subst (λ (all : List (List FaceItem)). items_stand before_items (joined all) ≡ true)
+    (map-append items part.uses (part.face ∷ []) ∙ (λ i. uses i ++ sym alike i ∷ []) ∙ sym (map-append items faces (face ∷ [])))
+    (declare part.uses (AsLast part.last) part.text part.face is.is_face.raw is is.is_face.parses).stand
 
 module _ (count : ℕ) (parts : List SeenPart) (faces : List Face) (first : AreFirst count parts faces) (part : SeenPart) where
   long : length (parts ++ part ∷ []) ≡ length parts + 1

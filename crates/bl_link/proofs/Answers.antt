@@ -12,6 +12,7 @@ use Rattle.bl_link.specs.Fits.{FaceFits, LastFits, PartsFit, part_texts}
 use Rattle.bl_link.specs.inner.Whole.{TellsIn}
 use Rattle.bl_link.specs.Linked.{FailJoined, HaveProgram, HaveTree, IsPlaceIn, LinkStops}
 use Rattle.bl_module.specs.Parts.{SeenPart}
+use Rattle.bl_module_laws.specs.Laws.{IsLimit}
 use Rattle.bl_parse_tree.specs.declared.raw.Raw.{Raw}
 use Rattle.bl_rules.proofs.Layers.{TokensAreOne, TreesAreOne, one_tree}
 use Rattle.bl_rules.specs.Rules.{TreeFails, TreePasses}
@@ -145,11 +146,15 @@ module _ (tokens_one : TokensAreOne) (trees_one : TreesAreOne) where
 
 -- ---- what is told
 
+-- only Frames or Cells can fail for a tree
+abbrev pub OnlyLimits : Raw → Type 0
+OnlyLimits raw = (rule : Rule) (at : Place) (also : List Place) → TreeFails raw rule at also → IsLimit rule
+
 pub told_stops : (parts : List SeenPart) (raw : Raw) (refused : Refusal) (told : LinkFault) → PartsFit parts → HaveTree (part_texts parts) raw →
-    IsCause (TreeFails raw) refused → TellsIn (part_texts parts) refused told → LinkStops parts told
-told_stops parts raw (refusal.Rule rule place also) (fault.Face part) fit tree cause tells = absurd tells
-told_stops parts raw (refusal.Rule rule place also) (fault.Last part) fit tree cause tells = absurd tells
-told_stops parts raw (refusal.Rule rule place also) (fault.Rule file of own) fit tree cause tells = (
+    OnlyLimits raw → IsCause (TreeFails raw) refused → TellsIn (part_texts parts) refused told → LinkStops parts told
+told_stops parts raw (refusal.Rule rule place also) (fault.Face part) fit tree only cause tells = absurd tells
+told_stops parts raw (refusal.Rule rule place also) (fault.Last part) fit tree only cause tells = absurd tells
+told_stops parts raw (refusal.Rule rule place also) (fault.Rule file of own) fit tree only cause tells = (
   fit,
   record {
     raw = raw;
@@ -158,10 +163,11 @@ told_stops parts raw (refusal.Rule rule place also) (fault.Rule file of own) fit
     also = also;
     first = subst (λ r. FailsFirst (TreeFails raw) r place also) (sym tells.0) cause;
     in_file = tells.1;
+    limit = subst IsLimit (sym tells.0) (only rule place also cause.fails);
   },
 )
-told_stops parts raw (refusal.Rule rule place also) fault.NoMemory fit tree cause tells = absurd tells
-told_stops parts raw refusal.NoMemory (fault.Face part) fit tree cause tells = absurd tells
-told_stops parts raw refusal.NoMemory (fault.Last part) fit tree cause tells = absurd tells
-told_stops parts raw refusal.NoMemory (fault.Rule file of own) fit tree cause tells = absurd tells
-told_stops parts raw refusal.NoMemory fault.NoMemory fit tree cause tells = tt
+told_stops parts raw (refusal.Rule rule place also) fault.NoMemory fit tree only cause tells = absurd tells
+told_stops parts raw refusal.NoMemory (fault.Face part) fit tree only cause tells = absurd tells
+told_stops parts raw refusal.NoMemory (fault.Last part) fit tree only cause tells = absurd tells
+told_stops parts raw refusal.NoMemory (fault.Rule file of own) fit tree only cause tells = absurd tells
+told_stops parts raw refusal.NoMemory fault.NoMemory fit tree only cause tells = tt

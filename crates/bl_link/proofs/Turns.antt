@@ -8,7 +8,7 @@ use Rattle.std.specs.Prelude.{IfSome, Some, nat_eq, option_map, slice_get}
 use Rattle.bl_face.specs.declared.face.Face.{Face}
 use Rattle.bl_face.specs.declared.item.FaceItem.{FaceItem}
 use Rattle.bl_link.proofs.Lists.{agree-at, agree-length, agree-next, get-before, get-take, take-before, take-map, take-take}
-use Rattle.bl_link.specs.Files.{AreGoodFiles, FailsAtFile, taken_at}
+use Rattle.bl_link.specs.Files.{FailsAtFile}
 use Rattle.bl_link.specs.Fits.{FacesFit, faces_of, part_texts}
 use Rattle.bl_link.specs.inner.Whole.{ArePartsOf, LastsOf}
 use Rattle.bl_module.proofs.FaceLemmas.{good_alike}
@@ -20,6 +20,7 @@ use Rattle.bl_module.specs.Faces.{behind_faces, items_of}
 use Rattle.bl_module.specs.Own.{IsFaceOf}
 use Rattle.bl_module.specs.Parts.{FailsBehindFaces, IsGoodBehind, IsPart, SeenPart}
 use Rattle.bl_module.specs.Rules.{FirstFailingIn, PassesIn}
+use Rattle.bl_module_laws.specs.Files.{AreGoodFiles, taken_at}
 use Rattle.bl_tree.specs.declared.place.Place.{Place}
 use Rattle.bl_tree.specs.declared.rule.Rule.{Rule}
 use Rattle.bl_tree.specs.Reduce.{joined}

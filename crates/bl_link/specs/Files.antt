@@ -1,27 +1,16 @@
 -- The files of a program, judged one after another.
-use Rattle.std.specs.Prelude.{◌≡◌, ℕ, ◌+◌, nat_eq, List, [], ◌∷◌, ◌++◌, length, take, slice_get, Some, ⊤}
+use Rattle.std.specs.Prelude.{◌≡◌, ℕ, ◌+◌, List, [], ◌∷◌, ◌++◌, length, take, slice_get, Some, ⊤}
 use Rattle.bl_face.specs.declared.face.Face.{Face}
 use Rattle.bl_link.specs.declared.fault.LinkFault.{LinkFault}
 use Rattle.bl_link.specs.declared.fault.LinkFault.TheVariants as fault
 use Rattle.bl_link.specs.Linked.{FailJoined, HaveProgram}
 use Rattle.bl_module.specs.declared.fault.PartFault.{PartFault}
 use Rattle.bl_module.specs.declared.fault.PartFault.TheVariants as part
-use Rattle.bl_module.specs.declared.taken.Taken.{Taken}
-use Rattle.bl_module.specs.declared.taken.Taken.TheVariants.{AsLast}
-use Rattle.bl_module.specs.Parts.{FailsBehindFaces, IsGoodBehind}
+use Rattle.bl_module.specs.Parts.{FailsBehindFaces}
+use Rattle.bl_module_laws.specs.Files.{AreGoodFiles, taken_at}
 use Rattle.bl_tree.specs.declared.place.Place.{Place}
 use Rattle.bl_tree.specs.declared.program.Program.{Program}
 use Rattle.bl_tree.specs.declared.rule.Rule.{Rule}
-
--- as which file of so many the one at a position is judged
-abbrev pub taken_at : ℕ → ℕ → Taken
-taken_at count k = AsLast (nat_eq (k + 1) count)
-
--- the texts are the first of so many files. Each is good behind the faces of those before it, and these are the faces
-pub record AreGoodFiles (count : ℕ) (texts : List (List ℕ)) (faces : List Face) : Type 0 where
-  pub counted : length faces ≡ length texts
-  pub each : (k : ℕ) (text : List ℕ) (face : Face) → slice_get texts k ≡ Some text → slice_get faces k ≡ Some face →
-      IsGoodBehind (take k faces) (taken_at count k) text face
 
 -- of so many files those before the one with this number, counted from 1, are good. The rule is the first that fails for this one behind their faces
 pub record FailsAtFile (count : ℕ) (texts : List (List ℕ)) (file : ℕ) (rule : Rule) (place : Place) (also : List Place) : Type 0 where
@@ -39,7 +28,7 @@ pub record AreFilesOf (texts : List (List ℕ)) (program : Program) : Type 0 whe
   pub good : AreGoodFiles (length texts) texts faces
   pub have : HaveProgram texts program
 
--- all files are good, and the rule is the first that fails for their joined texts, at this place of the file with the number
+-- all files are good. The rule is Frames or Cells, the first that fails for their joined texts, at this place of the file with the number
 pub record FailTogether (texts : List (List ℕ)) (file : ℕ) (rule : Rule) (place : Place) : Type 0 where
   pub faces : List Face
   pub good : AreGoodFiles (length texts) texts faces

@@ -6,6 +6,7 @@ use Rattle.bl_link.specs.Fits.{FaceFits, FacesFit, IsFirstMisfit, LastFits, Part
 use Rattle.bl_link.specs.declared.fault.LinkFault.{LinkFault}
 use Rattle.bl_link.specs.declared.fault.LinkFault.TheVariants as fault
 use Rattle.bl_module.specs.Parts.{SeenPart}
+use Rattle.bl_module_laws.specs.Laws.{IsLimit}
 use Rattle.bl_parse_tree.specs.declared.raw.Raw.{Raw}
 use Rattle.bl_rules.specs.Rules.{Parses, TreeFails, TreePasses}
 use Rattle.bl_tree.specs.declared.place.Place.{Place}
@@ -31,7 +32,7 @@ pub record IsPlaceIn (texts : List (List ℕ)) (place : Place) (file : ℕ) (own
   pub counted : file ≡ position + 1
   pub stands : InFile texts place position own
 
--- the rule is the first that fails for the tree of the joined texts, and its first place is this one in the text with the number
+-- the rule is the first that fails for the tree of the joined texts, at this place of the text with the number; it is Frames or Cells
 pub record FailJoined (texts : List (List ℕ)) (file : ℕ) (rule : Rule) (own : Place) : Type 0 where
   pub raw : Raw
   pub tree : HaveTree texts raw
@@ -39,6 +40,7 @@ pub record FailJoined (texts : List (List ℕ)) (file : ℕ) (rule : Rule) (own 
   pub also : List Place
   pub first : FailsFirst (TreeFails raw) rule place also
   pub in_file : IsPlaceIn texts place file own
+  pub limit : IsLimit rule
 
 -- the parts fit together, and their joined texts have this program
 pub record AreLinked (parts : List SeenPart) (program : Program) : Type 0 where
@@ -46,7 +48,7 @@ pub record AreLinked (parts : List SeenPart) (program : Program) : Type 0 where
   pub have : HaveProgram (part_texts parts) program
 
 -- why parts aren't linked: the first that doesn't use the faces before it; else the first that is wrongly judged as the last file, or as an earlier one; else
--- the first rule that fails for the tree of their joined texts. Want of memory has no cause in them
+-- Frames or Cells, which fails for the tree of their joined texts. Want of memory has no cause in them
 abbrev pub LinkStops : List SeenPart → LinkFault → Type 0
 LinkStops parts (fault.Face part) = IsFirstMisfit (FaceFits parts) (length parts) part
 LinkStops parts (fault.Last part) = FacesFit parts × IsFirstMisfit (LastFits parts) (length parts) part

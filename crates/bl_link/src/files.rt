@@ -5,7 +5,8 @@ ghost use Rattle.std.specs.Prelude.{◌≡◌, ◌+◌, ◌<◌, ◌≤◌, [], 
 use crate::fault::LinkFault;
 use crate::linked::link;
 use bl_face::Face;
-use bl_module::{Part, PartFault, check_faces, compile};
+use bl_module::{Part, PartFault, compile};
+use bl_module_laws_faces::faces::faces_declare;
 use bl_rules::AcceptedSource;
 use bl_tree::{List, NoMemory};
 use std::alloc::Global;
@@ -34,10 +35,11 @@ impl Model for FirstFiles {
 }
 
 impl FirstFiles {
-    ghost use Rattle.bl_link.specs.Files.{AreFilesOf, AreGoodFiles, NextStops, JoinedStops, SeenFiles, files_with};
+    ghost use Rattle.bl_link.specs.Files.{AreFilesOf, NextStops, JoinedStops, SeenFiles, files_with};
     ghost use Rattle.bl_link.specs.inner.Whole.{AreFirst};
     ghost use Rattle.bl_module.specs.Faces.{items_of};
     ghost use Rattle.bl_module.specs.Parts.{SeenPart};
+    ghost use Rattle.bl_module_laws.specs.Files.{AreGoodFiles};
     ghost use Rattle.bl_rules_laws_sizes.specs.Small.{IsOfSmallTree};
 
     /// No file yet, of so many.
@@ -71,8 +73,7 @@ impl FirstFiles {
         }
     }
 
-    /// The files with a part behind them. That the face of a part can stand behind those before it isn't proved: one that couldn't would be told as
-    /// want of memory.
+    /// The files with a part behind them. The face of the part stands behind those before it, as `faces_declare` says.
     fn with_part(self, alloc: Global, part: Part) -> Result<FirstFiles, NoMemory>
         requires room { length self.texts < self.count }
         requires uses { items_of part.uses ≡ items_of self.faces }
@@ -80,6 +81,7 @@ impl FirstFiles {
         ensures count { IfOk result (λ files. files.count ≡ self.count) }
         ensures texts { IfOk result (λ files. files.texts ≡ self.texts ++ part.text ∷ []) }
     {
+        faces_declare();
         part.is_part();
         let face = part.face().copy(alloc)?;
         let FirstFiles {
@@ -89,14 +91,11 @@ impl FirstFiles {
         } = self;
         faces.push(face)?;
         parts.push(part)?;
-        match check_faces(alloc, &faces) {
-            Ok(()) => Ok(FirstFiles {
-                count,
-                parts,
-                faces,
-            }),
-            Err(_) => Err(NoMemory),
-        }
+        Ok(FirstFiles {
+            count,
+            parts,
+            faces,
+        })
     }
 
     /// The program of all files. Else the first rule that fails for the joined texts.

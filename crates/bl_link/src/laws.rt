@@ -3,12 +3,13 @@
 ghost use Rattle.std.specs.Prelude.{◌≡◌, ◌++◌, false, ℕ, List, length};
 ghost use Rattle.bl_face.specs.declared.face.Face.{Face};
 ghost use Rattle.bl_link.specs.declared.fault.LinkFault.{LinkFault};
-ghost use Rattle.bl_link.specs.Files.{AreFilesOf, AreGoodFiles, FailTogether, FailsAtFile};
+ghost use Rattle.bl_link.specs.Files.{AreFilesOf, FailTogether, FailsAtFile};
 ghost use Rattle.bl_link.specs.Fits.{PartsFit, faces_of, part_texts};
 ghost use Rattle.bl_link.specs.Linked.{AreLinked, HaveTree, LinkStops};
 ghost use Rattle.bl_link.specs.inner.Whole.{ArePartsOf};
 ghost use Rattle.bl_module.specs.Faces.{items_of};
 ghost use Rattle.bl_module.specs.Parts.{SeenPart};
+ghost use Rattle.bl_module_laws.specs.Files.{AreGoodFiles};
 ghost use Rattle.bl_parse_tree.specs.declared.raw.Raw.{Raw};
 ghost use Rattle.bl_rules.specs.Rules.{TreePasses};
 ghost use Rattle.bl_tree.specs.declared.place.Place.{Place};

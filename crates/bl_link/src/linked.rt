@@ -12,7 +12,7 @@ use bl_joined_laws::items::joined_tokens_pass;
 use bl_joined_laws::tokens::joined_texts_have_joined_tokens;
 use bl_lex::laws::tokens_are_one;
 use bl_module::Part;
-use bl_parse_laws::kept::what_is_spelled_keeps;
+use bl_module_laws::files::files_are_the_whole;
 use bl_rules::{AcceptedSource, accept_raw};
 use bl_rules_laws_sizes::programs_of_texts_are_small;
 use bl_tree::NoMemory;
@@ -44,17 +44,17 @@ fn link_files(alloc: Global, parts: &[Part]) -> Result<AcceptedSource, LinkFault
     joined_texts_have_joined_tokens();
     joined_tokens_pass();
     tokens_are_one();
-    what_is_spelled_keeps();
     programs_of_texts_are_small();
+    files_are_the_whole();
     let joined = match join(alloc, parts) {
         Ok(joined) => joined,
         Err(NoMemory) => return Err(LinkFault::NoMemory),
     };
-    let raw = match tree_of(alloc, &joined) {
-        Ok(raw) => raw,
+    let tree = match tree_of(alloc, &joined) {
+        Ok(tree) => tree,
         Err(NoMemory) => return Err(LinkFault::NoMemory),
     };
-    match accept_raw(alloc, &raw) {
+    match accept_raw(alloc, &tree) {
         Ok(accepted) => Ok(accepted),
         Err(refusal) => Err(fault_of(&joined, refusal)),
     }

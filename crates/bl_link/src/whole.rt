@@ -11,7 +11,7 @@ use crate::fault::LinkFault;
 use bl_joined::Joined;
 use bl_module::Part;
 use bl_parse_syntax::laws::first_failure_is_one;
-use bl_parse_tree::Raw;
+use bl_parse_wellformed::WellFormedTree;
 use bl_tree::{NoMemory, Refusal};
 use std::alloc::Global;
 
@@ -46,13 +46,13 @@ fn add(alloc: Global, joined: &mut Joined, part: &Part) -> Result<(), NoMemory>
 }
 
 /// The tree of the joined text.
-pub fn tree_of(alloc: Global, joined: &Joined) -> Result<Raw, NoMemory>
+pub fn tree_of(alloc: Global, joined: &Joined) -> Result<WellFormedTree, NoMemory>
     requires { IsReadable joined.now }
-    ensures { IfOk result (Parses joined.now.text.items) }
+    ensures { IfOk result (λ tree. Parses joined.now.text.items tree.raw) }
 {
     first_failure_is_one();
-    match bl_parse::parse(alloc, &joined.text, &joined.tokens) {
-        Ok(raw) => Ok(raw),
+    match bl_parse_wellformed::parse(alloc, &joined.text, &joined.tokens) {
+        Ok(tree) => Ok(tree),
         Err(Refusal::NoMemory) => Err(NoMemory),
         Err(Refusal::Rule { .. }) => unreachable!(),
     }

@@ -1,7 +1,8 @@
 -- The first files are good.
 use Rattle.std.proofs.Common.{subst}
 use Rattle.bl_link.proofs.Adding.{first_good}
-use Rattle.bl_link.specs.Files.{AreGoodFiles, SeenFiles}
+use Rattle.bl_link.specs.Files.{SeenFiles}
+use Rattle.bl_module_laws.specs.Files.{AreGoodFiles}
 use Rattle.bl_link.proofs.files.FirstFiles.are_good.Goals as goal
 
 pub returns : goal.returns

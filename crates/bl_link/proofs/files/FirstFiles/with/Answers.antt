@@ -2,8 +2,9 @@
 use Rattle.std.proofs.Common.{ℕ, List, length, subst}
 use Rattle.bl_face.specs.declared.face.Face.{Face}
 use Rattle.bl_link.proofs.Adding.{file_stops}
-use Rattle.bl_link.specs.Files.{NextStops, SeenFiles, taken_at}
+use Rattle.bl_link.specs.Files.{NextStops, SeenFiles}
 use Rattle.bl_module.specs.Parts.{PartStops}
+use Rattle.bl_module_laws.specs.Files.{taken_at}
 use Rattle.bl_link.proofs.files.FirstFiles.with.Goals as goal
 
 pub returns-in-Err-clause-fault : goal.returns-in-Err-clause-fault

@@ -2,7 +2,7 @@
 use Rattle.std.proofs.Common.{◌∙◌, ◌+◌, List, [], ◌∷◌, ◌++◌, length, ap, subst, sym}
 use Rattle.std.specs.Prelude.{nat_eq}
 use Rattle.bl_face.specs.declared.face.Face.{Face}
-use Rattle.bl_link.proofs.Adding.{next_file, texts_length}
+use Rattle.bl_link.proofs.Adding.{next_file, next_stands, texts_length}
 use Rattle.bl_link.specs.Files.{SeenFiles}
 use Rattle.bl_link.specs.inner.Whole.{AreFirst}
 use Rattle.bl_module.specs.Faces.{FacesStand, items_of}
@@ -17,7 +17,7 @@ invariant_of-result c =
     ∙ ap (λ n. nat_eq (n + 1) c.self.inside.count) (texts_length c.self.inside.parts) in
     let alike = c.in_ok-face.ensures ∙ ap (λ (face : Face). face.items) c.face.ensures in
     let stand : FacesStand (c.self.inside.faces ++ c.in_ok-face.face ∷ []) =
-    subst FacesStand (c.deref.ensures ∙ c.in_ok-push.ensures.ok) c.in-Ok.ensures.stand in
+    next_stands c.faces_declare.ensures.text c.args.part c.self.inside.faces c.in_ok-face.face c.is_part.ensures uses alike in
     subst (λ (them : List SeenPart). AreFirst c.self.inside.count them c.push.new.self) (sym c.in_ok-push-2.ensures.ok)
     (subst (λ (them : List Face). AreFirst c.self.inside.count (c.self.inside.parts ++ c.args.part ∷ []) them) (sym c.in_ok-push.ensures.ok)
     (next_file c.self.inside.count c.self.inside.parts c.self.inside.faces c.self.invariant c.args.part c.in_ok-face.face c.is_part.ensures

@@ -1,0 +1,127 @@
+-- Rule Cells looks at the nesting of the types of a file as it does among others.
+use Rattle.std.proofs.Common.{◌≡◌, ◌∙◌, inl, inr, ⊎_elim, ℕ, zero, ◌≤◌, List, [], ◌∷◌, ◌++◌, refl, ap, sym, subst, arith}
+use Rattle.std.proofs.lemmas.List.{append-nil, append_assoc}
+use Rattle.std.specs.Prelude.{Contains, slice_index}
+use Rattle.bl_cause_trees.specs.Trees.{AreTrees, IsTreeOfUnit, clean, is_peeled, of_function, too_large}
+use Rattle.bl_limits.specs.Rules.{DeepStruct, DeepVariable, NestingPasses, Passes as LimitsPass}
+use Rattle.bl_limits_laws_places.specs.Laws.{NestingStays}
+use Rattle.bl_limits_measures.proofs.TypeLemmas.{induct}
+use Rattle.bl_limits_measures.specs.InOrder.{answers_after}
+use Rattle.bl_limits_measures.specs.Types.{fields_nesting, nesting, struct_nestings}
+use Rattle.bl_tree.specs.declared.place.Place.{Place}
+use Rattle.bl_tree.specs.declared.rule.Rule.TheVariants as rule
+use Rattle.bl_tree.specs.declared.scalar.Scalar.{Scalar as ScalarType}
+use Rattle.bl_tree.specs.declared.tree.StructDef.{StructDef}
+use Rattle.bl_tree.specs.declared.tree.Ty.{Ty, fold-roll-Ty, roll-Ty}
+use Rattle.bl_tree.specs.declared.tree.Ty.TheOpen.{Ty-F}
+use Rattle.bl_tree.specs.declared.tree.Unit.{Unit as UnitDef}
+use Rattle.bl_tree_laws_places.proofs.Lists.{first_or, later, none_there}
+use Rattle.bl_tree_laws_places.specs.Placed.{placed_structs, placed_units}
+use Rattle.bl_module_laws.proofs.Lists.{got_left, index_grows}
+
+-- ---- nesting among more structs
+
+after-append : (known : List ℕ) (xs ys : List StructDef) →
+    answers_after fields_nesting known (xs ++ ys) ≡ answers_after fields_nesting (answers_after fields_nesting known xs) ys
+after-append known [] ys = refl
+after-append known (x ∷ xs) ys = after-append (known ++ fields_nesting known x ∷ []) xs ys
+
+-- answers are added to those that are known
+after_grows : (known : List ℕ) (xs : List StructDef) → (more : List ℕ) × (answers_after fields_nesting known xs ≡ known ++ more)
+after_grows known [] = ([], sym (append-nil known))
+after_grows known (x ∷ xs) =
+    let rest = after_grows (known ++ fields_nesting known x ∷ []) xs in
+    (fields_nesting known x ∷ rest.0, rest.1 ∙ append_assoc known (fields_nesting known x ∷ []) rest.0)
+
+module _ (structs more : List StructDef) where
+  -- the structs' nestings are the first among those of all
+  front : (further : List ℕ) × (struct_nestings (structs ++ more) ≡ struct_nestings structs ++ further)
+  front =
+      let grown = after_grows (struct_nestings structs) more in
+      (grown.0, after-append [] structs more ∙ grown.1)
+
+  index_more : (k : ℕ) → slice_index (struct_nestings structs) k ≤ slice_index (struct_nestings (structs ++ more)) k
+  index_more k = subst (λ all. slice_index (struct_nestings structs) k ≤ slice_index all k) (sym front.1) (index_grows (struct_nestings structs) front.0 k)
+
+  abbrev Deeper : Ty → Type 0
+  Deeper ty = nesting structs ty ≤ nesting (structs ++ more) ty
+
+  scalar_deeper : (s : ScalarType) → Deeper (roll-Ty (Ty-F.Scalar s))
+  scalar_deeper s = rw (fold-roll-Ty, fold-roll-Ty) (omega arith)
+
+  struct_deeper : (k : ℕ) → Deeper (roll-Ty (Ty-F.Struct k))
+  struct_deeper k = rw (fold-roll-Ty, fold-roll-Ty) (index_more k)
+
+  array_deeper : (n : ℕ) (element : Ty) → Deeper element → Deeper (roll-Ty (Ty-F.Array n element))
+  array_deeper n element less = rw (fold-roll-Ty, fold-roll-Ty) (omega (arith, less))
+
+  deeper : (ty : Ty) → Deeper ty
+  deeper = induct Deeper scalar_deeper struct_deeper array_deeper
+
+  struct_among : (from : ℕ) (at : Place) → DeepStruct from structs at → DeepStruct 0 (structs ++ more) at
+  struct_among from at h = record {
+    position = h.position;
+    later = omega arith;
+    def = h.def;
+    is_there = got_left structs more h.position h.def h.is_there;
+    deep = let grown = index_more h.position in let deep = h.deep in omega (arith, grown, deep);
+    at_name = h.at_name;
+  }
+
+  -- a unit whose variables are those of another among others
+  abbrev Shown : List UnitDef → UnitDef → Type 0
+  Shown all unit = (tree : UnitDef) × Contains all tree × (tree.vars ≡ unit.vars)
+
+  variable_among : (units all : List UnitDef) → ((unit : UnitDef) → Contains units unit → Shown all unit) → (at : Place) →
+      DeepVariable structs units at → DeepVariable (structs ++ more) all at
+  variable_among units all shown at h =
+      let tree = shown h.unit h.of_program in record {
+        unit = tree.0;
+        of_program = tree.1;
+        var = h.var;
+        of_unit = subst (λ vars. Contains vars h.var) (sym tree.2) h.of_unit;
+        deep = let grown = deeper h.var.ty in let deep = h.deep in omega (arith, grown, deep);
+        at_name = h.at_name;
+      }
+
+  -- what is nested too deep is so among others
+  pub nesting_among : (from : ℕ) (units all : List UnitDef) → ((unit : UnitDef) → Contains units unit → Shown all unit) →
+      NestingPasses 0 (structs ++ more) all → NestingPasses from structs units
+  nesting_among from units all shown passes rule.Cells at also h =
+      passes rule.Cells at also (⊎_elim (λ deep. inl (struct_among from at deep)) (λ deep. inr (variable_among units all shown at deep)) h.0, h.1)
+  nesting_among from units all shown passes _ at also h = absurd h
+
+-- ---- trees have the variables of their units
+
+vars_of_tree : (unit tree : UnitDef) → IsTreeOfUnit unit tree → tree.vars ≡ unit.vars
+vars_of_tree unit tree (of_function is) = refl
+vars_of_tree unit tree (clean is) = refl
+vars_of_tree unit tree (too_large is) = refl
+vars_of_tree unit tree (is_peeled is has few) = refl
+
+pub tree_there : (units trees : List UnitDef) → AreTrees units trees → (unit : UnitDef) → Contains units unit →
+    (tree : UnitDef) × Contains trees tree × (tree.vars ≡ unit.vars)
+tree_there [] trees are unit there = absurd (none_there unit there)
+tree_there (u ∷ units) [] are unit there = absurd are
+tree_there (u ∷ units) (tree ∷ trees) are unit there =
+    ⊎_elim
+    (λ is. (tree, (zero, omega arith, refl), vars_of_tree u tree are.0 ∙ ap (λ (it : UnitDef). it.vars) is))
+    (λ further. let found = tree_there units trees are.1 unit further in (found.0, later tree trees found.0 found.1, found.2))
+    (first_or u units unit there)
+
+-- ---- rule Cells of a whole program
+
+pub limits_nesting : (structs : List StructDef) (units : List UnitDef) (entry : ℕ) → LimitsPass structs units entry → NestingPasses 0 structs units
+limits_nesting structs units entry passes rule.Cells at also h = passes rule.Cells at also (inr h.0, h.1)
+limits_nesting structs units entry passes _ at also h = absurd h
+
+-- ---- places
+
+-- nesting is that of types alone: structs and units that are equal up to places are nested alike
+pub nesting_moved : NestingStays → (f g : Place → Place) (from : ℕ) (structs others : List StructDef) (units : List UnitDef) →
+    placed_structs g others ≡ placed_structs g structs → placed_units g (placed_units f units) ≡ placed_units g units →
+    NestingPasses from others (placed_units f units) → NestingPasses from structs units
+nesting_moved stays f g from structs others units same bare passes =
+    (stays g from structs units).0
+    (subst (λ them. NestingPasses from them (placed_units g units)) same
+    (subst (NestingPasses from (placed_structs g others)) bare ((stays g from others (placed_units f units)).1 passes)))
