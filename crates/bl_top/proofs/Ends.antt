@@ -1,5 +1,5 @@
 -- How `build` and `run` end, and so the call.
-use Rattle.std.proofs.Common.{◌≡◌, ℕ, ◌≤◌, List, subst, sym}
+use Rattle.std.proofs.Common.{◌≡◌, ℕ, ◌≤◌, List, length, subst, sym}
 use Rattle.std.specs.Prelude.{Option, Some, None, IfSome}
 use Rattle.bl_top_commands.specs.Bound.{BoundEnds}
 use Rattle.bl_top_commands.specs.Calls.{Call, Count, Output}
@@ -9,6 +9,7 @@ use Rattle.bl_top_commands.specs.Exec.{ExecEnds}
 use Rattle.bl_top_commands.specs.Face.{FaceEnds}
 use Rattle.bl_top_commands.specs.Gen.{GenEnds}
 use Rattle.bl_top_commands.specs.inner.Outcomes.{chosen_line, line_in, lines_in}
+use Rattle.bl_top_commands.specs.Linked.{AreNotLinked}
 use Rattle.bl_top_commands.specs.Laws.{FaultsCountFromBefore, ProgramsRunAsTheirSource}
 use Rattle.bl_top_commands.specs.Notes.{line_of}
 use Rattle.bl_top_commands.specs.Reads.{LeftBehind, source_limit}
@@ -24,13 +25,15 @@ use Rattle.bl_top_commands.specs.declared.outcome.Outcome.{Outcome}
 use Rattle.bl_top_commands.specs.declared.status.Status.{Status}
 use Rattle.bl_top_commands.specs.declared.status.Status.TheVariants as status
 use Rattle.bl_io.specs.Left.{IsKept}
+use Rattle.bl_link_files.specs.Programs.{IsProgramOfFiles}
 use Rattle.bl_rows_stream.specs.Streams.{Course}
-use Rattle.bl_top.specs.Answers.{Answers, bounds, builds, checks, counts, execs, faces, gens, no_job, resumes, runs, saves, saves_from, short, walks}
+use Rattle.bl_top.specs.Answers.{Answers, bounds, builds, checks, counts, execs, faces, gens, links, no_job, resumes, runs, saves, saves_from, short, walks}
 use Rattle.bl_top.specs.Build.{BuildEnds, IsBuiltOf, IsBuiltOfProgram, stopped, written}
 use Rattle.bl_top.specs.Drive.{Plants}
+use Rattle.bl_top.specs.Link.{IsBuiltOfFiles, LinkEnds, stopped as link_stopped, written as link_written}
 use Rattle.bl_top.specs.Run.{RunEnds, ran, stopped as run_stopped}
 use Rattle.bl_tree.specs.declared.program.Program.{Program}
-use Rattle.bl_top_args.specs.Jobs.{HasStages, JobSpec, Word, bound, build, check, count, exec, face, gen, resume, run, save, save_from, walk}
+use Rattle.bl_top_args.specs.Jobs.{IsCounted, JobSpec, Word, bound, build, check, count, exec, face, gen, link, resume, run, save, save_from, walk}
 use Rattle.bl_top.proofs.Programs.{built_of_source}
 
 -- ---- `build`
@@ -56,6 +59,18 @@ build_written c source program ended line built writes told =
 pub build_stopped : (c : Call) (source : Word) (ended : Status) (line : List ℕ) → IsNotAccepted (c.left source) (c.file source) ended line →
     IsKept c.out.before c.out.after → BuildEnds c source ended line
 build_stopped c source ended line stops kept = stopped stops kept
+
+-- ---- `link`
+
+pub link_writes : (c : Call) (sources : List Word) (program : Program) (ended : Status) (line : List ℕ) → IsProgramOfFiles c.left sources program →
+    WritesResult (IsBuiltOfProgram program.structs program.units program.entry) c.out ended → line ≡ line_of ended → LinkEnds c sources ended line
+link_writes c sources program ended line of_files writes told =
+    rw told (link_written (writes_as (IsBuiltOfProgram program.structs program.units program.entry) (IsBuiltOfFiles c.left sources) c.out ended
+    (λ text is. record { program = program; of_files = of_files; is = is }) writes))
+
+pub link_stops : (c : Call) (sources : List Word) (ended : Status) (line : List ℕ) → AreNotLinked c sources ended line →
+    IsKept c.out.before c.out.after → LinkEnds c sources ended line
+link_stops c sources ended line stops kept = link_stopped stops kept
 
 -- ---- `run`
 
@@ -126,6 +141,10 @@ pub answers_face : (c : Call) (plants : Plants) (job : Option JobSpec) (source :
     job ≡ Some (face source uses) → FaceEnds c source uses ended line → Answers c plants job ended line
 answers_face c plants job source uses ended line asked ends = rw asked (faces ends)
 
+pub answers_link : (c : Call) (plants : Plants) (job : Option JobSpec) (sources : List Word) (ended : Status) (line : List ℕ) →
+    job ≡ Some (link sources) → LinkEnds c sources ended line → Answers c plants job ended line
+answers_link c plants job sources ended line asked ends = rw asked (links ends)
+
 pub answers_walk : (c : Call) (plants : Plants) (job : Option JobSpec) (source rows : Word) (seed : ℕ) (ended : Status) (lines : List ℕ) →
     job ≡ Some (walk source rows seed) → WalkEnds c source rows seed ended lines → Answers c plants job ended lines
 answers_walk c plants job source rows seed ended lines asked ends = rw asked (walks ends)
@@ -147,5 +166,10 @@ pub answers_short : (c : Call) (plants : Plants) (job : Option JobSpec) (ended :
 answers_short c plants job ended own e kept same = rw e (short kept same)
 
 -- a program that words ask for has a stage
-pub stages_asked : (job : Option JobSpec) (stages : ℕ) → job ≡ Some (gen stages) → IfSome job HasStages → 1 ≤ stages
-stages_asked job stages asked has = subst (λ j. IfSome j HasStages) asked has
+pub stages_asked : (job : Option JobSpec) (stages : ℕ) → job ≡ Some (gen stages) → IfSome job IsCounted → 1 ≤ stages
+stages_asked job stages asked counted = subst (λ j. IfSome j IsCounted) asked counted
+
+-- words ask to link from 2 to 64 files
+pub sources_asked : (job : Option JobSpec) (sources : List Word) → job ≡ Some (link sources) → IfSome job IsCounted →
+    (2 ≤ length sources) × (length sources ≤ 64)
+sources_asked job sources asked counted = subst (λ j. IfSome j IsCounted) asked counted

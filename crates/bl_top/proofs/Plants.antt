@@ -57,6 +57,7 @@ use Rattle.bl_top.specs.Answers.{
   no_plant,
   resumes,
   faces,
+  links,
   runs,
   saves,
   saves_from,
@@ -221,5 +222,6 @@ answers_keep c plants _ ended lines (saves {text} {rows} ends) same = keeps-same
 answers_keep c plants _ ended lines (saves_from {text} {state} {rows} ends) same = keeps-same plants.before plants.after same
 answers_keep c plants _ ended lines (resumes {text} {state} {rows} ends) same = keeps-same plants.before plants.after same
 answers_keep c plants _ ended lines (faces {source} {uses} ends) same = keeps-same plants.before plants.after same
+answers_keep c plants _ ended lines (links {sources} ends) same = keeps-same plants.before plants.after same
 answers_keep c plants _ _ _ (no_job kept_out) same = keeps-same plants.before plants.after same
 answers_keep c plants job _ _ (answers_short kept_out same) keeps = keeps-same plants.before plants.after same

@@ -16,8 +16,9 @@ use Rattle.bl_io.specs.Left.{IsKept}
 use Rattle.bl_plant.specs.Plants.{IsSame, PlantView}
 use Rattle.bl_top.specs.Build.{BuildEnds}
 use Rattle.bl_top.specs.Drive.{DriveEnds, Plants}
+use Rattle.bl_top.specs.Link.{LinkEnds}
 use Rattle.bl_top.specs.Run.{RunEnds}
-use Rattle.bl_top_args.specs.Jobs.{JobSpec, Word, bound, build, check, count, drive, exec, face, gen, job_of, resume, run, save, save_from, walk}
+use Rattle.bl_top_args.specs.Jobs.{JobSpec, Word, bound, build, check, count, drive, exec, face, gen, job_of, link, resume, run, save, save_from, walk}
 
 -- the status with which a job ends, with its cause, what grew on `out`, and its lines for `notes`, the status line last
 pub data Answers (c : Call) (plants : Plants) : Option JobSpec → Status → List ℕ → Type 0 where
@@ -41,6 +42,7 @@ pub data Answers (c : Call) (plants : Plants) : Option JobSpec → Status → Li
       Answers c plants (Some (resume text state rows)) ended lines
   faces : {source : Word} {uses : List Word} {ended : Status} {lines : List ℕ} → FaceEnds c source uses ended lines →
       Answers c plants (Some (face source uses)) ended lines
+  links : {sources : List Word} {ended : Status} {lines : List ℕ} → LinkEnds c sources ended lines → Answers c plants (Some (link sources)) ended lines
   -- the words ask for no job
   no_job : IsKept c.out.before c.out.after → Answers c plants None status.Usage (line_of status.Usage)
   -- memory was refused before they were read

@@ -4,4 +4,5 @@ pub mod Built
 pub mod Drive
 pub mod inner
 pub mod Laws
+pub mod Link
 pub mod Run

@@ -40,7 +40,7 @@ pub fn build<F: Files, O: Sink>(alloc: Global, source: &str, files: &mut F, out:
 }
 
 /// Writes the C text of the accepted program of a small tree.
-fn write_c<O: Sink>(alloc: Global, accepted: &AcceptedSource, out: &mut O) -> Outcome
+pub fn write_c<O: Sink>(alloc: Global, accepted: &AcceptedSource, out: &mut O) -> Outcome
     requires { IsOfSmallTree accepted.now.program }
     ensures writes { WritesResult (IsBuiltOfProgram accepted.now.program.structs accepted.now.program.units accepted.now.program.entry)
         (output_of (O.faults out.old) (O.faults out.new) (O.held out.old) (O.held out.new)) result.status }

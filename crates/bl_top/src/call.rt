@@ -10,10 +10,11 @@ ghost use Rattle.bl_top_args.specs.Jobs.{job_of};
 
 use crate::build::build;
 use crate::drive::drive;
+use crate::link::link;
 use crate::run::run;
 use bl_io::{Files, Sink};
 use bl_plant::Plant;
-use bl_top_args::{Job, programs_have_stages};
+use bl_top_args::{Job, jobs_are_counted};
 use bl_top_commands::answer::Answer;
 use bl_top_commands::bound::bound;
 use bl_top_commands::check::check;
@@ -77,7 +78,7 @@ fn answer<F: Files, O: Sink>(
     ensures file_counts { NeverFell (F.faults files.old) (F.faults files.new) }
     ensures out_count { O.faults out.old ≤ O.faults out.new }
 {
-    programs_have_stages(words);
+    jobs_are_counted(words);
     kept_files_are_within_limits();
     match bl_top_args::job_of(alloc, words) {
         Ok(Some(Job::Check { source })) => Answer::alone(alloc, check(alloc, source, files, out)),
@@ -122,6 +123,7 @@ fn answer<F: Files, O: Sink>(
             alloc,
             face(alloc, source, faces, files, out),
         ),
+        Ok(Some(Job::Link { sources })) => Answer::alone(alloc, link(alloc, sources, files, out)),
         Ok(None) => Answer::alone(alloc, Outcome::plain(alloc, Status::Usage)),
         Err(_) => Answer::alone(alloc, Outcome::plain(alloc, Status::NoMemory)),
     }

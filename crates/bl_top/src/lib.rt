@@ -1,7 +1,7 @@
 //! The one call that the program makes. `blechc` ends with the status of the job that its words ask for, and the lines
 //! of the job grew on `notes`, that of the status last (`specs/Answers.antt`, `Answered`). Each way in which a job ends
-//! comes with its whole cause and with what grew on `out`. For `build`, `run` and `drive`, which make the C file of a
-//! source, these are in `specs/Build.antt`, `specs/Run.antt` and `specs/Drive.antt`, and for the others in
+//! comes with its whole cause and with what grew on `out`. For `build`, `link`, `run` and `drive`, which make the C file of a
+//! program, these are in `specs/Build.antt`, `specs/Link.antt`, `specs/Run.antt` and `specs/Drive.antt`, and for the others in
 //! `bl_top_commands`. The bytes that `build` writes have the one trace of the source's program, and `run` shows its
 //! text (`OneTrace` and `HasCourse` of `bl_top_commands`). In the file of those bytes, each activity with an instance
 //! has one function, which alone names its counters. It has as many counters as its width, and as many `if`s as a
@@ -17,6 +17,7 @@ mod call;
 mod drive;
 mod emitted;
 pub mod laws;
+mod link;
 mod run;
 
 pub use bl_top_commands::status::Status;

@@ -33,7 +33,7 @@ use Rattle.clap.specs.declared.error.kind.ErrorKind.TheVariants.{OutOfMemory}
 use Rattle.clap.proofs.OnLiterals.{clap_on_literals}
 use Rattle.bl_top_args.specs.inner.FirstWords.{behind_first, first_is}
 use Rattle.bl_top_args.specs.inner.CommandLine.{command_line, job_read, named_read, one_if_read, one_read, three_read, two_or_three_read, two_read}
-use Rattle.bl_top_args.specs.Jobs.{JobSpec, Word, bound, build, check, count, driven, exec, faced, is_plain_word, job_of, of_one, of_one_if, of_three, of_two, other_job}
+use Rattle.bl_top_args.specs.Jobs.{JobSpec, Word, bound, build, check, count, driven, exec, faced, is_plain_word, job_of, linked, of_one, of_one_if, of_three, of_two, other_job}
 use Rattle.bl_top_args.specs.Jobs.{of_two_or_three, resumed, run, save, save_from, seeded, staged}
 use Rattle.bl_top_args.proofs.Program.{ReadsAs, commands, name_refused, others_plain, program, takes_reads}
 use Rattle.bl_top_args.proofs.Values.{one, one_if_taken, one_taken, three, three_taken, two, two_or_three, two_or_three_taken, two_taken}
@@ -113,15 +113,16 @@ command_reads name values plain =
     )))))))))))
 
 reads : (words : List Text) → list_all is_plain_word words ≡ true → first_is (codes "drive") words ≡ false → first_is (codes "face") words ≡ false →
-    ReadsAs (job_of words) words
+    first_is (codes "link") words ≡ false → ReadsAs (job_of words) words
 unfolding clap_on_literals
-reads [] plain no_drive no_face = inr (λ none. cc, refl)
-reads (name ∷ values) plain no_drive no_face = rw (plain, no_drive, no_face) (command_reads name values plain)
+reads [] plain no_drive no_face no_link = inr (λ none. cc, refl)
+reads (name ∷ values) plain no_drive no_face no_link = rw (plain, no_drive, no_face, no_link) (command_reads name values plain)
 
 -- where the parse has a result, it is the job
 pub result_is : (words : List Text) → list_all is_plain_word words ≡ true → first_is (codes "drive") words ≡ false →
-    first_is (codes "face") words ≡ false → fault_of command_line words ≡ [] → job_read (subcommand_of command_line words) ≡ job_of words
-result_is words plain no_drive no_face taken = go (reads words plain no_drive no_face)
+    first_is (codes "face") words ≡ false → first_is (codes "link") words ≡ false → fault_of command_line words ≡ [] →
+    job_read (subcommand_of command_line words) ≡ job_of words
+result_is words plain no_drive no_face no_link taken = go (reads words plain no_drive no_face no_link)
   where
     go : ReadsAs (job_of words) words → job_read (subcommand_of command_line words) ≡ job_of words
     go (inl h) = h.1
@@ -129,8 +130,9 @@ result_is words plain no_drive no_face taken = go (reads words plain no_drive no
 
 -- where it refuses the words, there is no job
 pub refusal_is : (words : List Text) (error : Error) → list_all is_plain_word words ≡ true → first_is (codes "drive") words ≡ false →
-    first_is (codes "face") words ≡ false → HasKind (fault_of command_line words) error → (kind_of error ≡ OutOfMemory → ⊥) → None ≡ job_of words
-refusal_is words error plain no_drive no_face kinds memory = go (reads words plain no_drive no_face) kinds
+    first_is (codes "face") words ≡ false → first_is (codes "link") words ≡ false → HasKind (fault_of command_line words) error →
+    (kind_of error ≡ OutOfMemory → ⊥) → None ≡ job_of words
+refusal_is words error plain no_drive no_face no_link kinds memory = go (reads words plain no_drive no_face no_link) kinds
   where
     go : ReadsAs (job_of words) words → HasKind (fault_of command_line words) error → None ≡ job_of words
     go (inr h) k = sym h.1
@@ -152,3 +154,9 @@ pub face_is : (words : List Text) → list_all is_plain_word words ≡ true → 
     faced (behind_first words) ≡ job_of words
 face_is [] plain no_drive e = absurd (true≢false (sym e))
 face_is (name ∷ values) plain no_drive e = rw (plain, no_drive, e) refl
+
+-- words whose first is `link` ask for what the others do
+pub link_is : (words : List Text) → list_all is_plain_word words ≡ true → first_is (codes "drive") words ≡ false → first_is (codes "face") words ≡ false →
+    first_is (codes "link") words ≡ true → linked (behind_first words) ≡ job_of words
+link_is [] plain no_drive no_face e = absurd (true≢false (sym e))
+link_is (name ∷ values) plain no_drive no_face e = rw (plain, no_drive, no_face, e) refl

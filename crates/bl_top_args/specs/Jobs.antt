@@ -40,6 +40,8 @@ pub data JobSpec : Type 0 where
   resume : Word → Word → Word → JobSpec
   -- write the interface of the source file of the first name, judged behind the interface files of the other names
   face : Word → List Word → JobSpec
+  -- write the C text of the program whose source files have these names, in order
+  link : List Word → JobSpec
 
 -- the files that the job reads, in the order of its words
 abbrev pub files_of : JobSpec → List Word
@@ -56,6 +58,7 @@ files_of (save text rows) = text ∷ rows ∷ []
 files_of (save_from text state rows) = text ∷ state ∷ rows ∷ []
 files_of (resume text state rows) = text ∷ state ∷ rows ∷ []
 files_of (face source faces) = source ∷ faces
+files_of (link sources) = sources
 
 -- the word is not empty and does not begin with a hyphen (45)
 abbrev pub is_plain_word : Word → Bool
@@ -145,6 +148,10 @@ abbrev pub faced : List Word → Option JobSpec
 faced (source ∷ faces) = Some (face source faces)
 faced [] = None
 
+-- the job of `link`: from 2 to 64 source files
+abbrev pub linked : List Word → Option JobSpec
+linked sources = if nat_lt 1 (length sources) && nat_lt (length sources) 65 then Some (link sources) else None
+
 -- the job of the command with this name, on the words after the name, where it is a command whose number of words is limited
 abbrev pub other_job : Word → List Word → Option JobSpec
 other_job name values = if bytes_eq (codes "check") name then of_one check values
@@ -161,7 +168,8 @@ other_job name values = if bytes_eq (codes "check") name then of_one check value
 -- the job of the command with this name, on the words after the name
 abbrev pub command_job : Word → List Word → Option JobSpec
 command_job name values = if bytes_eq (codes "drive") name then driven values
-    else (if bytes_eq (codes "face") name then faced values else other_job name values)
+    else (if bytes_eq (codes "face") name then faced values
+    else (if bytes_eq (codes "link") name then linked values else other_job name values))
 
 -- the job of a list of words: the first names the command, and no word is empty or begins with a hyphen
 abbrev pub job_of : List Word → Option JobSpec
@@ -169,10 +177,11 @@ job_of [] = None
 job_of (name ∷ values) =
     if list_all is_plain_word (name ∷ values) then command_job name values else None
 
--- a program that the job makes has at least one stage
-abbrev pub HasStages : JobSpec → Type 0
-HasStages (gen stages) = 1 ≤ stages
-HasStages _ = Unit {0}
+-- a program that the job makes has at least one stage, and the job links from 2 to 64 files
+abbrev pub IsCounted : JobSpec → Type 0
+IsCounted (gen stages) = 1 ≤ stages
+IsCounted (link sources) = (2 ≤ length sources) × (length sources ≤ 64)
+IsCounted _ = Unit {0}
 
 -- the job that a value of the program stands for
 abbrev pub spec_of : Job → JobSpec
@@ -189,3 +198,4 @@ spec_of (job.Save text rows) = save text.now rows.now
 spec_of (job.SaveFrom text state rows) = save_from text.now state.now rows.now
 spec_of (job.Resume text state rows) = resume text.now state.now rows.now
 spec_of (job.Face source faces) = face source.now (map string_bytes faces.now)
+spec_of (job.Link sources) = link (map string_bytes sources.now)

@@ -2,12 +2,13 @@
 ghost use Rattle.std.specs.Prelude.{◌≡◌, codes, false, IfOk, IfSome, map, option_map, string_bytes, true};
 ghost use Rattle.std.specs.List.{list_all};
 ghost use Rattle.bl_top_args.specs.inner.FirstWords.{first_is};
-ghost use Rattle.bl_top_args.specs.Jobs.{HasStages, files_of, is_plain_word, job_of, spec_of};
+ghost use Rattle.bl_top_args.specs.Jobs.{IsCounted, files_of, is_plain_word, job_of, spec_of};
 
 use crate::command_line::{command_line, job_read};
 use crate::driven::driven_by;
 use crate::faced::faced_by;
 use crate::first::first_is;
+use crate::linked::linked_by;
 use clap::error::ErrorKind;
 use std::alloc::{AllocError, Global};
 use thiserror::Error;
@@ -106,6 +107,11 @@ pub enum Job<'a> {
         /// The names of the interface files, in order.
         faces: &'a [String],
     },
+    /// Write the C text of a program of several files.
+    Link {
+        /// The names of the source files, in order.
+        sources: &'a [String],
+    },
 }
 
 /// Memory ran out before the words were read.
@@ -120,9 +126,12 @@ impl From<AllocError> for NoMemory {
 }
 
 /// The job that `words` ask for, those after the program's name; `None` where they ask for none. The first word is
-/// a command's name, exactly as it is written, and the command says how many words follow it; after `save` a word
-/// between the C text and the rows names a saved state and may be left out, after `drive` one or more words name
-/// plants, and after `face` any number of words behind the source name interface files. A seed is one or more decimal digits that write a number below 2 to the 64; a number of stages is one from 1
+/// a command's name, exactly as it is written, and the command says how many words follow it. After `save` a word
+/// between the C text and the rows names a saved state and may be left out. After `drive` one or more words name
+/// plants, after `face` any number of words behind the source name interface files, and after `link` from 2 to 64 words
+/// name sources.
+///
+/// A seed is one or more decimal digits that write a number below 2 to the 64. A number of stages is one from 1
 /// to 2 to the 32 less 1, and a number of ticks one up to 1,000,000. A plant is `tank` (1), `ramp` (2) or a number below
 /// 2 to the 32. No word may be empty or begin with `-`. There is no command `help`; a file may have that name or a
 /// command's.
@@ -139,14 +148,18 @@ pub fn job_of<'a>(alloc: Global, words: &'a [String]) -> Result<Option<Job<'a>>,
     if first_is("face", words) {
         return Ok(faced_by(words));
     }
+    if first_is("link", words) {
+        return Ok(linked_by(words));
+    }
     other_job(alloc, words)
 }
 
-/// The job that plain words ask for whose first is neither `drive` nor `face`.
+/// The job that plain words ask for whose first is none of `drive`, `face` and `link`.
 fn other_job<'a>(alloc: Global, words: &'a [String]) -> Result<Option<Job<'a>>, NoMemory>
     requires plain { list_all is_plain_word (map string_bytes words.now) ≡ true }
     requires no_drive { first_is (codes "drive") (map string_bytes words.now) ≡ false }
     requires no_face { first_is (codes "face") (map string_bytes words.now) ≡ false }
+    requires no_link { first_is (codes "link") (map string_bytes words.now) ≡ false }
     ensures { IfOk result (λ job. option_map spec_of job
         ≡ job_of (map string_bytes words.entry.now)) }
 {
@@ -181,7 +194,7 @@ pub fn files_have_plain_names(words: &[String])
         list_all is_plain_word (files_of job) ≡ true) }
 {}
 
-/// A program that is asked for has at least one stage.
-pub fn programs_have_stages(words: &[String])
-    ensures { IfSome (job_of (map string_bytes words.now)) HasStages }
+/// A program that is made has at least one stage, and from 2 to 64 files are linked.
+pub fn jobs_are_counted(words: &[String])
+    ensures { IfSome (job_of (map string_bytes words.now)) IsCounted }
 {}

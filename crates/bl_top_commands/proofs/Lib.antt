@@ -7,6 +7,7 @@ pub mod Fronts
 pub mod Generated
 pub mod GoesOn
 pub mod Lines
+pub mod NotLinked
 pub mod Resumes
 pub mod SameFiles
 pub mod Saves

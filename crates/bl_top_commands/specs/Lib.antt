@@ -7,6 +7,7 @@ pub mod Face
 pub mod Gen
 pub mod inner
 pub mod Laws
+pub mod Linked
 pub mod Notes
 pub mod Reads
 pub mod Refusals

@@ -2,7 +2,7 @@
 use Rattle.std.specs.Prelude.{◌≡◌, ℕ, List, [], ◌∷◌, drop, map, Option, Some, None, IfSome}
 use Rattle.bl_io.specs.Left.{IsKept, KeepsOthers, StandsFurther}
 use Rattle.bl_rows_stream.specs.Streams.{ReadsLines}
-use Rattle.bl_top_args.specs.Jobs.{JobSpec, Word, bound, build, check, count, drive, exec, face, gen, resume, run, save, save_from, walk}
+use Rattle.bl_top_args.specs.Jobs.{JobSpec, Word, bound, build, check, count, drive, exec, face, gen, link, resume, run, save, save_from, walk}
 
 -- how far a source or an interface is read: one byte past the 1,048,576 bytes that it may have
 abbrev pub source_limit : ℕ
@@ -73,6 +73,7 @@ files_read (Some (save text rows)) = text_file text ∷ rows_file rows ∷ []
 files_read (Some (save_from text state rows)) = text_file text ∷ state_file state ∷ rows_file rows ∷ []
 files_read (Some (resume text state rows)) = text_file text ∷ state_file state ∷ rows_file rows ∷ []
 files_read (Some (face source faces)) = source_file source ∷ map source_file faces
+files_read (Some (link sources)) = map source_file sources
 
 -- the files are read one after the other, each within its limit, and no other file is
 abbrev pub Reads : List FileRead → (Word → Option (List ℕ)) → (Word → Option (List ℕ)) → Type 0

@@ -22,6 +22,10 @@ unfoldable pub refusal_line : Rule → Place → List Place → List ℕ
 refusal_line rule place also =
     codes "rule " ++ (decimal (number_of rule) ++ (32 ∷ (name_of rule ++ (place_text place ++ (joined (map place_text also) ++ (10 ∷ []))))))
 
+-- the line of a rule that fails for one of several files: the file's number, counted from 1, before the line of a source
+abbrev pub file_line : ℕ → List ℕ → List ℕ
+file_line file line = codes "file " ++ (decimal file ++ (32 ∷ line))
+
 -- ---- the source of a job
 
 -- the line tells the first rule that fails for the text of a source, and where

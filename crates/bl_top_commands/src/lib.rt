@@ -2,7 +2,8 @@
 //! ends comes with its whole cause and with what grew on `out`: `specs/Check.antt`, `specs/Walk.antt`,
 //! `specs/Exec.antt`, `specs/Gen.antt`, `specs/Bound.antt`, `specs/Count.antt`, `specs/Save.antt` (`save` and
 //! `resume`) and `specs/Face.antt`. Where a source isn't accepted, nothing grew on `out`, and a refusal names the first rule that fails for
-//! its bytes (`specs/Refusals.antt`, `IsNotAccepted`). Only the files that the words name are read, each within its
+//! its bytes (`specs/Refusals.antt`, `IsNotAccepted`). Where several source files aren't linked, it names the file too (`specs/Linked.antt`,
+//! `AreNotLinked`). Only the files that the words name are read, each within its
 //! limit (`specs/Reads.antt`, `Reads`). Either a result grew on `out` whole, or a prefix did and the status says why
 //! (`specs/Results.antt`, `WritesResult`). The same holds for the lines of a job on `notes` (`specs/Notes.antt`,
 //! `WritesLines`). `OneTrace` and `HasCourse` (`specs/Traces.antt`) define "has the program's trace" and "prints it as
@@ -23,6 +24,7 @@ pub mod exec;
 pub mod face;
 pub mod generate;
 pub mod laws;
+pub mod linked;
 pub mod notes;
 pub mod outcome;
 mod refusal;

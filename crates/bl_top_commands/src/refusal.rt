@@ -1,7 +1,7 @@
 //! The line that names the rule which refuses a source (docs/FORMATS.md, "Notes").
 
 ghost use Rattle.std.specs.Prelude.{◌≡◌, ◌++◌, IfOk, OnOk};
-ghost use Rattle.bl_top_commands.specs.Refusals.{place_text, refusal_line};
+ghost use Rattle.bl_top_commands.specs.Refusals.{file_line, place_text, refusal_line};
 
 use bl_tree::{Place, Rule};
 use itoa::Buffer;
@@ -23,6 +23,25 @@ pub fn line(alloc: Global, rule: Rule, place: Place, also: &[Place]) -> Result<V
     }
     line.extend_from_slice(b"\n")?;
     Ok(line)
+}
+
+/// The line of a rule that fails for the file of this number, counted from 1.
+pub fn line_in_file(
+    alloc: Global,
+    file: u32,
+    rule: Rule,
+    place: Place,
+    also: &[Place],
+) -> Result<Vec<u8>, AllocError>
+    ensures { IfOk result (λ line. line.items ≡ file_line file (refusal_line rule place also.now)) }
+{
+    let own = line(alloc, rule, place, also)?;
+    let mut told = Vec::from_slice(alloc, b"file ")?;
+    let mut buffer = Buffer::new();
+    told.extend_from_slice(buffer.format(file).as_bytes())?;
+    told.extend_from_slice(b" ")?;
+    told.extend_from_slice(&own)?;
+    Ok(told)
 }
 
 /// Appends a place behind a space.

@@ -16,7 +16,7 @@ use Rattle.bl_save.specs.States.{OneMemory}
 use Rattle.bl_top.specs.Build.{BuildEnds, IsBuiltOf, stopped as build_stopped, written}
 use Rattle.bl_top.specs.Drive.{DriveEnds, Plants, drove, short as drive_short, stopped as drive_stopped}
 use Rattle.bl_top.specs.Run.{RunEnds, ran as run_ran, stopped as run_stopped}
-use Rattle.bl_top_args.specs.Jobs.{JobSpec, Word, bound, build, check, count, drive, exec, face, gen, resume, run, save, save_from, walk}
+use Rattle.bl_top_args.specs.Jobs.{JobSpec, Word, bound, build, check, count, drive, exec, face, gen, link, resume, run, save, save_from, walk}
 use Rattle.bl_top_commands.proofs.SameFiles.{EachBehaves}
 use Rattle.bl_top_commands.specs.Bound.{BoundEnds, TellsBounds, costs_told, stopped as bound_stopped}
 use Rattle.bl_top_commands.specs.Calls.{Call, HasRisen}
@@ -33,6 +33,7 @@ use Rattle.bl_top_commands.specs.declared.status.Status.{Status}
 use Rattle.bl_top_commands.specs.declared.status.Status.TheVariants as status
 use Rattle.bl_top_laws.proofs.Faces.{FilesDecide, face_due, face_fails, face_stops}
 use Rattle.bl_top_laws.proofs.Jobs.{JobEnds, job_ended, lines_written}
+use Rattle.bl_top_laws.proofs.Links.{LinksDecide, link_due, link_fails, link_fails_in}
 use Rattle.bl_top_laws.proofs.Loading.{FollowsBehaviour, never_loaded, text_due, text_stops, text_stops_due}
 use Rattle.bl_top_laws.proofs.Runs.{IsDone, OneTree, course_due, refused_fails, result_done, source_accepted, source_to}
 use Rattle.bl_top_laws.proofs.States.{from_rejected, resume_due, save_due, save_from_due, save_rejected, save_traps, stops_at_state}
@@ -57,6 +58,9 @@ use Rattle.bl_top_laws.specs.Complete.{
   gen_done,
   gen_refused,
   gen_too_large,
+  link_done,
+  link_refused,
+  link_refused_in,
   resume_done,
   resume_stopped,
   run_done,
@@ -177,6 +181,7 @@ source_fails c plants (save text rows) name source ended lines none same holds f
 source_fails c plants (save_from text state rows) name source ended lines none same holds fails ends = absurd (cc)
 source_fails c plants (resume text state rows) name source ended lines none same holds fails ends = absurd (cc)
 source_fails c plants (face first names) name source ended lines none same holds fails ends = absurd (cc)
+source_fails c plants (link names) name source ended lines none same holds fails ends = absurd (cc)
 
 -- ---- C texts
 
@@ -238,6 +243,7 @@ text_rejects_due each c plants (save_from first state rows) name text due ended 
 text_rejects_due each c plants (resume first state rows) name text due ended lines none same holds is ends =
     from_rejected each c first state text due is (refused_as c plants name first text same holds) none.files.0 _ ended lines ends
 text_rejects_due each c plants (face first names) name text due ended lines none same holds is ends = absurd (cc)
+text_rejects_due each c plants (link names) name text due ended lines none same holds is ends = absurd (cc)
 
 -- ---- `gen`
 
@@ -299,7 +305,8 @@ gen_large c stages ended line many (gen_stopped why kept) = unrun_large stages e
 
 -- ---- the call
 
-module _ (one : OneTree) (each : EachBehaves) (memory : (file : Parts) → OneMemory file) (files : FilesDecide) (c : Call) (plants : Plants) where
+module _ (one : OneTree) (each : EachBehaves) (memory : (file : Parts) → OneMemory file) (files : FilesDecide) (links : LinksDecide) (c : Call)
+    (plants : Plants) where
   job_due : (job : JobSpec) (due ended : Status) (lines : List ℕ) → NothingRose c job → IsDue c job due → JobEnds c plants job ended lines →
       IsDone ended due
   job_due _ _ ended lines none (source_refused {job} {name} source named holds fails) ends =
@@ -343,6 +350,12 @@ module _ (one : OneTree) (each : EachBehaves) (memory : (file : Parts) → OneMe
       face_fails files c name names text texts told none.files faces spelled stand fails ended lines ends
   job_due _ _ ended lines none (face_stopped {name} {names} text texts told no_faces) ends =
       face_stops files c name names text texts told none.files no_faces ended lines ends
+  job_due _ _ ended lines none (link_done {names} texts faces tree told good has passes) ends =
+      link_due links c names texts told none.files faces good tree has passes none.out ended lines ends
+  job_due _ _ ended lines none (link_refused {names} texts faces tree told good has fails) ends =
+      link_fails links c names texts told none.files faces good tree has fails ended lines ends
+  job_due _ _ ended lines none (link_refused_in {names} texts file rule place also told fails) ends =
+      link_fails_in links c names texts told none.files file rule place also fails ended lines ends
 
 written_due : (meant ended due : Status) → IsDone meant due → IsDone ended meant → IsDone ended due
 written_due meant ended due is wrote = elim wrote [
@@ -353,10 +366,10 @@ written_due meant ended due is wrote = elim wrote [
 asked_due : (meant due : Status) (Ends : Type 0) → (Ends → IsDone meant due) → (meant ≡ status.NoMemory) ⊎ Ends → IsDone meant due
 asked_due meant due Ends by how = elim how [ inl short_of ↦ inl short_of | inr ends ↦ by ends ]
 
-pub calls_end_as_due : OneTree → EachBehaves → ((file : Parts) → OneMemory file) → FilesDecide → CallsEndAsDue
-calls_end_as_due one each memory files words c plants job due ended asks none is answered =
+pub calls_end_as_due : OneTree → EachBehaves → ((file : Parts) → OneMemory file) → FilesDecide → LinksDecide → CallsEndAsDue
+calls_end_as_due one each memory files links words c plants job due ended asks none is answered =
     let meant : Status = answered.meant in
     written_due meant ended due
-    (asked_due meant due (JobEnds c plants job meant answered.lines) (job_due one each memory files c plants job due meant answered.lines none is)
+    (asked_due meant due (JobEnds c plants job meant answered.lines) (job_due one each memory files links c plants job due meant answered.lines none is)
     (job_ended c plants job _ meant answered.lines asks answered.answers))
     (lines_written c.notes answered.lines meant ended none.notes answered.written)

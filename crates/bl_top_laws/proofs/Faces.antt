@@ -28,7 +28,7 @@ pub record FilesDecide : Type 0 where
   pub bad : BadFacesDontStand
 
 -- no count of a file among those of which none rose did
-none_at : (c : Call) (names earlier : List Word) (name : Word) (later : List Word) → names ≡ earlier ++ name ∷ later → NoneOfThemRose c names →
+pub none_at : (c : Call) (names earlier : List Word) (name : Word) (later : List Word) → names ≡ earlier ++ name ∷ later → NoneOfThemRose c names →
     ¬ HasRisen (c.file name)
 none_at c names earlier name later are none = go earlier (subst (NoneOfThemRose c) are none)
   where

@@ -11,6 +11,7 @@ use Rattle.bl_top.specs.Answers.{
   execs,
   faces,
   gens,
+  links,
   no_job,
   resumes,
   runs,
@@ -21,8 +22,9 @@ use Rattle.bl_top.specs.Answers.{
 }
 use Rattle.bl_top.specs.Build.{BuildEnds}
 use Rattle.bl_top.specs.Drive.{DriveEnds, Plants}
+use Rattle.bl_top.specs.Link.{LinkEnds}
 use Rattle.bl_top.specs.Run.{RunEnds}
-use Rattle.bl_top_args.specs.Jobs.{JobSpec, bound, build, check, count, drive, exec, face, gen, resume, run, save, save_from, walk}
+use Rattle.bl_top_args.specs.Jobs.{JobSpec, bound, build, check, count, drive, exec, face, gen, link, resume, run, save, save_from, walk}
 use Rattle.bl_top_commands.specs.Bound.{BoundEnds}
 use Rattle.bl_top_commands.specs.Calls.{Call, HasRisen, Output}
 use Rattle.bl_top_commands.specs.Check.{CheckEnds}
@@ -51,6 +53,7 @@ JobEnds c plants (save text rows) ended lines = SaveEnds c text rows ended lines
 JobEnds c plants (save_from text state rows) ended lines = SaveFromEnds c text state rows ended lines
 JobEnds c plants (resume text state rows) ended lines = ResumeEnds c text state rows ended lines
 JobEnds c plants (face source names) ended lines = FaceEnds c source names ended lines
+JobEnds c plants (link sources) ended lines = LinkEnds c sources ended lines
 
 same_job : (one other : JobSpec) → Some one ≡ Some other → one ≡ other
 same_job one other same = cc
@@ -76,6 +79,7 @@ module _ (c : Call) (plants : Plants) (job : JobSpec) where
   job_ended _ ended lines is (saves_from {text} {state} {rows} ends) = ends_as ended lines (save_from text state rows) is ends
   job_ended _ ended lines is (resumes {text} {state} {rows} ends) = ends_as ended lines (resume text state rows) is ends
   job_ended _ ended lines is (faces {source} {uses} ends) = ends_as ended lines (face source uses) is ends
+  job_ended _ ended lines is (links {sources} ends) = ends_as ended lines (link sources) is ends
   job_ended _ _ _ is (no_job kept) = absurd (cc)
   job_ended asked _ _ is (short kept same) = inl refl
 

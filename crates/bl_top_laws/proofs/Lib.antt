@@ -4,6 +4,7 @@ pub mod Casts
 pub mod Drives
 pub mod Faces
 pub mod Jobs
+pub mod Links
 pub mod Loading
 pub mod Runs
 pub mod States

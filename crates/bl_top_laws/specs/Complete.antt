@@ -11,11 +11,14 @@ use Rattle.bl_ctree.specs.Means.{Means, shown_trace}
 use Rattle.bl_face.specs.declared.face.Face.{Face}
 use Rattle.bl_gen.specs.Outputs.{input_rows}
 use Rattle.bl_gen.specs.Text.{most_stages, program_text}
+use Rattle.bl_link.specs.Files.{FailsAtFile}
+use Rattle.bl_link.specs.Linked.{HaveTree}
 use Rattle.bl_module.specs.declared.taken.Taken.TheVariants.{AsMarked}
 use Rattle.bl_module.specs.Faces.{FacesStand, behind_faces}
 use Rattle.bl_module.specs.Rules.{PassesIn}
 use Rattle.bl_module_files.specs.Faces.{AreSpelled}
 use Rattle.bl_module_files.specs.Told.{AreTold}
+use Rattle.bl_module_laws.specs.Files.{AreGoodFiles}
 use Rattle.bl_parse_tree.specs.declared.raw.Raw.{Raw}
 use Rattle.bl_rows.specs.Reading.{rows_of}
 use Rattle.bl_rows.specs.declared.fault.RowFault.{RowFault}
@@ -23,19 +26,21 @@ use Rattle.bl_rows_stream.specs.Streams.{finish_of, while_open}
 use Rattle.bl_rows_stream.specs.declared.finish.Finish.{Finish}
 use Rattle.bl_rows_stream.specs.declared.finish.Finish.TheVariants as finish
 use Rattle.bl_rules.specs.Accepted.{HasTree}
-use Rattle.bl_rules.specs.Rules.{Passes}
+use Rattle.bl_rules.specs.Rules.{Passes, TreePasses}
 use Rattle.bl_save.specs.States.{SavedState}
 use Rattle.bl_top.specs.Answers.{Answered}
 use Rattle.bl_top.specs.Drive.{Plants}
-use Rattle.bl_top_args.specs.Jobs.{JobSpec, Word, bound, build, check, count, drive, exec, face, files_of, gen, job_of, resume, run, save, save_from, walk}
+use Rattle.bl_top_args.specs.Jobs.{JobSpec, Word, bound, build, check, count, drive, exec, face, files_of, gen, job_of, link, resume, run, save, save_from, walk}
 use Rattle.bl_top_commands.specs.Calls.{Call, HasRisen}
 use Rattle.bl_top_commands.specs.Gen.{last_status}
 use Rattle.bl_top_commands.specs.Reads.{LeftBehind, longest_text, source_limit, state_limit, text_limit}
 use Rattle.bl_top_commands.specs.declared.status.Status.{Status}
 use Rattle.bl_top_commands.specs.declared.status.Status.TheVariants as status
+use Rattle.bl_tree.specs.declared.place.Place.{Place}
 use Rattle.bl_tree.specs.declared.row.Last.{Last}
 use Rattle.bl_tree.specs.declared.row.Last.TheVariants.{Open, Ended, Trap}
 use Rattle.bl_tree.specs.declared.row.Trace.{Trace}
+use Rattle.bl_tree.specs.declared.rule.Rule.{Rule}
 use Rattle.bl_tree.specs.declared.tree.Unit.{Unit as UnitDef}
 use Rattle.bl_tree.specs.Ports.{input_columns}
 use Rattle.bl_types_program.specs.Programs.{typed_of}
@@ -145,6 +150,7 @@ source_named (save text rows) = None
 source_named (save_from text state rows) = None
 source_named (resume text state rows) = None
 source_named (face source faces) = None
+source_named (link sources) = None
 
 -- the file of the C text that a job reads, if it reads one
 abbrev pub text_named : JobSpec → Option Word
@@ -161,6 +167,7 @@ text_named (save text rows) = Some text
 text_named (save_from text state rows) = Some text
 text_named (resume text state rows) = Some text
 text_named (face source faces) = None
+text_named (link sources) = None
 
 -- a C text is rejected with this status
 pub data IsRejected (text : List ℕ) : Status → Type 0 where
@@ -221,6 +228,14 @@ pub data IsDue (c : Call) : JobSpec → Status → Type 0 where
   -- the interface files are no faces, or faces that don't stand
   face_stopped : {name : Word} {names : List Word} (text : List ℕ) (texts : List (List ℕ)) → AreTold c.left (name ∷ names) (text ∷ texts) →
       ((faces : List Face) → AreSpelled texts faces → ¬ FacesStand faces) → IsDue c (face name names) status.NotFace
+  -- each file is good behind the faces of those before it, and no rule fails for the joined texts
+  link_done : {names : List Word} (texts : List (List ℕ)) (faces : List Face) (tree : Raw) → AreTold c.left names texts →
+      AreGoodFiles (length texts) texts faces → HaveTree texts tree → TreePasses tree → IsDue c (link names) status.Ok
+  link_refused : {names : List Word} (texts : List (List ℕ)) (faces : List Face) (tree : Raw) → AreTold c.left names texts →
+      AreGoodFiles (length texts) texts faces → HaveTree texts tree → ¬ TreePasses tree → IsDue c (link names) status.Refused
+  -- a rule fails for one of the files behind the faces of those before it
+  link_refused_in : {names : List Word} (texts : List (List ℕ)) (file : ℕ) (rule : Rule) (place : Place) (also : List Place) →
+      AreTold c.left names texts → FailsAtFile (length texts) texts file rule place also → IsDue c (link names) status.Refused
 
 -- a call in which no count of faults rises ends with the status that is due for its job, want of memory aside
 abbrev pub CallsEndAsDue : Type 0

@@ -4,6 +4,7 @@ ghost use Rattle.bl_top_laws.specs.Complete.{CallsEndAsDue};
 ghost use Rattle.bl_top_laws.specs.Driven.{DrivesEndAsDue, OthersHaveOtherShapes};
 
 use bl_ctext_semantics_laws_places::bytes::bytes_behave_as_their_file;
+use bl_link::laws::{files_have_one_end, parts_have_one_tree};
 use bl_module_files::laws::{bad_faces_dont_stand, texts_decide_their_faces};
 use bl_rules::laws::an_accepted_text_has_one_tree;
 use bl_save::laws::one_memory;
@@ -17,6 +18,8 @@ pub fn calls_end_as_due()
     one_memory();
     texts_decide_their_faces();
     bad_faces_dont_stand();
+    files_have_one_end();
+    parts_have_one_tree();
 }
 
 /// A call of `drive` in which no count of faults rises ends as its trace says where the plants agree and give no number outside

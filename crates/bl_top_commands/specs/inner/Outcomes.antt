@@ -1,11 +1,13 @@
 -- Ends of jobs as values of the program, before their line is written.
-use Rattle.std.specs.Prelude.{◌≡◌, ℕ, ◌⊎◌, List, ◌++◌}
+use Rattle.std.specs.Prelude.{◌≡◌, ℕ, ◌⊎◌, List, [], ◌++◌}
 use Rattle.bl_top_commands.specs.Notes.{bad_face_line, bad_rows_line, bad_state_line, line_of, no_face_line, not_subset_line, too_large_line}
-use Rattle.bl_top_commands.specs.Refusals.{refusal_line}
+use Rattle.bl_top_commands.specs.Refusals.{file_line, refusal_line}
 use Rattle.bl_top_commands.specs.declared.answer.Answer.{Answer}
 use Rattle.bl_top_commands.specs.declared.outcome.Outcome.{Outcome}
 use Rattle.bl_top_commands.specs.declared.status.Status.{Status}
 use Rattle.bl_top_commands.specs.declared.status.Status.TheVariants as status
+use Rattle.bl_link_files.specs.declared.fault.ProgramFault.{ProgramFault}
+use Rattle.bl_link_files.specs.declared.fault.ProgramFault.TheVariants as program
 use Rattle.bl_module.specs.declared.fault.PartFault.{PartFault}
 use Rattle.bl_module.specs.declared.fault.PartFault.TheVariants as part
 use Rattle.bl_module_files.specs.declared.fault.FilesFault.{FilesFault}
@@ -62,6 +64,13 @@ IsEndAtFiles files.Unread outcome = outcome.status ≡ status.ReadFault
 IsEndAtFiles (files.NotFace file at) outcome = IsTold status.NotFace (no_face_line file at) outcome
 IsEndAtFiles (files.NoPart fault) outcome = IsEndAtPart fault outcome
 IsEndAtFiles files.NoMemory outcome = outcome.status ≡ status.NoMemory
+
+-- the outcome is that of source files that have no program for this fault
+abbrev pub IsEndAtProgram : ProgramFault → Outcome → Type 0
+IsEndAtProgram program.Unread outcome = outcome.status ≡ status.ReadFault
+IsEndAtProgram (program.InTurn file rule place also) outcome = IsTold status.Refused (file_line file (refusal_line rule place also)) outcome
+IsEndAtProgram (program.Together file rule place) outcome = IsTold status.Refused (file_line file (refusal_line rule place [])) outcome
+IsEndAtProgram program.NoMemory outcome = outcome.status ≡ status.NoMemory
 
 -- the outcome is that of a C text that is refused so
 abbrev pub IsEndAtText : CRefusal → Outcome → Type 0

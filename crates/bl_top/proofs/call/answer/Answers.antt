@@ -1,12 +1,13 @@
 -- Each command's end is that of the job; where there is none nothing is written.
-use Rattle.std.proofs.Common.{◌≡◌, Some, map, refl, rules, string_bytes}
-use Rattle.bl_top_args.specs.Jobs.{gen, job_of}
+use Rattle.std.proofs.Common.{◌≡◌, Some, arith, map, refl, rules, string_bytes}
+use Rattle.std.proofs.lemmas.List.{length-map}
+use Rattle.bl_top_args.specs.Jobs.{gen, job_of, link}
 use Rattle.bl_top.proofs.Cuts.{kept_same}
-use Rattle.bl_top.proofs.Ends.{answers_alone, answers_bound, answers_build, answers_check, answers_count, answers_exec, answers_face, answers_gen, answers_none}
-use Rattle.bl_top.proofs.Ends.{answers_resume}
+use Rattle.bl_top.proofs.Ends.{answers_alone, answers_bound, answers_build, answers_check, answers_count, answers_exec, answers_face, answers_gen, answers_link}
+use Rattle.bl_top.proofs.Ends.{answers_none, answers_resume}
 use Rattle.bl_top.proofs.Ends.{answers_run, answers_save, answers_save_from, answers_short, answers_walk}
 use Rattle.bl_top.proofs.Driven.{answers_drive}
-use Rattle.bl_top.proofs.Ends.{stages_asked}
+use Rattle.bl_top.proofs.Ends.{sources_asked, stages_asked}
 use Rattle.bl_top.proofs.call.answer.Goals as goal
 
 pub returns-in-Ok-Some-Check-clause-answers : goal.returns-in-Ok-Some-Check-clause-answers
@@ -38,7 +39,7 @@ returns-in-Ok-Some-Drive-clause-answers g c = λ notes. answers_drive _ _ _ _ _ 
 pub generate-requires : goal.generate-requires
 generate-requires g c =
     let asked : job_of (map string_bytes c.args.words.now) ≡ Some (gen c.in-Ok-Some-Gen.stages) = search rules in
-    stages_asked (job_of (map string_bytes c.args.words.now)) c.in-Ok-Some-Gen.stages asked c.programs_have_stages.ensures
+    stages_asked (job_of (map string_bytes c.args.words.now)) c.in-Ok-Some-Gen.stages asked c.jobs_are_counted.ensures
 
 pub returns-in-Ok-Some-Gen-clause-answers : goal.returns-in-Ok-Some-Gen-clause-answers
 returns-in-Ok-Some-Gen-clause-answers g c = λ notes.
@@ -78,6 +79,23 @@ pub returns-in-Ok-Some-Face-clause-answers : goal.returns-in-Ok-Some-Face-clause
 returns-in-Ok-Some-Face-clause-answers g c = λ notes.
     answers_alone _ _ _ c.alone-in-Ok-Some-Face.result c.face.result c.alone-in-Ok-Some-Face.ensures.outcome c.alone-in-Ok-Some-Face.ensures.lines
     (answers_face _ _ _ _ _ _ _ (search rules) (c.face.ensures.ends notes))
+
+pub link-requires-clause-some : goal.link-requires-clause-some
+link-requires-clause-some g c =
+    let asked : job_of (map string_bytes c.args.words.now) ≡ Some (link (map string_bytes c.in-Ok-Some-Link.sources.now)) = search rules in
+    let counted = sources_asked (job_of (map string_bytes c.args.words.now)) (map string_bytes c.in-Ok-Some-Link.sources.now) asked c.jobs_are_counted.ensures in
+    let same = length-map c.in-Ok-Some-Link.sources.now string_bytes in omega (arith, same, counted.0)
+
+pub link-requires-clause-few : goal.link-requires-clause-few
+link-requires-clause-few g c =
+    let asked : job_of (map string_bytes c.args.words.now) ≡ Some (link (map string_bytes c.in-Ok-Some-Link.sources.now)) = search rules in
+    let counted = sources_asked (job_of (map string_bytes c.args.words.now)) (map string_bytes c.in-Ok-Some-Link.sources.now) asked c.jobs_are_counted.ensures in
+    let same = length-map c.in-Ok-Some-Link.sources.now string_bytes in omega (arith, same, counted.1)
+
+pub returns-in-Ok-Some-Link-clause-answers : goal.returns-in-Ok-Some-Link-clause-answers
+returns-in-Ok-Some-Link-clause-answers g c = λ notes.
+    answers_alone _ _ _ c.alone-in-Ok-Some-Link.result c.link.result c.alone-in-Ok-Some-Link.ensures.outcome c.alone-in-Ok-Some-Link.ensures.lines
+    (answers_link _ _ _ _ _ _ (search rules) (c.link.ensures.ends notes))
 
 pub returns-in-Ok-None-clause-answers : goal.returns-in-Ok-None-clause-answers
 returns-in-Ok-None-clause-answers g c = λ notes.

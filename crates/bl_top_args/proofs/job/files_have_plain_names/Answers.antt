@@ -5,6 +5,8 @@ use Rattle.std.proofs.Common.{
   Bool,
   IfSome,
   Some,
+  length,
+  nat_lt,
   None,
   false,
   true,
@@ -21,8 +23,8 @@ use Rattle.std.proofs.Common.{
 use Rattle.std.specs.List.{list_all}
 use Rattle.std.specs.Str.{bytes_eq}
 use Rattle.bl_top_args.specs.Jobs.{JobSpec, Word, bound, build, check, command_job, count}
-use Rattle.bl_top_args.specs.Jobs.{driven, exec, faced, files_of, is_plain_word, job_of, of_one, of_one_if, of_three, of_two, of_two_or_three}
-use Rattle.bl_top_args.specs.Jobs.{other_job, plants_of, resumed, run, save, save_from, seed_of, seeded, staged, stages_of, ticks_of}
+use Rattle.bl_top_args.specs.Jobs.{driven, exec, faced, files_of, is_plain_word, job_of, linked, of_one, of_one_if, of_three, of_two, of_two_or_three}
+use Rattle.bl_top_args.specs.Jobs.{link, other_job, plants_of, resumed, run, save, save_from, seed_of, seeded, staged, stages_of, ticks_of}
 use Rattle.bl_top_args.proofs.Program.{others_plain}
 use Rattle.bl_top_args.proofs.job.files_have_plain_names.Goals as goal
 
@@ -118,6 +120,14 @@ faced_plain : (values : List Word) → list_all is_plain_word values ≡ true �
 faced_plain [] plain = tt
 faced_plain (source ∷ faces) plain = plain
 
+-- a job of `link` is of all its words
+linked_plain : (values : List Word) → list_all is_plain_word values ≡ true → IfSome (linked values) HasPlainFiles
+linked_plain values plain = go (nat_lt 1 (length values) && nat_lt (length values) 65)
+  where
+    go : (few : Bool) → IfSome (if few then Some (link values) else None) HasPlainFiles
+    go true = plain
+    go false = tt
+
 other_plain : (name : Word) (values : List Word) → list_all is_plain_word values ≡ true → IfSome (other_job name values) HasPlainFiles
 other_plain name values plain =
     trying (bytes_eq (codes "check") name) _ _ (one_plain check (λ first. refl) values plain) (
@@ -134,7 +144,8 @@ other_plain name values plain =
 command_plain : (name : Word) (values : List Word) → list_all is_plain_word values ≡ true → IfSome (command_job name values) HasPlainFiles
 command_plain name values plain =
     trying (bytes_eq (codes "drive") name) _ _ (driven_plain values plain)
-    (trying (bytes_eq (codes "face") name) _ _ (faced_plain values plain) (other_plain name values plain))
+    (trying (bytes_eq (codes "face") name) _ _ (faced_plain values plain)
+    (trying (bytes_eq (codes "link") name) _ _ (linked_plain values plain) (other_plain name values plain)))
 
 job_plain : (words : List Word) → IfSome (job_of words) HasPlainFiles
 job_plain [] = tt

@@ -13,11 +13,12 @@ returns-in-Ok c =
     let is = c.in_ok-command.ensures in
     let taken = sym (ap (λ (a : App). fault_of a words) is) ∙ c.in-Ok.ensures.kinds (ap is_simple_and_free is) in
     let read = (c.in-Ok.ensures.matches (ap is_simple is)).1 ∙ ap (λ (a : App). subcommand_of a words) is in
-    c.job_read.ensures ∙ ap job_read read ∙ result_is words c.requires.plain c.requires.no_drive c.requires.no_face taken
+    c.job_read.ensures ∙ ap job_read read ∙ result_is words c.requires.plain c.requires.no_drive c.requires.no_face c.requires.no_link taken
 
 pub returns : goal.returns
 returns c =
     let words : List Text = map string_bytes c.args.words.now in
     let is = c.in_ok-command.ensures in
     let kinds = subst (λ (a : App). HasKind (fault_of a words) c.in-Err.error) is (c.in-Err.ensures.kinds (ap is_simple_and_free is)) in
-    refusal_is words c.in-Err.error c.requires.plain c.requires.no_drive c.requires.no_face kinds (λ e. c.in_default.not-OutOfMemory (c.kind.ensures ∙ e))
+    refusal_is words c.in-Err.error c.requires.plain c.requires.no_drive c.requires.no_face c.requires.no_link kinds
+    (λ e. c.in_default.not-OutOfMemory (c.kind.ensures ∙ e))

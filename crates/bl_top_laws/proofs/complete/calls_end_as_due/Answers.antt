@@ -10,3 +10,11 @@ returns c =
       one = c.texts_decide_their_faces.ensures.one;
       bad = c.bad_faces_dont_stand.ensures;
     })
+    (record {
+      read = c.texts_decide_their_faces.ensures.texts;
+      first = c.texts_decide_their_faces.ensures.first;
+      counted = c.texts_decide_their_faces.ensures.count;
+      good = c.files_have_one_end.ensures.good;
+      more = c.files_have_one_end.ensures.more;
+      one = c.parts_have_one_tree.ensures.one;
+    })
