@@ -80,7 +80,19 @@ def file_of(words, line):
         at = ROWS_AT.get(words[0], 1)
     elif line.startswith("bad state:"):
         at = 2
+    elif line.startswith("file "):
+        # (of `link`, whose files are counted from 1)
+        at = number_of(line)
+    elif line.startswith("not face: file "):
+        # (of `face`, whose interfaces stand behind the source)
+        at = 1 + number_of(line)
     return words[at] if -len(words) <= at < len(words) else words[-1]
+
+
+def number_of(line):
+    """The number of the file that a line names."""
+    found = re.match(r"(?:not face: )?file (\d+)\b", line)
+    return int(found.group(1)) if found else 1
 
 
 def explained(path, line, status):
