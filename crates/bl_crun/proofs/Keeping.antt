@@ -2,12 +2,12 @@
 use Rattle.std.proofs.Common.{◌≡◌, ℕ, ◌+◌, ◌≤◌, ◌<◌, ◌^◌, ℤ, pos, true, List, [], ◌∷◌, length, take, drop, ◌-◌, replicate}
 use Rattle.std.proofs.Common.{ap, sym, subst, ◌∙◌, arith}
 use Rattle.std.specs.Prelude.{codes, is_some, min}
-use Rattle.bl_crun_bytecode.specs.Code.{Code}
+use Rattle.bl_crun_code.specs.Code.{Code}
 use Rattle.bl_tree.specs.Ports.{in_ranges, row_fits, types_of}
 use Rattle.bl_ctext_semantics_laws.specs.Flat.{FlatAnswer, with_args}
 use Rattle.bl_ctext_semantics_laws.specs.Laws.{StartsAgree, TicksAgree, behind_objects, entered_flat, input_at, output_at}
-use Rattle.bl_crun_bytecode_vm.specs.Shown.{VmView}
-use Rattle.bl_crun_bytecode_vm.specs.Steps.{holding}
+use Rattle.bl_crun_code.specs.Vm.{VmState}
+use Rattle.bl_crun_code_vm.specs.Steps.{with_cells}
 use Rattle.bl_ctext_semantics.specs.Cells.{cells_of, inputs_of, outputs_of}
 use Rattle.bl_ctext_semantics.specs.Parts.{Parts}
 use Rattle.bl_ctext_semantics.specs.Sizes.{cells_needed}
@@ -27,8 +27,8 @@ use Rattle.bl_crun.proofs.Cells.{cells-long, input-start, output-start}
 use Rattle.bl_crun.proofs.Ticks.{inputs-within, outputs-within, start-is, tick-is}
 
 -- another machine with as much room
-pub kept : (file : Parts) (p : Prepared) (m : VmView) → PreparedInvariant file p → m.numbers ≡ p.machine.numbers → m.calls ≡ p.machine.calls →
-    CellsKeep file m.state.cells → PreparedInvariant file (record p { machine = m })
+pub kept : (file : Parts) (p : Prepared) (m : VmState) → PreparedInvariant file p → length m.temps ≡ length p.machine.temps → m.room ≡ p.machine.room →
+    CellsKeep file m.cells → PreparedInvariant file (record p { machine = m })
 kept file p m k n c cells = record {
   runs = k.runs;
   code = k.code;
@@ -40,13 +40,13 @@ kept file p m k n c cells = record {
   input_at = k.input_at;
   output_at = k.output_at;
   base = k.base;
-  numbers = subst (λ x. length p.code.items ≤ x) (sym n) k.numbers;
-  calls = subst (λ x. length file.funcs ≤ x) (sym c) k.calls;
+  temps = subst (λ x. length p.code.items ≤ x) (sym n) k.temps;
+  room = subst (λ x. length file.funcs ≤ x) (sym c) k.room;
   cells = cells;
 }
 
-first-numbers : (file : Parts) (p : Prepared) (m : VmView) → PreparedInvariant file p → cell_numbers (record p { machine = m }) ≡ first_cells file m.state.cells
-first-numbers file p m k = ap (λ ts. take (length ts) m.state.cells) k.kinds
+first-numbers : (file : Parts) (p : Prepared) (m : VmState) → PreparedInvariant file p → cell_numbers (record p { machine = m }) ≡ first_cells file m.cells
+first-numbers file p m k = ap (λ ts. take (length ts) m.cells) k.kinds
 
 -- ---- what is prepared at first
 
@@ -66,20 +66,20 @@ kinds-fit file runs = let e = kinds-base file runs in let s = runs.small in omeg
 -- ---- the start
 
 abbrev pub Start : Parts → Prepared → FlatAnswer ℤ
-Start file p = entered_flat file (codes "bl_init") (pos 0 ∷ []) p.machine.state.cells
+Start file p = entered_flat file (codes "bl_init") (pos 0 ∷ []) p.machine.cells
 
 pub start-comes : (file : Parts) (p : Prepared) → PreparedInvariant file p →
-    Comes (steps_of file (codes "bl_init") (pos 0 ∷ []) p.machine.state.cells) p.code.items p.init p.base (pos 0 ∷ []) p.machine (Start file p)
-start-comes file p k = file-comes file (codes "bl_init") (pos 0 ∷ []) p.machine p.code.items p.init p.base k.code k.init k.base k.numbers k.calls
+    Comes (steps_of file (codes "bl_init") (pos 0 ∷ []) p.machine) p.code.items p.init p.base (pos 0 ∷ []) p.machine (Start file p)
+start-comes file p k = file-comes file (codes "bl_init") (pos 0 ∷ []) p.machine p.code.items p.init p.base k.code k.init k.base k.temps k.room
 
 module _ (file : Parts) (p : Prepared) (k : PreparedInvariant file p) (agrees : StartsAgree file)
-    (cleared : p.machine.state.cells ≡ replicate (cells_needed file) (pos 0))
-    (called : Called) (after : VmView) (done : CallDone (entered_flat file (codes "bl_init") (pos 0 ∷ []) p.machine.state.cells) p.machine called after) where
+    (cleared : p.machine.cells ≡ replicate (cells_needed file) (pos 0))
+    (called : Called) (after : VmState) (done : CallDone (entered_flat file (codes "bl_init") (pos 0 ∷ []) p.machine.cells) p.machine called after) where
   started : IsStart file (Start file p)
-  started = start-is file k.runs agrees p.machine.state.cells cleared
+  started = start-is file k.runs agrees p.machine.cells cleared
 
   pub start-keeps : PreparedInvariant file (record p { machine = after })
-  start-keeps = kept file p after k done.numbers done.calls (subst (CellsKeep file) (sym done.cells) started.cells_kept)
+  start-keeps = kept file p after k done.temps done.room (subst (CellsKeep file) (sym done.cells) started.cells_kept)
 
   pub start-ready : is_some called.answer ≡ start_succeeds file
   start-ready = ap is_some done.answer ∙ started.ready
@@ -93,101 +93,101 @@ abbrev pub Args : Prepared → List ℤ
 Args p = pos 0 ∷ pos p.input_at ∷ pos p.output_at ∷ []
 
 -- the machine with the inputs
-abbrev pub Set : Prepared → List ℤ → VmView
-Set p ins = holding p.machine (with_args (p.input_at + 1) ins p.machine.state.cells)
+abbrev pub Set : Prepared → List ℤ → VmState
+Set p ins = with_cells p.machine (with_args (p.input_at + 1) ins p.machine.cells)
 
-pub tick-comes : (file : Parts) (p : Prepared) (m : VmView) (ins : List ℤ) → PreparedInvariant file p → m ≡ Set p ins →
-    Comes (steps_of file (codes "bl_tick") (Args p) m.state.cells) p.code.items p.tick p.base (Args p) m
-    (entered_flat file (codes "bl_tick") (Args p) m.state.cells)
+pub tick-comes : (file : Parts) (p : Prepared) (m : VmState) (ins : List ℤ) → PreparedInvariant file p → m ≡ Set p ins →
+    Comes (steps_of file (codes "bl_tick") (Args p) m) p.code.items p.tick p.base (Args p) m
+    (entered_flat file (codes "bl_tick") (Args p) m.cells)
 tick-comes file p m ins k is =
     file-comes file (codes "bl_tick") (Args p) m p.code.items p.tick p.base k.code k.tick k.base
-    (subst (λ (x : VmView). length p.code.items ≤ x.numbers) (sym is) k.numbers) (subst (λ (x : VmView). length file.funcs ≤ x.calls) (sym is) k.calls)
+    (subst (λ (x : VmState). length p.code.items ≤ length x.temps) (sym is) k.temps) (subst (λ (x : VmState). length file.funcs ≤ x.room) (sym is) k.room)
 
-tick-called : (file : Parts) (p : Prepared) (m : VmView) (ins : List ℤ) → PreparedInvariant file p → m ≡ Set p ins → (code : Code) →
+tick-called : (file : Parts) (p : Prepared) (m : VmState) (ins : List ℤ) → PreparedInvariant file p → m ≡ Set p ins → (code : Code) →
     code ≡ p.code.items → (args : List ℤ) →
     args ≡ Args p →
-    Comes (steps_of file (codes "bl_tick") args m.state.cells) code p.tick p.base args m (entered_flat file (codes "bl_tick") args m.state.cells)
+    Comes (steps_of file (codes "bl_tick") args m) code p.tick p.base args m (entered_flat file (codes "bl_tick") args m.cells)
 tick-called file p m ins keeps is code code-is args args-are =
-    subst (λ k. Comes (steps_of file (codes "bl_tick") args m.state.cells) k p.tick p.base args m (entered_flat file (codes "bl_tick") args m.state.cells))
+    subst (λ k. Comes (steps_of file (codes "bl_tick") args m) k p.tick p.base args m (entered_flat file (codes "bl_tick") args m.cells))
     (sym code-is)
-    (subst (λ given. Comes (steps_of file (codes "bl_tick") given m.state.cells) p.code.items p.tick p.base given m
-    (entered_flat file (codes "bl_tick") given m.state.cells)) (sym args-are) (tick-comes file p m ins keeps is))
+    (subst (λ given. Comes (steps_of file (codes "bl_tick") given m) p.code.items p.tick p.base given m
+    (entered_flat file (codes "bl_tick") given m.cells)) (sym args-are) (tick-comes file p m ins keeps is))
 
-pub tick-required : (file : Parts) (p : Prepared) (m : VmView) (ins : List ℤ) → PreparedInvariant file p → m ≡ Set p ins → (code : Code) →
+pub tick-required : (file : Parts) (p : Prepared) (m : VmState) (ins : List ℤ) → PreparedInvariant file p → m ≡ Set p ins → (code : Code) →
     code ≡ p.code.items →
     (args : List ℤ) → args ≡ Args p →
-    (l : FlatAnswer ℤ) × Comes (steps_of file (codes "bl_tick") args m.state.cells) code p.tick p.base args m l
+    (l : FlatAnswer ℤ) × Comes (steps_of file (codes "bl_tick") args m) code p.tick p.base args m l
 tick-required file p m ins keeps is code code-is args args-are =
-    (entered_flat file (codes "bl_tick") args m.state.cells, tick-called file p m ins keeps is code code-is args args-are)
+    (entered_flat file (codes "bl_tick") args m.cells, tick-called file p m ins keeps is code code-is args args-are)
 
-pub tick-done : (file : Parts) (p : Prepared) (m : VmView) (ins : List ℤ) → PreparedInvariant file p → m ≡ Set p ins →
+pub tick-done : (file : Parts) (p : Prepared) (m : VmState) (ins : List ℤ) → PreparedInvariant file p → m ≡ Set p ins →
     (code : Code) → code ≡ p.code.items →
-    (args : List ℤ) → args ≡ Args p → (called : Called) (after : VmView) →
-    ((l : FlatAnswer ℤ) → Comes (steps_of file (codes "bl_tick") args m.state.cells) code p.tick p.base args m l → CallDone l m called after) →
-    CallDone (entered_flat file (codes "bl_tick") (pos 0 ∷ pos p.input_at ∷ pos p.output_at ∷ []) m.state.cells) m called after
+    (args : List ℤ) → args ≡ Args p → (called : Called) (after : VmState) →
+    ((l : FlatAnswer ℤ) → Comes (steps_of file (codes "bl_tick") args m) code p.tick p.base args m l → CallDone l m called after) →
+    CallDone (entered_flat file (codes "bl_tick") (pos 0 ∷ pos p.input_at ∷ pos p.output_at ∷ []) m.cells) m called after
 tick-done file p m ins keeps is code code-is args args-are called after does =
-    subst (λ given. CallDone (entered_flat file (codes "bl_tick") given m.state.cells) m called after) args-are
-    (does (entered_flat file (codes "bl_tick") args m.state.cells) (tick-called file p m ins keeps is code code-is args args-are))
+    subst (λ given. CallDone (entered_flat file (codes "bl_tick") given m.cells) m called after) args-are
+    (does (entered_flat file (codes "bl_tick") args m.cells) (tick-called file p m ins keeps is code code-is args args-are))
 
 start-called : (file : Parts) (p : Prepared) → PreparedInvariant file p → (code : Code) → code ≡ p.code.items →
-    Comes (steps_of file (codes "bl_init") (pos 0 ∷ []) p.machine.state.cells) code p.init p.base (pos 0 ∷ []) p.machine (Start file p)
+    Comes (steps_of file (codes "bl_init") (pos 0 ∷ []) p.machine) code p.init p.base (pos 0 ∷ []) p.machine (Start file p)
 start-called file p keeps code code-is =
-    subst (λ k. Comes (steps_of file (codes "bl_init") (pos 0 ∷ []) p.machine.state.cells) k p.init p.base (pos 0 ∷ []) p.machine
+    subst (λ k. Comes (steps_of file (codes "bl_init") (pos 0 ∷ []) p.machine) k p.init p.base (pos 0 ∷ []) p.machine
     (Start file p)) (sym code-is)
     (start-comes file p keeps)
 
 pub start-required : (file : Parts) (p : Prepared) → PreparedInvariant file p → (code : Code) → code ≡ p.code.items →
-    (l : FlatAnswer ℤ) × Comes (steps_of file (codes "bl_init") (pos 0 ∷ []) p.machine.state.cells) code p.init p.base (pos 0 ∷ []) p.machine l
+    (l : FlatAnswer ℤ) × Comes (steps_of file (codes "bl_init") (pos 0 ∷ []) p.machine) code p.init p.base (pos 0 ∷ []) p.machine l
 start-required file p keeps code code-is = (Start file p, start-called file p keeps code code-is)
 
-pub start-done : (file : Parts) (p : Prepared) → PreparedInvariant file p → (code : Code) → code ≡ p.code.items → (called : Called) (after : VmView) →
-    ((l : FlatAnswer ℤ) → Comes (steps_of file (codes "bl_init") (pos 0 ∷ []) p.machine.state.cells) code p.init p.base (pos 0 ∷ []) p.machine l →
+pub start-done : (file : Parts) (p : Prepared) → PreparedInvariant file p → (code : Code) → code ≡ p.code.items → (called : Called) (after : VmState) →
+    ((l : FlatAnswer ℤ) → Comes (steps_of file (codes "bl_init") (pos 0 ∷ []) p.machine) code p.init p.base (pos 0 ∷ []) p.machine l →
     CallDone l p.machine called after) →
-    CallDone (entered_flat file (codes "bl_init") (pos 0 ∷ []) p.machine.state.cells) p.machine called after
+    CallDone (entered_flat file (codes "bl_init") (pos 0 ∷ []) p.machine.cells) p.machine called after
 start-done file p keeps code code-is called after does = does (Start file p) (start-called file p keeps code code-is)
 
 pub set-within : (file : Parts) (p : Prepared) (ins : List ℤ) → PreparedInvariant file p → PortsStand file →
     row_fits (inputs_of file) ins ≡ true → (k : ℕ) → k < length ins →
-    p.input_at + 1 + k < length p.machine.state.cells
+    p.input_at + 1 + k < length p.machine.cells
 set-within file p ins keeps stand fits k within =
     let at = keeps.input_at in
-    let h = inputs-within file keeps.runs stand ins p.machine.state.cells keeps.cells.room fits k within in
+    let h = inputs-within file keeps.runs stand ins p.machine.cells keeps.cells.room fits k within in
     omega arith
 
 module _ (file : Parts) (p : Prepared) (k : PreparedInvariant file p) (agrees : TicksAgree file) (stand : PortsStand file) (ins : List ℤ)
     (fits : row_fits (inputs_of file) ins ≡ true)
-    (m : VmView) (is : m ≡ holding p.machine (with_args (p.input_at + 1) ins p.machine.state.cells))
-    (called : Called) (after : VmView)
-    (done : CallDone (entered_flat file (codes "bl_tick") (pos 0 ∷ pos p.input_at ∷ pos p.output_at ∷ []) m.state.cells) m called after) where
+    (m : VmState) (is : m ≡ with_cells p.machine (with_args (p.input_at + 1) ins p.machine.cells))
+    (called : Called) (after : VmState)
+    (done : CallDone (entered_flat file (codes "bl_tick") (pos 0 ∷ pos p.input_at ∷ pos p.output_at ∷ []) m.cells) m called after) where
   abbrev Left-of : FlatAnswer ℤ
-  Left-of = entered_flat file (codes "bl_tick") (pos 0 ∷ pos p.input_at ∷ pos p.output_at ∷ []) m.state.cells
+  Left-of = entered_flat file (codes "bl_tick") (pos 0 ∷ pos p.input_at ∷ pos p.output_at ∷ []) m.cells
 
-  numbers : cell_numbers p ≡ first_cells file p.machine.state.cells
+  numbers : cell_numbers p ≡ first_cells file p.machine.cells
   numbers = first-numbers file p p.machine k
 
-  ticks : IsTick file (cell_numbers p) ins (entered_flat file (codes "bl_tick") (pos 0 ∷ pos p.input_at ∷ pos p.output_at ∷ []) m.state.cells)
+  ticks : IsTick file (cell_numbers p) ins (entered_flat file (codes "bl_tick") (pos 0 ∷ pos p.input_at ∷ pos p.output_at ∷ []) m.cells)
   ticks =
       let formed = k.runs.formed in
       let in-at : inputs_start file.structs ≡ p.input_at = sym k.input_at in
       let in-flat : input_at file ≡ p.input_at = sym (input-start file formed) ∙ sym k.input_at in
       let out-flat : output_at file ≡ p.output_at = sym (output-start file formed) ∙ sym k.output_at in
-      let cells : m.state.cells ≡ with_args (p.input_at + 1) ins p.machine.state.cells = ap (λ (x : VmView). x.state.cells) is in
-      let t = tick-is file k.runs stand agrees p.machine.state.cells ins k.cells fits in
-      subst (λ ns. IsTick file ns ins (entered_flat file (codes "bl_tick") (pos 0 ∷ pos p.input_at ∷ pos p.output_at ∷ []) m.state.cells)) (sym numbers)
-      (subst (λ cs. IsTick file (first_cells file p.machine.state.cells) ins
+      let cells : m.cells ≡ with_args (p.input_at + 1) ins p.machine.cells = ap (λ (x : VmState). x.cells) is in
+      let t = tick-is file k.runs stand agrees p.machine.cells ins k.cells fits in
+      subst (λ ns. IsTick file ns ins (entered_flat file (codes "bl_tick") (pos 0 ∷ pos p.input_at ∷ pos p.output_at ∷ []) m.cells)) (sym numbers)
+      (subst (λ cs. IsTick file (first_cells file p.machine.cells) ins
       (entered_flat file (codes "bl_tick") (pos 0 ∷ pos p.input_at ∷ pos p.output_at ∷ []) cs)) (sym cells)
-      (subst (λ a. IsTick file (first_cells file p.machine.state.cells) ins
-      (entered_flat file (codes "bl_tick") (pos 0 ∷ pos p.input_at ∷ pos p.output_at ∷ []) (with_args (a + 1) ins p.machine.state.cells))) in-at
-      (subst (λ a. IsTick file (first_cells file p.machine.state.cells) ins
-      (entered_flat file (codes "bl_tick") (pos 0 ∷ pos a ∷ pos p.output_at ∷ []) (with_args (inputs_start file.structs + 1) ins p.machine.state.cells)))
+      (subst (λ a. IsTick file (first_cells file p.machine.cells) ins
+      (entered_flat file (codes "bl_tick") (pos 0 ∷ pos p.input_at ∷ pos p.output_at ∷ []) (with_args (a + 1) ins p.machine.cells))) in-at
+      (subst (λ a. IsTick file (first_cells file p.machine.cells) ins
+      (entered_flat file (codes "bl_tick") (pos 0 ∷ pos a ∷ pos p.output_at ∷ []) (with_args (inputs_start file.structs + 1) ins p.machine.cells)))
       in-flat
-      (subst (λ a. IsTick file (first_cells file p.machine.state.cells) ins
+      (subst (λ a. IsTick file (first_cells file p.machine.cells) ins
       (entered_flat file (codes "bl_tick") (pos 0 ∷ pos (input_at file) ∷ pos a ∷ [])
-      (with_args (inputs_start file.structs + 1) ins p.machine.state.cells))) out-flat t))))
+      (with_args (inputs_start file.structs + 1) ins p.machine.cells))) out-flat t))))
 
   pub tick-keeps : PreparedInvariant file (record p { machine = after })
   tick-keeps =
-      kept file p after k (done.numbers ∙ ap (λ (x : VmView). x.numbers) is) (done.calls ∙ ap (λ (x : VmView). x.calls) is)
+      kept file p after k (done.temps ∙ ap (λ (x : VmState). length x.temps) is) (done.room ∙ ap (λ (x : VmState). x.room) is)
       (subst (CellsKeep file) (sym done.cells) ticks.cells_kept)
 
   pub tick-ticked : Ticked file (cell_numbers p) ins called (record p { machine = after })
@@ -196,17 +196,17 @@ module _ (file : Parts) (p : Prepared) (k : PreparedInvariant file p) (agrees : 
     count = done.count ∙ ap (λ n. min n (2 ^ 128 - 1)) ticks.count;
     after = first-numbers file p after k ∙ ap (first_cells file) done.cells ∙ ticks.after;
     outputs =
-        ap (λ cols. take (length cols) (drop (p.output_at + 1) after.state.cells)) k.outputs
-        ∙ ap (λ a. take (length (outputs_of file)) (drop (a + 1) after.state.cells)) k.output_at
+        ap (λ cols. take (length cols) (drop (p.output_at + 1) after.cells)) k.outputs
+        ∙ ap (λ a. take (length (outputs_of file)) (drop (a + 1) after.cells)) k.output_at
         ∙ ap (λ cs. take (length (outputs_of file)) (drop (outputs_start file.structs + 1) cs)) done.cells ∙ ticks.outputs;
     ranges =
-        ap (λ cols. in_ranges (types_of cols) (take (length cols) (drop (p.output_at + 1) after.state.cells))) k.outputs
-        ∙ ap (λ a. in_ranges (types_of (outputs_of file)) (take (length (outputs_of file)) (drop (a + 1) after.state.cells))) k.output_at
+        ap (λ cols. in_ranges (types_of cols) (take (length cols) (drop (p.output_at + 1) after.cells))) k.outputs
+        ∙ ap (λ a. in_ranges (types_of (outputs_of file)) (take (length (outputs_of file)) (drop (a + 1) after.cells))) k.output_at
         ∙ ap (λ cs. in_ranges (types_of (outputs_of file)) (take (length (outputs_of file)) (drop (outputs_start file.structs + 1) cs))) done.cells
         ∙ ap (in_ranges (types_of (outputs_of file))) ticks.outputs ∙ ticks.ranges;
     within = λ j low.
         let at = k.output_at in
         let long : length p.outputs ≡ length (outputs_of file) = ap length k.outputs in
-        let h = outputs-within file k.runs stand after.state.cells (subst (CellsKeep file) (sym done.cells) ticks.cells_kept).room j (omega arith) in
+        let h = outputs-within file k.runs stand after.cells (subst (CellsKeep file) (sym done.cells) ticks.cells_kept).room j (omega arith) in
         omega arith;
   }

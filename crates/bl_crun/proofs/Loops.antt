@@ -30,8 +30,8 @@ use Rattle.bl_tree.specs.declared.row.Column.{Column}
 use Rattle.bl_tree.specs.Scalar.{in_range}
 use Rattle.bl_tree.specs.Ports.{in_ranges, types_of}
 use Rattle.bl_ctext_semantics_laws.specs.Flat.{cell_at, with_args}
-use Rattle.bl_crun_bytecode_vm.specs.Shown.{VmView}
-use Rattle.bl_crun_bytecode_vm.specs.Steps.{holding}
+use Rattle.bl_crun_code.specs.Vm.{VmState}
+use Rattle.bl_crun_code_vm.specs.Steps.{with_cells}
 
 -- an input is set
 pub args-step : (at k : ℕ) (ins cells all : List ℤ) (n : ℤ) → slice_get ins k ≡ Some n → with_args (at + k) (drop k ins) cells ≡ all →
@@ -145,15 +145,15 @@ ranges-long (c ∷ columns) (n ∷ row) differ =
 
 -- ---- the loop that sets inputs
 
-pub set-step : (r m n : VmView) (at k : ℕ) (ins all : List ℤ) (x : ℤ) → m ≡ holding r m.state.cells →
-    n ≡ holding m (slice_set m.state.cells (at + k) x) →
+pub set-step : (r m n : VmState) (at k : ℕ) (ins all : List ℤ) (x : ℤ) → m ≡ with_cells r m.cells →
+    n ≡ with_cells m (slice_set m.cells (at + k) x) →
     slice_get ins k ≡ Some x →
-    with_args (at + k) (drop k ins) m.state.cells ≡ all →
-    (n ≡ holding r n.state.cells) × (with_args (at + (k + 1)) (drop (k + 1) ins) n.state.cells ≡ all)
+    with_args (at + k) (drop k ins) m.cells ≡ all →
+    (n ≡ with_cells r n.cells) × (with_args (at + (k + 1)) (drop (k + 1) ins) n.cells ≡ all)
 set-step r m n at k ins all x first then there before =
-    let cells : n.state.cells ≡ slice_set m.state.cells (at + k) x = ap (λ (s : VmView). s.state.cells) then in (
-      then ∙ ap (λ (s : VmView). holding s (slice_set m.state.cells (at + k) x)) first ∙ ap (holding r) (sym cells),
-      ap (with_args (at + (k + 1)) (drop (k + 1) ins)) cells ∙ args-step at k ins m.state.cells all x there before,
+    let cells : n.cells ≡ slice_set m.cells (at + k) x = ap (λ (s : VmState). s.cells) then in (
+      then ∙ ap (λ (s : VmState). with_cells s (slice_set m.cells (at + k) x)) first ∙ ap (with_cells r) (sym cells),
+      ap (with_args (at + (k + 1)) (drop (k + 1) ins)) cells ∙ args-step at k ins m.cells all x there before,
     )
 
 -- a cell that is there

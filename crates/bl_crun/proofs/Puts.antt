@@ -27,8 +27,8 @@ use Rattle.bl_tree.specs.declared.scalar.Scalar.{Scalar}
 use Rattle.bl_tree.specs.Scalar.{in_range}
 use Rattle.bl_tree.specs.Ports.{in_ranges}
 use Rattle.bl_ctext_semantics_laws.specs.Flat.{cell_at}
-use Rattle.bl_crun_bytecode_vm.specs.Shown.{VmView}
-use Rattle.bl_crun_bytecode_vm.specs.Steps.{holding}
+use Rattle.bl_crun_code.specs.Vm.{VmState}
+use Rattle.bl_crun_code_vm.specs.Steps.{with_cells}
 use Rattle.bl_crun.specs.Running.{Running, with_cell}
 use Rattle.bl_crun.proofs.Loops.{cell-there}
 use Rattle.bl_ctext_semantics.specs.Cells.{cells_of}
@@ -64,7 +64,7 @@ module _ (file : Parts) (p : Prepared) (keeps : PreparedInvariant file p) where
   kinds-long : length (kinds_of file) ≡ length (cells_of file)
   kinds-long = length-map (cells_of file) (λ c. c.kind)
 
-  pub cell-within : (k : ℕ) → k < length (cells_of file) → k < length p.machine.state.cells
+  pub cell-within : (k : ℕ) → k < length (cells_of file) → k < length p.machine.cells
   cell-within k h = let a = cells-long file keeps.runs.formed in let b = keeps.cells.room in omega arith
 
   -- each cell has a number
@@ -72,35 +72,35 @@ module _ (file : Parts) (p : Prepared) (keeps : PreparedInvariant file p) where
   numbers-whole =
       let long : length p.kinds.items ≡ length (cells_of file) = ap length keeps.kinds ∙ kinds-long in
       let a = cells-long file keeps.runs.formed in let b = keeps.cells.room in
-      sym (length-take-le (length p.kinds.items) p.machine.state.cells (omega arith) ∙ long)
+      sym (length-take-le (length p.kinds.items) p.machine.cells (omega arith) ∙ long)
 
-  pub cell-number : (k : ℕ) (n : ℤ) → k < length (cells_of file) → slice_get p.machine.state.cells k ≡ Some n →
+  pub cell-number : (k : ℕ) (n : ℤ) → k < length (cells_of file) → slice_get p.machine.cells k ≡ Some n →
       slice_get (cell_numbers p) k ≡ Some n
   cell-number k n h there =
       let long : length p.kinds.items ≡ length (cells_of file) = ap length keeps.kinds ∙ kinds-long in
-      get-taken (length p.kinds.items) p.machine.state.cells k (omega arith) ∙ there
+      get-taken (length p.kinds.items) p.machine.cells k (omega arith) ∙ there
 
-  pub cell-range : (k : ℕ) (kind : Scalar) (n : ℤ) → slice_get (kinds_of file) k ≡ Some kind → slice_get p.machine.state.cells k ≡ Some n →
+  pub cell-range : (k : ℕ) (kind : Scalar) (n : ℤ) → slice_get (kinds_of file) k ≡ Some kind → slice_get p.machine.cells k ≡ Some n →
       in_range kind n ≡ true
   cell-range k kind n is there =
-      ranges-at (kinds_of file) (first_cells file p.machine.state.cells) k kind n keeps.cells.ranges is
-      (get-taken (length (kinds_of file)) p.machine.state.cells k (kinds-within (kinds_of file) k kind is) ∙ there)
+      ranges-at (kinds_of file) (first_cells file p.machine.cells) k kind n keeps.cells.ranges is
+      (get-taken (length (kinds_of file)) p.machine.cells k (kinds-within (kinds_of file) k kind is) ∙ there)
 
   pub put-keeps : (k : ℕ) (n : ℤ) → k < length (cells_of file) →
       ((kind : Scalar) → slice_get (kinds_of file) k ≡ Some kind → in_range kind n ≡ true) →
-      PreparedInvariant file (record p { machine = holding p.machine (slice_set p.machine.state.cells k n) })
+      PreparedInvariant file (record p { machine = with_cells p.machine (slice_set p.machine.cells k n) })
   put-keeps k n h fits =
       let t = kind-there (kinds_of file) k (let e = kinds-long in omega arith) in
-      kept file p (holding p.machine (slice_set p.machine.state.cells k n)) keeps refl refl (record {
-        room = let e = length-set p.machine.state.cells k n in let b = keeps.cells.room in omega arith;
+      kept file p (with_cells p.machine (slice_set p.machine.cells k n)) keeps refl refl (record {
+        room = let e = length-set p.machine.cells k n in let b = keeps.cells.room in omega arith;
         ranges =
-            ap (in_ranges (kinds_of file)) (set-taken (length (kinds_of file)) p.machine.state.cells k n)
-            ∙ ranges-set (kinds_of file) (first_cells file p.machine.state.cells) k t.0 n keeps.cells.ranges t.1 (fits t.0 t.1);
+            ap (in_ranges (kinds_of file)) (set-taken (length (kinds_of file)) p.machine.cells k n)
+            ∙ ranges-set (kinds_of file) (first_cells file p.machine.cells) k t.0 n keeps.cells.ranges t.1 (fits t.0 t.1);
       })
 
-  pub put-numbers : (k : ℕ) (n : ℤ) → cell_numbers (record p { machine = holding p.machine (slice_set p.machine.state.cells k n) })
+  pub put-numbers : (k : ℕ) (n : ℤ) → cell_numbers (record p { machine = with_cells p.machine (slice_set p.machine.cells k n) })
       ≡ slice_set (cell_numbers p) k n
-  put-numbers k n = set-taken (length p.kinds.items) p.machine.state.cells k n
+  put-numbers k n = set-taken (length p.kinds.items) p.machine.cells k n
 
 -- ---- the same, as a runner shows it
 
@@ -118,29 +118,29 @@ module _ (file : Parts) (p : Prepared) (keeps : PreparedInvariant file p) (ready
   pub shown-whole : p.base ≡ length r.cells
   shown-whole = subst (λ (s : Running). p.base ≡ length s.cells) is (cells-are file p keeps ∙ numbers-whole file p keeps)
 
-  pub shown-number : (k : ℕ) (n : ℤ) → k < length (cells_of r.parts) → n ≡ cell_at p.machine.state.cells k → slice_get r.cells k ≡ Some n
+  pub shown-number : (k : ℕ) (n : ℤ) → k < length (cells_of r.parts) → n ≡ cell_at p.machine.cells k → slice_get r.cells k ≡ Some n
   shown-number k n h at =
       let within = shown-within k h in
       ap (λ (s : Running). slice_get s.cells k) (sym is)
-      ∙ cell-number file p keeps k n within (cell-there p.machine.state.cells k n (cell-within file p keeps k within) at)
+      ∙ cell-number file p keeps k n within (cell-there p.machine.cells k n (cell-within file p keeps k within) at)
 
-  pub shown-range : (k : ℕ) (n : ℤ) → k < length (cells_of r.parts) → n ≡ cell_at p.machine.state.cells k → (kind : Scalar) →
+  pub shown-range : (k : ℕ) (n : ℤ) → k < length (cells_of r.parts) → n ≡ cell_at p.machine.cells k → (kind : Scalar) →
       slice_get (kinds_of r.parts) k ≡ Some kind → in_range kind n ≡ true
   shown-range k n h at kind there =
       let within = shown-within k h in
       cell-range file p keeps k kind n (ap (λ (s : Running). slice_get (kinds_of s.parts) k) is ∙ there)
-      (cell-there p.machine.state.cells k n (cell-within file p keeps k within) at)
+      (cell-there p.machine.cells k n (cell-within file p keeps k within) at)
 
-  pub shown-put : (k : ℕ) (n : ℤ) (m : VmView) → m ≡ holding p.machine (slice_set p.machine.state.cells k n) →
+  pub shown-put : (k : ℕ) (n : ℤ) (m : VmState) → m ≡ with_cells p.machine (slice_set p.machine.cells k n) →
       shown file (record p { machine = m }) ready live ≡ with_cell r k n
   shown-put k n m set =
       ap (λ x. shown file (record p { machine = x }) ready live) set
       ∙ ap (λ (ns : List ℤ). record { parts = file; cells = ns; ready = ready; live = live }) (put-numbers file p keeps k n)
       ∙ ap (λ s. with_cell s k n) is
 
-  pub shown-keeps : (k : ℕ) (n : ℤ) (m : VmView) → k < length (cells_of r.parts) →
+  pub shown-keeps : (k : ℕ) (n : ℤ) (m : VmState) → k < length (cells_of r.parts) →
       ((kind : Scalar) → slice_get (kinds_of r.parts) k ≡ Some kind → in_range kind n ≡ true) →
-      m ≡ holding p.machine (slice_set p.machine.state.cells k n) → PreparedInvariant file (record p { machine = m })
+      m ≡ with_cells p.machine (slice_set p.machine.cells k n) → PreparedInvariant file (record p { machine = m })
   shown-keeps k n m h fits set =
       subst (λ x. PreparedInvariant file (record p { machine = x })) (sym set)
       (put-keeps file p keeps k n (shown-within k h) (λ kind there. fits kind (ap (λ (s : Running). slice_get (kinds_of s.parts) k) (sym is) ∙ there)))

@@ -4,9 +4,9 @@ ghost use Rattle.std.specs.Prelude.{ℕ, ℤ};
 ghost use Rattle.bl_ctext_semantics_laws.specs.Flat.{FlatAnswer};
 ghost use Rattle.bl_crun.specs.inner.CallsDone.{CallDone, Comes};
 
-use bl_crun_bytecode::instruction::Instruction;
-use bl_crun_bytecode_compiler::Entry;
-use bl_crun_bytecode_vm::Vm;
+use bl_crun_code::instruction::Instruction;
+use bl_crun_code_compiler::Entry;
+use bl_crun_code_vm::Vm;
 use bl_ctext::CFile;
 
 /// What a call comes to.

@@ -15,9 +15,9 @@ use crate::call::{Called, call};
 use crate::fault::{LoadFault, needed};
 use crate::ports::{read_outputs, set_inputs};
 use crate::tick::TickAnswer;
-use bl_crun_bytecode::instruction::Instruction;
-use bl_crun_bytecode_compiler::{Compiled, Entry, compile};
-use bl_crun_bytecode_vm::Vm;
+use bl_crun_code::instruction::Instruction;
+use bl_crun_code_compiler::{Compiled, Entry, compile};
+use bl_crun_code_vm::Vm;
 use bl_crun_ports::laws::ports_stand;
 use bl_crun_ports::{CellKinds, inputs, lay_out, outputs};
 use bl_ctext::CFile;
@@ -47,7 +47,7 @@ pub struct Prepared {
 /// Prepares a file, if it can be loaded. All cells of its machine are 0.
 pub fn prepare(alloc: Global, file: &CFile) -> Result<Prepared, LoadFault>
     ensures keeps { IfOk result (PreparedInvariant (parts_of file.now)) }
-    ensures cleared { IfOk result (λ p. p.machine.state.cells ≡ replicate (cells_needed (parts_of file.now)) (pos 0)) }
+    ensures cleared { IfOk result (λ p. p.machine.cells ≡ replicate (cells_needed (parts_of file.now)) (pos 0)) }
     ensures fault { IfErr result (IsCause (parts_of file.now)) }
 {
     let cells = match needed(alloc, file) {
@@ -65,7 +65,7 @@ fn prepare_for(alloc: Global, file: &CFile, cells: usize) -> Result<Prepared, No
     requires runs { IsRunnable (parts_of file.now) }
     requires cells { cells ≡ cells_needed (parts_of file.now) }
     ensures keeps { IfOk result (PreparedInvariant (parts_of file.now)) }
-    ensures cleared { IfOk result (λ p. p.machine.state.cells ≡ replicate (cells_needed (parts_of file.now)) (pos 0)) }
+    ensures cleared { IfOk result (λ p. p.machine.cells ≡ replicate (cells_needed (parts_of file.now)) (pos 0)) }
 {
     let Compiled { code, init, tick } = compile(alloc, &file.structs, &file.funcs)?;
     let cells_of = lay_out(alloc, &file.structs)?;
@@ -95,7 +95,7 @@ fn prepare_for(alloc: Global, file: &CFile, cells: usize) -> Result<Prepared, No
 /// Does the start, and tells whether it hasn't trapped.
 pub fn start(file: &CFile, prepared: &mut Prepared) -> bool
     requires keeps { PreparedInvariant (parts_of file.now) prepared.old }
-    requires cleared { prepared.old.machine.state.cells ≡ replicate (cells_needed (parts_of file.now)) (pos 0) }
+    requires cleared { prepared.old.machine.cells ≡ replicate (cells_needed (parts_of file.now)) (pos 0) }
     ensures keeps { PreparedInvariant (parts_of file.now) prepared.new }
     ensures ready { result ≡ start_succeeds (parts_of file.now) }
     ensures cells { cell_numbers prepared.new ≡ start_cells (parts_of file.now) }
@@ -142,7 +142,7 @@ pub fn do_tick(file: &CFile, prepared: &mut Prepared, ins: &Row) -> Called
 
 /// Fills the row of outputs after a tick with this answer, unless it has trapped.
 pub fn tell(prepared: &Prepared, answer: TickAnswer, outs: &mut Row)
-    requires within { (k : ℕ) → k < length prepared.now.outputs → prepared.now.output_at + 1 + k < length prepared.now.machine.state.cells }
+    requires within { (k : ℕ) → k < length prepared.now.outputs → prepared.now.output_at + 1 + k < length prepared.now.machine.cells }
     requires long { length outs.old ≡ length prepared.now.outputs }
     requires ranges { row_fits prepared.now.outputs (outputs_in prepared.now) ≡ true }
     ensures told { outs.new ≡ unless_trapped answer (outputs_in prepared.now) outs.old }

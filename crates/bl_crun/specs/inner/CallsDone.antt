@@ -1,14 +1,12 @@
 -- What calls of a file's functions come to in the machine.
-use Rattle.std.specs.Prelude.{List, None, Option, Some, drop, is_some, length, min, take, true, ℕ, ℤ, ◌+◌, ◌-◌, ◌^◌, ◌≡◌}
-use Rattle.std.specs.Prelude.{◌≤◌, []}
-use Rattle.bl_crun_bytecode.specs.Code.{Code}
-use Rattle.bl_crun_bytecode.specs.Laws.{ended_as, entry_state}
-use Rattle.bl_crun_bytecode.specs.Vm.{Room, StepsInRoom}
-use Rattle.bl_crun_bytecode_compiler.specs.Entries.{entry_for}
-use Rattle.bl_crun_bytecode_compiler.specs.declared.here.Entry.{Entry as CodeEntry}
+use Rattle.std.specs.Prelude.{List, [], None, Option, Some, drop, is_some, length, min, take, true, ℕ, ℤ, ◌+◌, ◌-◌, ◌^◌, ◌≡◌}
+use Rattle.bl_crun_code.specs.Code.{Code}
+use Rattle.bl_crun_code.specs.Laws.{entry_state, vm_ended}
+use Rattle.bl_crun_code.specs.Vm.{RunsTo, VmState}
+use Rattle.bl_crun_code_layout.specs.Views.{entry_for}
+use Rattle.bl_crun_code_layout.specs.declared.here.Entry.{Entry as CodeEntry}
 use Rattle.bl_tree.specs.Ports.{row_fits}
 use Rattle.bl_ctext_semantics_laws.specs.Flat.{FlatAnswer, flat_answer}
-use Rattle.bl_crun_bytecode_vm.specs.Shown.{VmView}
 use Rattle.bl_ctext_semantics.specs.Cells.{outputs_of}
 use Rattle.bl_ctext_semantics.specs.Parts.{Parts}
 use Rattle.bl_ctext_semantics.specs.Trace.{reply_of, start_cells, start_succeeds, tick_c}
@@ -16,25 +14,19 @@ use Rattle.bl_crun_ports.specs.Ports.{outputs_start}
 use Rattle.bl_crun.specs.declared.call.Called.{Called}
 use Rattle.bl_crun.specs.Done.{CellsKeep, first_cells}
 
--- the function at an entry of the code gives this answer in so many steps, within the machine's room
-pub record Halting (steps : ℕ) (code : Code) (entry : CodeEntry) (base : ℕ) (args : List ℤ) (m : VmView) (l : FlatAnswer ℤ) : Type 0 where
-  pub room : Room
-  pub runs : StepsInRoom code room steps (entry_state (entry_for entry) base args m.state.cells [] 0) (ended_as (entry_state (entry_for entry) base args m.state.cells [] 0) l)
-  pub numbers_fit : room.numbers ≤ m.numbers
-  pub calls_fit : room.calls ≤ m.calls
-
--- a call of an optional entry gives this answer in so many steps, within the machine's room; without an entry it traps
-abbrev pub Comes : ℕ → Code → Option CodeEntry → ℕ → List ℤ → VmView → FlatAnswer ℤ → Type 0
-Comes steps code None base args m l = l ≡ flat_answer m.state.cells None
-Comes steps code (Some entry) base args m l = Halting steps code entry base args m l
+-- a call of an optional entry of the code gives this answer in so many steps of the machine; without an entry it traps
+abbrev pub Comes : ℕ → Code → Option CodeEntry → ℕ → List ℤ → VmState → FlatAnswer ℤ → Type 0
+Comes steps code None base args m l = l ≡ flat_answer m.cells None
+Comes steps code (Some entry) base args m l =
+    RunsTo code steps (entry_state (entry_for entry) base args m.cells m.temps [] m.room 0) (vm_ended l.cells l.count l.answer)
 
 -- a call by the machine has this answer
-pub record CallDone (l : FlatAnswer ℤ) (before : VmView) (called : Called) (after : VmView) : Type 0 where
+pub record CallDone (l : FlatAnswer ℤ) (before : VmState) (called : Called) (after : VmState) : Type 0 where
   pub answer : called.answer ≡ l.answer
   pub count : called.count ≡ min l.count (2 ^ 128 - 1)
-  pub cells : after.state.cells ≡ l.cells
-  pub numbers : after.numbers ≡ before.numbers
-  pub calls : after.calls ≡ before.calls
+  pub cells : after.cells ≡ l.cells
+  pub temps : length after.temps ≡ length before.temps
+  pub room : after.room ≡ before.room
 
 -- the routine simulates the start of a file
 pub record IsStart (file : Parts) (flat_answer : FlatAnswer ℤ) : Type 0 where

@@ -9,7 +9,7 @@ use Rattle.bl_crun.specs.Prepared.{cell_numbers}
 
 -- the numbers of the outputs
 abbrev pub outputs_in : Prepared → List ℤ
-outputs_in p = take (length p.outputs) (drop (p.output_at + 1) p.machine.state.cells)
+outputs_in p = take (length p.outputs) (drop (p.output_at + 1) p.machine.cells)
 
 -- a tick was done
 pub record Ticked (file : Parts) (cells ins : List ℤ) (called : Called) (p : Prepared) : Type 0 where
@@ -18,4 +18,4 @@ pub record Ticked (file : Parts) (cells ins : List ℤ) (called : Called) (p : P
   pub after : cell_numbers p ≡ (tick_c file cells ins).cells
   pub outputs : outputs_in p ≡ (tick_c file cells ins).outputs
   pub ranges : row_fits p.outputs (outputs_in p) ≡ true
-  pub within : (k : ℕ) → k < length p.outputs → p.output_at + 1 + k < length p.machine.state.cells
+  pub within : (k : ℕ) → k < length p.outputs → p.output_at + 1 + k < length p.machine.cells

@@ -12,6 +12,6 @@ loop-k-preserved c =
     let long = c.loop-k.invariant.0 in
     let within : c.loop-k.k < length c.loop-k.outs = omega arith in
     let old : c.loop-k.k < length c.args.outs.now = omega arith in
-    outs-next c.args.at c.loop-k.k c.loop-k.outs c.set.new.self c.args.outs.now c.args.machine.now.state.cells c.get.result
+    outs-next c.args.at c.loop-k.k c.loop-k.outs c.set.new.self c.args.outs.now c.args.machine.now.cells c.get.result
     (c.set.ensures ∙ ap (slice_set c.loop-k.outs c.loop-k.k) (to_z-of_z w128 c.get.result (search rules))) within
-    (cell-there c.args.machine.now.state.cells (c.args.at + c.loop-k.k) c.get.result (c.requires.within c.loop-k.k old) c.get.ensures) long c.loop-k.invariant.1
+    (cell-there c.args.machine.now.cells (c.args.at + c.loop-k.k) c.get.result (c.requires.within c.loop-k.k old) c.get.ensures) long c.loop-k.invariant.1

@@ -1,6 +1,6 @@
 use Rattle.std.proofs.Common.{◌≡◌, pos, length, replicate, ap, ◌∙◌, arith}
 use Rattle.std.specs.Prelude.{codes}
-use Rattle.bl_crun_bytecode.specs.Laws.{code_of_file, entry_in_file}
+use Rattle.bl_crun_code.specs.Laws.{code_of_file, entry_in_file}
 use Rattle.bl_ctext_semantics.specs.Cells.{inputs_of, outputs_of}
 use Rattle.bl_ctext_semantics.specs.Parts.{parts_from, parts_of}
 use Rattle.bl_crun_ports.specs.Layout.{kinds_of}
@@ -50,8 +50,8 @@ returns-clause-keeps c =
       input_at = c.in_ok-cells_of.ensures.inputs ∙ ap inputs_start c.deref-3.ensures;
       output_at = c.in_ok-cells_of.ensures.outputs ∙ ap outputs_start c.deref-3.ensures;
       base = let l = c.len-base.ensures in let k = ap length kinds in let b = kinds-base (parts_of c.args.file.now) c.requires.runs in omega arith;
-      numbers = let m = c.in_ok-machine.ensures.numbers in let n = c.len.ensures in omega arith;
-      calls = let m = c.in_ok-machine.ensures.calls in let n = c.len-2.ensures in omega arith;
-      cells = zeros-keep (parts_of c.args.file.now) c.requires.runs c.in_ok-machine.machine.state.cells
+      temps = let m = c.in_ok-machine.ensures.temps in let n = c.len.ensures in omega arith;
+      room = let m = c.in_ok-machine.ensures.room in let n = c.len-2.ensures in omega arith;
+      cells = zeros-keep (parts_of c.args.file.now) c.requires.runs c.in_ok-machine.machine.cells
           (c.in_ok-machine.ensures.cells ∙ ap (λ n. replicate n (pos 0)) c.requires.cells);
     }

@@ -4,4 +4,4 @@ use Rattle.bl_crun.proofs.Calls.{steps_of}
 use Rattle.bl_crun.proofs.prepared.start.Given as goal
 
 abbrev pub ghost-call : goal.ghost-call
-ghost-call a = steps_of (parts_of a._file.now) (codes "bl_init") a.args.now a.machine.now.state.cells
+ghost-call a = steps_of (parts_of a._file.now) (codes "bl_init") a.args.now a.machine.now

@@ -1,4 +1,0 @@
-pub mod Walking
-pub mod Emitting
-pub mod Blocks
-pub mod Layouts

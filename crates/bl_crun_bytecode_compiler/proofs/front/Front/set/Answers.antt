@@ -1,6 +1,0 @@
-use Rattle.std.proofs.Common.{◌∙◌}
-use Rattle.bl_crun_bytecode_compiler.proofs.Emitting.{set-reversed}
-use Rattle.bl_crun_bytecode_compiler.proofs.front.Front.set.Goals as goal
-
-pub returns : goal.returns
-returns c = λ front rest old is long. set-reversed c.self.inside.reversed.items front rest old c.args.instruction c.args.behind (c.self.view_is ∙ is) long

@@ -1,4 +1,0 @@
-pub mod Shown
-pub mod Steps
-pub mod Ends
-pub mod inner
