@@ -1,2 +1,3 @@
-pub mod Next
-pub mod Turns
+pub mod Fronts
+pub mod Judging
+pub mod Wholes

@@ -1,48 +1,72 @@
--- The files before one were read and are good, and so it goes on.
-use Rattle.std.proofs.Common.{◌≡◌, ◌∙◌, ℕ, ◌+◌, List, [], ◌∷◌, ap, arith, length, length-append, string_bytes}
-use Rattle.bl_link.specs.Files.{SeenFiles}
-use Rattle.bl_link_files.specs.inner.Next.{IsNextFile}
-use Rattle.bl_link_files.proofs.Turns.{all_further, next_further, next_read, none_read, stops_next}
-use Rattle.bl_module_files.specs.Turns.{Left}
+-- What is judged of the fronts that were read holds of the files.
+use Rattle.std.proofs.Common.{ap, arith, length, map, string_bytes, subst, sym}
+use Rattle.std.proofs.lemmas.List.{length-map}
+use Rattle.bl_link.specs.Files.{AreFilesOf}
+use Rattle.bl_link_files.proofs.Fronts.{count_of}
+use Rattle.bl_link_files.proofs.Wholes.{program_is, stop_ends, texts_stop, unread_within}
+use Rattle.bl_link_files.specs.inner.Fronts.{AreFirstTexts}
+use Rattle.bl_link_files.specs.inner.Judged.{IsStopOf, TextsStop}
 use Rattle.bl_link_files.proofs.program.program_of_files.Goals as goal
 
-pub loop-k-init : goal.loop-k-init
-loop-k-init g c = record {
-  count = ap (λ (files : SeenFiles). files.count) c.new-judged.ensures;
-  many = ap (λ (files : SeenFiles). length files.texts) c.new-judged.ensures;
-  read = none_read (g.F.Files.left c.args.files.now) c.new-judged.result.texts (ap (λ (files : SeenFiles). files.texts) c.new-judged.ensures);
-  counts = λ name. omega arith;
-}
+pub program_of-requires-clause-few : goal.program_of-requires-clause-few
+program_of-requires-clause-few g c =
+    let names = map string_bytes c.args.names.now in
+    let read = subst (AreFirstTexts (g.F.Files.left c.args.files.now) (g.F.Files.left c.texts_of-texts.new.files) (g.F.Files.faults c.args.files.now)
+    (g.F.Files.faults c.texts_of-texts.new.files) names c.texts_of-texts.result.texts) c.in-None.is c.texts_of-texts.ensures.texts in
+    let same = ap length c.deref.ensures in
+    let counted = count_of (g.F.Files.left c.args.files.now) (g.F.Files.left c.texts_of-texts.new.files) names c.texts_of-texts.result.texts read in
+    let mapped = length-map c.args.names.now string_bytes in
+    omega (arith, same, counted, mapped, c.requires.few)
 
-pub returns-in-Err-clause-fault : goal.returns-in-Err-clause-fault
-returns-in-Err-clause-fault g c =
-    stops_next string_bytes c.args.names.now c.loop-k.k c.index-names-k.result c.loop-k-test.true c.index-names-k.is (g.F.Files.left c.args.files.now)
-    (g.F.Files.left c.loop-k.files) c.loop-k.judged.texts c.loop-k.invariant.read c.as_str.result.now (g.F.Files.left c.with_file.new.files)
-    (g.F.Files.faults c.args.files.now) (g.F.Files.faults c.loop-k.files) (g.F.Files.faults c.with_file.new.files) c.loop-k.judged.count c.in-Err.fault
-    c.as_str.ensures.value c.loop-k.invariant.count c.loop-k.invariant.many c.loop-k.invariant.counts c.in-Err.ensures.fault
+pub program_of-requires-clause-some : goal.program_of-requires-clause-some
+program_of-requires-clause-some g c =
+    let names = map string_bytes c.args.names.now in
+    let read = subst (AreFirstTexts (g.F.Files.left c.args.files.now) (g.F.Files.left c.texts_of-texts.new.files) (g.F.Files.faults c.args.files.now)
+    (g.F.Files.faults c.texts_of-texts.new.files) names c.texts_of-texts.result.texts) c.in-None.is c.texts_of-texts.ensures.texts in
+    let same = ap length c.deref.ensures in
+    let counted = count_of (g.F.Files.left c.args.files.now) (g.F.Files.left c.texts_of-texts.new.files) names c.texts_of-texts.result.texts read in
+    let mapped = length-map c.args.names.now string_bytes in
+    omega (arith, same, counted, mapped, c.requires.some)
 
-pub returns-in-Err-clause-reads : goal.returns-in-Err-clause-reads
-returns-in-Err-clause-reads g c =
-    next_further string_bytes c.args.names.now c.loop-k.k c.index-names-k.result c.loop-k-test.true c.index-names-k.is (g.F.Files.left c.args.files.now)
-    (g.F.Files.left c.loop-k.files) c.loop-k.judged.texts c.loop-k.invariant.read c.as_str.result.now (g.F.Files.left c.with_file.new.files)
-    c.as_str.ensures.value c.with_file.ensures.further c.with_file.ensures.others
+pub returns-in-Ok-clause-program : goal.returns-in-Ok-clause-program
+returns-in-Ok-clause-program g c =
+    program_is c.fronts_are_judged_as_wholes.ensures.passes c.fronts_are_judged_as_wholes.ensures.fails (g.F.Files.left c.args.files.now)
+    (g.F.Files.left c.texts_of-texts.new.files) (map string_bytes c.args.names.now) c.texts_of-texts.result.texts
+    (subst (AreFirstTexts (g.F.Files.left c.args.files.now) (g.F.Files.left c.texts_of-texts.new.files) (g.F.Files.faults c.args.files.now)
+    (g.F.Files.faults c.texts_of-texts.new.files) (map string_bytes c.args.names.now) c.texts_of-texts.result.texts) c.in-None.is
+    c.texts_of-texts.ensures.texts)
+    c.in-Ok.accepted.program (subst (λ texts. AreFilesOf texts c.in-Ok.accepted.program) c.deref.ensures c.in-Ok.ensures.program)
 
-one_longer : (name : List ℕ) (texts more : List (List ℕ)) (before after : Left) (k : ℕ) → IsNextFile name texts more before after → length texts ≡ k →
-    length more ≡ k + 1
-one_longer name texts more before after k file many = ap length file.grown ∙ length-append texts (file.text ∷ []) ∙ ap (λ n. n + 1) many
+pub returns-in-None-clause-fault : goal.returns-in-None-clause-fault
+returns-in-None-clause-fault g c =
+    texts_stop c.fronts_are_judged_as_wholes.ensures.passes c.fronts_are_judged_as_wholes.ensures.fails (g.F.Files.left c.args.files.now)
+    (g.F.Files.left c.texts_of-texts.new.files) (map string_bytes c.args.names.now) c.texts_of-texts.result.texts
+    (subst (AreFirstTexts (g.F.Files.left c.args.files.now) (g.F.Files.left c.texts_of-texts.new.files) (g.F.Files.faults c.args.files.now)
+    (g.F.Files.faults c.texts_of-texts.new.files) (map string_bytes c.args.names.now) c.texts_of-texts.result.texts) c.in-None.is
+    c.texts_of-texts.ensures.texts)
+    (g.F.Files.faults c.args.files.now) (g.F.Files.faults c.texts_of-texts.new.files) c.in-Err.fault
+    (subst (λ texts. TextsStop texts c.in-Err.fault) c.deref.ensures c.in-Err.ensures.fault)
 
-pub loop-k-preserved : goal.loop-k-preserved
-loop-k-preserved g c = record {
-  count = c.in-Ok.ensures.count ∙ c.loop-k.invariant.count;
-  many = one_longer c.as_str.result.now c.loop-k.judged.texts c.in-Ok.more.texts (g.F.Files.left c.loop-k.files) (g.F.Files.left c.with_file.new.files)
-      c.loop-k.k c.in-Ok.ensures.next c.loop-k.invariant.many;
-  read = next_read string_bytes c.args.names.now c.loop-k.k c.index-names-k.result c.loop-k-test.true c.index-names-k.is
-      (g.F.Files.left c.args.files.now) (g.F.Files.left c.loop-k.files) c.loop-k.judged.texts c.loop-k.invariant.read c.as_str.result.now
-      c.in-Ok.more.texts (g.F.Files.left c.with_file.new.files) c.as_str.ensures.value c.in-Ok.ensures.next;
-  counts = λ name. omega (arith, c.loop-k.invariant.counts name, c.with_file.ensures.file_counts name);
-}
+pub stop_at-requires-clause-within : goal.stop_at-requires-clause-within
+stop_at-requires-clause-within g c = λ failed.
+    let same = ap length c.deref-in-Some.ensures in
+    let most = unread_within (g.F.Files.left c.args.files.now) (g.F.Files.left c.texts_of-texts.new.files) (g.F.Files.faults c.args.files.now)
+    (g.F.Files.faults c.texts_of-texts.new.files) (map string_bytes c.args.names.now) c.texts_of-texts.result.texts c.in-Some.fault
+    (subst (AreFirstTexts (g.F.Files.left c.args.files.now) (g.F.Files.left c.texts_of-texts.new.files) (g.F.Files.faults c.args.files.now)
+    (g.F.Files.faults c.texts_of-texts.new.files) (map string_bytes c.args.names.now) c.texts_of-texts.result.texts) c.in-Some.is
+    c.texts_of-texts.ensures.texts) failed in
+    let mapped = length-map c.args.names.now string_bytes in
+    omega (arith, same, most, mapped)
 
-pub returns-clause-reads : goal.returns-clause-reads
-returns-clause-reads g c =
-    all_further string_bytes c.args.names.now c.loop-k.k (g.F.Files.left c.args.files.now) (g.F.Files.left c.loop-k.files) c.loop-k.judged.texts
-    (omega arith) c.loop-k.invariant.read
+pub returns-clause-fault : goal.returns-clause-fault
+returns-clause-fault g c =
+    stop_ends c.fronts_are_judged_as_wholes.ensures.passes c.fronts_are_judged_as_wholes.ensures.fails (g.F.Files.left c.args.files.now)
+    (g.F.Files.left c.texts_of-texts.new.files) (g.F.Files.faults c.args.files.now) (g.F.Files.faults c.texts_of-texts.new.files)
+    (map string_bytes c.args.names.now) c.texts_of-texts.result.texts c.in-Some.fault c.stop_at.result
+    (subst (AreFirstTexts (g.F.Files.left c.args.files.now) (g.F.Files.left c.texts_of-texts.new.files) (g.F.Files.faults c.args.files.now)
+    (g.F.Files.faults c.texts_of-texts.new.files) (map string_bytes c.args.names.now) c.texts_of-texts.result.texts) c.in-Some.is
+    c.texts_of-texts.ensures.texts)
+    (λ failed. subst (λ texts. IsStopOf (length (map string_bytes c.args.names.now)) texts c.stop_at.result) c.deref-in-Some.ensures
+    (subst (λ n. IsStopOf n c.deref-in-Some.result.now c.stop_at.result) (sym (length-map c.args.names.now string_bytes))
+    (c.stop_at.ensures.failed failed)))
+    c.stop_at.ensures.memory
