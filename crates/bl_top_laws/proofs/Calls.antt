@@ -31,7 +31,7 @@ use Rattle.bl_top_commands.specs.Traces.{course_by}
 use Rattle.bl_top_commands.specs.Walk.{WalkEnds, ran as walk_ran, stopped as walk_stopped}
 use Rattle.bl_top_commands.specs.declared.status.Status.{Status}
 use Rattle.bl_top_commands.specs.declared.status.Status.TheVariants as status
-use Rattle.bl_top_laws.proofs.Faces.{FilesDecide, face_due, face_fails, face_stops}
+use Rattle.bl_top_laws.proofs.Faces.{FilesDecide, face_due, face_fails, face_stops, face_stops_in}
 use Rattle.bl_top_laws.proofs.Jobs.{JobEnds, job_ended, lines_written}
 use Rattle.bl_top_laws.proofs.Links.{LinksDecide, link_due, link_fails, link_fails_in}
 use Rattle.bl_top_laws.proofs.Loading.{FollowsBehaviour, never_loaded, text_due, text_stops, text_stops_due}
@@ -55,6 +55,7 @@ use Rattle.bl_top_laws.specs.Complete.{
   face_done,
   face_refused,
   face_stopped,
+  face_stopped_in,
   gen_done,
   gen_refused,
   gen_too_large,
@@ -350,12 +351,14 @@ module _ (one : OneTree) (each : EachBehaves) (memory : (file : Parts) → OneMe
       face_fails files c name names text texts told none.files faces spelled stand fails ended lines ends
   job_due _ _ ended lines none (face_stopped {name} {names} text texts told no_faces) ends =
       face_stops files c name names text texts told none.files no_faces ended lines ends
+  job_due _ _ ended lines none (face_stopped_in {name} {names} earlier later text texts are told no_faces) ends =
+      face_stops_in files c name names earlier later are text texts told no_faces none.files ended lines ends
   job_due _ _ ended lines none (link_done {names} texts faces tree told good has passes) ends =
-      link_due links c names texts told none.files faces good tree has passes none.out ended lines ends
+      link_due links c names none.files texts told faces good tree has passes none.out ended lines ends
   job_due _ _ ended lines none (link_refused {names} texts faces tree told good has fails) ends =
-      link_fails links c names texts told none.files faces good tree has fails ended lines ends
-  job_due _ _ ended lines none (link_refused_in {names} texts file rule place also told fails) ends =
-      link_fails_in links c names texts told none.files file rule place also fails ended lines ends
+      link_fails links c names none.files texts told faces good tree has fails ended lines ends
+  job_due _ _ ended lines none (link_refused_in {names} earlier later texts file rule place also are told fails) ends =
+      link_fails_in links c names none.files earlier later are texts told file rule place also fails ended lines ends
 
 written_due : (meant ended due : Status) → IsDone meant due → IsDone ended meant → IsDone ended due
 written_due meant ended due is wrote = elim wrote [

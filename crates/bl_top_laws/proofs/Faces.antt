@@ -15,6 +15,7 @@ use Rattle.bl_top_commands.specs.Face.{FaceEnds, FaceStops, bad_face, no_face, r
 use Rattle.bl_top_commands.specs.declared.status.Status.{Status}
 use Rattle.bl_top_commands.specs.declared.status.Status.TheVariants as status
 use Rattle.bl_top_laws.proofs.Runs.{IsDone, result_done}
+use Rattle.bl_top_laws.proofs.Turns.{first_are_read}
 use Rattle.bl_top_laws.specs.Complete.{NoneOfThemRose}
 use Rattle.bl_tree.specs.declared.place.Place.{Place}
 use Rattle.bl_tree.specs.declared.rule.Rule.{Rule}
@@ -36,13 +37,14 @@ none_at c names earlier name later are none = go earlier (subst (NoneOfThemRose 
     go [] none = none.0
     go (one ∷ earlier) none = go earlier none.1
 
-module _ (decide : FilesDecide) (c : Call) (name : Word) (names : List Word) (text : List ℕ) (texts : List (List ℕ))
-    (are_told : AreTold c.left (name ∷ names) (text ∷ texts)) (none : NoneOfThemRose c (name ∷ names)) where
+module _ (c : Call) (name : Word) (names : List Word) (none : NoneOfThemRose c (name ∷ names)) where
   never_unread : UnreadBehind c.left (λ file. (c.file file).before) (λ file. (c.file file).after) name names → ⊥
   never_unread (source_unread rose) = none.0 rose
   never_unread (face_unread other between read unread_one) =
       none_at c names unread_one.comes.earlier unread_one.name unread_one.comes.later unread_one.comes.names_are none.1 unread_one.rose
 
+module _ (decide : FilesDecide) (c : Call) (name : Word) (names : List Word) (text : List ℕ) (texts : List (List ℕ))
+    (are_told : AreTold c.left (name ∷ names) (text ∷ texts)) (none : NoneOfThemRose c (name ∷ names)) where
   text_is : (read : AreRead c.left name names) → read.text ≡ text
   text_is read = (decide.read c.left name text names texts are_told read).0
 
@@ -77,7 +79,7 @@ module _ (decide : FilesDecide) (c : Call) (name : Word) (names : List Word) (te
     passes_stops passes _ _ (no_face file at is) = absurd (decide.taken c.left name text names texts faces file at are_told spelled is)
     passes_stops passes _ _ (bad_face file is) = absurd (never_bad file is)
     passes_stops passes _ _ (refused rule place also is) = absurd (passes rule place also (fails_as is.read rule place also is.fails.first))
-    passes_stops passes _ _ (unread is) = absurd (never_unread is)
+    passes_stops passes _ _ (unread is) = absurd (never_unread c name names none is)
     passes_stops passes _ _ short = inl refl
 
     pub face_due : PassesIn (behind_faces faces) AsMarked text → ¬ HasRisen c.out.faults → (ended : Status) (line : List ℕ) →
@@ -91,7 +93,7 @@ module _ (decide : FilesDecide) (c : Call) (name : Word) (names : List Word) (te
     fails_stops _ _ (no_face file at is) = absurd (decide.taken c.left name text names texts faces file at are_told spelled is)
     fails_stops _ _ (bad_face file is) = absurd (never_bad file is)
     fails_stops _ _ (refused rule place also is) = inr refl
-    fails_stops _ _ (unread is) = absurd (never_unread is)
+    fails_stops _ _ (unread is) = absurd (never_unread c name names none is)
     fails_stops _ _ short = inl refl
 
     pub face_fails : ¬ PassesIn (behind_faces faces) AsMarked text → (ended : Status) (line : List ℕ) → FaceEnds c name names ended line →
@@ -106,9 +108,30 @@ module _ (decide : FilesDecide) (c : Call) (name : Word) (names : List Word) (te
     none_stops _ _ (no_face file at is) = inr refl
     none_stops _ _ (bad_face file is) = inr refl
     none_stops _ _ (refused rule place also is) = absurd (no_faces is.read.faces (spelled_by is.read) is.fails.stand)
-    none_stops _ _ (unread is) = absurd (never_unread is)
+    none_stops _ _ (unread is) = absurd (never_unread c name names none is)
     none_stops _ _ short = inl refl
 
     pub face_stops : (ended : Status) (line : List ℕ) → FaceEnds c name names ended line → IsDone ended status.NotFace
     face_stops ended _ (told face is writes) = absurd (no_faces is.read.faces (spelled_by is.read) is.good.stand)
     face_stops ended line (stopped why kept) = none_stops ended line why
+
+-- ---- one of the first files is no face
+
+module _ (decide : FilesDecide) (c : Call) (name : Word) (names earlier later : List Word) (are : names ≡ earlier ++ later) (text : List ℕ)
+    (texts : List (List ℕ)) (are_told : AreTold c.left (name ∷ earlier) (text ∷ texts)) (no_faces : (faces : List Face) → ¬ AreSpelled texts faces)
+    (none : NoneOfThemRose c (name ∷ names)) where
+  never_read : AreRead c.left name names → ⊥
+  never_read read =
+      let first = first_are_read c.left name names earlier later are read in
+      no_faces first.faces (decide.read c.left name text earlier texts are_told first).1
+
+  first_stops : (ended : Status) (line : List ℕ) → FaceStops c name names ended line → IsDone ended status.NotFace
+  first_stops _ _ (no_face file at is) = inr refl
+  first_stops _ _ (bad_face file is) = inr refl
+  first_stops _ _ (refused rule place also is) = absurd (never_read is.read)
+  first_stops _ _ (unread is) = absurd (never_unread c name names none is)
+  first_stops _ _ short = inl refl
+
+  pub face_stops_in : (ended : Status) (line : List ℕ) → FaceEnds c name names ended line → IsDone ended status.NotFace
+  face_stops_in ended _ (told face is writes) = absurd (never_read is.read)
+  face_stops_in ended line (stopped why kept) = first_stops ended line why

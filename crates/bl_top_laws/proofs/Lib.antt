@@ -9,3 +9,4 @@ pub mod Loading
 pub mod Runs
 pub mod States
 pub mod Texts
+pub mod Turns

@@ -1,5 +1,5 @@
 -- The status that is due for a call in which no count of faults rises: what the contents of its files say.
-use Rattle.std.specs.Prelude.{◌≡◌, ◌⊎◌, ◌<◌, ◌≤◌, ℕ, ℤ, true, false, List, [], ◌∷◌, length, take, Option, Some, None, slice_get, ⊤}
+use Rattle.std.specs.Prelude.{◌≡◌, ◌⊎◌, ◌<◌, ◌≤◌, ℕ, ℤ, true, false, List, [], ◌∷◌, ◌++◌, length, take, Option, Some, None, slice_get, ⊤}
 use Rattle.bl_ctext.specs.SpellsC.{SpellsC}
 use Rattle.bl_ctext.specs.declared.file.CFile.{CFile}
 use Rattle.bl_ctext_semantics.specs.Cells.{inputs_of}
@@ -228,14 +228,17 @@ pub data IsDue (c : Call) : JobSpec → Status → Type 0 where
   -- the interface files are no faces, or faces that don't stand
   face_stopped : {name : Word} {names : List Word} (text : List ℕ) (texts : List (List ℕ)) → AreTold c.left (name ∷ names) (text ∷ texts) →
       ((faces : List Face) → AreSpelled texts faces → ¬ FacesStand faces) → IsDue c (face name names) status.NotFace
+  -- one of the first interface files is no face; the files behind the first ones may hold anything, or can't be read
+  face_stopped_in : {name : Word} {names : List Word} (earlier later : List Word) (text : List ℕ) (texts : List (List ℕ)) → names ≡ earlier ++ later →
+      AreTold c.left (name ∷ earlier) (text ∷ texts) → ((faces : List Face) → ¬ AreSpelled texts faces) → IsDue c (face name names) status.NotFace
   -- each file is good behind the faces of those before it, and no rule fails for the joined texts
   link_done : {names : List Word} (texts : List (List ℕ)) (faces : List Face) (tree : Raw) → AreTold c.left names texts →
       AreGoodFiles (length texts) texts faces → HaveTree texts tree → TreePasses tree → IsDue c (link names) status.Ok
   link_refused : {names : List Word} (texts : List (List ℕ)) (faces : List Face) (tree : Raw) → AreTold c.left names texts →
       AreGoodFiles (length texts) texts faces → HaveTree texts tree → ¬ TreePasses tree → IsDue c (link names) status.Refused
-  -- a rule fails for one of the files behind the faces of those before it
-  link_refused_in : {names : List Word} (texts : List (List ℕ)) (file : ℕ) (rule : Rule) (place : Place) (also : List Place) →
-      AreTold c.left names texts → FailsAtFile (length texts) texts file rule place also → IsDue c (link names) status.Refused
+  -- a rule fails for one of the first files behind the faces of those before it; the files behind the first ones may hold anything, or can't be read
+  link_refused_in : {names : List Word} (earlier later : List Word) (texts : List (List ℕ)) (file : ℕ) (rule : Rule) (place : Place) (also : List Place) →
+      names ≡ earlier ++ later → AreTold c.left earlier texts → FailsAtFile (length names) texts file rule place also → IsDue c (link names) status.Refused
 
 -- a call in which no count of faults rises ends with the status that is due for its job, want of memory aside
 abbrev pub CallsEndAsDue : Type 0
