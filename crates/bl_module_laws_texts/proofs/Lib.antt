@@ -1,0 +1,4 @@
+pub mod Last
+pub mod Border
+pub mod Bytes
+pub mod Together
