@@ -10,7 +10,7 @@ use Rattle.bl_module.specs.declared.behind.Behind.{Behind}
 use Rattle.bl_names.specs.Named.{along, blank_unit, blanks, constants_of, structs_of, units_of}
 use Rattle.bl_names.specs.Order.{kind_of_item, order_of}
 use Rattle.bl_names_laws_files.specs.Globals.{DeclareItems, renumber}
-use Rattle.bl_names_laws_files.specs.Laws.{ItemsStand, declared_in, declared_with}
+use Rattle.bl_names_laws_files.specs.Laws.{ItemsStand, declared_globals, declared_globals_with}
 use Rattle.bl_names_laws_places.specs.Renamed.{Renaming}
 use Rattle.bl_names_scopes.specs.Marks.{marks_of}
 use Rattle.bl_names_scopes.specs.Rules.{PassesBehind}
@@ -110,11 +110,11 @@ module _ (names : NameLaws) (types : TypeLaws) where
         }
 
     -- the first items of a program declare as much as is counted
-    pub front_known : KnownAfter fresh (known_behind_items named front) (declared_with file_scope front)
+    pub front_known : KnownAfter fresh (known_behind_items named front) (declared_globals_with file_scope front)
     front_known =
-        types.known named (order_of front) fresh (declared_with file_scope front) (names.placed [] [] [] front named refl passes front_stands)
+        types.known named (order_of front) fresh (declared_globals_with file_scope front) (names.placed [] [] [] front named refl passes front_stands)
 
-    pub front_counts : known_in (known_behind_items named front) ≡ declared_in (after file_scope (marks_of front))
+    pub front_counts : known_in (known_behind_items named front) ≡ declared_globals (after file_scope (marks_of front))
     front_counts =
         let counted = names.counted file_scope front in
         front_known.counts_are
@@ -158,13 +158,13 @@ module _ (names : NameLaws) (types : TypeLaws) where
 
     -- what is known behind all items extends what is known behind the first
     pub rest_known : KnownAfter (known_behind_items named front) (known_behind_items named (front ++ rest))
-        (declared_with (after file_scope (marks_of front)) rest)
+        (declared_globals_with (after file_scope (marks_of front)) rest)
     rest_known =
         subst
-        (λ env. KnownAfter (known_behind_items named front) env (declared_with (after file_scope (marks_of front)) rest))
+        (λ env. KnownAfter (known_behind_items named front) env (declared_globals_with (after file_scope (marks_of front)) rest))
         (sym (ap (λ (it : Declaring). it.env)
         (ap (λ items. after_items named items fresh) (map-append kind_of_item front rest) ∙ types.follow named (order_of front) (order_of rest) fresh)))
-        (types.known named (order_of rest) (known_behind_items named front) (declared_with (after file_scope (marks_of front)) rest)
+        (types.known named (order_of rest) (known_behind_items named front) (declared_globals_with (after file_scope (marks_of front)) rest)
         (ap (in_turn (map (item_step named) (order_of rest))) (front_counts named front rest is front_alone)
         ∙ names.placed [] [] front rest named refl passes rest_stands))
 
@@ -172,7 +172,7 @@ module _ (names : NameLaws) (types : TypeLaws) where
     abbrev far : Environment
     far = known_behind_items named front
 
-    far_counts : known_in far ≡ declared_in (after file_scope (marks_of front))
+    far_counts : known_in far ≡ declared_globals (after file_scope (marks_of front))
     far_counts = front_counts named front rest is border.passes.names
 
     -- the scopes behind faces and behind items correspond
@@ -205,5 +205,5 @@ module _ (names : NameLaws) (types : TypeLaws) where
         (λ j. border_scopes.constants j ∙ ap (λ n. n + j) (sym far_constants))
 
     -- as much is known behind faces as their names are
-    pub border_counts : known_in (known_at behind) ≡ declared_in (opened_by behind.headings)
+    pub border_counts : known_in (known_at behind) ≡ declared_globals (opened_by behind.headings)
     border_counts = λ i. record { structs = structs_counted i; constants = constants_counted i; units = units_counted i; variables = 0 }

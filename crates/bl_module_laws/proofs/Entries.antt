@@ -175,10 +175,6 @@ unmarked_both (unit ∷ one) two first second =
     ap (λ mark. mark || list_any has_mark (one ++ two)) (first_unmarked unit.entry (list_any has_mark one) first)
     ∙ unmarked_both one two (rest_unmarked unit.entry (list_any has_mark one) first) second
 
-pub unmarked_right : (one two : List NamedUnit) → list_any has_mark (one ++ two) ≡ false → list_any has_mark two ≡ false
-unmarked_right [] two none = none
-unmarked_right (unit ∷ one) two none = unmarked_right one two (rest_unmarked unit.entry (list_any has_mark (one ++ two)) none)
-
 pub unmarked_renamed : (by : Renaming) (units : List NamedUnit) → list_any has_mark (map (renamed_unit by) units) ≡ list_any has_mark units
 unmarked_renamed by [] = refl
 unmarked_renamed by (unit ∷ units) = ap (λ rest. unit.entry || rest) (unmarked_renamed by units)

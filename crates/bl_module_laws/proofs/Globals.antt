@@ -6,7 +6,7 @@ use Rattle.std.specs.Prelude.{slice_get, ⊤}
 use Rattle.bl_names.specs.Named.{along, blank_constant, blank_struct, blank_unit, blanks, constants_of, named_behind, structs_of, units_of}
 use Rattle.bl_names.specs.Order.{kind_of_item, order_of}
 use Rattle.bl_names_laws_files.specs.Globals.{DeclareItems, declared_constants, global_positions, own_position}
-use Rattle.bl_names_laws_files.specs.Laws.{ItemsStand, declared_in, declared_with}
+use Rattle.bl_names_laws_files.specs.Laws.{ItemsStand, declared_globals, declared_globals_with}
 use Rattle.bl_names_scopes.specs.Marks.{item_marks, marks_of}
 use Rattle.bl_names_scopes.specs.Rules.{PassesBehind}
 use Rattle.bl_names_scopes.specs.Scopes.{Scopes, after, opened_by}
@@ -102,20 +102,20 @@ module _ (names : NameLaws) (types : TypeLaws) where
 
     -- the positions of items behind others are in place
     pub items_placed : (before items rest : List RawItem) → own ≡ before ++ (items ++ rest) →
-        in_turn (map (item_step N) (order_of items)) (declared_in (S before)) ≡ Some (declared_with (S before) items)
+        in_turn (map (item_step N) (order_of items)) (declared_globals (S before)) ≡ Some (declared_globals_with (S before) items)
     items_placed before items rest is =
         names.placed headings known before items N declare (front_passes before items rest is) (items_stand before items rest is)
 
     -- what is known behind items
     pub items_known : (before items rest : List RawItem) → own ≡ before ++ (items ++ rest) → (env : Environment) →
-        known_in env ≡ declared_in (S before) → KnownAfter env (after_items N (order_of items) env).env (declared_with (S before) items)
+        known_in env ≡ declared_globals (S before) → KnownAfter env (after_items N (order_of items) env).env (declared_globals_with (S before) items)
     items_known before items rest is env counts =
-        types.known N (order_of items) env (declared_with (S before) items)
+        types.known N (order_of items) env (declared_globals_with (S before) items)
         (ap (in_turn (map (item_step N) (order_of items))) counts ∙ items_placed before items rest is)
 
     -- behind an item as much is known as its marks declare
     counts_after : (before : List RawItem) (one : RawItem) (rest : List RawItem) → own ≡ before ++ (one ∷ rest) → (env : Environment) →
-        known_in env ≡ declared_in (S before) → known_in (after_item N (kind_of_item one) env).env ≡ declared_in (S (before ++ one ∷ []))
+        known_in env ≡ declared_globals (S before) → known_in (after_item N (kind_of_item one) env).env ≡ declared_globals (S (before ++ one ∷ []))
     counts_after before one rest is env counts =
         let known_after = items_known before (one ∷ []) rest is env counts in
         let counted = names.counted (S before) (one ∷ []) in
@@ -124,10 +124,10 @@ module _ (names : NameLaws) (types : TypeLaws) where
         ∙ names.scopes_in_turn (opened_by headings) (marks_of before) (marks_of (one ∷ [])) in
         known_after.counts_are
         ∙ (λ i. record { structs = sym counted.structs i; constants = sym counted.constants i; units = sym counted.units i; variables = 0 })
-        ∙ ap declared_in (sym scopes)
+        ∙ ap declared_globals (sym scopes)
 
     constants_after : (before : List RawItem) (one : RawItem) (rest : List RawItem) → own ≡ before ++ (one ∷ rest) → (env : Environment) →
-        known_in env ≡ declared_in (S before) →
+        known_in env ≡ declared_globals (S before) →
         length (after_item N (kind_of_item one) env).env.constants ≡ length env.constants + declared_constants (item_marks one)
     constants_after before one rest is env counts =
         let known_after = items_known before (one ∷ []) rest is env counts in
@@ -137,7 +137,7 @@ module _ (names : NameLaws) (types : TypeLaws) where
 
     -- the constant that an item declares stands at the next position
     global_there : (before : List RawItem) (one : RawItem) (rest : List RawItem) → own ≡ before ++ (one ∷ rest) → (env : Environment) →
-        known_in env ≡ declared_in (S before) → (all : List Constant) →
+        known_in env ≡ declared_globals (S before) → (all : List Constant) →
         ((k : ℕ) (x : Constant) → slice_get (after_item N (kind_of_item one) env).env.constants k ≡ Some x → slice_get all k ≡ Some x) →
         (ks : List ℕ) (xs : List Constant) → HasAt all ks xs →
         HasAt all (own_position (length env.constants) one ++ ks)
@@ -165,7 +165,7 @@ module _ (names : NameLaws) (types : TypeLaws) where
         (stays (length env.constants) only.0 at, has)
 
     -- constants of items that stand in no body, by their positions among all
-    pub globals_there : (before items : List RawItem) → own ≡ before ++ items → (env : Environment) → known_in env ≡ declared_in (S before) →
+    pub globals_there : (before items : List RawItem) → own ≡ before ++ items → (env : Environment) → known_in env ≡ declared_globals (S before) →
         HasAt (after_items N (order_of items) env).env.constants (global_positions (length env.constants) items) (globals_of N (order_of items) env)
     globals_there before [] is env counts = tt
     globals_there before (one ∷ items) is env counts =

@@ -117,11 +117,9 @@ limits_nesting structs units entry passes _ at also h = absurd h
 
 -- ---- places
 
--- nesting is that of types alone: structs and units that are equal up to places are nested alike
-pub nesting_moved : NestingStays → (f g : Place → Place) (from : ℕ) (structs others : List StructDef) (units : List UnitDef) →
-    placed_structs g others ≡ placed_structs g structs → placed_units g (placed_units f units) ≡ placed_units g units →
-    NestingPasses from others (placed_units f units) → NestingPasses from structs units
-nesting_moved stays f g from structs others units same bare passes =
+-- structs that are equal up to places are nested alike
+pub nesting_alike : NestingStays → (g : Place → Place) (from : ℕ) (structs others : List StructDef) (units : List UnitDef) →
+    placed_structs g others ≡ placed_structs g structs → NestingPasses from others units → NestingPasses from structs units
+nesting_alike stays g from structs others units same passes =
     (stays g from structs units).0
-    (subst (λ them. NestingPasses from them (placed_units g units)) same
-    (subst (NestingPasses from (placed_structs g others)) bare ((stays g from others (placed_units f units)).1 passes)))
+    (subst (λ them. NestingPasses from them (placed_units g units)) same ((stays g from others units).1 passes))

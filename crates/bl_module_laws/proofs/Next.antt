@@ -15,7 +15,7 @@ use Rattle.bl_module_laws_faces.specs.Declared.{FaceAdds, face_heading}
 use Rattle.bl_names.specs.Named.{along, units_of}
 use Rattle.bl_names.specs.Order.{order_of}
 use Rattle.bl_names_laws_files.specs.Globals.{DeclareItems, declared_constants, declares_constant, global_positions, name_and_kind, renumber}
-use Rattle.bl_names_laws_files.specs.Laws.{RenumberedInTurn, declared_with}
+use Rattle.bl_names_laws_files.specs.Laws.{RenumberedInTurn, declared_globals_with}
 use Rattle.bl_names_scopes.specs.Marks.{Marks, marks_of}
 use Rattle.bl_names_scopes.specs.Scopes.{file_scope, opened_by}
 use Rattle.bl_names_tree.specs.declared.named.Named.{Named}
@@ -81,7 +81,7 @@ module _ (names : NameLaws) (types : TypeLaws) (named : Named) (front : List Raw
   is_next : IsNamedOf named ((front ++ own) ++ rest)
   is_next = subst (IsNamedOf named) (sym (append_assoc front own rest)) is
 
-  next_known : KnownAfter fresh far_next (declared_with file_scope (front ++ own))
+  next_known : KnownAfter fresh far_next (declared_globals_with file_scope (front ++ own))
   next_known = front_known names types named (front ++ own) rest is_next (names_far names types named front f raw rest is behind border passes.names)
 
   -- ---- headings

@@ -1,5 +1,5 @@
 -- One file more: it is judged behind faces as among the items of all files.
-use Rattle.std.proofs.Common.{◌≡◌, ◌∙◌, ℕ, Bool, true, not, List, [], ◌∷◌, ◌++◌, length, map, drop, refl, sym, ap, subst}
+use Rattle.std.proofs.Common.{◌≡◌, ◌∙◌, Bool, true, not, List, [], ◌∷◌, ◌++◌, length, map, drop, refl, sym, ap, subst}
 use Rattle.std.proofs.Math.Seq.{drop-append_seam}
 use Rattle.std.proofs.lemmas.List.{append-nil, map-append}
 use Rattle.std.specs.Prelude.{Some}
@@ -10,7 +10,7 @@ use Rattle.bl_module.specs.declared.behind.Behind.{Behind}
 use Rattle.bl_names.specs.Named.{along, blank_constant, blank_struct, blank_unit, blanks, constants_of, structs_of, units_of}
 use Rattle.bl_names.specs.Order.{kind_of_item, order_of}
 use Rattle.bl_names_laws_files.specs.Globals.{renumber}
-use Rattle.bl_names_laws_files.specs.Laws.{NamedAmong, StandsFrom, declared_in}
+use Rattle.bl_names_laws_files.specs.Laws.{NamedAmong, declared_globals}
 use Rattle.bl_names_laws_places.specs.Renamed.{renamed_constant, renamed_struct, renamed_unit}
 use Rattle.bl_names_scopes.specs.Marks.{marks_of}
 use Rattle.bl_names_scopes.specs.Rules.{PassesBehind}
@@ -56,15 +56,6 @@ pub order_placed : (f : Place → Place) (items : List RawItem) → order_of (ma
 order_placed f [] = refl
 order_placed f (one ∷ items) = λ i. same_kind f one i ∷ order_placed f items i
 
--- a part that begins at a position begins there also where the position is told otherwise
-begins_at : {A : Type 0} (xs : List A) (at there : ℕ) (part : List A) → at ≡ there → StandsFrom xs at part → StandsFrom xs there part
-begins_at xs at there part same stands = record {
-  before = stands.before;
-  rest = stands.rest;
-  there = stands.there;
-  is_at = stands.is_at ∙ same;
-}
-
 module _ (names : NameLaws) (types : TypeLaws) (named : Named) (front : List RawItem) (f : Place → Place) (raw : Raw) (rest : List RawItem)
     (is : IsNamedOf named (front ++ (map (placed_item f) raw.items ++ rest))) (behind : Behind) (border : Border named front behind) where
   abbrev own : List RawItem
@@ -85,10 +76,10 @@ module _ (names : NameLaws) (types : TypeLaws) (named : Named) (front : List Raw
   scopes : ScopesAgree (renumber front) (opened_by behind.headings) (after file_scope (marks_of front))
   scopes = border_scopes names types named front (own ++ rest) is behind border
 
-  counts : known_in near ≡ declared_in (opened_by behind.headings)
+  counts : known_in near ≡ declared_globals (opened_by behind.headings)
   counts = border_counts names types named front (own ++ rest) is behind border
 
-  far_counts : known_in far ≡ declared_in (after file_scope (marks_of front))
+  far_counts : known_in far ≡ declared_globals (after file_scope (marks_of front))
   far_counts = front_counts names types named front (own ++ rest) is border.passes.names
 
   -- ---- names
@@ -162,19 +153,25 @@ module _ (names : NameLaws) (types : TypeLaws) (named : Named) (front : List Raw
             before = along structs_of file_scope front;
             rest = along structs_of (after file_scope (marks_of (front ++ own))) rest;
             there = is.structs ∙ file.structs;
-            is_at = counted_none (length (along structs_of file_scope front)) (length far.structs) (ap (λ known. known.structs) far_counts ∙ counted.structs);
+            is_at =
+                counted_none (length (along structs_of file_scope front)) (length far.structs)
+                (ap (λ known. known.structs) far_counts ∙ counted.structs);
           };
           constants = record {
             before = along constants_of file_scope front;
             rest = along constants_of (after file_scope (marks_of (front ++ own))) rest;
             there = is.constants ∙ file.constants;
-            is_at = counted_none (length (along constants_of file_scope front)) (length far.constants) (ap (λ known. known.constants) far_counts ∙ counted.constants);
+            is_at =
+                counted_none (length (along constants_of file_scope front)) (length far.constants)
+                (ap (λ known. known.constants) far_counts ∙ counted.constants);
           };
           units = record {
             before = along units_of file_scope front;
             rest = along units_of (after file_scope (marks_of (front ++ own))) rest;
             there = is.units ∙ file.units;
-            is_at = counted_none (length (along units_of file_scope front)) (length far.units) (ap (λ known. known.units) far_counts ∙ counted.units);
+            is_at =
+                counted_none (length (along units_of file_scope front)) (length far.units)
+                (ap (λ known. known.units) far_counts ∙ counted.units);
           };
         }
 

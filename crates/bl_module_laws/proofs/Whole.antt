@@ -1,5 +1,5 @@
 -- Files that pass together are good one behind another.
-use Rattle.std.proofs.Common.{◌≡◌, ◌∙◌, ℕ, Bool, true, false, not, ◌||◌, List, [], ◌∷◌, ◌++◌, length, map, refl, sym, ap, subst}
+use Rattle.std.proofs.Common.{◌≡◌, ◌∙◌, Bool, true, false, not, ◌||◌, List, [], ◌∷◌, ◌++◌, length, map, refl, sym, ap, subst}
 use Rattle.std.proofs.lemmas.List.{append_assoc, map-append}
 use Rattle.std.proofs.lemmas.List.Elements.{Contains-append_left, Contains-append_right}
 use Rattle.std.specs.Prelude.{Contains}
@@ -9,12 +9,11 @@ use Rattle.bl_cause_trees.specs.Trees.{AreTrees}
 use Rattle.bl_effects.specs.Rules.{Passes as UnitsPass}
 use Rattle.bl_joined.specs.Trees.{placed_item}
 use Rattle.bl_limits.specs.Rules.{NestingPasses}
-use Rattle.bl_limits_laws_places.specs.Laws.{NestingStays}
 use Rattle.bl_module.specs.Rules.{TreePasses as TreePassesBehind, is_marked, known_at, known_in as known_in_tree, named_in, own_units}
 use Rattle.bl_module.specs.declared.behind.Behind.{Behind}
 use Rattle.bl_names.specs.Named.{along, units_of}
 use Rattle.bl_names.specs.Order.{kind_of_item, order_of}
-use Rattle.bl_names_laws_files.specs.Laws.{declared_with}
+use Rattle.bl_names_laws_files.specs.Laws.{declared_globals_with}
 use Rattle.bl_names_scopes.specs.Marks.{item_marks, marks_of}
 use Rattle.bl_names_scopes.specs.Rules.{PassesBehind as NamesPass}
 use Rattle.bl_names_scopes.specs.Scopes.{Scopes, after, file_scope, opened_by}
@@ -34,7 +33,7 @@ use Rattle.bl_types_laws_places.specs.Agree.{placed_failures, unplaced}
 use Rattle.bl_types_laws_places_units.specs.Laws.{ItemsAlike, KnownAfter}
 use Rattle.bl_module_laws.proofs.Borders.{Border, FrontPasses, IsNamedOf, changed, known_behind_items, rest_known}
 use Rattle.bl_module_laws.proofs.Entries.{entries_stand, has_mark, nothing_left, nothing_right}
-use Rattle.bl_module_laws.proofs.Nesting.{nesting_among, tree_there}
+use Rattle.bl_module_laws.proofs.Nesting.{nesting_alike, nesting_among, tree_there}
 use Rattle.bl_module_laws.proofs.Parts.{NameLaws, TypeLaws, UnitLaws}
 use Rattle.bl_module_laws.proofs.Passing.{ItemsPass, to_tree}
 use Rattle.bl_module_laws.proofs.Steps.{NearPasses, alike, failures_both, far_units, known_both, names_near}
@@ -69,13 +68,6 @@ none_placed f (failure ∷ rest) is = absurd (cc)
 bare_structs : (f : Place → Place) (structs : List StructDef) → placed_structs unplaced (placed_structs f structs) ≡ placed_structs unplaced structs
 bare_structs f [] = refl
 bare_structs f (def ∷ structs) = ap (λ them. record { name = def.name; place = unplaced def.place; fields = def.fields } ∷ them) (bare_structs f structs)
-
--- structs that are equal up to places are nested alike
-nesting_alike : NestingStays → (g : Place → Place) (from : ℕ) (structs others : List StructDef) (units : List UnitDef) →
-    placed_structs g others ≡ placed_structs g structs → NestingPasses from others units → NestingPasses from structs units
-nesting_alike stays g from structs others units same passes =
-    (stays g from structs units).0
-    (subst (λ them. NestingPasses from them (placed_units g units)) same ((stays g from others units).1 passes))
 
 -- what passes of all items: rules by units, and the nesting of types on trees of units
 pub record WholePasses (named : Named) (all : List RawItem) : Type 0 where
@@ -118,7 +110,7 @@ module _ (names : NameLaws) (types : TypeLaws) (laws : UnitLaws) (named : Named)
   A = alike names types named front f raw rest is behind border names_here
 
   -- what is known behind all items extends what is known behind these
-  grown : KnownAfter (known_behind_items named (front ++ own)) (known_behind_items named all) (declared_with (after file_scope (marks_of (front ++ own))) rest)
+  grown : KnownAfter (known_behind_items named (front ++ own)) (known_behind_items named all) (declared_globals_with (after file_scope (marks_of (front ++ own))) rest)
   grown = rest_known names types named (front ++ own) rest is_all all_passes.names
 
   none_front : (after_items named (order_of (front ++ own)) fresh).failures ≡ []

@@ -181,8 +181,8 @@ pub record ItemsStand (named : Named) (scopes : Scopes) (items : List RawItem) :
   pub units : StandsFrom named.units scopes.counts.units (along units_of scopes items)
 
 -- the numbers of structs, constants and units that were declared, between items
-abbrev pub declared_in : Scopes → DeclaredBefore
-declared_in scopes = record {
+abbrev pub declared_globals : Scopes → DeclaredBefore
+declared_globals scopes = record {
   structs = scopes.counts.structs;
   constants = scopes.counts.constants;
   units = scopes.counts.units;
@@ -190,8 +190,8 @@ declared_in scopes = record {
 }
 
 -- the numbers of what was declared, and then of what items give
-abbrev pub declared_with : Scopes → List RawItem → DeclaredBefore
-declared_with scopes items = record {
+abbrev pub declared_globals_with : Scopes → List RawItem → DeclaredBefore
+declared_globals_with scopes items = record {
   structs = scopes.counts.structs + length (along structs_of scopes items);
   constants = scopes.counts.constants + length (along constants_of scopes items);
   units = scopes.counts.units + length (along units_of scopes items);
@@ -203,5 +203,5 @@ abbrev pub ItemsArePlaced : Type 0
 ItemsArePlaced = (headings : List Heading) (known before items : List RawItem) (named : Named) → DeclareItems headings known →
     PassesBehind (opened_by headings) (marks_of (before ++ items)) →
     ItemsStand named (after (opened_by headings) (marks_of before)) items →
-    in_turn (map (item_step named) (order_of items)) (declared_in (after (opened_by headings) (marks_of before)))
-    ≡ Some (declared_with (after (opened_by headings) (marks_of before)) items)
+    in_turn (map (item_step named) (order_of items)) (declared_globals (after (opened_by headings) (marks_of before)))
+    ≡ Some (declared_globals_with (after (opened_by headings) (marks_of before)) items)
