@@ -13,6 +13,7 @@ use Rattle.std.proofs.Common.{
   inr,
   ⊎_elim,
   length,
+  take,
   get_or,
   set,
   refl,
@@ -25,7 +26,7 @@ use Rattle.std.proofs.Common.{
 use Rattle.std.specs.Prelude.{All, Contains, replicate}
 use Rattle.std.proofs.lemmas.Bool.{cases_eq}
 use Rattle.std.proofs.lemmas.List.{get_or-set_other, get_or-set_same, length-replicate, length-set}
-use Rattle.std.proofs.lemmas.List.Elements.{All-contains, All-head, All-tail}
+use Rattle.std.proofs.lemmas.List.Elements.{All-contains, All-head, All-more, All-tail}
 use Rattle.bl_tree.specs.declared.graph.Edge.{Edge}
 use Rattle.bl_cause.specs.Ranks.{Ranks}
 use Rattle.bl_cause.specs.Walks.{ClosedWalk}
@@ -127,3 +128,20 @@ ranks_made edges count order view ranks made same within none sorted nodes all =
     subst (Ranks edges) (sym (made ∙ ap (λ it. ranked it 0 (replicate count 0)) same))
     (ranks_of_order edges order (replicate count 0) none sorted (subst (λ n. All (λ node. node < n) order) (sym (length-replicate count 0)) nodes)
     (λ edge there. all edge.from (All-contains (λ edge. (edge.from < count) × (edge.to < count)) edges edge within there).0))
+
+-- ---- numbers that rise
+
+-- where the numbers rise along one edge more of a list, they rise along the first ones and this one
+pub rises_more : (edges : List Edge) (ranks : List ℕ) (i : ℕ) (d : Edge) (a b : ℕ) → i < length edges →
+    All (λ edge. get_or ranks edge.from 0 < get_or ranks edge.to 0) (take i edges) →
+    a ≡ get_or ranks (get_or edges i d).from 0 → b ≡ get_or ranks (get_or edges i d).to 0 → a < b →
+    All (λ edge. get_or ranks edge.from 0 < get_or ranks edge.to 0) (take (i + 1) edges)
+rises_more edges ranks i d a b lt before from to less =
+    All-more (λ edge. get_or ranks edge.from 0 < get_or ranks edge.to 0) edges i d lt before (omega arith)
+
+pub ranks_of_all : (edges : List Edge) (ranks : List ℕ) → All (λ edge. get_or ranks edge.from 0 < get_or ranks edge.to 0) edges → Ranks edges ranks
+ranks_of_all edges ranks all edge there = All-contains (λ it. get_or ranks it.from 0 < get_or ranks it.to 0) edges edge all there
+
+-- what is known of edges and numbers that were lent holds of them
+pub ranks_seen : (edges lent : List Edge) (ranks view : List ℕ) → lent ≡ edges → view ≡ ranks → Ranks lent view → Ranks edges ranks
+ranks_seen edges lent ranks view same equal rise = subst (λ it. Ranks it ranks) same (subst (Ranks lent) equal rise)

@@ -9,6 +9,9 @@
 //! begins with a data edge. Each names the first place at which there is one, with the places that one such walk passes,
 //! and where there is none `ordered` gives numbers that rise along every edge (`specs/Fails.antt`, `FailsTwice`,
 //! `FailsCycle`; `specs/Ranks.antt`, `Ranks`). An edge from a node to itself is a closed walk without further places.
+//! `acyclic_order` gives such numbers exactly where there is no closed walk at all. `sweep` lists the nodes in the order of the
+//! source as far as edges allow it, and a loop over the edges looks whether its numbers rise. Only where they don't, `finishing`
+//! is asked.
 //!
 //! How the first place is found: `finishing` lists the nodes so that each stands before what it leads to, where no closed
 //! walk is in the way. `numbering` takes them in that order, and gives one number to all that lead to a node and have none
@@ -39,6 +42,7 @@ pub mod laws;
 mod numbering;
 mod order;
 mod schedule;
+mod sweep;
 mod way_back;
 
 use crate::edges::controls;
@@ -47,7 +51,7 @@ use crate::order::order_of;
 pub use accepted::Accepted;
 use bl_tree::graph::Graph;
 use bl_tree::{NoMemory, Refusal, Rule};
-pub use order::Order;
+pub use order::{Order, acyclic_order};
 pub use schedule::{Schedule, check, check_units};
 use std::alloc::Global;
 

@@ -1,6 +1,7 @@
 //! An order of the nodes by numbers that rise along every edge.
 
-ghost use Rattle.std.specs.Prelude.{◌≡◌, ◌<◌, ◌≤◌, ◌^◌, All, List as Elements, length, replicate, slice_index, IfOk};
+ghost use Rattle.std.specs.Prelude.{◌≡◌, ◌<◌, ◌≤◌, ◌^◌, true, false, All, List as Elements, length, replicate, slice_index};
+ghost use Rattle.std.specs.Prelude.{IfOk, MatchOption, ⊤};
 ghost use Rattle.bl_tree.specs.declared.graph.Edge.{Edge as AnEdge};
 ghost use Rattle.bl_cause.specs.Walks.{ClosedWalk};
 ghost use Rattle.bl_cause.specs.inner.Orders.{ranked};
@@ -8,7 +9,8 @@ ghost use Rattle.bl_cause.specs.Ranks.{Ranks};
 
 use crate::edges::count_of;
 use crate::finishing::sorted;
-use bl_tree::graph::Edge;
+use crate::sweep::ranks;
+use bl_tree::graph::{Edge, Graph};
 use bl_tree::{List, NoMemory};
 use std::alloc::Global;
 
@@ -24,7 +26,7 @@ impl Order {
     pub fn rank(&self, node: u32) -> u32
         ensures { result ≡ slice_index self.now.ranks node }
     {
-        self.ranks.get(node as usize).copied().unwrap_or(0)
+        rank_in(&self.ranks, node)
     }
 }
 
@@ -37,6 +39,55 @@ pub fn order_of(alloc: Global, edges: &[Edge]) -> Result<Order, NoMemory>
     let order = sorted(alloc, count, edges)?;
     let ranks = ranks_of(alloc, count, &order)?;
     Ok(Order { ranks })
+}
+
+/// An order for a graph without closed walks, that of the source as far as edges allow it. Any other graph gets none.
+pub fn acyclic_order(alloc: Global, graph: &Graph) -> Result<Option<Order>, NoMemory>
+    ensures some { IfOk result (λ found. MatchOption found ⊤ (λ order. Ranks graph.now.edges order.ranks)) }
+    ensures none { IfOk result (λ found. MatchOption found (¬ ((walk : Elements AnEdge) → ¬ ClosedWalk graph.now.edges walk)) (λ _. ⊤)) }
+{
+    let swept = ranks(alloc, graph)?;
+    if rise(&graph.edges, &swept) {
+        Ok(Some(Order { ranks: swept }))
+    } else {
+        finished_order(alloc, graph)
+    }
+}
+
+/// The same, in the order in which a search is done with the nodes.
+fn finished_order(alloc: Global, graph: &Graph) -> Result<Option<Order>, NoMemory>
+    ensures some { IfOk result (λ found. MatchOption found ⊤ (λ order. Ranks graph.now.edges order.ranks)) }
+    ensures none { IfOk result (λ found. MatchOption found (¬ ((walk : Elements AnEdge) → ¬ ClosedWalk graph.now.edges walk)) (λ _. ⊤)) }
+{
+    let edges = graph.edges.as_slice();
+    let count = count_of(edges);
+    let order = sorted(alloc, count, edges)?;
+    let ranks = ranks_of(alloc, count, &order)?;
+    if rise(edges, &ranks) {
+        Ok(Some(Order { ranks }))
+    } else {
+        Ok(None)
+    }
+}
+
+/// Whether the numbers rise along every edge.
+fn rise(edges: &[Edge], ranks: &[u32]) -> bool
+    ensures rise { result ≡ true → Ranks edges.now ranks.now }
+    ensures fall { result ≡ false → ¬ Ranks edges.now ranks.now }
+{
+    for edge in edges {
+        if rank_in(ranks, edge.from) >= rank_in(ranks, edge.to) {
+            return false;
+        }
+    }
+    true
+}
+
+/// The number of a node. A node that isn't there has 0.
+fn rank_in(ranks: &[u32], node: u32) -> u32
+    ensures { result ≡ slice_index ranks.now node }
+{
+    ranks.get(node as usize).copied().unwrap_or(0)
 }
 
 /// The position in the order for each node.

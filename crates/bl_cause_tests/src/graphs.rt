@@ -3,7 +3,7 @@
 ghost use Rattle.std.specs.Prelude.{◌&&◌, nat_lt, IfOk, IsTrue};
 ghost use Rattle.std.specs.List.{list_all};
 
-use bl_cause::{ordered, twice};
+use bl_cause::{acyclic_order, ordered, twice};
 use bl_tree::graph::{Edge, Graph, Node, NodeKind};
 use bl_tree::{List, NoMemory, Place, Refusal};
 use std::alloc::Global;
@@ -203,5 +203,29 @@ fn a_long_chain_that_closes_is_a_walk(rt: HostRuntime) -> Result<(), NoMemory> {
     assert_eq!(&rt; walk.len(), MANY as usize);
     assert_eq!(&rt; walk.get(0).copied(), Some(0));
     assert_eq!(&rt; walk.get(1).copied(), Some(1));
+    Ok(())
+}
+
+/// Whether the graph has an order.
+fn is_acyclic(alloc: Global, graph: &Graph) -> Result<bool, NoMemory> {
+    let order = acyclic_order(alloc, graph)?;
+    Ok(order.is_some())
+}
+
+#[test]
+fn a_graph_has_an_order_unless_it_has_a_closed_walk(rt: HostRuntime) -> Result<(), NoMemory> {
+    let alloc = rt.alloc();
+    let backwards = graph(alloc, &[1, 2, 3], &[data(2, 1), control(1, 0)])?;
+    assert!(&rt; is_acyclic(alloc, &backwards)?);
+    let closed = graph(
+        alloc,
+        &[1, 2, 3],
+        &[data(2, 1), control(1, 0), control(0, 2)],
+    )?;
+    assert!(&rt; !is_acyclic(alloc, &closed)?);
+    let alone = graph(alloc, &[1], &[data(0, 0)])?;
+    assert!(&rt; !is_acyclic(alloc, &alone)?);
+    assert!(&rt; is_acyclic(alloc, &chain(alloc, false)?)?);
+    assert!(&rt; !is_acyclic(alloc, &chain(alloc, true)?)?);
     Ok(())
 }

@@ -1,14 +1,15 @@
 //! One body, judged by its tick graph.
 
-ghost use Rattle.std.specs.Prelude.{◌≡◌, IfErr, IfOk};
+ghost use Rattle.std.specs.Prelude.{◌≡◌, IfErr, IfOk, List as Elements};
 ghost use Rattle.bl_cause.specs.Activities.{IsOrderOf};
 ghost use Rattle.bl_cause.specs.Fails.{FailsCycle, FailsTwice, Never, TellsFirst};
 ghost use Rattle.bl_cause_trees.specs.inner.Judging.{IsCauseInBody};
 ghost use Rattle.bl_graph.specs.Graph.{IsTickGraph};
 ghost use Rattle.bl_graph_nodes.specs.Plain.{plain_body};
 ghost use Rattle.bl_tree.specs.declared.rule.Rule.TheVariants.{Cycle};
+ghost use Rattle.bl_tree.specs.declared.tree.Stmt.{Stmt as AStmt};
 
-use bl_cause::{Order, ordered, twice};
+use bl_cause::{Order, acyclic_order, ordered, twice};
 use bl_graph::graph_of_body;
 use bl_tree::graph::Graph;
 use bl_tree::tree::Stmt;
@@ -32,6 +33,19 @@ pub fn ordered_body(alloc: Global, body: &[Stmt]) -> Result<Ordered, Refusal>
         Ok(graph) => graph,
         Err(NoMemory) => return Err(Refusal::NoMemory),
     };
+    match acyclic_order(alloc, &graph) {
+        Ok(Some(order)) => Ok(Ordered { graph, order }),
+        Ok(None) => by_rules(alloc, graph),
+        Err(NoMemory) => Err(Refusal::NoMemory),
+    }
+}
+
+/// Judges a graph by the two rules.
+fn by_rules(alloc: Global, graph: Graph) -> Result<Ordered, Refusal>
+    ensures same { IfOk result (λ made. made.graph ≡ graph) }
+    ensures order { IfOk result (λ made. IsOrderOf made.graph made.order) }
+    ensures cause { (body : Elements AStmt) → IsTickGraph (plain_body body) graph.nodes graph.edges → IfErr result (IsCauseInBody body) }
+{
     match twice(alloc, &graph) {
         Ok(()) => behind_twice(alloc, graph),
         Err(refusal) => Err(refusal),

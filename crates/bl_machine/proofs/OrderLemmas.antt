@@ -3,12 +3,10 @@ use Rattle.std.proofs.Common.{
   ◌≡◌,
   ℕ,
   suc,
-  ◌<◌,
-  ◌≤◌,
-  Bool,
   true,
   false,
-  ◌&&◌,
+  ◌<◌,
+  ◌≤◌,
   List,
   [],
   ◌∷◌,
@@ -22,7 +20,6 @@ use Rattle.std.proofs.Common.{
   get_or,
   refl,
   ap,
-  ap₂,
   sym,
   subst,
   ◌∙◌,
@@ -30,8 +27,7 @@ use Rattle.std.proofs.Common.{
 }
 use Rattle.std.specs.Prelude.{All, Contains, IsPermutation, slice_get, slice_index}
 use Rattle.std.specs.List.Sorted.{IsNonDecreasingBy}
-use Rattle.std.specs.List.{list_all}
-use Rattle.std.proofs.lemmas.Bool.{cases_lt, ltb-true}
+use Rattle.std.proofs.lemmas.Bool.{cases_lt}
 use Rattle.std.proofs.lemmas.List.Elements.{All-contains, All-cons, All-nil}
 use Rattle.std.proofs.lemmas.List.{length-map}
 use Rattle.std.proofs.lemmas.Option.{get_or_from_slice_get, slice_get_within}
@@ -42,9 +38,7 @@ use Rattle.bl_graph_nodes.specs.Nodes.{nodes_in}
 use Rattle.bl_graph_nodes.specs.Plain.{Block}
 use Rattle.bl_graph.specs.Graph.{EdgeBetween, IsTickGraph, edge_between, graph_node}
 use Rattle.bl_cause.specs.Ranks.{Ranks}
-use Rattle.bl_cause.proofs.ListLemmas.{contains_cons, contains_none}
 use Rattle.bl_machine.specs.Blocks.{EdgeLeads, Ordered, up_to}
-use Rattle.bl_machine.specs.inner.Sorted.{rises_along}
 
 -- what has the lesser number in a list that ascends by it stands before the other
 rises_by : (rank : ℕ → ℕ) (order : List ℕ) → IsNonDecreasingBy rank order → (p q i j : ℕ) → slice_get order p ≡ Some i →
@@ -90,28 +84,6 @@ leads_up body nodes edges ranks graph up i j between = by_edge between.edge
     by_edge (inr edge) =
         up (edge_between i j true) ((graph.by_data i j).1
         (record { first = between.first; second = between.second; is_first = between.is_first; is_second = between.is_second; edge = edge }))
-
--- where numbers rise along the first edge of a list and along every edge behind it, they rise along every edge
-rises_in : (first : GraphEdge) (rest : List GraphEdge) (ranks : List ℕ) (edge : GraphEdge) → Contains (first ∷ rest) edge →
-    (list_all (rises_along ranks) rest ≡ true → Contains rest edge → slice_index ranks edge.from < slice_index ranks edge.to) →
-    list_all (rises_along ranks) (first ∷ rest) ≡ true → slice_index ranks edge.from < slice_index ranks edge.to
-rises_in first rest ranks edge there further all = by (rises_along ranks first) refl (list_all (rises_along ranks) rest) refl
-  where
-    by : (one : Bool) → rises_along ranks first ≡ one → (others : Bool) → list_all (rises_along ranks) rest ≡ others →
-        slice_index ranks edge.from < slice_index ranks edge.to
-    by true is true rises =
-        ⊎_elim
-        (λ same. subst (λ (e : GraphEdge). slice_index ranks e.from < slice_index ranks e.to) same
-        (ltb-true (slice_index ranks first.from) (slice_index ranks first.to) is))
-        (λ later. further rises later) (contains_cons first rest edge there)
-    by true is false rises = absurd (let none : false ≡ true = sym (ap₂ (λ a b. a && b) is rises) ∙ all in cc)
-    by false is others rises = absurd (let none : false ≡ true = sym (ap₂ (λ a b. a && b) is rises) ∙ all in cc)
-
--- numbers that rise along each edge of a list, one after another, rise along every edge of it
-pub ranks_rise : (edges : List GraphEdge) (ranks : List ℕ) → list_all (rises_along ranks) edges ≡ true → Ranks edges ranks
-ranks_rise [] ranks all edge there = absurd (contains_none edge there)
-ranks_rise (first ∷ rest) ranks all edge there =
-    rises_in first rest ranks edge there (λ rises later. ranks_rise rest ranks rises edge later) all
 
 pub ordered_by_rank : (body : Block) (nodes : List GraphNode) (edges : List GraphEdge) (ranks order : List ℕ) → IsTickGraph body nodes edges →
     Ranks edges ranks → IsPermutation (up_to (length nodes)) order → IsNonDecreasingBy (slice_index ranks) order → Ordered body (one_each order)

@@ -15,7 +15,6 @@ mod layout;
 mod machine;
 mod order;
 mod slots;
-mod sweep;
 
 pub use machine::{Activity, Machine};
 pub use slots::Slot;

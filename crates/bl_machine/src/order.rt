@@ -1,14 +1,12 @@
 //! The nodes of an activity in an order in which one pass can take them.
 
-ghost use Rattle.std.specs.List.{list_all};
-ghost use Rattle.std.specs.Prelude.{◌≡◌, ◌∷◌, [], IsPermutation, length, map, slice_index, IfOk};
+ghost use Rattle.std.specs.Prelude.{◌≡◌, ◌∷◌, [], IsPermutation, length, map, IfOk};
 ghost use Rattle.bl_cause.specs.Ranks.{Ranks};
 ghost use Rattle.bl_machine.specs.Blocks.{up_to};
-ghost use Rattle.bl_machine.specs.inner.Sorted.{AreInOrder, rises_along};
+ghost use Rattle.bl_machine.specs.inner.Sorted.{AreInOrder};
 
-use crate::sweep::ranks;
 use bl_cause::Order;
-use bl_tree::graph::{Edge, Graph};
+use bl_tree::graph::Graph;
 use bl_tree::{List, NoMemory};
 use std::alloc::Global;
 
@@ -26,8 +24,8 @@ fn up_to(alloc: Global, count: usize) -> Result<List<u32>, NoMemory>
     Ok(numbers)
 }
 
-/// The nodes of a tick graph by ranks that rise along its edges.
-fn by_rank(alloc: Global, graph: &Graph, order: &Order) -> Result<Vec<u32>, NoMemory>
+/// The nodes of a tick graph in an order of it.
+pub fn in_order(alloc: Global, graph: &Graph, order: &Order) -> Result<Vec<u32>, NoMemory>
     requires { Ranks graph.now.edges order.now.ranks }
     ensures all { IfOk result (λ nodes. IsPermutation (up_to (length graph.now.nodes)) nodes.items) }
     ensures ordered { IfOk result (λ nodes. AreInOrder graph.now.edges nodes.items) }
@@ -35,40 +33,6 @@ fn by_rank(alloc: Global, graph: &Graph, order: &Order) -> Result<Vec<u32>, NoMe
     let mut nodes = up_to(alloc, graph.nodes.len())?.into_vec();
     nodes.sort_by_key(|node| order.rank(*node))?;
     Ok(nodes)
-}
-
-/// Whether the numbers rise along every edge.
-fn rise(edges: &[Edge], ranks: &[u32]) -> bool
-    ensures { result ≡ list_all (rises_along ranks.now) edges.now }
-{
-    for edge in edges {
-        if rank(ranks, edge.from) >= rank(ranks, edge.to) {
-            return false;
-        }
-    }
-    true
-}
-
-/// The number of a node. A node that isn't there has 0.
-fn rank(ranks: &[u32], node: u32) -> u32
-    ensures { result ≡ slice_index ranks.now node }
-{
-    ranks.get(node as usize).copied().unwrap_or(0)
-}
-
-/// The nodes of a tick graph in an order of it: in that of the source as far as edges allow it, and else in the given one.
-pub fn in_order(alloc: Global, graph: &Graph, order: &Order) -> Result<Vec<u32>, NoMemory>
-    requires { Ranks graph.now.edges order.now.ranks }
-    ensures all { IfOk result (λ nodes. IsPermutation (up_to (length graph.now.nodes)) nodes.items) }
-    ensures ordered { IfOk result (λ nodes. AreInOrder graph.now.edges nodes.items) }
-{
-    let ranks = ranks(alloc, graph)?;
-    let swept = Order { ranks };
-    if rise(&graph.edges, &swept.ranks) {
-        by_rank(alloc, graph, &swept)
-    } else {
-        by_rank(alloc, graph, order)
-    }
 }
 
 /// A block for each node.

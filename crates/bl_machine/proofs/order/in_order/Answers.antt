@@ -1,10 +1,11 @@
-use Rattle.std.proofs.Common.{ap₂, sym, ◌∙◌}
-use Rattle.std.specs.List.{list_all}
-use Rattle.bl_machine.specs.inner.Sorted.{rises_along}
-use Rattle.bl_machine.proofs.OrderLemmas.{ranks_rise}
+use Rattle.std.proofs.Common.{rules}
+use Rattle.std.specs.Prelude.{slice_index}
+use Rattle.std.proofs.lemmas.List.Sorted.{IsNonDecreasingBy-from_sort_by_key}
 use Rattle.bl_machine.proofs.order.in_order.Goals as goal
 
-pub by_rank-requires : goal.by_rank-requires
-by_rank-requires c =
-    ranks_rise _ _
-    (sym (ap₂ (λ ranks edges. list_all (rises_along ranks) edges) c.deref-2.ensures c.deref.ensures) ∙ (sym c.rise.ensures ∙ c.if-rise.true))
+pub returns-clause-ordered : goal.returns-clause-ordered
+returns-clause-ordered c = record {
+  ranks = c.args.order.now.ranks;
+  rise = c.requires;
+  sorted = IsNonDecreasingBy-from_sort_by_key (slice_index c.args.order.now.ranks) _ c.in_ok-sort_by_key.ensures.sorted (λ a r q k. search rules);
+}

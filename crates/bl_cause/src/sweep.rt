@@ -3,7 +3,7 @@
 //! A node is listed when all nodes are listed from which edges lead to it. Of these, the next one is a node to which
 //! the last one leads, and else the first in the source. A `run` goes on right behind its beginning, where nothing else
 //! is in the way. No contract speaks of these ranks: who takes them looks whether they rise along every edge
-//! (`order.rt`, `in_order`).
+//! (`order.rt`, `acyclic_order`).
 
 use bl_tree::graph::{Edge, Graph, Node, NodeKind};
 use bl_tree::slices::element;
@@ -18,10 +18,10 @@ fn number_at(numbers: &[u32], at: usize) -> u32 {
     }
 }
 
-/// Sets the number at a position, where there is one.
-fn put(numbers: &mut List<u32>, at: usize, number: u32) {
-    if at < numbers.len() {
-        numbers.set(at, number);
+/// Sets the element at a position, where there is one.
+fn put<T: Drop>(elements: &mut List<T>, at: usize, element: T) {
+    if at < elements.len() {
+        elements.set(at, element);
     }
 }
 
@@ -54,22 +54,21 @@ fn is_join(nodes: &[Node], node: u32) -> bool {
     }
 }
 
-/// How many edges begin at each node.
-fn leaving(alloc: Global, count: usize, edges: &[Edge]) -> Result<List<u32>, NoMemory> {
-    let mut counts = List::from_vec(vec![in alloc; 0u32; count]?);
-    for edge in edges {
-        let at = edge.from as usize;
-        let more = number_at(&counts, at).saturating_add(1);
-        put(&mut counts, at, more);
-    }
-    Ok(counts)
+/// The node at which the edge begins, or at which it ends.
+fn end_of(edge: Edge, begins: bool) -> u32 {
+    if begins { edge.from } else { edge.to }
 }
 
-/// How many edges end at each node.
-fn entering(alloc: Global, count: usize, edges: &[Edge]) -> Result<List<u32>, NoMemory> {
+/// How many edges begin, or end, at each node.
+fn counted(
+    alloc: Global,
+    count: usize,
+    edges: &[Edge],
+    begins: bool,
+) -> Result<List<u32>, NoMemory> {
     let mut counts = List::from_vec(vec![in alloc; 0u32; count]?);
     for edge in edges {
-        let at = edge.to as usize;
+        let at = end_of(*edge, begins) as usize;
         let more = number_at(&counts, at).saturating_add(1);
         put(&mut counts, at, more);
     }
@@ -85,6 +84,25 @@ fn sums(alloc: Global, counts: &[u32]) -> Result<List<u32>, NoMemory> {
         sum = sum.saturating_add(*count);
     }
     Ok(sums)
+}
+
+/// The edges by the nodes at which they begin, or end, where each node has the position of its first one. Those of one node
+/// stay as they are.
+fn placed(
+    alloc: Global,
+    edges: &[Edge],
+    starts: List<u32>,
+    begins: bool,
+) -> Result<List<Edge>, NoMemory> {
+    let mut next = starts;
+    let mut placed = List::from_vec(edges.to_vec(alloc)?);
+    for edge in edges {
+        let node = end_of(*edge, begins) as usize;
+        let at = number_at(&next, node);
+        put(&mut next, node, at.saturating_add(1));
+        put(&mut placed, at as usize, *edge);
+    }
+    Ok(placed)
 }
 
 /// Adds one for each `run` that goes on: it waits for its beginning too.
@@ -103,7 +121,7 @@ fn wait_for_beginnings(nodes: &[Node], waits: &mut List<u32>) {
 #[derive(Drop)]
 struct Sweep {
     /// The edges by the nodes at which they begin, and then by those at which they end.
-    edges: Vec<Edge>,
+    edges: List<Edge>,
     /// For each node the position of its first edge, and how many there are.
     starts: List<u32>,
     lengths: List<u32>,
@@ -124,11 +142,11 @@ struct Sweep {
 impl Sweep {
     fn new(alloc: Global, graph: &Graph) -> Result<Sweep, NoMemory> {
         let count = graph.nodes.len();
-        let mut edges = graph.edges.to_vec(alloc)?;
-        edges.sort_by_key(|edge| u64::from(edge.from) * 0x1_0000_0000 + u64::from(edge.to))?;
-        let lengths = leaving(alloc, count, &graph.edges)?;
+        let lengths = counted(alloc, count, &graph.edges, true)?;
+        let mut waits = counted(alloc, count, &graph.edges, false)?;
+        let by_end = placed(alloc, &graph.edges, sums(alloc, &waits)?, false)?;
+        let edges = placed(alloc, &by_end, sums(alloc, &lengths)?, true)?;
         let starts = sums(alloc, &lengths)?;
-        let mut waits = entering(alloc, count, &graph.edges)?;
         wait_for_beginnings(&graph.nodes, &mut waits);
         Ok(Sweep {
             edges,
