@@ -236,14 +236,14 @@ abbrev mutual
   rules_of slots (Act l s) next = flagged (ActAt l s) (next ∷ []) ∷ []
   rules_of slots (Await l at e) next =
       flagged (PauseAt l at) (SetsCounter (slots.rest l) ∷ [])
-      ∷ record { node = TestAt l at e; condition = Rested (slots.rest l); on_true = ClearsCounter (slots.rest l).counter ∷ next ∷ []; on_false = [] }
+      ∷ record { node = TestAt l at e; condition = Rested (slots.rest l); on_true = next ∷ []; on_false = [] }
       ∷ []
   rules_of slots (RunOf l at target a inputs outputs) next =
       flagged (EnterAt l at (arguments_of target inputs outputs)) (SetsCounter (slots.rest l) ∷ [])
       ∷ record {
         node = ResumeAt l at (arguments_of target inputs outputs);
         condition = Rested (slots.rest l);
-        on_true = ClearsCounter (slots.rest l).counter ∷ next ∷ [];
+        on_true = next ∷ [];
         on_false = [];
       }
       ∷ []

@@ -3,6 +3,7 @@ pub mod Bools
 pub mod Changing
 pub mod Counting
 pub mod Leading
+pub mod Lingering
 pub mod Lying
 pub mod Members
 pub mod Numbered

@@ -1,4 +1,5 @@
 pub mod Dozes
+pub mod Holds
 pub mod Invariant
 pub mod Laws
 pub mod Rooted

@@ -58,7 +58,7 @@ use Rattle.bl_machine_laws.specs.Passes.Orders.{Orders}
 use Rattle.bl_machine_laws.specs.Passes.Ticks.{TicksArePasses}
 use Rattle.bl_machine_laws.specs.Traces.Runs.{MachinesHaveOneTrace}
 use Rattle.bl_machine_pass.specs.SlotLayout.{SlotsAreDistinct}
-use Rattle.bl_machine_pass.specs.Transitions.{Change, ClearsCounter, Finishes, Rested, SetsCounter, Transition, body_ends, enter, flagged, rules}
+use Rattle.bl_machine_pass.specs.Transitions.{Change, Finishes, Rested, SetsCounter, Transition, body_ends, enter, flagged, rules}
 use Rattle.bl_machine_pass_laws.specs.Keys.{NodesHaveKeys}
 use Rattle.bl_machine_pass_laws.specs.Same.Laws.{NumbersTell, RestsBetweenTicks, StaysResidual}
 use Rattle.bl_machine_pass_laws.specs.Same.Residual.{Calls, OneCalls}
@@ -143,7 +143,7 @@ module _ (w : Setting) (slots : ℕ → Slots) (frames : Frames) where
         let resumes : Transition = record {
           node = ResumeAt s.label s.place arguments;
           condition = Rested (own.rest s.label);
-          on_true = ClearsCounter (own.rest s.label).counter ∷ next ∷ [];
+          on_true = next ∷ [];
           on_false = [];
         } in
         subst (λ (m : Label). CallThere i all m d) h.0 (subst (λ (t : Tree). CallThere i all s.label t) h.1 (record {

@@ -245,7 +245,7 @@ module _ (runs_apart : AcceptedRunsApart) (begin_live : BodiesFitGraph) (all_cal
         rests = λ unended. record {
           rested = record { stood = stood; lives = one.standing.lives; stands = one.stands; settled = settles follow; unended = unended };
           holds = (frames_nest structs units program).holds slots one.inner i c' stood (plain_body unit.body) one.registers.counters
-              one.standing.lives one.standing.holds one.counters;
+              one.standing.lives one.standing.holds (one.counters unended);
           rests = one.standing.rests;
           apart = one.standing.apart;
           asks = one.asks;

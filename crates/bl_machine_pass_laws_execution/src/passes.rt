@@ -1,7 +1,8 @@
 //! A pass as the text of one call makes it: node by node in the order of their numbers, each where its rule is due
 //! (`specs/Executes.antt`). Lemmas only (`specs/Passes/Laws.antt`). A point's deed is that of its node
 //! (`PointsAreOfNodes`). Where all turns of an instance can be performed, such a pass leaves the store that turns lead
-//! to. Its counters and frames are those of the tree that is left, and its copies have what the tree asks for. It traps
+//! to. Its frames are those of the tree that is left, so are its counters where the body hasn't ended, and its copies
+//! have what the tree asks for. It traps
 //! where turns lead to a trap (`PassesExecute`). A premise is that turns can be performed, with all that is called.
 
 ghost use Rattle.bl_machine_pass_laws_execution.specs.Passes.Laws.{PassesExecute, PointsAreOfNodes};
@@ -10,7 +11,7 @@ use crate::fresh::trees_ask;
 use bl_graph::graphs_stay_within;
 use bl_machine_laws::numbers::turns_wait;
 use bl_machine_laws::waiting::{settled_is_quiet, waits_in_part};
-use bl_machine_pass_laws::numbers::trees_stay_placed;
+use bl_machine_pass_laws::numbers::{counters_linger, trees_stay_placed};
 use bl_machine_pass_laws_turns::turns::{due_waits, numbers_pass, trees_stand, turns_keep};
 
 /// The deed of a point is told by its node.
@@ -32,4 +33,5 @@ pub fn passes_execute()
     trees_stand();
     turns_keep();
     trees_ask();
+    counters_linger();
 }

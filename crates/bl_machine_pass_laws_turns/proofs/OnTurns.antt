@@ -8,12 +8,12 @@ use Rattle.bl_ctree_laws.specs.Trees.{Tree, Nil, Wait, Test, Idle, Do, Seq, Par,
 use Rattle.bl_ctree_laws_traces.specs.Progress.FitsGraph.{FitsGraph}
 use Rattle.bl_ctree_laws_traces.specs.Progress.Places.{whole}
 use Rattle.bl_machine.specs.Uses.{Slots}
-use Rattle.bl_machine_laws.specs.Numbers.Numbers.{Over, numbers_of}
 use Rattle.bl_machine_laws.specs.Numbers.Waiting.{Waits}
 use Rattle.bl_machine_laws.specs.Waiting.Waking.{WakingKeepsNumbers}
 use Rattle.bl_machine_pass.specs.Registers.{Registers, due_by, is_due, started}
 use Rattle.bl_machine_pass.specs.Transitions.{Condition, Ended, Flagged, Rested, RestedIn, Transition, rules}
 use Rattle.bl_machine_pass_laws.specs.Turns.Dozes.{StaysDozing}
+use Rattle.bl_machine_pass_laws.specs.Turns.Holds.{CountersLinger}
 use Rattle.bl_machine_pass_laws.specs.Turns.Invariant.{Exactly, IsFlagged, IsJoin, IsResume, PassInvariant}
 use Rattle.bl_machine_pass_laws.specs.Turns.Laws.{StaysPlaced, Turning, TurnsChangeNumbers}
 use Rattle.bl_machine_pass_laws.specs.Turns.Rooted.{StaysRooted}
@@ -67,12 +67,13 @@ unflagged number counters rule There resumes (Rested slot) is flagged = absurd f
 unflagged number counters rule There resumes (RestedIn slots) is flagged = absurd flagged
 unflagged number counters rule There resumes (Ended age needed) is flagged = absurd flagged
 
-pub passes_begin : StaysPlaced → BodiesBegin → MarksBegin → ResumesBegin → OnlyResumesBegin → WakingKeepsNumbers → PassesBegin
-passes_begin placed bodies marks resumed only keep = record {
+pub passes_begin : CountersLinger → StaysPlaced → BodiesBegin → MarksBegin → ResumesBegin → OnlyResumesBegin → WakingKeepsNumbers → PassesBegin
+passes_begin linger placed bodies marks resumed only keep = record {
   begins = λ w rank i slots unit counters given unended zero.
       bodies placed w rank i slots unit counters given.orders given.is given.laid unended zero;
   resumes = λ w rank i slots unit stood c counters given live stands settled unended holds. record {
-    counters = λ j. holds j ∙ sym (keep w i stood (plain_body unit.body) slots c j live);
+    counters = linger.exact slots (plain_body unit.body) counters (woken c)
+        (λ j. holds j ∙ sym (keep w i stood (plain_body unit.body) slots c j live));
     ahead = λ n waits. omega arith;
     flags = λ rule there flagged le.
         unflagged (rank i) counters rule (Waits (woken c) None rule.node)

@@ -1,7 +1,7 @@
 //! A pass over an activity by registers, from its start through each of its turns (`specs/Turns.antt`). Lemmas only.
 //! The invariant holds as a pass begins (`PassesBegin`), and each turn keeps it, with the changes of its node's rule
 //! (`TurnsKeepInvariant`). Each rule is due iff something waits at its node (`DueWaits`). So the counters between ticks
-//! are a function of the tree.
+//! are a function of the tree. In a pass a counter may still hold the number of an `await` or a `run` that has gone on.
 
 ghost use Rattle.bl_machine_pass_laws_turns.specs.Turns.{DueWaits, NumbersPass, PassesBegin, TreesFitBodies, TurnsKeepInvariant};
 
@@ -10,7 +10,7 @@ use crate::waiting::{
     bodies_begin, trees_stay_dozing, turns_keep_flags, turns_keep_resumes, turns_leave_more,
 };
 use bl_machine_laws::waiting::waking_keeps_numbers;
-use bl_machine_pass_laws::numbers::{trees_stay_placed, turns_change_numbers};
+use bl_machine_pass_laws::numbers::{counters_linger, trees_stay_placed, turns_change_numbers};
 use bl_machine_pass_laws::rooted::{only_resumes_begin, resumes_begin, stays_rooted};
 
 /// Trees stand in their bodies.
@@ -27,6 +27,7 @@ pub fn trees_stand()
 pub fn passes_begin()
     ensures { PassesBegin }
 {
+    counters_linger();
     trees_stay_placed();
     bodies_begin();
     marks_begin();

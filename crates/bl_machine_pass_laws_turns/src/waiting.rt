@@ -12,6 +12,7 @@ use bl_graph::graphs_stay_within;
 use bl_graph_nodes::nodes_differ;
 use bl_machine_laws::numbers::{sleepers_wait, turns_are_walks, turns_only_wake, turns_wait};
 use bl_machine_laws::waiting::{turns_lead_on, waits_in_part};
+use bl_machine_pass_laws::numbers::counters_linger;
 
 /// All that waits after a turn has a greater number.
 pub fn turns_leave_more()
@@ -60,6 +61,7 @@ pub fn trees_stay_dozing()
 pub fn bodies_begin()
     ensures { BodiesBegin }
 {
+    counters_linger();
     graphs_stay_within();
     nodes_differ();
 }

@@ -164,10 +164,10 @@ abbrev pub tested_rule : Layout → ℕ → Task → List Change → List Change
 tested_rule layout k task on_true on_false =
     record { number = layout.number k; condition = Flagged; task = task; on_true = on_true; on_false = on_false }
 
--- the rule of a node that asks whether the instance rested at the number, and clears the counter where the answer is true
+-- the rule of a node that asks whether the instance rested at the number
 abbrev pub resting_rule : Layout → ℕ → Slot → Task → Change → NumberedTransition
 resting_rule layout k slot task next =
-    record { number = layout.number k; condition = Rested slot; task = task; on_true = ClearCounter slot.counter ∷ next ∷ []; on_false = [] }
+    record { number = layout.number k; condition = Rested slot; task = task; on_true = next ∷ []; on_false = [] }
 
 -- the rule of the node at which a `cobegin` ends: it asks for the ends of branches, and clears the counters of all their places
 abbrev pub joining_rule : Layout → ℕ → ℕ → Bodies → Age → Change → NumberedTransition

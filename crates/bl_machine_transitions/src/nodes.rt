@@ -89,7 +89,7 @@ fn put_woken<'a>(
             number: t.number(k),
             condition: Condition::Rested(slot),
             task,
-            on_true: two(alloc, Change::ClearCounter(slot.counter), next)?,
+            on_true: one(alloc, next)?,
             on_false: List::new(alloc),
         },
         into,

@@ -45,7 +45,7 @@ use Rattle.bl_machine.specs.Uses.{Slots}
 use Rattle.bl_machine_pass.specs.SlotLayout.{slot_at, spots_in, spots_in_each, spots_of}
 use Rattle.bl_machine_pass.specs.Numbered.{slots_of}
 use Rattle.bl_machine_pass.specs.Transitions as nodes
-use Rattle.bl_machine_pass.specs.Transitions.{ClearsCounter, Finishes, SetsCounter, SetsFlag}
+use Rattle.bl_machine_pass.specs.Transitions.{Finishes, SetsCounter, SetsFlag}
 use Rattle.bl_machine_pass_laws.specs.Keys.{NodesHaveKeys}
 use Rattle.bl_machine_pass_laws.specs.Spots.{SpotsDiffer}
 use Rattle.bl_machine_transitions.specs.declared.transition.Condition.TheVariants as condition
@@ -60,7 +60,7 @@ use Rattle.bl_machine_transitions_laws.specs.Laws.{RulesAreListed, entries, firs
 use Rattle.bl_machine_transitions_laws.proofs.Agreeing.{Tells, after, in_first, in_second_at, rule_is, tells_all, tells_append, tells_each}
 use Rattle.bl_machine_transitions_laws.proofs.Parts.{Numbered, ends_told, enter_told, entry_told, fires_told, flagged_told, fork_inner, fork_told}
 use Rattle.bl_machine_transitions_laws.proofs.Parts.{guard_inner, guard_told}
-use Rattle.bl_machine_transitions_laws.proofs.Places.{Placed, further, pair_is, single_is}
+use Rattle.bl_machine_transitions_laws.proofs.Places.{Placed, further, single_is}
 use Rattle.bl_machine_transitions_laws.proofs.Standing.{nodes_stand, places_stand}
 use Rattle.bl_machine_transitions_laws.proofs.Written.{WrittenEach, WrittenIn, WrittenOf, body_written}
 
@@ -82,18 +82,17 @@ module _ (number : Node → ℕ) (slots : Slots) (layout : Layout) where
   woken_told : (unit : ℕ) (n : Node) (k : ℕ) (slot rest : Slot) (task : Task) (next : nodes.Change) (goes : Change) → number n
       ≡ layout.number k →
       task_at number unit n ≡ task → slot ≡ rest → change_told next ≡ goes →
-      told_rule number unit (record { node = n; condition = nodes.Rested slot; on_true = ClearsCounter slot.counter ∷ next ∷ []; on_false = [] })
+      told_rule number unit (record { node = n; condition = nodes.Rested slot; on_true = next ∷ []; on_false = [] })
       ≡ record {
         number = layout.number k;
         condition = condition.Rested rest;
         task = task;
-        on_true = change.ClearCounter rest.counter ∷ goes ∷ [];
+        on_true = goes ∷ [];
         on_false = [];
       }
   woken_told unit n k slot rest task next goes is tasks same nexts =
       rule_is (number n) (layout.number k) (condition.Rested slot) (condition.Rested rest) (task_at number unit n) task
-      (change.ClearCounter slot.counter ∷ change_told next ∷ []) (change.ClearCounter rest.counter ∷ goes ∷ []) [] [] is (ap condition.Rested same) tasks
-      (pair_is (change.ClearCounter slot.counter) (change.ClearCounter rest.counter) (change_told next) goes (ap (λ (s : Slot). change.ClearCounter s.counter) same) nexts) refl
+      (change_told next ∷ []) (goes ∷ []) [] [] is (ap condition.Rested same) tasks (single_is (change_told next) goes nexts) refl
 
   -- the nodes of a loop with its test at the end
   turns_told : (l : Label) (at : Place) (e : Expr) (body : Block) (k p : ℕ) (next : nodes.Change) (goes : Change) (cs : List ℕ)

@@ -141,11 +141,11 @@ module _ (slots : Slots) where
     of_plain (Act l s) next = (record { on_true = (λ m flags. by_out _ m refl flags, tt); on_false = tt }, tt)
     of_plain (Await l at e) next = (
       record { on_true = (λ m flags. absurd flags, tt); on_false = tt },
-      (record { on_true = (λ m flags. absurd flags, (λ m flags. by_out _ m refl flags, tt)); on_false = tt }, tt),
+      (record { on_true = (λ m flags. by_out _ m refl flags, tt); on_false = tt }, tt),
     )
     of_plain (RunOf l at target a inputs outputs) next = (
       record { on_true = (λ m flags. absurd flags, tt); on_false = tt },
-      (record { on_true = (λ m flags. absurd flags, (λ m flags. by_out _ m refl flags, tt)); on_false = tt }, tt),
+      (record { on_true = (λ m flags. by_out _ m refl flags, tt); on_false = tt }, tt),
     )
     of_plain (If l at e body other) next = (
       record {

@@ -1,6 +1,6 @@
 -- What changes do to counters, and to whether the body has ended.
-use Rattle.std.proofs.Common.{◌≡◌, ℕ, suc, Bool, true, false, ◌||◌, List, [], ◌∷◌, ◌++◌, map}
-use Rattle.std.proofs.Common.{if◌then◌else◌, nat_eq, refl, sym, ap, ◌∙◌}
+use Rattle.std.proofs.Common.{◌≡◌, inl, inr, ℕ, suc, Bool, true, false, ◌||◌, List, [], ◌∷◌, ◌++◌, map}
+use Rattle.std.proofs.Common.{if◌then◌else◌, nat_eq, refl, sym, ap, subst, ◌∙◌}
 use Rattle.std.specs.List.{list_any}
 use Rattle.std.proofs.lemmas.List.Folds.{list_any-append}
 use Rattle.bl_tree.specs.declared.place.Place.{Place}
@@ -27,7 +27,7 @@ use Rattle.bl_graph_nodes.specs.Plain.{
 }
 use Rattle.bl_machine.specs.declared.slots.Slot.{Slot}
 use Rattle.bl_machine.specs.Uses.{Slots, is_of, uses, uses_in, uses_in_each}
-use Rattle.bl_machine_laws.specs.Numbers.Numbers.{At, Next, Over, Rests, at_next, into}
+use Rattle.bl_machine_laws.specs.Numbers.Numbers.{At, Next, Over, Rests, into, value_at_counter}
 use Rattle.bl_machine_pass.specs.Registers.{Registers, all_changed, changed, with_at, with_flag}
 use Rattle.bl_machine_pass.specs.Transitions.{
   Change,
@@ -37,6 +37,7 @@ use Rattle.bl_machine_pass.specs.Transitions.{
   Finishes,
   SetsCounter,
   SetsFlag,
+  Transition,
   body_ends,
   counters_in,
   counters_in_each,
@@ -45,14 +46,15 @@ use Rattle.bl_machine_pass.specs.Transitions.{
   once,
   once_but,
 }
-use Rattle.bl_machine_pass_laws.proofs.OnNumbers.Bools.{either, if_false, if_same, is_same, unless}
+use Rattle.bl_machine_pass_laws.specs.Turns.Holds.{Lingers, NextMayHold}
+use Rattle.bl_machine_pass_laws.proofs.OnNumbers.Bools.{either, equal_is, if_false, if_same, if_true, is_same, unless}
 
 -- ---- what follows a part
 
--- Goes number used change next last: where a part holds nothing of a counter the change leaves there what `next` holds, it leaves all counters
--- that aren't used, and it ends the body exactly where `last` is true
-pub record Goes (number : Node → ℕ) (used : ℕ → Bool) (change : Change) (next : Next) (last : Bool) : Type 0 where
-  pub sets : (r : Registers) (j : ℕ) → r.counters j ≡ 0 → (changed number change r).counters j ≡ at_next next j
+-- Goes all low number used change next last: where a part holds nothing of its own in a counter the change leaves there what `next` may hold, it
+-- leaves all counters that aren't used, and it ends the body exactly where `last` is true
+pub record Goes (all : List Transition) (low : ℕ) (number : Node → ℕ) (used : ℕ → Bool) (change : Change) (next : Next) (last : Bool) : Type 0 where
+  pub sets : (r : Registers) (j : ℕ) → Lingers all low j (r.counters j) → NextMayHold all low next j ((changed number change r).counters j)
   pub keeps_unused : (r : Registers) (j : ℕ) → used j ≡ false → (changed number change r).counters j ≡ r.counters j
   pub ends : (r : Registers) → r.over ≡ false → (changed number change r).over ≡ last
 
@@ -71,22 +73,30 @@ pub set_keeps : (used : ℕ → Bool) (k v : ℕ) (counters : ℕ → ℕ) (j : 
 set_keeps used k v counters j there off =
     if_false (nat_eq j k) v (counters j) (unless (nat_eq j k) (used j) (λ e. ap used (is_same j k e) ∙ there) off)
 
-module _ (number : Node → ℕ) (used : ℕ → Bool) where
-  pub flags_go : (n : Node) (next : Next) → ((j : ℕ) → at_next next j ≡ 0) → Goes number used (SetsFlag n) next false
-  flags_go n next none = record {
-    sets = λ r j e. e ∙ sym (none j);
+module _ (all : List Transition) (low : ℕ) (number : Node → ℕ) (used : ℕ → Bool) where
+  pub flags_go : (n : Node) (next : Next) → ((j v : ℕ) → Lingers all low j v → NextMayHold all low next j v) →
+      Goes all low number used (SetsFlag n) next false
+  flags_go n next opens = record {
+    sets = λ r j e. opens j (r.counters j) e;
     keeps_unused = λ r j off. refl;
     ends = λ r e. e;
   }
 
-  pub holds_go : (slot : Slot) → used slot.counter ≡ true → Goes number used (SetsCounter slot) (Rests slot) false
-  holds_go slot there = record {
-    sets = λ r j e. ap (λ x. if nat_eq j slot.counter then slot.value else x) e;
+  -- a number that is set at the first counter of a list replaces what was left there
+  holds_at : (slot : Slot) → slot.counter ≡ low → (j v : ℕ) → Lingers all low j v → (if nat_eq j slot.counter then slot.value else v) ≡ value_at_counter slot j
+  holds_at slot lies j v (inl e) = ap (λ x. if nat_eq j slot.counter then slot.value else x) e
+  holds_at slot lies j v (inr left) =
+      let at : nat_eq j slot.counter ≡ true = equal_is j slot.counter (left.0 ∙ sym lies) in
+      if_true (nat_eq j slot.counter) slot.value v at ∙ sym (if_true (nat_eq j slot.counter) slot.value 0 at)
+
+  pub holds_go : (slot : Slot) → used slot.counter ≡ true → slot.counter ≡ low → Goes all low number used (SetsCounter slot) (Rests slot) false
+  holds_go slot there lies = record {
+    sets = λ r j e. holds_at slot lies j (r.counters j) e;
     keeps_unused = λ r j off. set_keeps used slot.counter slot.value r.counters j there off;
     ends = λ r e. e;
   }
 
-  pub finishes_go : Goes number used Finishes Over true
+  pub finishes_go : Goes all low number used Finishes Over true
   finishes_go = record {
     sets = λ r j e. e;
     keeps_unused = λ r j off. refl;
@@ -102,25 +112,25 @@ module _ (number : Node → ℕ) (used : ℕ → Bool) where
   flag_over true k m r = refl
   flag_over false k m r = refl
 
-  ends_go : (start surface depth : Node) → Goes number used (EndsWhen start surface depth) Over false
+  ends_go : (start surface depth : Node) → Goes all low number used (EndsWhen start surface depth) Over false
   ends_go start surface depth = record {
-    sets = λ r j e. flag_counters (r.marks (number start)) (number surface) (number depth) r j ∙ e;
+    sets = λ r j e. subst (Lingers all low j) (sym (flag_counters (r.marks (number start)) (number surface) (number depth) r j)) e;
     keeps_unused = λ r j off. flag_counters (r.marks (number start)) (number surface) (number depth) r j;
     ends = λ r e. flag_over (r.marks (number start)) (number surface) (number depth) r ∙ e;
   }
 
   ends_or_flags : (b : Bool) (start surface depth : Node) →
-      Goes number used (if b then EndsWhen start surface depth else SetsFlag depth) Over false
+      Goes all low number used (if b then EndsWhen start surface depth else SetsFlag depth) Over false
   ends_or_flags true start surface depth = ends_go start surface depth
-  ends_or_flags false start surface depth = flags_go depth Over (λ j. refl)
+  ends_or_flags false start surface depth = flags_go depth Over (λ j v e. e)
 
-  pub body_ends_go : (l : Label) (at : Place) (body : Block) → Goes number used (body_ends l at body) Over false
+  pub body_ends_go : (l : Label) (at : Place) (body : Block) → Goes all low number used (body_ends l at body) Over false
   body_ends_go l at body = ends_or_flags (are_instant body) (StartAt l at) (SurfaceEndAt l at) (DepthEndAt l at)
 
-  pub enter_go : (body : Block) (change : Change) (next : Next) (last : Bool) → Goes number used change next last →
-      Goes number used (enter body change) (into body next) (last_in body last)
+  pub enter_go : (body : Block) (change : Change) (next : Next) (last : Bool) → Goes all low number used change next last →
+      Goes all low number used (enter body change) (into body next) (last_in body last)
   enter_go Done change next last goes = goes
-  enter_go (Then s rest) change next last goes = flags_go (entry s) (At (entry s)) (λ j. refl)
+  enter_go (Then s rest) change next last goes = flags_go (entry s) (At (entry s)) (λ j v e. e)
 
 -- ---- lists of changes
 

@@ -1,13 +1,15 @@
--- The numbers of trees that begin, that go on, and of counters that a tree doesn't use.
-use Rattle.std.proofs.Common.{◌≡◌, ℕ, suc, Bool, true, false, if◌then◌else◌, nat_eq, refl, ap, ◌∙◌}
+-- What counters may hold of trees that begin and that go on, and where a tree doesn't use a counter.
+use Rattle.std.proofs.Common.{◌≡◌, inl, inr, ℕ, suc, Bool, true, false, if◌then◌else◌, nat_eq, refl, sym, ap, ◌∙◌, Contains, List}
 use Rattle.bl_graph_nodes.specs.Nodes.{entry}
 use Rattle.bl_graph_nodes.specs.Plain.{Block, Bodies, Body as BodyOf, Done, Label, Last, Plain, Then}
 use Rattle.bl_ctree_laws.specs.Trees.{Tree, Trees, Nil, Wait, Test, Idle, Do, Seq, Par, Guard, Run, beside, do_block, is_nil, no_tree, seq}
 use Rattle.bl_machine.specs.declared.slots.Slot.{Slot}
 use Rattle.bl_machine.specs.Uses.{Slots, uses_in, uses_in_branch, uses_in_each}
-use Rattle.bl_machine_laws.specs.Numbers.Numbers.{At, Next, Over, Rests, at_next, into, numbers_in, numbers_of, value_at_counter}
+use Rattle.bl_machine_laws.specs.Numbers.Numbers.{At, Next, Over, into, value_at_counter}
+use Rattle.bl_machine_pass.specs.Transitions.{Rested, Transition}
+use Rattle.bl_machine_pass_laws.specs.Turns.Holds.{BranchesMayHold, Lingers, MayHold, NextMayHold}
 use Rattle.bl_machine_pass_laws.specs.Turns.Sits.{UsesOnly}
-use Rattle.bl_machine_pass_laws.proofs.OnNumbers.Bools.{if_false, is_same, neither_first, neither_second, unless}
+use Rattle.bl_machine_pass_laws.proofs.OnNumbers.Bools.{if_false, if_true, is_same, neither_first, neither_second, unless}
 use Rattle.bl_machine_pass_laws.proofs.OnNumbers.Changing.{last_in}
 
 -- ---- what has ended
@@ -29,56 +31,81 @@ seq_open (Par p stood branches) s rest = refl
 seq_open (Guard p phase stood c) s rest = refl
 seq_open (Run p callee phase stood c) s rest = refl
 
--- ---- numbers of what begins
+-- ---- what begins, and what goes on
 
-module _ (slots : Slots) where
-  pub block_numbers : (body : Block) (next : Next) (j : ℕ) → numbers_of slots (do_block body) next j ≡ at_next (into body next) j
-  block_numbers Done next j = refl
-  block_numbers (Then s Done) next j = refl
-  block_numbers (Then s (Then t rest)) next j = refl
+module _ (slots : Slots) (all : List Transition) where
+  -- the number of an `await` or a `run` may stay in its counter
+  pub rest_lingers : (low : ℕ) (slot : Slot) (rule : Transition) → Contains all rule → rule.condition ≡ Rested slot → slot.counter ≡ low →
+      (j v : ℕ) → v ≡ value_at_counter slot j → Lingers all low j v
+  rest_lingers low slot rule there asks lies j v e = by_test (nat_eq j slot.counter) refl
+    where
+      by_test : (b : Bool) → nat_eq j slot.counter ≡ b → Lingers all low j v
+      by_test true test =
+          let at : j ≡ slot.counter = is_same j slot.counter test in
+          inr (
+            at ∙ lies,
+            record {
+              rule = rule;
+              there = there;
+              slot = slot;
+              asks = asks;
+              counter = sym at;
+              value = sym (e ∙ if_true (nat_eq j slot.counter) slot.value 0 test);
+            },
+          )
+      by_test false test = inl (e ∙ if_false (nat_eq j slot.counter) slot.value 0 test)
 
-  pub seq_numbers : (c : Tree) (s : Plain) (rest : Block) (next : Next) (j : ℕ) →
-      numbers_of slots (seq c (Then s rest)) next j ≡ numbers_of slots c (At (entry s)) j
-  seq_numbers Nil s rest next j = block_numbers (Then s rest) next j
-  seq_numbers (Wait p) s rest next j = refl
-  seq_numbers (Test p) s rest next j = refl
-  seq_numbers (Idle body) s rest next j = refl
-  seq_numbers (Do p) s rest next j = refl
-  seq_numbers (Seq c after) s rest next j = refl
-  seq_numbers (Par p stood branches) s rest next j = refl
-  seq_numbers (Guard p phase stood c) s rest next j = refl
-  seq_numbers (Run p callee phase stood c) s rest next j = refl
+  pub block_may : (low : ℕ) (body : Block) (next : Next) (j v : ℕ) → NextMayHold all low (into body next) j v →
+      MayHold slots all low (do_block body) next j v
+  block_may low Done next j v h = h
+  block_may low (Then s Done) next j v h = h
+  block_may low (Then s (Then t rest)) next j v h = h
 
-  -- ---- counters that aren't used hold nothing
+  pub seq_may : (low : ℕ) (c : Tree) (s : Plain) (rest : Block) (next : Next) (j v : ℕ) → MayHold slots all low c (At (entry s)) j v →
+      MayHold slots all low (seq c (Then s rest)) next j v
+  seq_may low Nil s rest next j v h = block_may low (Then s rest) next j v h
+  seq_may low (Wait p) s rest next j v h = h
+  seq_may low (Test p) s rest next j v h = h
+  seq_may low (Idle body) s rest next j v h = h
+  seq_may low (Do p) s rest next j v h = h
+  seq_may low (Seq c after) s rest next j v h = h
+  seq_may low (Par p stood branches) s rest next j v h = h
+  seq_may low (Guard p phase stood c) s rest next j v h = h
+  seq_may low (Run p callee phase stood c) s rest next j v h = h
+
+  -- ---- counters that aren't used
 
   shown_none : (used : ℕ → Bool) (slot : Slot) (j : ℕ) → used slot.counter ≡ true → used j ≡ false → value_at_counter slot j ≡ 0
   shown_none used slot j there off =
       if_false (nat_eq j slot.counter) slot.value 0 (unless (nat_eq j slot.counter) (used j) (λ e. ap used (is_same j slot.counter e) ∙ there) off)
 
-  into_none : (rest : Block) (next : Next) (j : ℕ) → at_next next j ≡ 0 → at_next (into rest next) j ≡ 0
-  into_none Done next j none = none
-  into_none (Then s rest) next j none = refl
+  into_lingers : (low : ℕ) (rest : Block) (next : Next) (j v : ℕ) → (NextMayHold all low next j v → Lingers all low j v) →
+      NextMayHold all low (into rest next) j v → Lingers all low j v
+  into_lingers low Done next j v opens h = opens h
+  into_lingers low (Then s rest) next j v opens h = h
 
-  pub none_in : (l : Label) (k : ℕ) (bodies : Bodies) (branches : Trees) (j : ℕ) → uses_in_each slots l k bodies j ≡ false →
-      numbers_in slots l k bodies branches j ≡ 0
-  none_in l k Last no_tree j off = refl
-  none_in l k Last (beside weak c branches) j off = refl
-  none_in l k (BodyOf weak body rest) no_tree j off = refl
-  none_in l k (BodyOf weak body rest) (beside weak' c branches) j off =
-      if_false (uses_in_branch slots l k body j) (numbers_of slots c (Rests (slots.ending l k)) j) (numbers_in slots l (suc k) rest branches j)
-      (neither_first (uses_in_branch slots l k body j) (uses_in_each slots l (suc k) rest j) off)
-      ∙ none_in l (suc k) rest branches j (neither_second (uses_in_branch slots l k body j) (uses_in_each slots l (suc k) rest j) off)
+  -- branches hold nothing in a counter that they don't use
+  pub none_may : (l : Label) (k : ℕ) (bodies : Bodies) (branches : Trees) (j v : ℕ) → uses_in_each slots l k bodies j ≡ false →
+      BranchesMayHold slots all l k bodies branches j v → v ≡ 0
+  none_may l k Last no_tree j v off h = h
+  none_may l k Last (beside weak c branches) j v off h = h
+  none_may l k (BodyOf weak body rest) no_tree j v off h = h
+  none_may l k (BodyOf weak body rest) (beside weak' c branches) j v off h =
+      none_may l (suc k) rest branches j v (neither_second (uses_in_branch slots l k body j) (uses_in_each slots l (suc k) rest j) off)
+      (h.1 (neither_first (uses_in_branch slots l k body j) (uses_in_each slots l (suc k) rest j) off))
 
-  pub numbers_none : (used : ℕ → Bool) (c : Tree) (next : Next) (j : ℕ) → UsesOnly slots used c → used j ≡ false → at_next next j ≡ 0 →
-      numbers_of slots c next j ≡ 0
-  numbers_none used Nil next j within off none = none
-  numbers_none used (Wait s) next j within off none = shown_none used (slots.rest s.label) j within off
-  numbers_none used (Test s) next j within off none = shown_none used (slots.rest s.label) j within off
-  numbers_none used (Idle body) next j within off none = refl
-  numbers_none used (Do s) next j within off none = refl
-  numbers_none used (Seq c rest) next j within off none = numbers_none used c (into rest next) j within.0 off (into_none rest next j none)
-  numbers_none used (Par s stood branches) next j within off none =
-      none_in s.label 0 s.bodies branches j (unless (uses_in_each slots s.label 0 s.bodies j) (used j) (within.0 j) off)
-  numbers_none used (Guard s phase stood c) next j within off none =
-      numbers_none (uses_in slots s.body) c Over j within.1 (unless (uses_in slots s.body j) (used j) (within.0 j) off) refl
-  numbers_none used (Run s callee phase stood c) next j within off none = shown_none used (slots.rest s.label) j within off
+  -- a tree holds no number of its own in a counter that it doesn't use
+  pub unused_lingers : (used : ℕ → Bool) (low : ℕ) (c : Tree) (next : Next) (j v : ℕ) → UsesOnly slots used c → used j ≡ false →
+      (NextMayHold all low next j v → Lingers all low j v) → MayHold slots all low c next j v → Lingers all low j v
+  unused_lingers used low Nil next j v within off opens h = opens h
+  unused_lingers used low (Wait s) next j v within off opens h = inl (h ∙ shown_none used (slots.rest s.label) j within off)
+  unused_lingers used low (Test s) next j v within off opens h = inl (h ∙ shown_none used (slots.rest s.label) j within off)
+  unused_lingers used low (Idle body) next j v within off opens h = h
+  unused_lingers used low (Do s) next j v within off opens h = h
+  unused_lingers used low (Seq c rest) next j v within off opens h =
+      unused_lingers used low c (into rest next) j v within.0 off (into_lingers low rest next j v opens) h
+  unused_lingers used low (Par s stood branches) next j v within off opens h =
+      inl (none_may s.label 0 s.bodies branches j v (unless (uses_in_each slots s.label 0 s.bodies j) (used j) (within.0 j) off) h)
+  unused_lingers used low (Guard s phase stood c) next j v within off opens h =
+      unused_lingers (uses_in slots s.body) low c Over j v within.1 (unless (uses_in slots s.body j) (used j) (within.0 j) off) (λ x. x) h
+  unused_lingers used low (Run s callee phase stood c) next j v within off opens h = inl (h ∙ shown_none used (slots.rest s.label) j within off)

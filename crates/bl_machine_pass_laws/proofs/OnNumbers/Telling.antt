@@ -11,11 +11,12 @@ use Rattle.bl_ctree_laws.specs.Pending.{Deed}
 use Rattle.bl_ctree_laws.specs.Trees.{Tree, is_nil}
 use Rattle.bl_ctree_laws_traces.specs.Progress.Places.{whole}
 use Rattle.bl_machine.specs.Uses.{Slots, uses_in}
-use Rattle.bl_machine_laws.specs.Numbers.Numbers.{Over, numbers_of}
+use Rattle.bl_machine_laws.specs.Numbers.Numbers.{Over}
 use Rattle.bl_machine_laws.specs.Numbers.Turns as turns
 use Rattle.bl_machine_laws.specs.Numbers.Turns.{AnsweredDeed, InstancePoint, Turns}
 use Rattle.bl_machine_pass.specs.Registers.{all_changed}
 use Rattle.bl_machine_pass.specs.Transitions.{Finishes, Transition, rules}
+use Rattle.bl_machine_pass_laws.specs.Turns.Holds.{MayHold}
 use Rattle.bl_machine_pass_laws.specs.Turns.Laws.{TurnsChangeNumbers, answer_of}
 use Rattle.bl_machine_pass_laws.proofs.OnNumbers.Acting.{Acts, changes_of, turn_acts}
 use Rattle.bl_machine_pass_laws.proofs.OnNumbers.Bools.{if_itself}
@@ -77,16 +78,18 @@ turn_open (turns.in_guard t) = refl
 pub turns_change_numbers : ((slots : Slots) (unit : UnitDef) →
     map (λ (rule : Transition). rule.node) (rules slots (plain_body unit.body)) ≡ nodes_in (plain_body unit.body)) → NodesDiffer → TurnsChangeNumbers
 turns_change_numbers nodes differ w rank i slots unit stood c done n c' rule r turn turning counters over = (
-  λ j. subst (λ (x : Transition). (all_changed (rank i) (changes_of x (answer_of turn)) r).counters j ≡ numbers_of slots c' Over j) is
+  λ j. subst (λ (x : Transition). MayHold slots (rules slots (plain_body unit.body)) 0 c' Over j
+      ((all_changed (rank i) (changes_of x (answer_of turn)) r).counters j)) is
       (acts.leads.numbers r j (counters j)),
   subst (λ (x : Transition). (all_changed (rank i) (changes_of x (answer_of turn)) r).over ≡ is_nil c') is
       (acts.leads.ends r (over ∙ turn_open turn) ∙ if_itself (is_nil c')),
 )
   where
-    acts : Acts slots (rules slots (plain_body unit.body)) (rank i) (uses_in slots (plain_body unit.body)) c Over true n (answer_of turn) c'
+    acts : Acts slots (rules slots (plain_body unit.body)) 0 (rank i) (uses_in slots (plain_body unit.body)) c Over true n (answer_of turn) c'
     acts =
-        turn_acts slots (rules slots (plain_body unit.body)) (rank i) (uses_in slots (plain_body unit.body)) Finishes Over true
-        (finishes_go (rank i) (uses_in slots (plain_body unit.body))) (whole stood (plain_body unit.body)) 0 turn turning.live
+        turn_acts slots (rules slots (plain_body unit.body)) (rank i) (uses_in slots (plain_body unit.body)) 0 Finishes Over true
+        (finishes_go (rules slots (plain_body unit.body)) 0 (rank i) (uses_in slots (plain_body unit.body))) (whole stood (plain_body unit.body)) turn
+        turning.live
         turning.placed.sits turning.placed.lies turning.placed.uses
 
     is : acts.rule ≡ rule

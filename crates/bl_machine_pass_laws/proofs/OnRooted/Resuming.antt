@@ -69,7 +69,7 @@ use Rattle.bl_machine_laws.specs.Numbers.Waiting.{Sleeps, Waits}
 use Rattle.bl_machine_laws.specs.Waiting.Waking.{WokenRested}
 use Rattle.bl_machine_pass.specs.SlotLayout.{EndOf, RestOf, SlotsAreDistinct, Spot, slot_at, spots_in, spots_in_each, spots_of}
 use Rattle.bl_machine_pass.specs.Registers.{due_by, is_at, is_due, started}
-use Rattle.bl_machine_pass.specs.Transitions.{Change, ClearsCounter, Condition, Ended, Finishes, Flagged, Rested, RestedIn, SetsCounter, SetsFlag, Transition, body_ends, enter}
+use Rattle.bl_machine_pass.specs.Transitions.{Change, Condition, Ended, Finishes, Flagged, Rested, RestedIn, SetsCounter, SetsFlag, Transition, body_ends, enter}
 use Rattle.bl_machine_pass.specs.Transitions.{ClearsBoth, counters_in, fires, rests_in}
 use Rattle.bl_machine_pass.specs.Transitions.{once as each_once}
 use Rattle.bl_machine_pass.specs.Transitions.{IsNew, age_of, flagged, joins, rule_where, rules, rules_in, rules_in_each, rules_of}
@@ -93,10 +93,10 @@ rested_is a b is = cc
 
 module _ (slots : Slots) where
   -- a rule asks for the number of an `await` or a `run` among these places
-  record FromRest (spots : List Spot) (slot : Slot) : Type 0 where
-    label : Label
-    there : Has spots (RestOf label)
-    is : slots.rest label ≡ slot
+  pub record FromRest (spots : List Spot) (slot : Slot) : Type 0 where
+    pub label : Label
+    pub there : Has spots (RestOf label)
+    pub is : slots.rest label ≡ slot
 
   rest_left : (xs ys : List Spot) (slot : Slot) → FromRest xs slot → FromRest (xs ++ ys) slot
   rest_left xs ys slot from = record { label = from.label; there = has_left xs ys (RestOf from.label) from.there; is = from.is }
@@ -155,7 +155,7 @@ module _ (slots : Slots) where
     rest_from (Again l at body e) next rule slot (inr (inl is)) asked = absurd (cc (other_asked rule _ slot is asked))
     rest_from (Again l at body e) next rule slot (inr (inr h)) asked = all_rest_from body _ rule slot h asked
 
-    all_rest_from : (body : Block) (next : Change) (rule : Transition) (slot : Slot) → In rule (rules_in slots body next) → rule.condition ≡ Rested slot →
+    pub all_rest_from : (body : Block) (next : Change) (rule : Transition) (slot : Slot) → In rule (rules_in slots body next) → rule.condition ≡ Rested slot →
         FromRest (spots_in body) slot
     all_rest_from Done next rule slot h asked = absurd h
     all_rest_from (Then s rest) next rule slot h asked =
@@ -230,7 +230,7 @@ module _ (slots : Slots) where
           let test : Transition = record {
             node = TestAt l at e;
             condition = Rested (slots.rest l);
-            on_true = ClearsCounter (slots.rest l).counter ∷ next ∷ [];
+            on_true = next ∷ [];
             on_false = [];
           } in
           past_one (flagged (PauseAt l at) (SetsCounter (slots.rest l) ∷ [])) (test ∷ []) (λ slot asked. cc) (only test)
@@ -238,7 +238,7 @@ module _ (slots : Slots) where
           let resume : Transition = record {
             node = ResumeAt l at (arguments_of target inputs outputs);
             condition = Rested (slots.rest l);
-            on_true = ClearsCounter (slots.rest l).counter ∷ next ∷ [];
+            on_true = next ∷ [];
             on_false = [];
           } in
           past_one (flagged (EnterAt l at (arguments_of target inputs outputs)) (SetsCounter (slots.rest l) ∷ [])) (resume ∷ []) (λ slot asked. cc)

@@ -60,7 +60,7 @@ use Rattle.bl_ctree_laws_confluence.proofs.OnApart.Members.{In, in_contains}
 use Rattle.bl_machine.specs.Uses.{Slots}
 use Rattle.bl_machine_laws.specs.Numbers.Waiting.{Sleeps, SomeSleeps}
 use Rattle.bl_machine_pass.specs.SlotLayout.{BeginsAt, EndOf, RestOf, Spot, slot_at}
-use Rattle.bl_machine_pass.specs.Transitions.{Change, ClearsBoth, ClearsCounter, Condition, Rested, RestedIn, SetsCounter, Transition, body_ends, counters_in, enter, fires}
+use Rattle.bl_machine_pass.specs.Transitions.{Change, ClearsBoth, Condition, Rested, RestedIn, SetsCounter, Transition, body_ends, counters_in, enter, fires}
 use Rattle.bl_machine_pass.specs.Transitions.{flagged, once, rests_in, rule_where, rules_in, rules_of}
 use Rattle.bl_machine_pass_laws.specs.Turns.Rooted.{AllRooted, Around, AsksOf, HeldEach, Rooted, in_branch, in_when}
 use Rattle.bl_machine_pass_laws.specs.Turns.Sits.{LieEach, Lies, RulesAreAmong, SitEach, Sits}
@@ -116,7 +116,7 @@ module _ (slots : Slots) (all : List Transition) where
   test_rule s next = record {
     node = TestAt s.label s.place s.test;
     condition = Rested (slots.rest s.label);
-    on_true = ClearsCounter (slots.rest s.label).counter ∷ next ∷ [];
+    on_true = next ∷ [];
     on_false = [];
   }
 
@@ -124,7 +124,7 @@ module _ (slots : Slots) (all : List Transition) where
   resume_rule s next = record {
     node = ResumeAt s.label s.place s.arguments;
     condition = Rested (slots.rest s.label);
-    on_true = ClearsCounter (slots.rest s.label).counter ∷ next ∷ [];
+    on_true = next ∷ [];
     on_false = [];
   }
 

@@ -69,7 +69,7 @@ found_first : (b : Bool) (k : ℕ) → b ≡ true → (if b then 0 else suc k) �
 found_first true k e = refl
 found_first false k e = absurd cc
 
-isnt : (b : Bool) → (b ≡ true → ⊥) → b ≡ false
+pub isnt : (b : Bool) → (b ≡ true → ⊥) → b ≡ false
 isnt true none = absurd (none refl)
 isnt false none = refl
 

@@ -20,10 +20,10 @@ use Rattle.bl_ctree_laws.specs.Trees.{
 }
 use Rattle.bl_ctree_laws_traces.specs.Progress.FitsGraph.{fork_stmt}
 use Rattle.bl_machine.specs.Uses.{Slots}
-use Rattle.bl_machine_laws.specs.Numbers.Numbers.{Over, numbers_of}
 use Rattle.bl_machine_laws.specs.Numbers.Waiting.{Waits}
 use Rattle.bl_machine_pass.specs.Registers.{Registers, is_due}
 use Rattle.bl_machine_pass.specs.Transitions.{Condition, Ended, Flagged, Rested, RestedIn, Transition, rules}
+use Rattle.bl_machine_pass_laws.specs.Turns.Holds.{CountersMayBe}
 
 -- whether a rule asks for the flag of its node
 abbrev pub IsFlagged : Condition → Type 0
@@ -72,8 +72,8 @@ Exactly test there = (test ≡ true → there) × (there → test ≡ true)
 
 -- PassInvariant slots number body k c r: the registers represent the tree c before the node number k has its turn; what lies below k no longer matters
 pub record PassInvariant (slots : Slots) (number : Node → ℕ) (body : Block) (k : ℕ) (c : Tree) (r : Registers) : Type 0 where
-  -- each counter holds the number of the tree there
-  pub counters : (j : ℕ) → r.counters j ≡ numbers_of slots c Over j
+  -- each counter holds the number of the tree there, or that of an `await` or a `run` that has gone on
+  pub counters : CountersMayBe slots body r.counters c
   -- what waits is still to have its turn
   pub ahead : (n : Node) → Waits c None n → k ≤ number n
   -- the flag of a node is set iff something waits at it

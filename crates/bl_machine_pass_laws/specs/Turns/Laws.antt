@@ -16,6 +16,7 @@ use Rattle.bl_machine_pass.specs.SlotLayout.{SlotsAreDistinct}
 use Rattle.bl_machine_pass.specs.Registers.{Registers, after_rule}
 use Rattle.bl_machine_pass.specs.Transitions.{Finishes, Transition, rules}
 use Rattle.bl_machine_pass_laws.specs.Turns.Dozes.{Dozes}
+use Rattle.bl_machine_pass_laws.specs.Turns.Holds.{CountersMayBe}
 use Rattle.bl_machine_pass_laws.specs.Turns.Sits.{Lies, Sits, UsesOnly}
 
 -- ---- turns
@@ -69,15 +70,15 @@ pub record Turning (w : Setting) (rank : ℕ → Node → ℕ) (i : ℕ) (slots 
   pub there : Contains (rules slots (plain_body unit.body)) rule
   pub of_node : rule.node ≡ n
 
--- a turn keeps the counters those of the tree, and the end of the body told
+-- a turn keeps the counters what they may be for the tree, and the end of the body told
 abbrev pub TurnsChangeNumbers : Type 0
 TurnsChangeNumbers =
     (w : Setting) (rank : ℕ → Node → ℕ) (i : ℕ) (slots : Slots) (unit : UnitDef) (stood : Bool) (c : Tree) (done : List AnsweredDeed) (n : Node)
     (c' : Tree)
     (rule : Transition) (r : Registers) (turn : Turns w rank i c done n c') → Turning w rank i slots unit stood c n rule →
-    ((j : ℕ) → r.counters j ≡ numbers_of slots c Over j) → r.over ≡ is_nil c →
+    CountersMayBe slots (plain_body unit.body) r.counters c → r.over ≡ is_nil c →
     let r' = after_rule (rank i) rule (answer_of turn) r in
-    ((j : ℕ) → r'.counters j ≡ numbers_of slots c' Over j) × (r'.over ≡ is_nil c')
+    CountersMayBe slots (plain_body unit.body) r'.counters c' × (r'.over ≡ is_nil c')
 
 -- ---- the start of a pass
 

@@ -40,6 +40,7 @@ use Rattle.bl_machine_laws.specs.Passes.Follows as follows
 use Rattle.bl_machine_laws.specs.Passes.Follows.{Fails, First, Follows}
 use Rattle.bl_machine_pass.specs.Registers.{Registers, after_rule, is_due}
 use Rattle.bl_machine_pass.specs.Transitions.{Transition, rules}
+use Rattle.bl_machine_pass_laws.specs.Turns.Holds.{CountersLinger}
 use Rattle.bl_machine_pass_laws.specs.Turns.Invariant.{PassInvariant}
 use Rattle.bl_machine_pass_laws.specs.Turns.Laws.{StaysPlaced, answer_of}
 use Rattle.bl_machine_pass_laws_turns.specs.Turns.{DueWaits, FitsBody, NumbersPass, TreesFitBodies, TurnContext, TurnsKeepInvariant}
@@ -90,7 +91,8 @@ not_due false never = refl
 -- ---- one instance
 
 module _ (within : (body : Block) → StaysWithin body) (waiting : TurnsWait) (quiet : SettledIsQuiet) (in_part : WaitsInPart) (placed : StaysPlaced)
-    (due : DueWaits) (pass : NumbersPass) (trees : TreesFitBodies) (keep : TurnsKeepInvariant) (ask : TreesAsk) (w : Setting) (rank : ℕ → Node → ℕ)
+    (due : DueWaits) (pass : NumbersPass) (trees : TreesFitBodies) (keep : TurnsKeepInvariant) (ask : TreesAsk)
+    (linger : CountersLinger) (w : Setting) (rank : ℕ → Node → ℕ)
     (slots : ℕ → Slots) (clear : ℕ → Frames → Frames) (i : ℕ) (unit : UnitDef) (stood : Bool) (given : TurnContext w rank i (slots i) unit)
     (perform : TurnsPerform w rank slots clear i unit stood) where
   abbrev B : Block
@@ -177,7 +179,7 @@ module _ (within : (body : Block) → StaysWithin body) (waiting : TurnsWait) (q
         (λ is. quiet w i stood B c rule.node standing.lives settled
         ((due w rank i (slots i) unit stood k c rule r given standing.lives stands there keeps least).0 is)))
         (executes.ends given.is (λ rule there. (let lt = below_top (rank i) (rules (slots i) B) rule there in omega (arith, lt))));
-    counters = keeps.counters;
+    counters = λ unended. linger.settled w i (slots i) stood B r.counters c standing.lives settled unended keeps.counters;
     over = keeps.over;
     change = λ k outside j. refl;
     stands = stands;
@@ -252,12 +254,12 @@ module _ (within : (body : Block) → StaysWithin body) (waiting : TurnsWait) (q
 
 pub passes_execute : ((body : Block) → StaysWithin body) → TurnsWait → SettledIsQuiet → WaitsInPart → StaysPlaced → DueWaits →
     NumbersPass →
-    TreesFitBodies → TurnsKeepInvariant → TreesAsk → PassesExecute
-passes_execute within waiting quiet in_part placed due pass trees keep ask = record {
+    TreesFitBodies → TurnsKeepInvariant → TreesAsk → CountersLinger → PassesExecute
+passes_execute within waiting quiet in_part placed due pass trees keep ask linger = record {
   follows = λ w rank slots clear i unit stood k frames c store known copies r c' left given perform way stands keeps standing senses.
-      execute within waiting quiet in_part placed due pass trees keep ask w rank slots clear i unit stood given perform way frames known copies r
+      execute within waiting quiet in_part placed due pass trees keep ask linger w rank slots clear i unit stood given perform way frames known copies r
       stands keeps standing senses;
   fails = λ w rank slots clear i unit stood k frames c store known copies r given perform way stands keeps standing senses.
-      cut within waiting quiet in_part placed due pass trees keep ask w rank slots clear i unit stood given perform way frames known copies r
+      cut within waiting quiet in_part placed due pass trees keep ask linger w rank slots clear i unit stood given perform way frames known copies r
       stands keeps standing senses;
 }

@@ -366,7 +366,7 @@ module _ (runs_apart : AcceptedRunsApart) (nests : ProgramsNest) (begin_live : B
           (begun_senses callee unit fed is (fed_framed at callee inputs store fed does fit framed)) follow in
           let by = passed follow in
           let held = nested.holds slots one.inner callee t false (plain_body unit.body) one.registers.counters one.standing.lives
-          one.standing.holds one.counters in
+          one.standing.holds (one.counters unended) in
           let passing = call_passing at callee inputs store fed left called does one.leaves in record {
             done = did (deed i at (Copies callee inputs)) true ++ by.done;
             turn = turns.runs called is by.passes unended;
@@ -404,7 +404,7 @@ module _ (runs_apart : AcceptedRunsApart) (nests : ProgramsNest) (begin_live : B
           (asks.1 live.0 live.2.is).1 framed fresh) follow in
           let by = passed follow in
           let held = nested.holds slots one.inner callee t stood (plain_body live.0.body) one.registers.counters one.standing.lives
-          one.standing.holds one.counters in
+          one.standing.holds (one.counters unended) in
           let passing = call_passing s.place callee s.arguments.inputs store fed left live.2.called does one.leaves in record {
             done = did (deed i s.place (Copies callee s.arguments.inputs)) true ++ by.done;
             turn = turns.resumes by.passes unended;

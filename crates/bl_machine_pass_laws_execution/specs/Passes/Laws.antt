@@ -1,5 +1,5 @@
 -- A pass turn by turn is executed by rules, where each of its turns can be performed.
-use Rattle.std.specs.Prelude.{◌≡◌, ℕ, Bool, List, None}
+use Rattle.std.specs.Prelude.{◌≡◌, ℕ, Bool, false, List, None}
 use Rattle.bl_tree.specs.declared.tree.Unit.{Unit as UnitDef}
 use Rattle.bl_tree.specs.declared.value.Value.{Value}
 use Rattle.bl_graph_nodes.specs.Nodes.{Node}
@@ -60,14 +60,14 @@ pub record TurnsPerform (w : Setting) (rank : ℕ → Node → ℕ) (slots : ℕ
 
 -- ---- a pass
 
--- a pass by rules from the number k on leaves this store, and counters and frames that match the tree that is left
+-- a pass by rules from the number k on leaves this store, and frames that match the tree that is left. Where the body hasn't ended counters do so too
 pub record Executed (w : Setting) (rank : ℕ → Node → ℕ) (slots : ℕ → Slots) (clear : ℕ → Frames → Frames) (i k : ℕ)
     (unit : UnitDef) (stood : Bool)
     (frames : Frames) (store : Store) (copies : List Value) (r : Registers) (c' : Tree) (left : Store) : Type 0 where
   pub inner : Frames
   pub registers : Registers
   pub executes : Executes w rank slots clear i k frames store copies r inner left registers
-  pub counters : CountersMatchTree (slots i) registers.counters c'
+  pub counters : is_nil c' ≡ false → CountersMatchTree (slots i) registers.counters c'
   pub over : registers.over ≡ is_nil c'
   pub change : ChangeOnly (InCall w i) frames inner
   pub stands : FitsBody (slots i) (plain_body unit.body) c'

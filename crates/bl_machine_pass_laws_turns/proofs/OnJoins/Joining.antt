@@ -14,6 +14,7 @@ use Rattle.std.proofs.Common.{
   ◌&&◌,
   ◌||◌,
   if◌then◌else◌,
+  nat_eq,
   List,
   [],
   ◌∷◌,
@@ -90,7 +91,7 @@ use Rattle.bl_machine.specs.Uses.{Slots, is_of, uses_in, uses_in_branch, uses_in
 use Rattle.bl_machine_laws.specs.Numbers.Numbers.{Over, numbers_in, numbers_of}
 use Rattle.bl_machine_laws.specs.Numbers.Waiting.{Waits}
 use Rattle.bl_machine_laws.proofs.OnWaiting.Quiet.{and_first, and_second, differ}
-use Rattle.bl_machine_pass.specs.SlotLayout.{BranchesRestAt, EndOf, Spot, slot_at, spots_in, spots_in_each, spots_of}
+use Rattle.bl_machine_pass.specs.SlotLayout.{BranchesRestAt, EndOf, RestOf, SlotsAreDistinct, Spot, slot_at, spots_in, spots_in_each, spots_of}
 use Rattle.bl_machine_pass.specs.Numbered.{sort}
 use Rattle.bl_machine_pass.specs.Registers.{Registers, are_ended, is_aged, is_at, is_due}
 use Rattle.bl_machine_pass.specs.Transitions.{
@@ -123,9 +124,11 @@ use Rattle.bl_machine_pass.specs.Transitions.{
   rules_of,
   strong_endings,
 }
+use Rattle.bl_machine_pass_laws.specs.Turns.Holds.{CountersLinger, CountersMayBe, RestsThere}
 use Rattle.bl_machine_pass_laws.specs.Turns.Invariant.{Exactly, IsFlagged, IsJoin, IsResume, Marked}
 use Rattle.bl_machine_pass_laws.specs.Turns.Laws.{StaysPlaced, Turning}
 use Rattle.bl_machine_pass_laws.specs.Turns.Sits.{SitEach}
+use Rattle.bl_machine_pass_laws.proofs.OnSlots.Finding.{isnt}
 use Rattle.bl_machine_pass_laws_turns.specs.Joins.Laws.{JoinsWait, RulesWait}
 use Rattle.bl_machine_pass_laws_turns.specs.Joins.Stems.{Member, Same, StemEach, Stemmed, Stems}
 use Rattle.bl_machine_pass_laws_turns.proofs.OnJoins.Lists.{bodies_differ, contained, either, left, member, right, sole_rule}
@@ -679,11 +682,86 @@ module _ (w : Setting) (rank : ℕ → Node → ℕ) (i : ℕ) (slots : Slots) (
       let it = joins_at c None rule.node (λ n none. absurd none) is.0 waits in
       (due_here join it.stands (sym (join_label it.stood it.fork.label it.fork.place) ∙ sym (ap label_of it.is) ∙ is.1)).1 (it.done, it.is)
 
-pub joins_wait : JoinsWait
-joins_wait w rank i slots unit stood c rule r placed turning stemmed held marked join =
-    let the = the_join w rank i slots unit stood c rule r placed turning stemmed held marked join in (
-      due_waits w rank i slots unit stood c rule r placed turning stemmed held marked the,
-      waits_due w rank i slots unit stood c rule r placed turning stemmed held marked the,
+-- ---- numbers that were left
+
+-- where two lists of counters tell the same of each end they tell the same of all that are needed
+module _ (slots : Slots) (one other : ℕ → ℕ) (l : Label) where
+  abbrev Alike : ℕ → Bodies → Type 0
+  Alike k bodies = (j : ℕ) → Member (spots_in_each l k bodies) (EndOf l j) → is_at one (slots.ending l j) ≡ is_at other (slots.ending l j)
+
+  later_alike : (k : ℕ) (weak : Bool) (body : Block) (rest : Bodies) → Alike k (BodyOf weak body rest) → Alike (suc k) rest
+  later_alike k weak body rest same j there = same j (inr (right (spots_in body) (spots_in_each l (suc k) rest) (EndOf l j) there))
+
+  some_alike : (k : ℕ) (bodies : Bodies) → Alike k bodies →
+      list_any (is_at one) (endings slots l k bodies) ≡ list_any (is_at other) (endings slots l k bodies)
+  some_alike k Last same = refl
+  some_alike k (BodyOf weak body rest) same =
+      ap₂ (λ a b. a || b) (same k (inl refl)) (some_alike (suc k) rest (later_alike k weak body rest same))
+
+  all_alike : (k : ℕ) (bodies : Bodies) → Alike k bodies →
+      list_all (is_at one) (strong_endings slots l k bodies) ≡ list_all (is_at other) (strong_endings slots l k bodies)
+  all_alike k Last same = refl
+  all_alike k (BodyOf true body rest) same = all_alike (suc k) rest (later_alike k true body rest same)
+  all_alike k (BodyOf false body rest) same =
+      ap₂ (λ a b. a && b) (same k (inl refl)) (all_alike (suc k) rest (later_alike k false body rest same))
+
+  ended_alike : (bodies : Bodies) → Alike 0 bodies → are_ended one (needed slots l bodies) ≡ are_ended other (needed slots l bodies)
+  ended_alike bodies same = by_strong (some_strong bodies)
+    where
+      by_strong : (b : Bool) → are_ended one (needed_by slots l bodies b) ≡ are_ended other (needed_by slots l bodies b)
+      by_strong true = all_alike 0 bodies same
+      by_strong false = some_alike 0 bodies same
+
+rest_is_no_end : (l m : Label) (k : ℕ) → RestOf l ≡ EndOf m k → ⊥
+rest_is_no_end l m k e = cc
+
+module _ (linger : CountersLinger) (slots : Slots) (unit : UnitDef) (c : Tree) (r : Registers) (laid : SlotsAreDistinct slots (plain_body unit.body))
+    (may : CountersMayBe slots (plain_body unit.body) r.counters c) where
+  -- the registers with the numbers of the tree in their counters
+  abbrev exactly : Registers
+  exactly = record { counters = λ j. numbers_of slots c Over j; rested = r.rested; flags = r.flags; marks = r.marks; over = r.over }
+
+  -- what a counter still holds of a place that was left is the number of no end
+  end_alike : (l : Label) (k : ℕ) → Spots unit (EndOf l k) → is_at r.counters (slots.ending l k) ≡ is_at exactly.counters (slots.ending l k)
+  end_alike l k spot =
+      ⊎_elim (λ is. ap (λ x. nat_eq x (slots.ending l k).value) is)
+      (λ left. isnt (is_at r.counters (slots.ending l k))
+      (λ held. no_end left.1 (eqb-true (r.counters (slots.ending l k).counter) (slots.ending l k).value held))
+      ∙ sym (isnt (is_at exactly.counters (slots.ending l k))
+      (λ held. laid.counted (EndOf l k) spot (sym (eqb-true (exactly.counters (slots.ending l k).counter) (slots.ending l k).value held) ∙ left.0))))
+      (linger.left slots (body_of unit) r.counters c may (slots.ending l k).counter)
+    where
+      no_end : (rest : RestsThere slots (body_of unit) (slots.ending l k).counter (r.counters (slots.ending l k).counter)) →
+          r.counters (slots.ending l k).counter ≡ (slots.ending l k).value → ⊥
+      no_end rest held =
+          rest_is_no_end rest.label l k (laid.alone (RestOf rest.label) (EndOf l k) rest.there spot
+          (slot_is (slots.rest rest.label) (slots.ending l k) (ap (λ x. x.counter) rest.is) (ap (λ x. x.value) rest.is ∙ held)))
+
+  due_alike : (number : Node → ℕ) (rule : Transition) → Join slots unit rule → is_due number rule r ≡ is_due number rule exactly
+  due_alike number rule join = by_rule join.is
+    where
+      ended : are_ended r.counters (needed slots join.label join.bodies) ≡ are_ended exactly.counters (needed slots join.label join.bodies)
+      ended =
+          ended_alike slots r.counters exactly.counters join.label join.bodies
+          (λ k there. end_alike join.label k (join.spots (EndOf join.label k) there))
+
+      by_rule : (rule ≡ deep_rule slots join.label join.place join.bodies join.next)
+          ⊎ ((is_instant (Cobegin join.label join.place join.bodies) ≡ true) × (rule ≡ early_rule slots join.label join.place join.bodies join.next)) →
+          is_due number rule r ≡ is_due number rule exactly
+      by_rule (inl e) =
+          subst (λ (x : Transition). is_due number x r ≡ is_due number x exactly) (sym e)
+          (ap (λ b. is_aged number r.marks (age_of (is_instant (Cobegin join.label join.place join.bodies)) (ForkAt join.label join.place)) && b) ended)
+      by_rule (inr early) =
+          subst (λ (x : Transition). is_due number x r ≡ is_due number x exactly) (sym early.1)
+          (ap (λ b. is_aged number r.marks (IsNew (ForkAt join.label join.place)) && b) ended)
+
+pub joins_wait : CountersLinger → JoinsWait
+joins_wait linger w rank i slots unit stood c rule r placed turning stemmed may marked join =
+    let with_numbers : Registers = exactly linger slots unit c r turning.laid may in
+    let the = the_join w rank i slots unit stood c rule with_numbers placed turning stemmed (λ j. refl) marked join in
+    let same = due_alike linger slots unit c r turning.laid may (rank i) rule the in (
+      λ due. due_waits w rank i slots unit stood c rule with_numbers placed turning stemmed (λ j. refl) marked the (sym same ∙ due),
+      λ waits. same ∙ waits_due w rank i slots unit stood c rule with_numbers placed turning stemmed (λ j. refl) marked the waits,
     )
 
 -- whatever is asked it is one of the three
@@ -693,7 +771,7 @@ by_sort (Rested slot) one two three = two tt
 by_sort (RestedIn slots) one two three = two tt
 by_sort (Ended age what) one two three = three tt
 
-pub rules_wait : RulesWait
-rules_wait w rank i slots unit stood k c rule r placed turning stemmed keeps ahead =
+pub rules_wait : CountersLinger → RulesWait
+rules_wait linger w rank i slots unit stood k c rule r placed turning stemmed keeps ahead =
     by_sort rule.condition (λ flag. keeps.flags rule turning.there flag ahead) (λ resume. keeps.resumes rule turning.there resume ahead)
-    (λ join. joins_wait w rank i slots unit stood c rule r placed turning stemmed keeps.counters keeps.marks join)
+    (λ join. joins_wait linger w rank i slots unit stood c rule r placed turning stemmed keeps.counters keeps.marks join)

@@ -226,10 +226,10 @@ mutual
   tame_of : (slots : Slots) (s : Plain) (next : Change) → Unmarking next → AllTame (rules_of slots s next)
   tame_of slots (Act l s) next h = (tame_flagged (ActAt l s) (next ∷ []) (none_at (ActAt l s) next h, tt), tt)
   tame_of slots (Await l at e) next h =
-      (record { on_true = (tt, tt); on_false = tt }, (record { on_true = (tt, (none_at (TestAt l at e) next h, tt)); on_false = tt }, tt))
+      (record { on_true = (tt, tt); on_false = tt }, (record { on_true = (none_at (TestAt l at e) next h, tt); on_false = tt }, tt))
   tame_of slots (RunOf l at target a inputs outputs) next h = (
     record { on_true = (tt, tt); on_false = tt },
-    (record { on_true = (tt, (none_at (ResumeAt l at (arguments_of target inputs outputs)) next h, tt)); on_false = tt }, tt),
+    (record { on_true = (none_at (ResumeAt l at (arguments_of target inputs outputs)) next h, tt); on_false = tt }, tt),
   )
   tame_of slots (If l at e body other) next h = (
     record { on_true = (enter_at (TestAt l at e) body next h, tt); on_false = (enter_at (TestAt l at e) other next h, tt) },

@@ -98,12 +98,10 @@ use Rattle.bl_machine_pass_laws_turns.proofs.OnWaiting.Changes.{
   SetsAs,
   all_freed_forgetless,
   flagged_by,
-  freed_forgetless,
   here_is,
   one_forgetless,
   sets_all_forgotten,
   sets_all_freed,
-  sets_freed,
   sets_none,
   sets_one,
   taken,
@@ -522,8 +520,7 @@ module _ {w : Setting} (slots : Slots) (all : List Transition) (number : Node �
       (λ y h. block_waits body (Some (SurfaceEndAt l at)) y h) (λ y h. waits_block body (Some (SurfaceEndAt l at)) y h) (λ y h. block_awake body y h)
   point_acted g next nx used live sits uses ages dozes is_next agree (turns.goes_on {s = s}) =
       simple (test_rule slots s next) (sits (test_rule slots s next) (test_there slots s next)) refl nx
-      (sets_freed number marks (slots.rest s.label).counter (next ∷ []) nx (sets_one number marks next nx (agree refl)))
-      (freed_forgetless (slots.rest s.label).counter (next ∷ []) (one_forgetless next is_next)) (λ y h. h) (λ y h. h) (λ y h. h) (λ y h. h)
+      (sets_one number marks next nx (agree refl)) (one_forgetless next is_next) (λ y h. h) (λ y h. h) (λ y h. h) (λ y h. h)
   point_acted g next nx used live sits uses ages dozes is_next agree (turns.waits {s = s}) =
       simple (test_rule slots s next) (sits (test_rule slots s next) (test_there slots s next)) refl None (sets_none number marks) (λ j h. h)
       (λ y h. h) (λ y h. h) (λ y h. h) (λ y h. h)
@@ -582,8 +579,7 @@ module _ {w : Setting} (slots : Slots) (all : List Transition) (number : Node �
     turn_acted g next nx used low live sits uses lies ages dozes is_next agree (turns.returns {s = s} {stood = stood} passes) =
         simple (resume_rule slots s next) (sits (resume_rule slots s next) (resume_there slots s next))
         (ap (λ b. run_node b s.label s.place s.arguments) (sym live.2.has_stood)) nx
-        (sets_freed number marks (slots.rest s.label).counter (next ∷ []) nx (sets_one number marks next nx (agree refl)))
-        (freed_forgetless (slots.rest s.label).counter (next ∷ []) (one_forgetless next is_next)) (λ y h. h) (λ y h. h) (λ y h. h) (λ y h. h)
+        (sets_one number marks next nx (agree refl)) (one_forgetless next is_next) (λ y h. h) (λ y h. h) (λ y h. h) (λ y h. h)
     turn_acted g next nx used low live sits uses lies ages dozes is_next agree (turns.in_seq {s = s} {rest = rest} {c' = c'} t) =
         lift
         (turn_acted (ahead_of (entry s) g) (SetsFlag (entry s)) (Some (entry s)) used low live.0 sits.0 uses.0 lies.0 ages dozes tt (λ e. refl) t)

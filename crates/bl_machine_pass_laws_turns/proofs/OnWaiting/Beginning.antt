@@ -16,6 +16,7 @@ use Rattle.bl_machine_laws.specs.Passes.Orders.{Orders}
 use Rattle.bl_machine_pass.specs.SlotLayout.{SlotsAreDistinct}
 use Rattle.bl_machine_pass.specs.Registers.{Registers, is_at, is_due, started}
 use Rattle.bl_machine_pass.specs.Transitions.{Condition, Finishes, Transition, rules}
+use Rattle.bl_machine_pass_laws.specs.Turns.Holds.{CountersLinger}
 use Rattle.bl_machine_pass_laws.specs.Turns.Invariant.{Exactly, IsFlagged, IsResume, Marked}
 use Rattle.bl_machine_pass_laws.specs.Turns.Laws.{StaysPlaced, entry_flag}
 use Rattle.bl_machine_pass_laws_turns.specs.Waiting.{BodiesBegin}
@@ -47,7 +48,8 @@ waits_flagged : (number : Node → ℕ) (body : Block) (y : Node) → Waits (do_
 waits_flagged number Done y h = absurd h
 waits_flagged number (Then s rest) y h = eq-eqb (number y) (number (entry s)) (ap number (block_waits (Then s rest) None y h))
 
-module _ (within : (body : Block) → StaysWithin body) (once : (unit : UnitDef) → EachOnce (nodes_in (plain_body unit.body))) where
+module _ (linger : CountersLinger) (within : (body : Block) → StaysWithin body)
+    (once : (unit : UnitDef) → EachOnce (nodes_in (plain_body unit.body))) where
   module _ (placing : StaysPlaced) (w : Setting) (rank : ℕ → Node → ℕ) (i : ℕ) (slots : Slots) (unit : UnitDef) (counters : ℕ → ℕ)
       (orders : Orders w rank) (is : unit_at w i ≡ Some unit) (laid : SlotsAreDistinct slots (plain_body unit.body)) (none : (j : ℕ) → counters j ≡ 0) where
     abbrev body : Block
@@ -86,7 +88,8 @@ module _ (within : (body : Block) → StaysWithin body) (once : (unit : UnitDef)
 
   pub bodies_begin : BodiesBegin
   bodies_begin placing w rank i slots unit counters orders is laid unended none = record {
-    counters = λ j. none j ∙ sym (block_numbers slots (plain_body unit.body) j);
+    counters = linger.exact slots (plain_body unit.body) counters (do_block (plain_body unit.body))
+        (λ j. none j ∙ sym (block_numbers slots (plain_body unit.body) j));
     ahead = λ n h. zero-le;
     flags = λ rule there flag most. flags_begin placing w rank i slots unit counters orders is laid none rule there flag;
     resumes = λ rule there resume most. resumes_begin placing w rank i slots unit counters orders is laid none rule there resume;

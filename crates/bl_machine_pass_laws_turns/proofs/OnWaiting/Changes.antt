@@ -312,12 +312,12 @@ sets_one number marks change next agrees = (
 )
 
 -- a counter is freed first
-pub sets_freed : (number : Node → ℕ) (marks : ℕ → Bool) (k : ℕ) (changes : List Change) (next : Option Node) → SetsAs number marks changes next →
+sets_freed : (number : Node → ℕ) (marks : ℕ → Bool) (k : ℕ) (changes : List Change) (next : Option Node) → SetsAs number marks changes next →
     SetsAs number marks (ClearsCounter k ∷ changes) next
 sets_freed number marks k changes next sets =
     (λ y set. ⊎_elim (λ none. absurd none) (λ (is : Sets number marks changes y). sets.0 y is) set, λ y is. inr (sets.1 y is))
 
-pub freed_forgetless : (k : ℕ) (changes : List Change) → Forgetless changes → Forgetless (ClearsCounter k ∷ changes)
+freed_forgetless : (k : ℕ) (changes : List Change) → Forgetless changes → Forgetless (ClearsCounter k ∷ changes)
 freed_forgetless k changes none j (inl is) = is
 freed_forgetless k changes none j (inr is) = none j is
 

@@ -60,7 +60,6 @@ use Rattle.bl_machine_pass.specs.Transitions.{
   Change,
   SetsFlag,
   ClearsBoth,
-  ClearsCounter,
   SetsCounter,
   IsNew,
   Age,
@@ -95,7 +94,7 @@ abbrev pub test_rule : Slots → Pause → Change → Transition
 test_rule slots s next = record {
   node = TestAt s.label s.place s.test;
   condition = Rested (slots.rest s.label);
-  on_true = ClearsCounter (slots.rest s.label).counter ∷ next ∷ [];
+  on_true = next ∷ [];
   on_false = [];
 }
 
@@ -104,7 +103,7 @@ abbrev pub resume_rule : Slots → Call → Change → Transition
 resume_rule slots s next = record {
   node = ResumeAt s.label s.place s.arguments;
   condition = Rested (slots.rest s.label);
-  on_true = ClearsCounter (slots.rest s.label).counter ∷ next ∷ [];
+  on_true = next ∷ [];
   on_false = [];
 }
 

@@ -1,16 +1,16 @@
 -- The laws of marks and joins.
-use Rattle.std.specs.Prelude.{◌≡◌, ◌≤◌, ℕ, Bool, List, None}
+use Rattle.std.specs.Prelude.{◌≤◌, ℕ, Bool, List, None}
 use Rattle.bl_tree.specs.declared.tree.Unit.{Unit as UnitDef}
 use Rattle.bl_graph_nodes.specs.Nodes.{Node}
 use Rattle.bl_graph_nodes.specs.Plain.{Block, plain_body}
 use Rattle.bl_ctree.specs.Instances.{Setting}
 use Rattle.bl_ctree_laws.specs.Trees.{Tree, do_block, woken}
 use Rattle.bl_machine.specs.Uses.{Slots}
-use Rattle.bl_machine_laws.specs.Numbers.Numbers.{Over, numbers_of}
 use Rattle.bl_machine_laws.specs.Numbers.Turns.{AnsweredDeed, Turns}
 use Rattle.bl_machine_laws.specs.Numbers.Waiting.{Waits}
 use Rattle.bl_machine_pass.specs.Registers.{Registers, after_rule, is_due, started}
 use Rattle.bl_machine_pass.specs.Transitions.{Transition}
+use Rattle.bl_machine_pass_laws.specs.Turns.Holds.{CountersMayBe}
 use Rattle.bl_machine_pass_laws.specs.Turns.Invariant.{Exactly, IsJoin, Marked, PassInvariant}
 use Rattle.bl_machine_pass_laws.specs.Turns.Laws.{StaysPlaced, Turning, answer_of}
 use Rattle.bl_machine_pass_laws_turns.specs.Joins.Stems.{Stemmed}
@@ -41,7 +41,7 @@ abbrev pub JoinsWait : Type 0
 JoinsWait =
     (w : Setting) (rank : ℕ → Node → ℕ) (i : ℕ) (slots : Slots) (unit : UnitDef) (stood : Bool) (c : Tree) (rule : Transition) (r : Registers) →
     StaysPlaced → Turning w rank i slots unit stood c rule.node rule → Stemmed (plain_body unit.body) c →
-    ((j : ℕ) → r.counters j ≡ numbers_of slots c Over j) → Marked (rank i) r.marks c → IsJoin rule.condition →
+    CountersMayBe slots (plain_body unit.body) r.counters c → Marked (rank i) r.marks c → IsJoin rule.condition →
     Exactly (is_due (rank i) rule r) (Waits c None rule.node)
 
 -- a rule of any kind is due iff something waits at its node, where the node has not been passed
