@@ -12,14 +12,13 @@ use Rattle.bl_tree.specs.declared.c.CStruct.{CStruct}
 use Rattle.bl_tree.specs.declared.c.CType.TheVariants.{Scalar as OfScalar, Struct as OfStruct}
 use Rattle.bl_tree.specs.declared.scalar.Scalar.{Scalar as ScalarType}
 use Rattle.bl_tree.specs.declared.scalar.Scalar.TheVariants.{Bool as OfBool}
-use Rattle.bl_tree.specs.declared.tree.Stmt.{Stmt}
 use Rattle.bl_tree.specs.declared.tree.StructDef.{StructDef}
 use Rattle.bl_tree.specs.declared.tree.Unit.{Unit as UnitDef}
 use Rattle.bl_tree.specs.declared.tree.Var.{Var}
 use Rattle.bl_tree.specs.Program.{is_output, parameters_of}
-use Rattle.bl_tree.specs.Returns.{is_return}
 use Rattle.bl_tree.specs.Types.{scalar_in}
 use Rattle.bl_tree.specs.Typing.{TypingContext, inputs_of, site_of}
+use Rattle.bl_ctext_semantics.specs.Faults.{last_returns, surely_returns}
 use Rattle.bl_emit_acts.specs.Acts.{c_set}
 use Rattle.bl_emit_acts.specs.declared.home.Home.{Home}
 use Rattle.bl_emit_acts.specs.declared.home.Home.TheVariants.{Held, Given, Lent}
@@ -119,12 +118,11 @@ abbrev pub copies_from : TypingContext → ℕ → List Var → List CStmt
 copies_from site k [] = []
 copies_from site k (var ∷ rest) = input_copied site (home_of site (Some var)) k ++ copies_from site (k + 1) rest
 
--- whether the last statement is a `return`; the first answer where there is none
-abbrev pub returns_last : Bool → List Stmt → Bool
-returns_last last [] = last
-returns_last last (s ∷ rest) = returns_last (is_return s) rest
+-- whether C surely returns: its last statement is a `return`, or an `if` whose two blocks surely return
+abbrev pub code_returns : List CStmt → Bool
+code_returns code = last_returns (map surely_returns code)
 
--- A function with a result ends in C with a `return`: a C compiler doesn't see that each way through the body before it returns
+-- what ends a function with a result whose C doesn't surely return: a C compiler doesn't see that each way through the body returns before it
 abbrev pub end_code : Option ScalarType → Bool → List CStmt
 end_code (Some s) false = c_return_zero (c_scalar s) ∷ []
 end_code (Some s) true = []
@@ -141,7 +139,7 @@ body_coded site unit = block_codes (map (codes_of site) unit.body) none_taken
 -- the copies of inputs, the C of the statements, and what ends them
 abbrev pub body_code : TypingContext → UnitDef → List CStmt
 body_code site unit =
-    copies_from site 0 (inputs_of unit) ++ ((body_coded site unit).code ++ end_code unit.result (returns_last false unit.body))
+    copies_from site 0 (inputs_of unit) ++ ((body_coded site unit).code ++ end_code unit.result (code_returns (body_coded site unit).code))
 
 -- the position of the first variable that the unit holds, of those from this position on
 abbrev pub first_held : TypingContext → ℕ → List Var → Option ℕ

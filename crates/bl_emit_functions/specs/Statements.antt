@@ -10,6 +10,8 @@ use Rattle.bl_tree.specs.Typing.{TypingContext}
 use Rattle.bl_emit_acts.specs.Acts.{call_made, c_calling, c_set, code_made, declared_code}
 use Rattle.bl_emit_acts.specs.Expressions.{stands}
 use Rattle.bl_emit_acts.specs.Trees.{c_read, c_two}
+use Rattle.bl_emit_functions.specs.declared.coded.ArmsCoded.{ArmsCoded}
+use Rattle.bl_emit_functions.specs.declared.coded.ArmsCoded.TheVariants.{One, Two, Several}
 use Rattle.bl_emit_functions.specs.declared.coded.Coded.{Coded}
 use Rattle.bl_emit_functions.specs.declared.coded.Free.{Free}
 use Rattle.bl_emit_functions.specs.Trees.{c_break, c_if, c_loop, c_return, c_truth, flag_place, turn_name}
@@ -60,8 +62,8 @@ abbrev pub either_by : CExpr → Coded → Coded → Coded
 either_by test body other = record { code = c_if test body.code (else_code other.code) ∷ []; free = other.free }
 
 -- one arm, and what is done else
-abbrev pub either_code : CExpr → Coded → Codes → Coded
-either_code test body other = either_by test body (other body.free)
+abbrev pub either_code : ArmCodes → Codes → Codes
+either_code arm other free = either_by arm.test (arm.body free) (other (arm.body free).free)
 
 -- one of several arms: it is taken where none before it was, which a flag tells, and its condition is true
 abbrev pub arm_taken : ℕ → ArmCodes → Codes
@@ -95,11 +97,27 @@ behind_arms flag arms other = flagged_by flag arms (other arms.free)
 abbrev pub flagged_code : List ArmCodes → Codes → Codes
 flagged_code arms other free = behind_arms free.flags (arms_taken free.flags arms (flag_taken free)) other
 
+-- the C of arms, by how many they are
+abbrev pub arms_coded : List ArmCodes → Free → ArmsCoded
+arms_coded (arm ∷ []) free = One arm.test (arm.body free)
+arms_coded (arm ∷ second ∷ []) free = Two arm.test (arm.body free) second.test (second.body (arm.body free).free)
+arms_coded arms free = Several free.flags (arms_taken free.flags arms (flag_taken free))
+
+-- the numbers that are free after arms
+abbrev pub free_after : ArmsCoded → Free
+free_after (One test body) = body.free
+free_after (Two test body second inner) = inner.free
+free_after (Several flag arms) = arms.free
+
+-- arms, and behind them what is done else. A second arm stands in the `else` of the first; more arms don't nest
+abbrev pub closed_by : ArmsCoded → Coded → Coded
+closed_by (One test body) other = either_by test body other
+closed_by (Two test body second inner) other = either_by test body (either_by second inner other)
+closed_by (Several flag arms) other = flagged_by flag arms other
+
 -- an `if`
 abbrev pub choice_code : List ArmCodes → Codes → Codes
-choice_code [] other free = flagged_code [] other free
-choice_code (arm ∷ []) other free = either_code arm.test (arm.body free) other
-choice_code (arm ∷ more ∷ rest) other free = flagged_code (arm ∷ more ∷ rest) other free
+choice_code arms other free = closed_by (arms_coded arms free) (other (free_after (arms_coded arms free)))
 
 -- ---- loops
 

@@ -2,7 +2,6 @@
 
 ghost use Rattle.std.specs.Prelude.{◌≡◌, ◌∷◌, ◌++◌, [], IfOk, Some, false, map, option_map, take};
 ghost use Rattle.bl_tree.specs.Program.{is_output, parameters_of};
-ghost use Rattle.bl_tree.specs.Returns.{is_return};
 ghost use Rattle.bl_tree.specs.Typing.{inputs_of, site_of};
 ghost use Rattle.bl_emit_acts.specs.Places.{home_of};
 ghost use Rattle.bl_emit_acts.specs.Sites.{site_in};
@@ -14,13 +13,14 @@ ghost use Rattle.bl_emit_functions.specs.Trees.{c_return_zero};
 use crate::coded::{Coded, Free};
 use crate::parts::returning;
 use crate::reads::in_block;
+use crate::returns::block_returns;
 use crate::statements::block;
 use bl_emit_acts::parts::{
     NOWHERE, joined, literal, named, numbered, prefixed, read, set, single, whole,
 };
 use bl_emit_acts::{Home, UnitSite, c_type, home_of_var, scalar_in, scalar_in_c, variable};
 use bl_tree::c::{CFunc, CLocal, CMember, CParam, CStmt, CStruct, CType};
-use bl_tree::tree::{Role, Stmt, StmtKind, StructDef, Unit, Var};
+use bl_tree::tree::{Role, StructDef, Unit, Var};
 use bl_tree::{List, NoMemory, Scalar, Text};
 use std::alloc::Global;
 
@@ -275,10 +275,10 @@ fn body(
     statements: List<CStmt>,
 ) -> Result<List<CStmt>, NoMemory>
     ensures { IfOk result (λ made. made ≡ functions.copies_from (site_in site.entry.now) 0 (inputs_of unit.now)
-        ++ (statements ++ functions.end_code unit.now.result (functions.returns_last false unit.now.body))) }
+        ++ (statements ++ functions.end_code unit.now.result (functions.code_returns statements))) }
 {
     let copies = copies(alloc, site, first(&unit.vars, unit.inputs as usize))?;
-    let end = end(alloc, unit.result, returns_last(&unit.body))?;
+    let end = end(alloc, unit.result, block_returns(&statements))?;
     joined(copies, joined(statements, end)?)
 }
 
@@ -359,24 +359,7 @@ fn set_again(alloc: Global, site: &UnitSite, k: u32) -> Result<CStmt, NoMemory>
     set(alloc, to, read(from))
 }
 
-fn is_return_statement(s: &Stmt) -> bool
-    ensures { result ≡ is_return s.now }
-{
-    matches!(&s.what, StmtKind::Return(_))
-}
-
-/// Whether the last statement is a `return`.
-fn returns_last(body: &[Stmt]) -> bool
-    ensures { result ≡ functions.returns_last false body.now }
-{
-    let mut last = false;
-    for s in body {
-        last = is_return_statement(s);
-    }
-    last
-}
-
-/// A `return` of 0 or false for a function with a result, where its last statement is none.
+/// A `return` of 0 or false for a function with a result, where its statements don't surely return.
 fn end(alloc: Global, ty: Option<Scalar>, returns: bool) -> Result<List<CStmt>, NoMemory>
     ensures { IfOk result (λ made. made ≡ functions.end_code ty returns) }
 {

@@ -10,7 +10,8 @@ mod coded;
 mod functions;
 pub mod parts;
 mod reads;
+mod returns;
 mod statements;
 
-pub use coded::{Coded, Free};
+pub use coded::{ArmsCoded, Coded, Free};
 pub use functions::{function, memory, params};

@@ -6,7 +6,7 @@ ghost use Rattle.bl_emit_acts.specs.Sites.{site_in};
 ghost use Rattle.bl_emit_functions.specs.Statements as codes;
 ghost use Rattle.bl_emit_functions.specs.Trees.{c_return, c_truth};
 
-use crate::coded::{Coded, Free};
+use crate::coded::{ArmsCoded, Coded, Free};
 use crate::parts::{both, choice, flag as flag_at, looping, returning, set_flag, truth};
 use bl_emit_acts::parts::{joined, read, single, statement as stated};
 use bl_emit_acts::{UnitSite, act, code, expression};
@@ -60,19 +60,11 @@ fn statement(alloc: Global, site: &UnitSite, s: &Stmt, free: Free) -> Result<Cod
     ensures { IfOk result (λ coded. coded ≡ codes.codes_of (site_in site.entry.now) s.now free) }
 {
     match &s.what {
-        StmtKind::If(arms, other) => match arms.as_slice() {
-            [arm] => {
-                let test = value(alloc, site, &arm.test)?;
-                let body = block(alloc, site, &arm.body, free)?;
-                let other = block(alloc, site, other, body.free)?;
-                either(alloc, test, body, other)
-            }
-            _ => {
-                let arms = arms_taken(alloc, site, arms, free.flags, flag_taken(free)?)?;
-                let other = block(alloc, site, other, arms.free)?;
-                flagged(alloc, free.flags, arms, other)
-            }
-        },
+        StmtKind::If(arms, other) => {
+            let arms = chosen(alloc, site, arms, free)?;
+            let other = block(alloc, site, other, free_after(&arms))?;
+            closed(alloc, arms, other)
+        }
         StmtKind::Repeat(body) => repeating(alloc, site, body, free),
         StmtKind::Until(body, e) => until(alloc, site, body, e, free),
         StmtKind::While(e, body) => while_true(alloc, site, body, e, free),
@@ -102,7 +94,57 @@ pub fn block(alloc: Global, site: &UnitSite, body: &[Stmt], free: Free) -> Resul
     Ok(Coded { code, free: left })
 }
 
-/// One arm, and what is done else.
+/// The C of the arms of an `if`.
+#[cycle(statements)]
+fn chosen(alloc: Global, site: &UnitSite, arms: &[Arm], free: Free) -> Result<ArmsCoded, NoMemory>
+    ensures { IfOk result (λ made. made ≡ codes.arms_coded (map (codes.codes_of_arm (site_in site.entry.now)) arms.now) free) }
+{
+    match arms {
+        [arm] => {
+            let test = value(alloc, site, &arm.test)?;
+            let body = block(alloc, site, &arm.body, free)?;
+            Ok(ArmsCoded::One(test, body))
+        }
+        [first, second] => {
+            let test = value(alloc, site, &first.test)?;
+            let body = block(alloc, site, &first.body, free)?;
+            let further = value(alloc, site, &second.test)?;
+            let inner = block(alloc, site, &second.body, body.free)?;
+            Ok(ArmsCoded::Two(test, body, further, inner))
+        }
+        _ => {
+            let taken = arms_taken(alloc, site, arms, free.flags, flag_taken(free)?)?;
+            Ok(ArmsCoded::Several(free.flags, taken))
+        }
+    }
+}
+
+/// The numbers that are free after the arms.
+fn free_after(arms: &ArmsCoded) -> Free
+    ensures { result ≡ codes.free_after arms.now }
+{
+    match arms {
+        ArmsCoded::One(_, body) => body.free,
+        ArmsCoded::Two(_, _, _, inner) => inner.free,
+        ArmsCoded::Several(_, taken) => taken.free,
+    }
+}
+
+/// The arms, and behind them what is done else.
+fn closed(alloc: Global, arms: ArmsCoded, other: Coded) -> Result<Coded, NoMemory>
+    ensures { IfOk result (λ coded. coded ≡ codes.closed_by arms other) }
+{
+    match arms {
+        ArmsCoded::One(test, body) => either(alloc, test, body, other),
+        ArmsCoded::Two(test, body, further, inner) => {
+            let rest = either(alloc, further, inner, other)?;
+            either(alloc, test, body, rest)
+        }
+        ArmsCoded::Several(flag, taken) => flagged(alloc, flag, taken, other),
+    }
+}
+
+/// One arm and what is done else, where the C of both is made.
 fn either(alloc: Global, test: CExpr, body: Coded, other: Coded) -> Result<Coded, NoMemory>
     ensures { IfOk result (λ coded. coded ≡ codes.either_by test body other) }
 {

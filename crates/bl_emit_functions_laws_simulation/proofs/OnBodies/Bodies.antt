@@ -46,6 +46,7 @@ use Rattle.bl_emit_functions.specs.Statements.{
   choice_code,
   codes_of,
   codes_of_arm,
+  either_code,
   else_code,
   flag_taken,
   flagged_code,
@@ -208,26 +209,40 @@ module _ (number : Datum → ℤ) (Stand : List Value → Memory → Type 0) (Ke
               (λ free. (good free).1) all (omega (arith, grown, more.0, few)) few,
         )
 
-    pub choice_good : (arms : List ArmCodes) (choices : List GuardedBlock) (other : StmtMeaning) (codes : Codes) → AllDo arms choices → Good other codes →
-        Good (first_true_choice choices other) (choice_code arms codes)
-    choice_good [] [] other codes all good free = flagged_good [] [] other codes all good free
-    choice_good (arm ∷ []) (choice ∷ []) other codes all good free =
-        let body = all.0.1 free in
-        let grown = all.0.2 free in
+    abbrev OneDoes : ArmCodes → GuardedBlock → Type 0
+    OneDoes = ArmDoes number Stand Kept same onward fewer scope kept_set flag_kept stand_set
+
+    either_good : (arm : ArmCodes) (choice : GuardedBlock) (other : StmtMeaning) (codes : Codes) → OneDoes arm choice → Good other codes →
+        Good (first_true_choice (choice ∷ []) other) (either_code arm codes)
+    either_good arm choice other codes one good free =
+        let body = one.1 free in
+        let grown = one.2 free in
         let rest = good (arm.body free).free in
         let code = (codes (arm.body free).free).code in (
           omega (arith, grown, rest.0),
           λ few. alone_leaves number Stand Kept same onward fewer scope free.flags (first_true_choice (choice ∷ []) other)
               (c_if arm.test (arm.body free).code (else_code code))
               (if_leaves number Stand Kept same onward fewer scope free.flags choice.test choice.body other arm.test
-              (arm.body free).code (else_code code) all.0.0 (body (omega (arith, rest.0, few)))
+              (arm.body free).code (else_code code) one.0 (body (omega (arith, rest.0, few)))
               (subst (λ (code : List CStmt). Does_so free.flags other (block_c code scope)) (sym (else_same code))
               (weaker free.flags (arm.body free).free.flags other (block_c code scope) grown (rest.1 few)))),
         )
-    choice_good (arm ∷ more ∷ rest) choices other codes all good free = flagged_good (arm ∷ more ∷ rest) choices other codes all good free
+
+    pub choice_good : (arms : List ArmCodes) (choices : List GuardedBlock) (other : StmtMeaning) (codes : Codes) → AllDo arms choices → Good other codes →
+        Good (first_true_choice choices other) (choice_code arms codes)
+    choice_good [] [] other codes all good free = flagged_good [] [] other codes all good free
+    choice_good (arm ∷ []) (choice ∷ []) other codes all good free = either_good arm choice other codes all.0 good free
+    choice_good (arm ∷ second ∷ []) (choice ∷ later ∷ []) other codes all good free =
+        either_good arm choice (first_true_choice (later ∷ []) other) (either_code second codes) all.0
+        (either_good second later other codes all.1.0 good) free
+    choice_good (arm ∷ second ∷ third ∷ rest) choices other codes all good free =
+        flagged_good (arm ∷ second ∷ third ∷ rest) choices other codes all good free
     choice_good [] (choice ∷ choices) other codes all good free = absurd all
     choice_good (arm ∷ []) [] other codes all good free = absurd all
-    choice_good (arm ∷ []) (choice ∷ more ∷ choices) other codes all good free = absurd all.1
+    choice_good (arm ∷ []) (choice ∷ later ∷ choices) other codes all good free = absurd all.1
+    choice_good (arm ∷ second ∷ []) [] other codes all good free = absurd all
+    choice_good (arm ∷ second ∷ []) (choice ∷ []) other codes all good free = absurd all.1
+    choice_good (arm ∷ second ∷ []) (choice ∷ later ∷ more ∷ choices) other codes all good free = absurd all.1.1
 
     -- ---- all statements
 
@@ -264,9 +279,6 @@ module _ (number : Datum → ℤ) (Stand : List Value → Memory → Type 0) (Ke
       arm_out : (arm : Arm) → codes_of_arm site arm
           ≡ record { test = code_made site (out-Arm arm).test; body = block_codes (map (codes_of site) (out-Arm arm).body) }
       arm_out arm = fold_out-Arm Codes ArmCodes Codes Codes (kind_codes site) (arm_codes site) branch_codes stmt_codes arm
-
-      abbrev OneDoes : ArmCodes → GuardedBlock → Type 0
-      OneDoes = ArmDoes number Stand Kept same onward fewer scope kept_set flag_kept stand_set
 
       arm_does_so : (arm : Arm) → Each S (out-Arm arm).body → arm_fitted arm ≡ true → aliased_in_arm arm ≡ [] →
           OneDoes (codes_of_arm site arm) (choice_of sees arm)

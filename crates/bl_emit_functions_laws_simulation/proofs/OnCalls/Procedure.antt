@@ -38,7 +38,7 @@ use Rattle.bl_emit_acts_laws_simulation.specs.Acts.{CallSimulates, MayPass, Outp
 use Rattle.bl_emit_acts_laws_simulation.specs.Frames.{is_older, lent_at}
 use Rattle.bl_emit_acts_laws_simulation.specs.Encodes.{Encodes, home_at, is_live, lead_in, location_in, start_in}
 use Rattle.bl_emit_acts_laws_simulation.specs.Simulation.{ArgumentsEncoded}
-use Rattle.bl_emit_functions.specs.Functions.{body_code, body_coded, copies_from, end_code, function_code, input_copied, is_held, none_taken, returns_last}
+use Rattle.bl_emit_functions.specs.Functions.{body_code, body_coded, copies_from, end_code, function_code, input_copied, is_held, none_taken, code_returns}
 use Rattle.bl_emit_functions.specs.Functions.{first_held}
 use Rattle.bl_emit_functions.specs.Trees.{flag_name}
 use Rattle.bl_emit_functions.specs.Reads.{reads_in_block}
@@ -246,9 +246,9 @@ module _ (structs : List StructDef) (units : List UnitDef) (entry k : ℕ) (unit
 
   body_is : body_code site unit ≡ (body_coded site unit).code
   body_is =
-      ap (λ (first : List CStmt). first ++ ((body_coded site unit).code ++ end_code unit.result (returns_last false unit.body)))
+      ap (λ (first : List CStmt). first ++ ((body_coded site unit).code ++ end_code unit.result (code_returns (body_coded site unit).code)))
       (copies_none 0 (inputs_of unit) all_inputs)
-      ∙ ap (λ (result : Option ScalarType). (body_coded site unit).code ++ end_code result (returns_last false unit.body)) procedure
+      ∙ ap (λ (result : Option ScalarType). (body_coded site unit).code ++ end_code result (code_returns (body_coded site unit).code)) procedure
       ∙ append-nil (body_coded site unit).code
 
   -- ---- what is left

@@ -36,7 +36,7 @@ use Rattle.bl_emit_acts_laws_simulation.specs.Acts.{OutputsEncoded, UnchangedOut
 use Rattle.bl_emit_acts_laws_simulation.specs.Frames.{is_older}
 use Rattle.bl_emit_acts_laws_simulation.specs.Encodes.{home_at, lead_in, location_in, start_in}
 use Rattle.bl_emit_acts_laws_simulation.specs.Simulation.{ArgumentsEncoded}
-use Rattle.bl_emit_functions.specs.Functions.{body_coded, copies_from, end_code, function_code, is_held, none_taken, returns_last}
+use Rattle.bl_emit_functions.specs.Functions.{body_coded, copies_from, end_code, function_code, is_held, none_taken, code_returns}
 use Rattle.bl_emit_functions.specs.Functions.{body_code, first_held}
 use Rattle.bl_emit_functions.specs.Trees.{flag_name}
 use Rattle.bl_emit_functions.specs.Reads.{reads_in_block}
@@ -271,7 +271,7 @@ module _ (structs : List StructDef) (units : List UnitDef) (entry k : ℕ) (unit
   done_alike goes stops =
       alike_trans done (block_c (body_code site unit) scope begun) ran
       (read_alike scope begun site (first_held site 0 unit.vars) (reads_in_block (body_code site unit)) (body_code site unit))
-      (body_alike scope copies (body_coded site unit).code (end_code unit.result (returns_last false unit.body)) begun goes stops)
+      (body_alike scope copies (body_coded site unit).code (end_code unit.result (code_returns (body_coded site unit).code)) begun goes stops)
 
   by_flow : CallsKeepFrame → (block_c copies scope begun).end ≡ goes_on → InputsBegun site scope begun frame copied → (flow : Option Flow) →
       FlowSimulates site scope 0 copied flow ran → EndsFor (Some s) flow → CallReturns depth here (option_map (left_by unit) flow) called

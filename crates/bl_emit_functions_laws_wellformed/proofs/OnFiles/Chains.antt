@@ -25,7 +25,7 @@ use Rattle.bl_emit_acts.specs.Places.{home_of, place_in}
 use Rattle.bl_emit_acts.specs.Trees.{c_literal, c_place, c_read}
 use Rattle.bl_emit_acts.specs.Types.{c_scalar, unit_name, variable_name}
 use Rattle.bl_emit_functions.specs.Functions.{body_code, body_coded, c_input_copied, copies_from}
-use Rattle.bl_emit_functions.specs.Functions.{end_code, function_code, input_copied, none_taken, returns_last}
+use Rattle.bl_emit_functions.specs.Functions.{end_code, function_code, input_copied, none_taken, code_returns}
 use Rattle.bl_emit_functions.specs.Functions.{c_set_again, first_held, read_code, whole_code}
 use Rattle.bl_emit_functions.specs.Trees.{c_return_zero}
 use Rattle.bl_emit_functions.specs.Reads.{reads_in_block}
@@ -61,10 +61,10 @@ module _ (weight : Text → ℕ) (prelude : (word : Text) (s : ScalarType) → w
 
   body_few_of : (unit : UnitDef) → Under by n (calls_of unit) → Few weight prelude n (body_code site unit)
   body_few_of unit few =
-      then_few weight prelude n (copies_from site 0 (inputs_of unit)) ((body_coded site unit).code ++ end_code unit.result (returns_last false unit.body))
+      then_few weight prelude n (copies_from site 0 (inputs_of unit)) ((body_coded site unit).code ++ end_code unit.result (code_returns (body_coded site unit).code))
       (copies_few 0 (inputs_of unit))
-      (then_few weight prelude n (body_coded site unit).code (end_code unit.result (returns_last false unit.body))
-      (body_few weight prelude site by callees unit.body n few none_taken) (end_few unit.result (returns_last false unit.body)))
+      (then_few weight prelude n (body_coded site unit).code (end_code unit.result (code_returns (body_coded site unit).code))
+      (body_few weight prelude site by callees unit.body n few none_taken) (end_few unit.result (code_returns (body_coded site unit).code)))
 
   read_few : (held : Option ℕ) (reads : Bool) → Few weight prelude n (read_code site held reads)
   read_few None reads = none_few weight prelude n

@@ -33,8 +33,8 @@ use Rattle.bl_emit_acts.specs.Types.{c_scalar, copy_name, type_name}
 use Rattle.bl_emit_functions.specs.declared.coded.Coded.{Coded}
 use Rattle.bl_emit_functions.specs.declared.coded.Free.{Free}
 use Rattle.bl_emit_functions.specs.Statements.{ArmCodes, Codes, arm_codes, arms_taken, block_codes, branch_codes, break_code, choice_code, codes_of}
-use Rattle.bl_emit_functions.specs.Statements.{codes_of_arm, else_code, flag_taken, flagged_code, kind_codes, loop_code, stmt_codes, turn_taken}
-use Rattle.bl_emit_functions.specs.Statements.{untaken_code}
+use Rattle.bl_emit_functions.specs.Statements.{codes_of_arm, either_code, else_code, flag_taken, flagged_code, kind_codes, loop_code, stmt_codes}
+use Rattle.bl_emit_functions.specs.Statements.{turn_taken, untaken_code}
 use Rattle.bl_emit_functions.specs.Trees.{c_break, c_if, c_loop, c_return, c_truth, flag_name, flag_place, turn_name}
 use Rattle.bl_emit_functions_laws_wellformed.proofs.OnFiles.Expressions.{Light, args_light, call-light, callee_light, expr_light, literal-light, none-light}
 use Rattle.bl_emit_functions_laws_wellformed.proofs.OnFiles.Expressions.{own_light}
@@ -145,13 +145,18 @@ module _ (weight : Text → ℕ) (prelude : (word : Text) (s : ScalarType) → w
       (then_few n inner.code (untaken_code free.flags (other inner.free).code) (arms_few n free.flags arms all (flag_taken free))
       (untaken_few n free.flags (other inner.free).code (more inner.free)))
 
+  either_few : (n : ℕ) (arm : ArmCodes) (other : Codes) → ArmFew n arm → CodesFew n other → CodesFew n (either_code arm other)
+  either_few n arm other one more free =
+      one_few n (c_if arm.test (arm.body free).code (else_code (other (arm.body free).free).code))
+      (if_few n arm.test (arm.body free).code (else_code (other (arm.body free).free).code) one.0 (one.1 free)
+      (else_few n (other (arm.body free).free).code (more (arm.body free).free)))
+
   choice_few : (n : ℕ) (arms : List ArmCodes) (other : Codes) → ArmsFew n arms → CodesFew n other → CodesFew n (choice_code arms other)
   choice_few n [] other all more free = flagged_few n [] other all more free
-  choice_few n (arm ∷ []) other all more free =
-      one_few n (c_if arm.test (arm.body free).code (else_code (other (arm.body free).free).code))
-      (if_few n arm.test (arm.body free).code (else_code (other (arm.body free).free).code) all.0.0 (all.0.1 free)
-      (else_few n (other (arm.body free).free).code (more (arm.body free).free)))
-  choice_few n (arm ∷ second ∷ rest) other all more free = flagged_few n (arm ∷ second ∷ rest) other all more free
+  choice_few n (arm ∷ []) other all more free = either_few n arm other all.0 more free
+  choice_few n (arm ∷ second ∷ []) other all more free =
+      either_few n arm (either_code second other) all.0 (either_few n second other all.1.0 more) free
+  choice_few n (arm ∷ second ∷ third ∷ rest) other all more free = flagged_few n (arm ∷ second ∷ third ∷ rest) other all more free
 
   loop_few : (n turn : ℕ) (test : CExpr) (last : List CStmt) (body : Coded) → ExprFew n test → Few n last → Few n body.code →
       Few n (loop_code turn test last body).code

@@ -31,7 +31,7 @@ use Rattle.bl_emit_functions.specs.Functions.{
   memory_local,
   none_taken,
   params_from,
-  returns_last,
+  code_returns,
 }
 use Rattle.bl_emit_functions.specs.Functions.{first_held, read_code, whole_code}
 use Rattle.bl_emit_functions.specs.Trees.{turn_name}
@@ -97,10 +97,10 @@ module _ (structs : List StructDef) (earlier : List UnitDef) (unit : UnitDef) (n
 
   body_turns : turns_in_block (body_code site unit) ≡ numbered 0 ((body_counted site unit.body).count none_taken)
   body_turns =
-      block-turns (copies_from site 0 (inputs_of unit)) ((body_coded site unit).code ++ end_code unit.result (returns_last false unit.body))
+      block-turns (copies_from site 0 (inputs_of unit)) ((body_coded site unit).code ++ end_code unit.result (code_returns (body_coded site unit).code))
       ∙ (λ i. copies-turns site 0 (inputs_of unit) i
-      ++ block-turns (body_coded site unit).code (end_code unit.result (returns_last false unit.body)) i)
-      ∙ (λ i. (body_counted site unit.body).are none_taken i ++ end-turns unit.result (returns_last false unit.body) i)
+      ++ block-turns (body_coded site unit).code (end_code unit.result (code_returns (body_coded site unit).code)) i)
+      ∙ (λ i. (body_counted site unit.body).are none_taken i ++ end-turns unit.result (code_returns (body_coded site unit).code) i)
       ∙ append-nil (numbered 0 ((body_counted site unit.body).count none_taken))
 
   turns_are : turns_in_block (whole_code site unit) ≡ numbered 0 ((body_counted site unit.body).count none_taken)

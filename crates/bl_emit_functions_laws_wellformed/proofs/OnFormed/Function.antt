@@ -27,7 +27,7 @@ use Rattle.bl_emit_acts.specs.Places.{copies_inputs, home_of, home_of_role, plac
 use Rattle.bl_emit_acts.specs.Trees.{c_literal, c_place, c_read}
 use Rattle.bl_emit_acts.specs.Types.{c_scalar, c_type, variable_name}
 use Rattle.bl_emit_functions.specs.Functions.{body_code, body_coded, c_input_copied, c_set_again, copies_from, end_code, first_held}
-use Rattle.bl_emit_functions.specs.Functions.{input_copied, none_taken, read_code, returns_last, whole_code}
+use Rattle.bl_emit_functions.specs.Functions.{input_copied, none_taken, read_code, code_returns, whole_code}
 use Rattle.bl_emit_functions.specs.Reads.{reads_in_block}
 use Rattle.bl_emit_functions.specs.Statements.{block_codes, codes_of}
 use Rattle.bl_emit_functions.specs.Trees.{c_return_zero}
@@ -154,10 +154,10 @@ module _ (structs : List StructDef) (units : List UnitDef) (entry k : ℕ) (unit
 
   body_is : BlockIs context (body_code site unit)
   body_is =
-      block_append context (copies_from site 0 (inputs_of unit)) ((body_coded site unit).code ++ end_code unit.result (returns_last false unit.body))
+      block_append context (copies_from site 0 (inputs_of unit)) ((body_coded site unit).code ++ end_code unit.result (code_returns (body_coded site unit).code))
       (copies_are 0 (inputs_of unit) inputs_there)
-      (block_append context (body_coded site unit).code (end_code unit.result (returns_last false unit.body))
-      (body_is_good.formed none_taken (omega arith)) (end_is unit.result (returns_last false unit.body) refl))
+      (block_append context (body_coded site unit).code (end_code unit.result (code_returns (body_coded site unit).code))
+      (body_is_good.formed none_taken (omega arith)) (end_is unit.result (code_returns (body_coded site unit).code) refl))
 
   -- ---- the statement that reads what the function holds
 

@@ -18,38 +18,27 @@ use Rattle.bl_tree.specs.declared.c.CStmt.{CStmt, fold-roll-CStmt, roll-CStmt}
 use Rattle.bl_tree.specs.declared.c.CStmtKind.{CStmtKind, CStmtKind-F, fold-roll-CStmtKind, roll-CStmtKind}
 use Rattle.bl_tree.specs.declared.c.CStmtKind.TheVariants as statement
 use Rattle.bl_tree.specs.declared.scalar.Scalar.{Scalar as ScalarType}
-use Rattle.bl_tree.specs.declared.place.Place.{Place}
-use Rattle.bl_tree.specs.declared.tree.Stmt.{Stmt, fold-roll-Stmt, out-Stmt, roll-Stmt, roll-out-Stmt}
-use Rattle.bl_tree.specs.declared.tree.StmtKind.{StmtKind, fold-roll-StmtKind, out-StmtKind, roll-out-StmtKind}
-use Rattle.bl_tree.specs.declared.tree.StmtKind.TheOpen.{StmtKind-F}
-use Rattle.bl_tree.specs.declared.tree.Arm.{Arm}
-use Rattle.bl_tree.specs.declared.tree.Branch.{Branch}
 use Rattle.bl_tree.specs.declared.tree.StructDef.{StructDef}
 use Rattle.bl_tree.specs.declared.tree.Ty.{Ty}
 use Rattle.bl_tree.specs.declared.tree.Unit.{Unit as UnitDef}
 use Rattle.bl_tree.specs.declared.tree.Var.{Var}
 use Rattle.bl_tree.specs.Program.{IsWellTyped, is_output, parameters_of}
-use Rattle.bl_tree.specs.Returns.{is_return, is_return_kind}
 use Rattle.bl_tree.specs.Types.{scalar_in, type_stands}
 use Rattle.bl_tree.specs.Typing.{TypingContext, inputs_of, is_activity, var_at}
 use Rattle.bl_tree.specs.Words.{are_distinct, is_among}
-use Rattle.bl_tree.proofs.StmtInduction.{stmt}
 use Rattle.bl_eval.proofs.PassLemmas.{and_left, and_right, both}
 use Rattle.bl_ctext_semantics.specs.Faults.{Context, Signature, all_distinct, declared_before, depth_of_function, distinct_names, faults_in_head}
 use Rattle.bl_ctext_semantics.specs.Faults.{is_declared, is_scalar, last_or, last_returns, returns_result, scalar_parameter, short_chain}
 use Rattle.bl_ctext_semantics.specs.Faults.{surely_returns, variable_names}
 use Rattle.bl_ctext_semantics.specs.Tables.{Table, no_entries}
-use Rattle.bl_emit_acts.specs.Acts.{code_made}
 use Rattle.bl_emit_acts.specs.Places.{home_of}
 use Rattle.bl_emit_acts.specs.Trees.{nowhere}
 use Rattle.bl_emit_acts.specs.Types.{c_scalar, c_type, variable_name}
 use Rattle.bl_emit_structs.specs.Structs.{arrays_of}
-use Rattle.bl_emit_functions.specs.declared.coded.Free.{Free}
-use Rattle.bl_emit_functions.specs.Functions.{body_code, body_coded, copies_from, end_code, flag_local, flag_locals, function_code, holds_any}
-use Rattle.bl_emit_functions.specs.Functions.{is_held, member_of, members_from, memory_local, memory_name, none_taken, param_of, params_from}
-use Rattle.bl_emit_functions.specs.Functions.{returns_last, struct_of}
+use Rattle.bl_emit_functions.specs.Functions.{body_code, body_coded, code_returns, copies_from, end_code, flag_local, flag_locals, function_code}
+use Rattle.bl_emit_functions.specs.Functions.{holds_any, is_held, member_of, members_from, memory_local, memory_name, param_of}
+use Rattle.bl_emit_functions.specs.Functions.{params_from, struct_of}
 use Rattle.bl_emit_functions.specs.Functions.{first_held, read_code}
-use Rattle.bl_emit_functions.specs.Statements.{block_codes, codes_of}
 use Rattle.bl_emit_functions.specs.Trees.{c_return, flag_name}
 use Rattle.bl_emit_functions.specs.Reads.{reads_in_block}
 use Rattle.bl_emit_acts_laws_wellformed.specs.Formed.Declared.{AreDeclared}
@@ -197,51 +186,33 @@ last_append : (other : Bool) (xs ys : List CStmt) → last_or other (map surely_
 last_append other [] ys = refl
 last_append other (x ∷ xs) ys = last_append (surely_returns x) xs ys
 
+-- so it does where other statements come before
+returns_behind : (returns : List Bool) (x : Bool) → last_or false returns ≡ true → last_or x returns ≡ true
+returns_behind [] x is = absurd (cc)
+returns_behind (b ∷ rest) x is = is
+
 module _ (site : TypingContext) where
-  layer_returns : (place : Place) (layer : StmtKind-F StmtKind Arm Branch Stmt) → is_return_kind layer ≡ true → (free : Free) (x : Bool) →
-      last_or x (map surely_returns (codes_of site (stmt place layer) free).code) ≡ true
-  layer_returns place (StmtKind-F.Return e) is free x = rw (fold-roll-Stmt, fold-roll-StmtKind) (return-returns (option_map (code_made site) e))
-  layer_returns place _ is free x = absurd (cc)
-
-  return_last : (s : Stmt) → is_return s ≡ true → (free : Free) (x : Bool) → last_or x (map surely_returns (codes_of site s free).code) ≡ true
-  return_last s is free x =
-      let place : Place = (out-Stmt s).place in
-      let whole : stmt place (out-StmtKind (out-Stmt s).what) ≡ s =
-      ap (λ (what : StmtKind). roll-Stmt (record { place = place; what = what })) (roll-out-StmtKind (out-Stmt s).what) ∙ roll-out-Stmt s in
-      subst (λ s. last_or x (map surely_returns (codes_of site s free).code) ≡ true) whole (layer_returns place (out-StmtKind (out-Stmt s).what) is free x)
-
-  -- C that is made of a body whose last statement is a `return` ends with one
-  body_returns : (body : List Stmt) (free : Free) (b x : Bool) → returns_last b body ≡ true → (b ≡ true → x ≡ true) →
-      last_or x (map surely_returns (block_codes (map (codes_of site) body) free).code) ≡ true
-  body_returns [] free b x returns own = own returns
-  body_returns (s ∷ rest) free b x returns own =
-      last_append x (codes_of site s free).code (block_codes (map (codes_of site) rest) (codes_of site s free).free).code
-      ∙ body_returns rest (codes_of site s free).free (is_return s) (last_or x (map surely_returns (codes_of site s free).code)) returns
-      (λ is. return_last s is free x)
-
-  whole_returns : (x : Bool) (unit : UnitDef) (s : ScalarType) (b : Bool) → returns_last false unit.body ≡ b →
+  whole_returns : (x : Bool) (unit : UnitDef) (s : ScalarType) (b : Bool) → code_returns (body_coded site unit).code ≡ b →
       last_or x (map surely_returns (copies_from site 0 (inputs_of unit) ++ ((body_coded site unit).code ++ end_code (Some s) b))) ≡ true
   whole_returns x unit s b is =
       last_append x (copies_from site 0 (inputs_of unit)) ((body_coded site unit).code ++ end_code (Some s) b)
       ∙ last_append _ (body_coded site unit).code (end_code (Some s) b) ∙ by b is
     where
-      by : (b : Bool) → returns_last false unit.body ≡ b →
+      by : (b : Bool) → code_returns (body_coded site unit).code ≡ b →
           last_or (last_or (last_or x (map surely_returns (copies_from site 0 (inputs_of unit)))) (map surely_returns (body_coded site unit).code))
           (map surely_returns (end_code (Some s) b))
           ≡ true
-      by true is =
-          body_returns unit.body none_taken false (last_or x (map surely_returns (copies_from site 0 (inputs_of unit)))) is
-          (λ no. absurd (cc))
+      by true is = returns_behind (map surely_returns (body_coded site unit).code) _ is
       by false is = return-returns _
 
   pub surely : (read : List CStmt) (unit : UnitDef) (r : Option ScalarType) →
       (is_none (option_map c_scalar r) || last_returns (map surely_returns (read ++ (copies_from site 0 (inputs_of unit)
-      ++ ((body_coded site unit).code ++ end_code r (returns_last false unit.body))))))
+      ++ ((body_coded site unit).code ++ end_code r (code_returns (body_coded site unit).code))))))
       ≡ true
   surely read unit None = refl
   surely read unit (Some s) =
-      last_append false read (copies_from site 0 (inputs_of unit) ++ ((body_coded site unit).code ++ end_code (Some s) (returns_last false unit.body)))
-      ∙ whole_returns (last_or false (map surely_returns read)) unit s (returns_last false unit.body) refl
+      last_append false read (copies_from site 0 (inputs_of unit) ++ ((body_coded site unit).code ++ end_code (Some s) (code_returns (body_coded site unit).code)))
+      ∙ whole_returns (last_or false (map surely_returns read)) unit s (code_returns (body_coded site unit).code) refl
 
 -- ---- the head
 

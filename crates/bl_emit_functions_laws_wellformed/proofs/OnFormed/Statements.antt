@@ -49,6 +49,7 @@ use Rattle.bl_emit_functions.specs.Statements.{
   choice_code,
   codes_of,
   codes_of_arm,
+  either_code,
   else_code,
   flag_taken,
   flagged_code,
@@ -174,19 +175,25 @@ module _ (context : Context) (most : ℕ) (flags : (k : ℕ) → k < most → co
         (good.formed (arms_taken free.flags arms (flag_taken free)).free few)));
   }
 
-  choice_good : (arms : List ArmCodes) (other : Codes) → AllArms arms → Good other → Good (choice_code arms other)
-  choice_good [] other all good = record { grows = (flagged_good [] other all good).grows; formed = (flagged_good [] other all good).formed }
-  choice_good (arm ∷ []) other all good = record {
-    grows = λ free. let a = all.0.body.grows free in let b = good.grows (arm.body free).free in omega (arith, a, b);
+  either_good : (arm : ArmCodes) (other : Codes) → GoodArm arm → Good other → Good (either_code arm other)
+  either_good arm other one good = record {
+    grows = λ free. let a = one.body.grows free in let b = good.grows (arm.body free).free in omega (arith, a, b);
     formed = λ free few.
         let b : (arm.body free).free.flags ≤ (other (arm.body free).free).free.flags = good.grows (arm.body free).free in
         block_one context (c_if arm.test (arm.body free).code (else_code (other (arm.body free).free).code))
-        (if-is context arm.test (arm.body free).code (else_code (other (arm.body free).free).code) all.0.test
-        (all.0.body.formed free (omega (arith, b, few)))
+        (if-is context arm.test (arm.body free).code (else_code (other (arm.body free).free).code) one.test
+        (one.body.formed free (omega (arith, b, few)))
         (else-is (other (arm.body free).free).code (good.formed (arm.body free).free few)));
   }
-  choice_good (arm ∷ more ∷ rest) other all good =
-      record { grows = (flagged_good (arm ∷ more ∷ rest) other all good).grows; formed = (flagged_good (arm ∷ more ∷ rest) other all good).formed }
+
+  choice_good : (arms : List ArmCodes) (other : Codes) → AllArms arms → Good other → Good (choice_code arms other)
+  choice_good [] other all good = let f = flagged_good [] other all good in record { grows = f.grows; formed = f.formed }
+  choice_good (arm ∷ []) other all good = let e = either_good arm other all.0 good in record { grows = e.grows; formed = e.formed }
+  choice_good (arm ∷ second ∷ []) other all good =
+      let e = either_good arm (either_code second other) all.0 (either_good second other all.1.0 good) in
+      record { grows = e.grows; formed = e.formed }
+  choice_good (arm ∷ second ∷ third ∷ rest) other all good =
+      let f = flagged_good (arm ∷ second ∷ third ∷ rest) other all good in record { grows = f.grows; formed = f.formed }
 
   -- ---- loops
 

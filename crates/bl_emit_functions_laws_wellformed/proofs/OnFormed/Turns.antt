@@ -49,6 +49,7 @@ use Rattle.bl_emit_functions.specs.Statements.{
   choice_code,
   codes_of,
   codes_of_arm,
+  either_code,
   else_code,
   flag_taken,
   flagged_code,
@@ -213,20 +214,27 @@ flagged_counted arms other all one = record {
       (taken_are free.flags arms all (flag_taken free)) (untaken-turns free.flags (other inner.free).code ∙ one.are inner.free);
 }
 
-pub choice_counted : (arms : List ArmCodes) (other : Codes) → AllCounted arms → Counted other → Counted (choice_code arms other)
-choice_counted [] other all one =
-    let f = flagged_counted [] other all one in record { count = f.count; after = f.after; are = f.are }
-choice_counted (arm ∷ []) other all one = record {
-  count = λ free. all.0.count free + one.count (arm.body free).free;
-  after = λ free. let a = all.0.after free in let b = one.after (arm.body free).free in omega (arith, a, b);
+either_counted : (arm : ArmCodes) (other : Codes) → Counted arm.body → Counted other → Counted (either_code arm other)
+either_counted arm other first one = record {
+  count = λ free. first.count free + one.count (arm.body free).free;
+  after = λ free. let a = first.after free in let b = one.after (arm.body free).free in omega (arith, a, b);
   are = λ free.
       one-turns _ _ (if-turns _ (arm.body free).code (else_code (other (arm.body free).free).code)
       ∙ ap (λ turns. turns_in_block (arm.body free).code ++ turns) (else-turns (other (arm.body free).free).code))
-      ∙ both_numbered free.turns (all.0.count free) (one.count (arm.body free).free) (turns_in_block (arm.body free).code)
-      (turns_in_block (other (arm.body free).free).code) (arm.body free).free.turns (all.0.after free) (all.0.are free) (one.are (arm.body free).free);
+      ∙ both_numbered free.turns (first.count free) (one.count (arm.body free).free) (turns_in_block (arm.body free).code)
+      (turns_in_block (other (arm.body free).free).code) (arm.body free).free.turns (first.after free) (first.are free) (one.are (arm.body free).free);
 }
-choice_counted (arm ∷ more ∷ rest) other all one =
-    let f = flagged_counted (arm ∷ more ∷ rest) other all one in record { count = f.count; after = f.after; are = f.are }
+
+pub choice_counted : (arms : List ArmCodes) (other : Codes) → AllCounted arms → Counted other → Counted (choice_code arms other)
+choice_counted [] other all one =
+    let f = flagged_counted [] other all one in record { count = f.count; after = f.after; are = f.are }
+choice_counted (arm ∷ []) other all one =
+    let e = either_counted arm other all.0 one in record { count = e.count; after = e.after; are = e.are }
+choice_counted (arm ∷ second ∷ []) other all one =
+    let e = either_counted arm (either_code second other) all.0 (either_counted second other all.1.0 one) in
+    record { count = e.count; after = e.after; are = e.are }
+choice_counted (arm ∷ second ∷ third ∷ rest) other all one =
+    let f = flagged_counted (arm ∷ second ∷ third ∷ rest) other all one in record { count = f.count; after = f.after; are = f.are }
 
 -- ---- loops
 

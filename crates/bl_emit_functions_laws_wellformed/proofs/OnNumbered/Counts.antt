@@ -95,8 +95,17 @@ choice_takes [] m (arm ∷ []) other all one = absurd all
 choice_takes (n ∷ ns) m (arm ∷ []) other all one = record {
   most = λ free. let a = all.0.most free in let b = one.most (arm.body free).free in omega (arith, a, b);
 }
-choice_takes ns m (arm ∷ more ∷ rest) other all one =
-    let f = flagged_takes ns m (arm ∷ more ∷ rest) other all one in record { most = f.most }
+choice_takes [] m (arm ∷ second ∷ []) other all one = absurd all
+choice_takes (n ∷ []) m (arm ∷ second ∷ []) other all one = absurd all.1
+choice_takes (n ∷ k ∷ ns) m (arm ∷ second ∷ []) other all one = record {
+  most = λ free.
+      let a = all.0.most free in
+      let b = all.1.0.most (arm.body free).free in
+      let c = one.most (second.body (arm.body free).free).free in
+      omega (arith, a, b, c);
+}
+choice_takes ns m (arm ∷ second ∷ third ∷ rest) other all one =
+    let f = flagged_takes ns m (arm ∷ second ∷ third ∷ rest) other all one in record { most = f.most }
 
 -- ---- loops
 

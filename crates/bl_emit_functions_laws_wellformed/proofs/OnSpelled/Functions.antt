@@ -43,7 +43,7 @@ use Rattle.bl_emit_acts_laws_wellformed.proofs.OnSpelled.Names.{memory-name, var
 use Rattle.bl_emit_functions.specs.Functions.{body_coded, c_input_copied, copies_from, end_code, flag_local, flag_locals}
 use Rattle.bl_emit_functions.specs.Functions.{function_code, held_member, holds_any, input_copied, is_held}
 use Rattle.bl_emit_functions.specs.Functions.{member_of, members_from, members_of, memory_local, memory_name, memory_struct}
-use Rattle.bl_emit_functions.specs.Functions.{none_taken, param_of, params_from, returns_last, struct_of}
+use Rattle.bl_emit_functions.specs.Functions.{none_taken, param_of, params_from, code_returns, struct_of}
 use Rattle.bl_emit_functions.specs.Functions.{body_code, c_set_again, first_held, read_code}
 use Rattle.bl_emit_functions.specs.Statements.{block_codes, codes_of}
 use Rattle.bl_emit_functions.specs.Trees.{c_return_zero}
@@ -277,7 +277,7 @@ module _ (structs : List StructDef) (units : List UnitDef) (entry k : ℕ) (unit
         (all_append (stmt_fits 1999) (read_code site (first_held site 0 unit.vars) (reads_in_block (body_code site unit))) (body_code site unit)
         (read_by 1999 (omega arith) (first_held site 0 unit.vars) (reads_in_block (body_code site unit)) refl)
         (all_append (stmt_fits 1999) (copies_from site 0 (inputs_of unit))
-        ((body_coded site unit).code ++ end_code unit.result (returns_last false unit.body))
+        ((body_coded site unit).code ++ end_code unit.result (code_returns (body_coded site unit).code))
         (copies_by 1999 0 (inputs_of unit) (omega arith) room)
-        (all_append (stmt_fits 1999) (body_coded site unit).code (end_code unit.result (returns_last false unit.body))
-        (body_is.fits none_taken numbers.flags numbers.turns) (end_by 1999 (omega arith) unit.result (returns_last false unit.body)))))
+        (all_append (stmt_fits 1999) (body_coded site unit).code (end_code unit.result (code_returns (body_coded site unit).code))
+        (body_is.fits none_taken numbers.flags numbers.turns) (end_by 1999 (omega arith) unit.result (code_returns (body_coded site unit).code)))))

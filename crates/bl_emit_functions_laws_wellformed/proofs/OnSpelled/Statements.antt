@@ -35,7 +35,7 @@ use Rattle.bl_tree.specs.Words as words
 use Rattle.bl_tree.proofs.StmtInduction.{Cases, Each, EachArm, induct, stmt}
 use Rattle.bl_eval.proofs.PassLemmas.{and_left, and_right, both}
 use Rattle.bl_ctext.specs.inner.Fits.{expr_fits, place_fits, stmt_fits, stmts_fit}
-use Rattle.bl_ctext.proofs.Fitting.{expr_fits-more, if-fits, literal-fits, place-fits, read-fits, return-fits, set-fits, two-fits}
+use Rattle.bl_ctext.proofs.Fitting.{expr_fits-more, if-fits, literal-fits, place-fits, read-fits, return-fits, set-fits, stmts_fit-more, two-fits}
 use Rattle.bl_emit_acts.specs.Acts.{c_calling, c_set, call_made, code_made, declared_code}
 use Rattle.bl_emit_acts.specs.Expressions.{stands}
 use Rattle.bl_emit_acts.specs.Trees.{c_read, c_two, nowhere}
@@ -52,6 +52,7 @@ use Rattle.bl_emit_functions.specs.Statements.{
   choice_code,
   codes_of,
   codes_of_arm,
+  either_code,
   else_code,
   flag_taken,
   flagged_code,
@@ -112,6 +113,31 @@ flag_read : (d k : ℕ) → 1 ≤ d → k < 2 ^ 64 → expr_fits d (c_read (flag
 flag_read d k low small = read-fits d nowhere (flag_place k) (flag-fits d k low small)
 
 -- ---- arms
+
+either_is : (d e : ℕ) (test : CExpr) (body other : List CStmt) → d + 1 ≤ e → expr_fits d test ≡ true → stmts_fit d body ≡ true →
+    stmts_fit d other ≡ true → stmts_fit e (c_if test body (else_code other) ∷ []) ≡ true
+either_is d e test body [] next one is others = one-fits e (c_if test body None) (if-fits d e nowhere test body next one is)
+either_is d e test body (s ∷ rest) next one is others =
+    one-fits e (c_if test body (Some (s ∷ rest))) (else-fits d e test body (s ∷ rest) next one is others)
+
+more_good : (d e : ℕ) (codes : Codes) → d ≤ e → Good d codes → Good e codes
+more_good d e codes le good = record {
+  flags = good.flags;
+  turns = good.turns;
+  fits = λ free few short. stmts_fit-more d e (codes free).code le (good.fits free few short);
+}
+
+either_good : (d e : ℕ) (arm : ArmCodes) (other : Codes) → d + 1 ≤ e → expr_fits d arm.test ≡ true → Good d arm.body → Good d other →
+    Good e (either_code arm other)
+either_good d e arm other next is body good = record {
+  flags = λ free. let a = body.flags free in let b = good.flags (arm.body free).free in omega (arith, a, b);
+  turns = λ free. let a = body.turns free in let b = good.turns (arm.body free).free in omega (arith, a, b);
+  fits = λ free few short.
+      let a : (arm.body free).free.flags ≤ (other (arm.body free).free).free.flags = good.flags (arm.body free).free in
+      let b : (arm.body free).free.turns ≤ (other (arm.body free).free).free.turns = good.turns (arm.body free).free in
+      either_is d e arm.test (arm.body free).code (other (arm.body free).free).code next is
+      (body.fits free (omega (arith, a, few)) (omega (arith, b, short))) (good.fits (arm.body free).free few short);
+}
 
 module _ (d e : ℕ) (low : 3 ≤ d) (next : d + 1 ≤ e) where
   -- an arm whose condition has a bracket to spare
@@ -197,27 +223,24 @@ module _ (d e : ℕ) (low : 3 ≤ d) (next : d + 1 ≤ e) where
         (untaken-is free.flags small (other inner.free).code (good.fits inner.free few short)));
   }
 
-  either_is : (test : CExpr) (body other : List CStmt) → expr_fits d test ≡ true → stmts_fit d body ≡ true → stmts_fit d other ≡ true →
-      stmts_fit e (c_if test body (else_code other) ∷ []) ≡ true
-  either_is test body [] one is others = one-fits e (c_if test body None) (if-fits d e nowhere test body next one is)
-  either_is test body (s ∷ rest) one is others =
-      one-fits e (c_if test body (Some (s ∷ rest))) (else-fits d e test body (s ∷ rest) next one is others)
+  arm-fits : (arm : ArmCodes) → GoodArm arm → expr_fits d arm.test ≡ true
+  arm-fits arm good = let spare = good.spare in expr_fits-more good.t d arm.test (omega (arith, spare)) good.test
 
-  pub choice_good : (arms : List ArmCodes) (other : Codes) → AllArms arms → Good d other → Good e (choice_code arms other)
-  choice_good [] other all good =
+  pub choice_good : (arms : List ArmCodes) (other : Codes) → d + 2 ≤ e → AllArms arms → Good d other → Good e (choice_code arms other)
+  choice_good [] other room all good =
       let f = flagged_good [] other all good in record { flags = f.flags; turns = f.turns; fits = f.fits }
-  choice_good (arm ∷ []) other all good = record {
-    flags = λ free. let a = all.0.body.flags free in let b = good.flags (arm.body free).free in omega (arith, a, b);
-    turns = λ free. let a = all.0.body.turns free in let b = good.turns (arm.body free).free in omega (arith, a, b);
-    fits = λ free few short.
-        let a : (arm.body free).free.flags ≤ (other (arm.body free).free).free.flags = good.flags (arm.body free).free in
-        let b : (arm.body free).free.turns ≤ (other (arm.body free).free).free.turns = good.turns (arm.body free).free in
-        let le : all.0.t ≤ d = (let spare = all.0.spare in omega (arith, spare)) in
-        either_is arm.test (arm.body free).code (other (arm.body free).free).code (expr_fits-more all.0.t d arm.test le all.0.test)
-        (all.0.body.fits free (omega (arith, a, few)) (omega (arith, b, short))) (good.fits (arm.body free).free few short);
-  }
-  choice_good (arm ∷ more ∷ rest) other all good =
-      let f = flagged_good (arm ∷ more ∷ rest) other all good in record { flags = f.flags; turns = f.turns; fits = f.fits }
+  choice_good (arm ∷ []) other room all good =
+      let f = either_good d e arm other next (arm-fits arm all.0) all.0.body good in record { flags = f.flags; turns = f.turns; fits = f.fits }
+  choice_good (arm ∷ second ∷ []) other room all good =
+      let one : d ≤ d + 1 = omega arith in
+      let same : d + 1 ≤ d + 1 = omega arith in
+      let wide : (d + 1) + 1 ≤ e = omega (arith, room) in
+      let inner = either_good d (d + 1) second other same (arm-fits second all.1.0) all.1.0.body good in
+      let f = either_good (d + 1) e arm (either_code second other) wide (expr_fits-more d (d + 1) arm.test one (arm-fits arm all.0))
+      (more_good d (d + 1) arm.body one all.0.body) inner in
+      record { flags = f.flags; turns = f.turns; fits = f.fits }
+  choice_good (arm ∷ second ∷ third ∷ rest) other room all good =
+      let f = flagged_good (arm ∷ second ∷ third ∷ rest) other all good in record { flags = f.flags; turns = f.turns; fits = f.fits }
 
   -- ---- loops
 
@@ -425,7 +448,7 @@ module _ (site : TypingContext) (few : length site.vars ≤ 2 ^ 64)
         let in_arms : space (of_all (map depth_of_arm arms)) ≤ i + 2 = omega (arith, deep, is) in
         let in_other : space (of_all (map depth_of other)) ≤ i = omega (arith, deep, is) in
         as_codes d _ _ (if_codes arms other)
-        (choice_good i d low next (map (codes_of_arm site) arms) (block_codes (map (codes_of site) other))
+        (choice_good i d low next (map (codes_of_arm site) arms) (block_codes (map (codes_of site) other)) (omega (arith, is))
         (arms_good i d low next arms each (and_left (all_of (map arm_fitted arms)) (all_of (map (fits site) other)) parts) in_arms)
         (all_good other others (and_right (all_of (map arm_fitted arms)) (all_of (map (fits site) other)) parts) i in_other))
 

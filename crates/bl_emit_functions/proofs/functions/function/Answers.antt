@@ -14,15 +14,15 @@ use Rattle.bl_emit_acts.specs.Sites.{site_in}
 use Rattle.bl_emit_acts.specs.Trees.{nowhere}
 use Rattle.bl_emit_acts.specs.Types.{c_scalar, unit_name}
 use Rattle.bl_emit_functions.specs.declared.coded.Coded.{Coded}
-use Rattle.bl_emit_functions.specs.Functions.{body_code, body_coded, copies_from, end_code, first_held, flag_locals, function_code, holds_any, memory_local}
-use Rattle.bl_emit_functions.specs.Functions.{params_from, read_code, returns_last, whole_code}
+use Rattle.bl_emit_functions.specs.Functions.{body_code, body_coded, code_returns, copies_from, end_code, first_held, flag_locals, function_code}
+use Rattle.bl_emit_functions.specs.Functions.{holds_any, memory_local, params_from, read_code, whole_code}
 use Rattle.bl_emit_functions.specs.Reads.{reads_in_block}
 use Rattle.bl_emit_functions.proofs.functions.function.Goals as goal
 
 module _ (structs : List StructDef) (earlier : List UnitDef) (unit : UnitDef) (site : TypingContext) (coded : Coded) (body whole : List CStmt)
     (params : List CParam) (locals : List CLocal) (name : Text) (result : Option Scalar) where
   made_is : site ≡ site_of structs earlier unit → coded ≡ body_coded site unit →
-      body ≡ copies_from site 0 (inputs_of unit) ++ (coded.code ++ end_code unit.result (returns_last false unit.body)) →
+      body ≡ copies_from site 0 (inputs_of unit) ++ (coded.code ++ end_code unit.result (code_returns coded.code)) →
       whole ≡ read_code site (first_held site 0 unit.vars) (reads_in_block body) ++ body → params ≡ params_from structs unit.vars 0 (parameters_of unit) →
       locals ≡ memory_local unit.name (holds_any site unit.vars) ++ flag_locals coded.free.flags → name ≡ unit_name unit.name →
       result ≡ option_map c_scalar unit.result →
@@ -31,7 +31,7 @@ module _ (structs : List StructDef) (earlier : List UnitDef) (unit : UnitDef) (s
   made_is of_site of_coded of_body of_whole of_params of_locals of_name of_result =
       let body_is : body ≡ body_code site unit =
       of_body
-      ∙ ap (λ (coded : Coded). copies_from site 0 (inputs_of unit) ++ (coded.code ++ end_code unit.result (returns_last false unit.body))) of_coded in
+      ∙ ap (λ (coded : Coded). copies_from site 0 (inputs_of unit) ++ (coded.code ++ end_code unit.result (code_returns coded.code))) of_coded in
       let whole_is : whole ≡ whole_code (site_of structs earlier unit) unit =
       of_whole
       ∙ (ap (λ (body : List CStmt). read_code site (first_held site 0 unit.vars) (reads_in_block body) ++ body) body_is
